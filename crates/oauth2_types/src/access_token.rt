@@ -1,0 +1,58 @@
+//! A token.
+
+ghost use Rattle.std.specs.Prelude.{◌≡◌, ℕ, List, string_bytes, codes, Some};
+
+use crate::secret::Secret;
+use crate::try_clone::TryClone;
+use std::alloc::{AllocError, Global};
+use std::fmt;
+use std::marker::Model;
+
+#[derive(PartialEq, Eq, Hash, Drop)]
+pub struct AccessToken(Secret);
+
+impl Model for AccessToken {
+    ghost Value = { List ℕ };
+
+    ghost view = { λ s. s.0 };
+
+    ghost inverse = { λ text. record { 0 = text } };
+}
+
+impl AccessToken {
+    pub fn new(secret: String) -> AccessToken
+        ensures { result ≡ string_bytes secret }
+    {
+        AccessToken(Secret::new(secret))
+    }
+
+    pub fn secret(&self) -> &String
+        ensures { string_bytes result.now ≡ self.now }
+    {
+        self.0.text()
+    }
+
+    pub fn into_secret(self) -> String
+        ensures { string_bytes result ≡ self }
+    {
+        self.0.into_text()
+    }
+}
+
+impl TryClone for AccessToken {
+    ghost Seen = { List ℕ };
+
+    ghost seen = { λ text. text };
+
+    fn try_clone(&self, alloc: Global) -> Result<AccessToken, AllocError> {
+        Ok(AccessToken(self.0.copy(alloc)?))
+    }
+}
+
+impl fmt::Debug for AccessToken {
+    ghost debug_output = { λ _. Some (codes "AccessToken([redacted])") };
+
+    fn fmt<W: fmt::Write>(&self, f: &mut fmt::Formatter<W>) -> fmt::Result {
+        f.write_str("AccessToken([redacted])")
+    }
+}

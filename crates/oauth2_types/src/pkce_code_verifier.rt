@@ -1,0 +1,55 @@
+//! The secret of a code challenge.
+
+ghost use Rattle.std.specs.Prelude.{◌≡◌, ℕ, List, string_bytes, codes, Some, IsTrue, ◌↔◌};
+ghost use Rattle.oauth2_types.specs.Pkce.{HasValidLength};
+
+use crate::secret::Secret;
+use std::fmt;
+use std::marker::Model;
+
+#[derive(PartialEq, Eq, Hash, Drop)]
+pub struct PkceCodeVerifier(Secret);
+
+impl Model for PkceCodeVerifier {
+    ghost Value = { List ℕ };
+
+    ghost view = { λ s. s.0 };
+
+    ghost inverse = { λ text. record { 0 = text } };
+}
+
+impl PkceCodeVerifier {
+    pub fn new(secret: String) -> PkceCodeVerifier
+        ensures { result ≡ string_bytes secret }
+    {
+        PkceCodeVerifier(Secret::new(secret))
+    }
+
+    pub fn secret(&self) -> &String
+        ensures { string_bytes result.now ≡ self.now }
+    {
+        self.0.text()
+    }
+
+    pub fn into_secret(self) -> String
+        ensures { string_bytes result ≡ self }
+    {
+        self.0.into_text()
+    }
+
+    /// Whether there are 43 to 128 bytes.
+    pub fn has_valid_length(&self) -> bool
+        ensures { IsTrue result ↔ HasValidLength self.now }
+    {
+        let len = self.secret().len();
+        43 <= len && len <= 128
+    }
+}
+
+impl fmt::Debug for PkceCodeVerifier {
+    ghost debug_output = { λ _. Some (codes "PkceCodeVerifier([redacted])") };
+
+    fn fmt<W: fmt::Write>(&self, f: &mut fmt::Formatter<W>) -> fmt::Result {
+        f.write_str("PkceCodeVerifier([redacted])")
+    }
+}
