@@ -1,0 +1,71 @@
+//! The URL of the token endpoint.
+
+ghost use Rattle.std.specs.Prelude.{◌≡◌, ℕ, List, Some, string_bytes};
+ghost use Rattle.oauth2_urls.specs.Addressed.{Addressed, Addresses};
+
+use crate::addressed::AddressedUrl;
+use oauth2_types::TryClone;
+use std::alloc::{AllocError, Global};
+use std::fmt;
+use std::marker::Model;
+use std::ops::Deref;
+use url::{ParseError, Url};
+
+#[derive(PartialEq, Eq, PartialOrd, Ord, Hash, Drop)]
+pub struct RedirectUrl(AddressedUrl);
+
+impl Model for RedirectUrl {
+    ghost Value = { Addressed };
+
+    ghost view = { λ u. u.0 };
+
+    ghost inverse = { λ a. record { 0 = a } };
+}
+
+impl RedirectUrl {
+    pub fn new(alloc: Global, url: String) -> Result<RedirectUrl, ParseError>
+        ensures { Addresses (string_bytes url) result }
+    {
+        Ok(RedirectUrl(AddressedUrl::new(alloc, url)?))
+    }
+
+    pub fn url(&self) -> &Url
+        ensures { result.now ≡ self.now.url }
+    {
+        self.0.url()
+    }
+}
+
+impl Deref for RedirectUrl {
+    type Target = String;
+
+    ghost deref_gives = { λ u text. string_bytes text ≡ u.text };
+
+    fn deref(&self) -> &String {
+        self.0.text()
+    }
+}
+
+impl TryClone for RedirectUrl {
+    ghost Seen = { Addressed };
+
+    ghost seen = { λ url. url };
+
+    fn try_clone(&self, alloc: Global) -> Result<RedirectUrl, AllocError> {
+        Ok(RedirectUrl(self.0.copy(alloc)?))
+    }
+}
+
+impl fmt::Display for RedirectUrl {
+    ghost output = { λ u. Some u.text };
+
+    fn fmt<W: fmt::Write>(&self, f: &mut fmt::Formatter<W>) -> fmt::Result {
+        f.write_str(self.0.text().as_str())
+    }
+}
+
+impl fmt::Debug for RedirectUrl {
+    fn fmt<W: fmt::Write>(&self, f: &mut fmt::Formatter<W>) -> fmt::Result {
+        f.debug_tuple("RedirectUrl").field(self.0.text()).finish()
+    }
+}
