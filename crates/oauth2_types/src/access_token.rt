@@ -1,4 +1,4 @@
-//! A token.
+//! Access tokens (RFC 6749, section 1.4).
 
 ghost use Rattle.std.specs.Prelude.{◌≡◌, ℕ, List, string_bytes, codes, Some};
 
@@ -8,6 +8,7 @@ use std::alloc::{AllocError, Global};
 use std::fmt;
 use std::marker::Model;
 
+/// A token that the client shows to a resource server (RFC 6749, section 1.4).
 #[derive(PartialEq, Eq, Hash, Drop)]
 pub struct AccessToken(Secret);
 

@@ -1,4 +1,4 @@
-//! The client's password.
+//! Client secrets (RFC 6749, section 2.3.1).
 
 ghost use Rattle.std.specs.Prelude.{◌≡◌, ℕ, List, string_bytes, codes, Some};
 
@@ -8,6 +8,7 @@ use std::alloc::{AllocError, Global};
 use std::fmt;
 use std::marker::Model;
 
+/// The client's password (RFC 6749, section 2.3.1).
 #[derive(PartialEq, Eq, Hash, Drop)]
 pub struct ClientSecret(Secret);
 

@@ -1,4 +1,4 @@
-//! The client's password.
+//! Refresh tokens (RFC 6749, section 1.5).
 
 ghost use Rattle.std.specs.Prelude.{◌≡◌, ℕ, List, string_bytes, codes, Some};
 
@@ -8,6 +8,7 @@ use std::alloc::{AllocError, Global};
 use std::fmt;
 use std::marker::Model;
 
+/// A token that the client shows for a new access token (RFC 6749, section 1.5).
 #[derive(PartialEq, Eq, Hash, Drop)]
 pub struct RefreshToken(Secret);
 

@@ -1,0 +1,59 @@
+//! Authorization codes (RFC 6749, section 4.1.2).
+
+ghost use Rattle.std.specs.Prelude.{◌≡◌, ℕ, List, string_bytes, codes, Some};
+
+use crate::secret::Secret;
+use crate::try_clone::TryClone;
+use std::alloc::{AllocError, Global};
+use std::fmt;
+use std::marker::Model;
+
+/// The code that the authorization server gave for the resource owner (RFC 6749, section 4.1.2).
+#[derive(PartialEq, Eq, Hash, Drop)]
+pub struct AuthorizationCode(Secret);
+
+impl Model for AuthorizationCode {
+    ghost Value = { List ℕ };
+
+    ghost view = { λ s. s.0 };
+
+    ghost inverse = { λ text. record { 0 = text } };
+}
+
+impl AuthorizationCode {
+    pub fn new(secret: String) -> AuthorizationCode
+        ensures { result ≡ string_bytes secret }
+    {
+        AuthorizationCode(Secret::new(secret))
+    }
+
+    pub fn secret(&self) -> &String
+        ensures { string_bytes result.now ≡ self.now }
+    {
+        self.0.text()
+    }
+
+    pub fn into_secret(self) -> String
+        ensures { string_bytes result ≡ self }
+    {
+        self.0.into_text()
+    }
+}
+
+impl TryClone for AuthorizationCode {
+    ghost Seen = { List ℕ };
+
+    ghost seen = { λ text. text };
+
+    fn try_clone(&self, alloc: Global) -> Result<AuthorizationCode, AllocError> {
+        Ok(AuthorizationCode(self.0.copy(alloc)?))
+    }
+}
+
+impl fmt::Debug for AuthorizationCode {
+    ghost debug_output = { λ _. Some (codes "AuthorizationCode([redacted])") };
+
+    fn fmt<W: fmt::Write>(&self, f: &mut fmt::Formatter<W>) -> fmt::Result {
+        f.write_str("AuthorizationCode([redacted])")
+    }
+}

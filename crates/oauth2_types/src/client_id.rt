@@ -1,0 +1,64 @@
+//! Client identifiers (RFC 6749, section 2.2).
+
+ghost use Rattle.std.specs.Prelude.{◌≡◌, ℕ, List, string_bytes};
+
+use crate::plain_text::PlainText;
+use crate::try_clone::TryClone;
+use std::alloc::{AllocError, Global};
+use std::fmt;
+use std::marker::Model;
+use std::ops::Deref;
+
+/// The identifier that the authorization server gave the client (RFC 6749, section 2.2).
+#[derive(PartialEq, Eq, Hash, Drop)]
+pub struct ClientId(PlainText);
+
+impl Model for ClientId {
+    ghost Value = { List ℕ };
+
+    ghost view = { λ t. t.0 };
+
+    ghost inverse = { λ text. record { 0 = text } };
+}
+
+impl ClientId {
+    pub fn new(text: String) -> ClientId
+        ensures { result ≡ string_bytes text }
+    {
+        ClientId(PlainText::new(text))
+    }
+}
+
+impl Deref for ClientId {
+    type Target = String;
+
+    ghost deref_gives = { λ t text. string_bytes text ≡ t };
+
+    fn deref(&self) -> &String {
+        self.0.text()
+    }
+}
+
+impl From<ClientId> for String {
+    ghost from_gives = { λ t text. string_bytes text ≡ t };
+
+    fn from(text: ClientId) -> String {
+        text.0.into_text()
+    }
+}
+
+impl TryClone for ClientId {
+    ghost Seen = { List ℕ };
+
+    ghost seen = { λ text. text };
+
+    fn try_clone(&self, alloc: Global) -> Result<ClientId, AllocError> {
+        Ok(ClientId(self.0.copy(alloc)?))
+    }
+}
+
+impl fmt::Debug for ClientId {
+    fn fmt<W: fmt::Write>(&self, f: &mut fmt::Formatter<W>) -> fmt::Result {
+        f.debug_tuple("ClientId").field(self.0.text()).finish()
+    }
+}

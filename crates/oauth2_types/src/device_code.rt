@@ -1,0 +1,59 @@
+//! Device codes (RFC 8628, section 3.2).
+
+ghost use Rattle.std.specs.Prelude.{◌≡◌, ℕ, List, string_bytes, codes, Some};
+
+use crate::secret::Secret;
+use crate::try_clone::TryClone;
+use std::alloc::{AllocError, Global};
+use std::fmt;
+use std::marker::Model;
+
+/// The code by which a device asks for its token (RFC 8628, section 3.2).
+#[derive(PartialEq, Eq, Hash, Drop)]
+pub struct DeviceCode(Secret);
+
+impl Model for DeviceCode {
+    ghost Value = { List ℕ };
+
+    ghost view = { λ s. s.0 };
+
+    ghost inverse = { λ text. record { 0 = text } };
+}
+
+impl DeviceCode {
+    pub fn new(secret: String) -> DeviceCode
+        ensures { result ≡ string_bytes secret }
+    {
+        DeviceCode(Secret::new(secret))
+    }
+
+    pub fn secret(&self) -> &String
+        ensures { string_bytes result.now ≡ self.now }
+    {
+        self.0.text()
+    }
+
+    pub fn into_secret(self) -> String
+        ensures { string_bytes result ≡ self }
+    {
+        self.0.into_text()
+    }
+}
+
+impl TryClone for DeviceCode {
+    ghost Seen = { List ℕ };
+
+    ghost seen = { λ text. text };
+
+    fn try_clone(&self, alloc: Global) -> Result<DeviceCode, AllocError> {
+        Ok(DeviceCode(self.0.copy(alloc)?))
+    }
+}
+
+impl fmt::Debug for DeviceCode {
+    ghost debug_output = { λ _. Some (codes "DeviceCode([redacted])") };
+
+    fn fmt<W: fmt::Write>(&self, f: &mut fmt::Formatter<W>) -> fmt::Result {
+        f.write_str("DeviceCode([redacted])")
+    }
+}

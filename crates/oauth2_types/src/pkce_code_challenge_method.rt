@@ -1,0 +1,66 @@
+//! Methods of code challenges (RFC 7636, section 4.2).
+
+ghost use Rattle.std.specs.Prelude.{◌≡◌, ℕ, List, string_bytes};
+
+use crate::plain_text::PlainText;
+use crate::try_clone::TryClone;
+use std::alloc::{AllocError, Global};
+use std::fmt;
+use std::marker::Model;
+use std::ops::Deref;
+
+/// How a code challenge was made from its verifier: `S256` or `plain` (RFC 7636, section 4.2).
+#[derive(PartialEq, Eq, Hash, Drop)]
+pub struct PkceCodeChallengeMethod(PlainText);
+
+impl Model for PkceCodeChallengeMethod {
+    ghost Value = { List ℕ };
+
+    ghost view = { λ t. t.0 };
+
+    ghost inverse = { λ text. record { 0 = text } };
+}
+
+impl PkceCodeChallengeMethod {
+    pub fn new(text: String) -> PkceCodeChallengeMethod
+        ensures { result ≡ string_bytes text }
+    {
+        PkceCodeChallengeMethod(PlainText::new(text))
+    }
+}
+
+impl Deref for PkceCodeChallengeMethod {
+    type Target = String;
+
+    ghost deref_gives = { λ t text. string_bytes text ≡ t };
+
+    fn deref(&self) -> &String {
+        self.0.text()
+    }
+}
+
+impl From<PkceCodeChallengeMethod> for String {
+    ghost from_gives = { λ t text. string_bytes text ≡ t };
+
+    fn from(text: PkceCodeChallengeMethod) -> String {
+        text.0.into_text()
+    }
+}
+
+impl TryClone for PkceCodeChallengeMethod {
+    ghost Seen = { List ℕ };
+
+    ghost seen = { λ text. text };
+
+    fn try_clone(&self, alloc: Global) -> Result<PkceCodeChallengeMethod, AllocError> {
+        Ok(PkceCodeChallengeMethod(self.0.copy(alloc)?))
+    }
+}
+
+impl fmt::Debug for PkceCodeChallengeMethod {
+    fn fmt<W: fmt::Write>(&self, f: &mut fmt::Formatter<W>) -> fmt::Result {
+        f.debug_tuple("PkceCodeChallengeMethod")
+            .field(self.0.text())
+            .finish()
+    }
+}

@@ -1,0 +1,76 @@
+//! What every plain text type is: the text that was given.
+
+ghost use Rattle.std.specs.Prelude.{◌≡◌, ℕ, List, string_bytes, IfOk};
+ghost use Rattle.std.specs.Cmp.{partial_equiv_from_equiv};
+ghost use Rattle.std.specs.Cmp.Lexicographic.{nat_list_eq_equiv};
+ghost use Rattle.std.specs.Cmp.Rules.{hashing};
+ghost use Rattle.std.proofs.Common.{rules};
+ghost use Rattle.std.specs.Hash as fed;
+ghost use Rattle.std.specs.Str.{bytes_eq};
+
+use std::alloc::{AllocError, Global};
+use std::hash::{Hash, Hasher};
+use std::marker::Model;
+
+#[derive(Drop)]
+pub(crate) struct PlainText {
+    text: String,
+}
+
+impl Model for PlainText {
+    ghost Value = { List ℕ };
+
+    ghost view = { λ t. string_bytes t.text };
+}
+
+impl PlainText {
+    pub(crate) fn new(text: String) -> PlainText
+        ensures { result ≡ string_bytes text }
+    {
+        PlainText { text }
+    }
+
+    pub(crate) fn text(&self) -> &String
+        ensures { string_bytes result.now ≡ self.now }
+    {
+        &self.text
+    }
+
+    pub(crate) fn into_text(self) -> String
+        ensures { string_bytes result ≡ self }
+    {
+        self.text
+    }
+
+    pub(crate) fn copy(&self, alloc: Global) -> Result<PlainText, AllocError>
+        ensures { IfOk result (λ copy. copy ≡ self.now) }
+    {
+        Ok(PlainText {
+            text: String::from_str(alloc, self.text.as_str())?,
+        })
+    }
+}
+
+impl PartialEq for PlainText {
+    ghost eq = { bytes_eq };
+
+    ghost laws = { partial_equiv_from_equiv nat_list_eq_equiv };
+
+    fn eq(&self, other: &PlainText) -> bool {
+        self.text == other.text
+    }
+}
+
+impl Eq for PlainText {
+    ghost laws = { nat_list_eq_equiv };
+}
+
+impl Hash for PlainText {
+    ghost hash_input = { λ t. fed.str t };
+
+    ghost respects_eq = { Prim.search (hashing, rules) };
+
+    fn hash<H: Hasher>(&self, state: &mut H) {
+        self.text.hash(state);
+    }
+}

@@ -1,0 +1,59 @@
+//! Passwords of resource owners (RFC 6749, section 4.3.2).
+
+ghost use Rattle.std.specs.Prelude.{◌≡◌, ℕ, List, string_bytes, codes, Some};
+
+use crate::secret::Secret;
+use crate::try_clone::TryClone;
+use std::alloc::{AllocError, Global};
+use std::fmt;
+use std::marker::Model;
+
+/// The resource owner's password (RFC 6749, section 4.3.2).
+#[derive(PartialEq, Eq, Hash, Drop)]
+pub struct ResourceOwnerPassword(Secret);
+
+impl Model for ResourceOwnerPassword {
+    ghost Value = { List ℕ };
+
+    ghost view = { λ s. s.0 };
+
+    ghost inverse = { λ text. record { 0 = text } };
+}
+
+impl ResourceOwnerPassword {
+    pub fn new(secret: String) -> ResourceOwnerPassword
+        ensures { result ≡ string_bytes secret }
+    {
+        ResourceOwnerPassword(Secret::new(secret))
+    }
+
+    pub fn secret(&self) -> &String
+        ensures { string_bytes result.now ≡ self.now }
+    {
+        self.0.text()
+    }
+
+    pub fn into_secret(self) -> String
+        ensures { string_bytes result ≡ self }
+    {
+        self.0.into_text()
+    }
+}
+
+impl TryClone for ResourceOwnerPassword {
+    ghost Seen = { List ℕ };
+
+    ghost seen = { λ text. text };
+
+    fn try_clone(&self, alloc: Global) -> Result<ResourceOwnerPassword, AllocError> {
+        Ok(ResourceOwnerPassword(self.0.copy(alloc)?))
+    }
+}
+
+impl fmt::Debug for ResourceOwnerPassword {
+    ghost debug_output = { λ _. Some (codes "ResourceOwnerPassword([redacted])") };
+
+    fn fmt<W: fmt::Write>(&self, f: &mut fmt::Formatter<W>) -> fmt::Result {
+        f.write_str("ResourceOwnerPassword([redacted])")
+    }
+}

@@ -1,0 +1,64 @@
+//! Response types (RFC 6749, section 3.1.1).
+
+ghost use Rattle.std.specs.Prelude.{◌≡◌, ℕ, List, string_bytes};
+
+use crate::plain_text::PlainText;
+use crate::try_clone::TryClone;
+use std::alloc::{AllocError, Global};
+use std::fmt;
+use std::marker::Model;
+use std::ops::Deref;
+
+/// What the authorization endpoint is to answer with (RFC 6749, section 3.1.1).
+#[derive(PartialEq, Eq, Hash, Drop)]
+pub struct ResponseType(PlainText);
+
+impl Model for ResponseType {
+    ghost Value = { List ℕ };
+
+    ghost view = { λ t. t.0 };
+
+    ghost inverse = { λ text. record { 0 = text } };
+}
+
+impl ResponseType {
+    pub fn new(text: String) -> ResponseType
+        ensures { result ≡ string_bytes text }
+    {
+        ResponseType(PlainText::new(text))
+    }
+}
+
+impl Deref for ResponseType {
+    type Target = String;
+
+    ghost deref_gives = { λ t text. string_bytes text ≡ t };
+
+    fn deref(&self) -> &String {
+        self.0.text()
+    }
+}
+
+impl From<ResponseType> for String {
+    ghost from_gives = { λ t text. string_bytes text ≡ t };
+
+    fn from(text: ResponseType) -> String {
+        text.0.into_text()
+    }
+}
+
+impl TryClone for ResponseType {
+    ghost Seen = { List ℕ };
+
+    ghost seen = { λ text. text };
+
+    fn try_clone(&self, alloc: Global) -> Result<ResponseType, AllocError> {
+        Ok(ResponseType(self.0.copy(alloc)?))
+    }
+}
+
+impl fmt::Debug for ResponseType {
+    fn fmt<W: fmt::Write>(&self, f: &mut fmt::Formatter<W>) -> fmt::Result {
+        f.debug_tuple("ResponseType").field(self.0.text()).finish()
+    }
+}

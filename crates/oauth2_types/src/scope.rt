@@ -1,0 +1,73 @@
+//! Access token scopes (RFC 6749, section 3.3).
+
+ghost use Rattle.std.specs.Prelude.{◌≡◌, ℕ, List, string_bytes};
+
+use crate::plain_text::PlainText;
+use crate::try_clone::TryClone;
+use std::alloc::{AllocError, Global};
+use std::convert::AsStr;
+use std::fmt;
+use std::marker::Model;
+use std::ops::Deref;
+
+/// One entry of an access token's scope (RFC 6749, section 3.3).
+#[derive(PartialEq, Eq, Hash, Drop)]
+pub struct Scope(PlainText);
+
+impl Model for Scope {
+    ghost Value = { List ℕ };
+
+    ghost view = { λ t. t.0 };
+
+    ghost inverse = { λ text. record { 0 = text } };
+}
+
+impl Scope {
+    pub fn new(text: String) -> Scope
+        ensures { result ≡ string_bytes text }
+    {
+        Scope(PlainText::new(text))
+    }
+}
+
+impl Deref for Scope {
+    type Target = String;
+
+    ghost deref_gives = { λ t text. string_bytes text ≡ t };
+
+    fn deref(&self) -> &String {
+        self.0.text()
+    }
+}
+
+impl From<Scope> for String {
+    ghost from_gives = { λ t text. string_bytes text ≡ t };
+
+    fn from(text: Scope) -> String {
+        text.0.into_text()
+    }
+}
+
+impl AsStr for Scope {
+    ghost text = { λ scope. scope };
+
+    fn as_str(&self) -> &str {
+        self.0.text().as_str()
+    }
+}
+
+impl TryClone for Scope {
+    ghost Seen = { List ℕ };
+
+    ghost seen = { λ text. text };
+
+    fn try_clone(&self, alloc: Global) -> Result<Scope, AllocError> {
+        Ok(Scope(self.0.copy(alloc)?))
+    }
+}
+
+impl fmt::Debug for Scope {
+    fn fmt<W: fmt::Write>(&self, f: &mut fmt::Formatter<W>) -> fmt::Result {
+        f.debug_tuple("Scope").field(self.0.text()).finish()
+    }
+}

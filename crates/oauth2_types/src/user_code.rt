@@ -1,0 +1,59 @@
+//! User codes (RFC 8628, section 3.2).
+
+ghost use Rattle.std.specs.Prelude.{◌≡◌, ℕ, List, string_bytes, codes, Some};
+
+use crate::secret::Secret;
+use crate::try_clone::TryClone;
+use std::alloc::{AllocError, Global};
+use std::fmt;
+use std::marker::Model;
+
+/// The code that the user types in at the verification URI (RFC 8628, section 3.2).
+#[derive(PartialEq, Eq, Hash, Drop)]
+pub struct UserCode(Secret);
+
+impl Model for UserCode {
+    ghost Value = { List ℕ };
+
+    ghost view = { λ s. s.0 };
+
+    ghost inverse = { λ text. record { 0 = text } };
+}
+
+impl UserCode {
+    pub fn new(secret: String) -> UserCode
+        ensures { result ≡ string_bytes secret }
+    {
+        UserCode(Secret::new(secret))
+    }
+
+    pub fn secret(&self) -> &String
+        ensures { string_bytes result.now ≡ self.now }
+    {
+        self.0.text()
+    }
+
+    pub fn into_secret(self) -> String
+        ensures { string_bytes result ≡ self }
+    {
+        self.0.into_text()
+    }
+}
+
+impl TryClone for UserCode {
+    ghost Seen = { List ℕ };
+
+    ghost seen = { λ text. text };
+
+    fn try_clone(&self, alloc: Global) -> Result<UserCode, AllocError> {
+        Ok(UserCode(self.0.copy(alloc)?))
+    }
+}
+
+impl fmt::Debug for UserCode {
+    ghost debug_output = { λ _. Some (codes "UserCode([redacted])") };
+
+    fn fmt<W: fmt::Write>(&self, f: &mut fmt::Formatter<W>) -> fmt::Result {
+        f.write_str("UserCode([redacted])")
+    }
+}

@@ -1,0 +1,59 @@
+//! Complete verification URIs (RFC 8628, section 3.3.1).
+
+ghost use Rattle.std.specs.Prelude.{◌≡◌, ℕ, List, string_bytes, codes, Some};
+
+use crate::secret::Secret;
+use crate::try_clone::TryClone;
+use std::alloc::{AllocError, Global};
+use std::fmt;
+use std::marker::Model;
+
+/// A verification URI that holds the user code (RFC 8628, section 3.3.1); it is kept as a text.
+#[derive(PartialEq, Eq, Hash, Drop)]
+pub struct VerificationUriComplete(Secret);
+
+impl Model for VerificationUriComplete {
+    ghost Value = { List ℕ };
+
+    ghost view = { λ s. s.0 };
+
+    ghost inverse = { λ text. record { 0 = text } };
+}
+
+impl VerificationUriComplete {
+    pub fn new(secret: String) -> VerificationUriComplete
+        ensures { result ≡ string_bytes secret }
+    {
+        VerificationUriComplete(Secret::new(secret))
+    }
+
+    pub fn secret(&self) -> &String
+        ensures { string_bytes result.now ≡ self.now }
+    {
+        self.0.text()
+    }
+
+    pub fn into_secret(self) -> String
+        ensures { string_bytes result ≡ self }
+    {
+        self.0.into_text()
+    }
+}
+
+impl TryClone for VerificationUriComplete {
+    ghost Seen = { List ℕ };
+
+    ghost seen = { λ text. text };
+
+    fn try_clone(&self, alloc: Global) -> Result<VerificationUriComplete, AllocError> {
+        Ok(VerificationUriComplete(self.0.copy(alloc)?))
+    }
+}
+
+impl fmt::Debug for VerificationUriComplete {
+    ghost debug_output = { λ _. Some (codes "VerificationUriComplete([redacted])") };
+
+    fn fmt<W: fmt::Write>(&self, f: &mut fmt::Formatter<W>) -> fmt::Result {
+        f.write_str("VerificationUriComplete([redacted])")
+    }
+}
