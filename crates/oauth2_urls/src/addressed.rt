@@ -8,7 +8,7 @@ ghost use Rattle.std.proofs.Common.{rules};
 ghost use Rattle.std.specs.Hash as fed;
 ghost use Rattle.std.specs.Ordering.{nat_cmp};
 ghost use Rattle.std.specs.Str.{bytes_eq};
-ghost use Rattle.oauth2_urls.specs.Addressed.{Addresses};
+ghost use Rattle.oauth2_urls.specs.Addressed.{Addresses, addressed};
 
 use std::alloc::{AllocError, Global};
 use std::cmp::Ordering;
@@ -36,6 +36,13 @@ impl AddressedUrl {
         ensures { Addresses (string_bytes text) result }
     {
         let url = Url::parse(alloc, text.as_str())?;
+        Ok(AddressedUrl { text, url })
+    }
+
+    pub(crate) fn from_url(alloc: Global, url: Url) -> Result<AddressedUrl, AllocError>
+        ensures { IfOk result (λ a. a ≡ addressed url) }
+    {
+        let text = String::from_str(alloc, url.as_str())?;
         Ok(AddressedUrl { text, url })
     }
 

@@ -1,7 +1,7 @@
-//! The URL of the token endpoint.
+//! The URL of the redirection endpoint.
 
-ghost use Rattle.std.specs.Prelude.{◌≡◌, ℕ, List, Some, string_bytes};
-ghost use Rattle.oauth2_urls.specs.Addressed.{Addressed, Addresses};
+ghost use Rattle.std.specs.Prelude.{◌≡◌, ℕ, List, Some, IfOk, string_bytes};
+ghost use Rattle.oauth2_urls.specs.Addressed.{Addressed, Addresses, addressed};
 
 use crate::addressed::AddressedUrl;
 use oauth2_types::TryClone;
@@ -11,6 +11,7 @@ use std::marker::Model;
 use std::ops::Deref;
 use url::{ParseError, Url};
 
+/// The URL of the redirection endpoint (RFC 6749, section 3.1.2), as it was given.
 #[derive(PartialEq, Eq, PartialOrd, Ord, Hash, Drop)]
 pub struct RedirectUrl(AddressedUrl);
 
@@ -23,10 +24,18 @@ impl Model for RedirectUrl {
 }
 
 impl RedirectUrl {
+    /// The text beside the URL that it parses to; the error is the parser's.
     pub fn new(alloc: Global, url: String) -> Result<RedirectUrl, ParseError>
         ensures { Addresses (string_bytes url) result }
     {
         Ok(RedirectUrl(AddressedUrl::new(alloc, url)?))
+    }
+
+    /// The URL beside the text that it is written as.
+    pub fn from_url(alloc: Global, url: Url) -> Result<RedirectUrl, AllocError>
+        ensures { IfOk result (λ u. u ≡ addressed url) }
+    {
+        Ok(RedirectUrl(AddressedUrl::from_url(alloc, url)?))
     }
 
     pub fn url(&self) -> &Url

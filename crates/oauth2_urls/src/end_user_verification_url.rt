@@ -1,0 +1,82 @@
+//! The URL of the page where the user types in the user code.
+
+ghost use Rattle.std.specs.Prelude.{◌≡◌, ℕ, List, Some, IfOk, string_bytes};
+ghost use Rattle.oauth2_urls.specs.Addressed.{Addressed, Addresses, addressed};
+
+use crate::addressed::AddressedUrl;
+use oauth2_types::TryClone;
+use std::alloc::{AllocError, Global};
+use std::fmt;
+use std::marker::Model;
+use std::ops::Deref;
+use url::{ParseError, Url};
+
+/// The URL of the page where the user types in the user code (RFC 8628, section 3.2), as it was given.
+#[derive(PartialEq, Eq, PartialOrd, Ord, Hash, Drop)]
+pub struct EndUserVerificationUrl(AddressedUrl);
+
+impl Model for EndUserVerificationUrl {
+    ghost Value = { Addressed };
+
+    ghost view = { λ u. u.0 };
+
+    ghost inverse = { λ a. record { 0 = a } };
+}
+
+impl EndUserVerificationUrl {
+    /// The text beside the URL that it parses to; the error is the parser's.
+    pub fn new(alloc: Global, url: String) -> Result<EndUserVerificationUrl, ParseError>
+        ensures { Addresses (string_bytes url) result }
+    {
+        Ok(EndUserVerificationUrl(AddressedUrl::new(alloc, url)?))
+    }
+
+    /// The URL beside the text that it is written as.
+    pub fn from_url(alloc: Global, url: Url) -> Result<EndUserVerificationUrl, AllocError>
+        ensures { IfOk result (λ u. u ≡ addressed url) }
+    {
+        Ok(EndUserVerificationUrl(AddressedUrl::from_url(alloc, url)?))
+    }
+
+    pub fn url(&self) -> &Url
+        ensures { result.now ≡ self.now.url }
+    {
+        self.0.url()
+    }
+}
+
+impl Deref for EndUserVerificationUrl {
+    type Target = String;
+
+    ghost deref_gives = { λ u text. string_bytes text ≡ u.text };
+
+    fn deref(&self) -> &String {
+        self.0.text()
+    }
+}
+
+impl TryClone for EndUserVerificationUrl {
+    ghost Seen = { Addressed };
+
+    ghost seen = { λ url. url };
+
+    fn try_clone(&self, alloc: Global) -> Result<EndUserVerificationUrl, AllocError> {
+        Ok(EndUserVerificationUrl(self.0.copy(alloc)?))
+    }
+}
+
+impl fmt::Display for EndUserVerificationUrl {
+    ghost output = { λ u. Some u.text };
+
+    fn fmt<W: fmt::Write>(&self, f: &mut fmt::Formatter<W>) -> fmt::Result {
+        f.write_str(self.0.text().as_str())
+    }
+}
+
+impl fmt::Debug for EndUserVerificationUrl {
+    fn fmt<W: fmt::Write>(&self, f: &mut fmt::Formatter<W>) -> fmt::Result {
+        f.debug_tuple("EndUserVerificationUrl")
+            .field(self.0.text())
+            .finish()
+    }
+}
