@@ -5,6 +5,7 @@ ghost use Rattle.std.specs.Cmp.{on_equiv, on_per, on_po, on_total, partial_equiv
 ghost use Rattle.std.specs.Cmp.Lexicographic.{slice_cmp, nat_list_eq_equiv, nat_list_cmp_total, texts_ties, texts_po};
 ghost use Rattle.std.specs.Cmp.Rules.{hashing};
 ghost use Rattle.std.proofs.Common.{rules};
+ghost use Rattle.std.specs.Fmt.{DisplaysOnOk, debug_str, debug_variant};
 ghost use Rattle.std.specs.Hash as fed;
 ghost use Rattle.std.specs.Ordering.{nat_cmp};
 ghost use Rattle.std.specs.Str.{bytes_eq};
@@ -12,6 +13,7 @@ ghost use Rattle.oauth2_urls.specs.Addressed.{Addresses, addressed};
 
 use std::alloc::{AllocError, Global};
 use std::cmp::Ordering;
+use std::fmt;
 use std::hash::{Hash, Hasher};
 use std::marker::Model;
 use url::{ParseError, Url};
@@ -64,6 +66,16 @@ impl AddressedUrl {
         let text = String::from_str(alloc, self.text.as_str())?;
         let url = self.url.clone()?;
         Ok(AddressedUrl { text, url })
+    }
+
+    /// The name, and the text in quotes and parentheses.
+    pub(crate) fn debug<W: fmt::Write>(&self, f: &mut fmt::Formatter<W>, name: &str) -> fmt::Result
+        ensures { DisplaysOnOk W.write_str_gives f.old result (debug_variant name.now (debug_str self.now.text)) f.new }
+    {
+        if f.alternate() {
+            return f.debug_tuple(name).field(&self.text).finish();
+        }
+        write!(f, "{name}({:?})", self.text)
     }
 }
 

@@ -1,6 +1,7 @@
 //! The URL of the page where the user types in the user code.
 
-ghost use Rattle.std.specs.Prelude.{◌≡◌, ℕ, List, Some, IfOk, string_bytes};
+ghost use Rattle.std.specs.Prelude.{◌≡◌, ℕ, List, Some, IfOk, codes, string_bytes};
+ghost use Rattle.std.specs.Fmt.{debug_str, debug_variant};
 ghost use Rattle.oauth2_urls.specs.Addressed.{Addressed, Addresses, addressed};
 
 use crate::addressed::AddressedUrl;
@@ -74,9 +75,9 @@ impl fmt::Display for EndUserVerificationUrl {
 }
 
 impl fmt::Debug for EndUserVerificationUrl {
+    ghost debug_output = { λ u. debug_variant (codes "EndUserVerificationUrl") (debug_str u.text) };
+
     fn fmt<W: fmt::Write>(&self, f: &mut fmt::Formatter<W>) -> fmt::Result {
-        f.debug_tuple("EndUserVerificationUrl")
-            .field(self.0.text())
-            .finish()
+        self.0.debug(f, "EndUserVerificationUrl")
     }
 }
