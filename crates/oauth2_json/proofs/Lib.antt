@@ -1,0 +1,9 @@
+pub mod Objects
+pub mod Puts
+pub mod Order
+pub mod Lists
+pub mod WholeValue
+pub mod Words
+pub mod Seconds
+pub mod ErrorMembers
+pub mod Codes

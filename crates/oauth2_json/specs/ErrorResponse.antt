@@ -1,0 +1,56 @@
+-- RFC 6749, 5.2: the members of an error response.
+use Rattle.std.specs.Prelude.{◌≡◌, ℕ, List, [], ◌++◌, Option, Some, None, Ok, Err, codes, option_map, string_bytes}
+use Rattle.serde_json.specs.Data.{Data, Members, string, object, no_members, put}
+use Rattle.serde_json.specs.Find.{get_member}
+use Rattle.oauth2_json.specs.Reading.{Reading, read_then, ◌⊛◌}
+use Rattle.oauth2_json.specs.Writing.{Writing, write_then}
+use Rattle.oauth2_json.specs.Members.{members_of_object, needed, optional, put_some}
+use Rattle.oauth2_json.specs.Values.{text}
+use Rattle.oauth2_json.specs.declared.error_response.StandardErrorResponse.{StandardErrorResponse}
+
+pub record ErrorParts (T : Type 0) : Type 0 where
+  pub error : T
+  pub description : Option (List ℕ)
+  pub uri : Option (List ℕ)
+
+abbrev pub parts : {T : Type 0} → T → Option (List ℕ) → Option (List ℕ) → ErrorParts T
+parts e d u = record { error = e; description = d; uri = u }
+
+-- a response without where its texts lie in memory, its code seen by f
+abbrev pub parts_of : {T M : Type 0} → (T → M) → StandardErrorResponse T → ErrorParts M
+parts_of f r = parts (f r.error) (option_map string_bytes r.error_description) (option_map string_bytes r.error_uri)
+
+-- the table
+abbrev pub error_row : {T : Type 0} → (Data → Reading T) → Members → Reading (ErrorParts T)
+error_row code ms =
+    Ok parts
+    ⊛ needed code (codes "error") (get_member (codes "error") ms)
+    ⊛ optional text (codes "error_description") (get_member (codes "error_description") ms)
+    ⊛ optional text (codes "error_uri") (get_member (codes "error_uri") ms)
+
+abbrev pub error_reading : {T : Type 0} → (Data → Reading T) → Data → Reading (ErrorParts T)
+error_reading code d = read_then (members_of_object d) (error_row code)
+
+abbrev pub error_members : Data → Option (List ℕ) → Option (List ℕ) → Members
+error_members code description uri =
+    put (codes "error") code (put_some (codes "error_description") (option_map string description)
+    (put_some (codes "error_uri") (option_map string uri) no_members))
+
+abbrev pub error_writing : {T : Type 0} → (T → Writing) → ErrorParts T → Writing
+error_writing code r = write_then (code r.error) (λ d. Ok (object (error_members d r.description r.uri)))
+
+-- the code is written as a text that reads back as itself
+abbrev pub IsReadBack : {T M : Type 0} → (Data → Reading M) → (T → M) → (T → Writing) → T → Type 0
+IsReadBack reading meaning writing t = (s : List ℕ) × (writing t ≡ Ok (string s)) × (reading (string s) ≡ Ok (meaning t))
+
+abbrev pub after_colon : Option (List ℕ) → List ℕ
+after_colon None = []
+after_colon (Some d) = codes ": " ++ d
+
+abbrev pub in_brackets : Option (List ℕ) → List ℕ
+in_brackets None = []
+in_brackets (Some u) = codes " (see " ++ u ++ codes ")"
+
+-- what `Display` writes, where the code's own text is known
+abbrev pub error_text : {T : Type 0} → Option (List ℕ) → StandardErrorResponse T → Option (List ℕ)
+error_text code r = option_map (λ c. (c ++ after_colon (option_map string_bytes r.error_description)) ++ in_brackets (option_map string_bytes r.error_uri)) code

@@ -1,0 +1,9 @@
+pub mod Reading
+pub mod Writing
+pub mod Values
+pub mod Members
+pub mod Puts
+pub mod ErrorResponse
+pub mod Words
+pub mod Codes
+pub mod Body

@@ -1,0 +1,119 @@
+-- The kinds of values that members hold.
+use Rattle.url.specs.Parser.{parse_url}
+use Rattle.oauth2_urls.specs.Addressed.{Addressed}
+use Rattle.std.specs.Prelude.{ℕ, ℤ, pos, neg_ℤ, ◌*ℤ◌, int_lt, not, ◌&&◌, List, [], ◌∷◌, map, Bool, if◌then◌else◌, Option, Some, None, Result, Ok, Err}
+use Rattle.std.specs.Char.{to_ascii_lowercase}
+use Rattle.std.specs.Int.{int_div_euclid}
+use Rattle.serde_json.specs.Data.{Num, unsigned, negative, float, Data, null, boolean, number, string, array, object, Items, no_items, item}
+use Rattle.serde_json.specs.Find.{of_integer}
+use Rattle.oauth2_json.specs.Reading.{Reading, whole, at_member, read_then, ◌⊛◌}
+use Rattle.oauth2_json.specs.Words.{pieces}
+use Rattle.oauth2_json.specs.declared.read.ParseCause.TheVariants as cause
+
+abbrev pub wrong_type : {A : Type 0} → Reading A
+wrong_type = Err (whole cause.WrongType)
+
+-- a JSON text
+abbrev pub text : Data → Reading (List ℕ)
+text null = wrong_type
+text (boolean b) = wrong_type
+text (number n) = wrong_type
+text (string s) = Ok s
+text (array ds) = wrong_type
+text (object ms) = wrong_type
+
+-- true or false
+abbrev pub flag : Data → Reading Bool
+flag null = wrong_type
+flag (boolean b) = Ok b
+flag (number n) = wrong_type
+flag (string s) = wrong_type
+flag (array ds) = wrong_type
+flag (object ms) = wrong_type
+
+-- a whole number that is not negative; `serde_json` holds a fraction, an exponent, -0 and a whole
+-- number outside its integers as a float
+abbrev pub natural : Num → Reading ℕ
+natural (unsigned n) = Ok n
+natural (negative z) = Err (whole cause.OutOfRange)
+natural (float x) = Err (whole cause.NotWhole)
+
+abbrev pub whole_number : Data → Reading ℕ
+whole_number null = wrong_type
+whole_number (boolean b) = wrong_type
+whole_number (number n) = natural n
+whole_number (string s) = wrong_type
+whole_number (array ds) = wrong_type
+whole_number (object ms) = wrong_type
+
+-- ---- instants: whole seconds since 1970-01-01T00:00:00Z, seen as nanoseconds
+
+-- whether `jiff` has the instant of that many nanoseconds
+abbrev pub is_instant : ℤ → Bool
+is_instant n = not (int_lt n (neg_ℤ (pos 377_705_023_201_000_000_000))) && not (int_lt (pos 253_402_207_200_999_999_999) n)
+
+abbrev pub instant_at : ℤ → Reading ℤ
+instant_at z = if is_instant (z *ℤ pos 1_000_000_000) then Ok (z *ℤ pos 1_000_000_000) else Err (whole cause.OutOfRange)
+
+abbrev pub instant_of : Num → Reading ℤ
+instant_of (unsigned n) = instant_at (pos n)
+instant_of (negative z) = instant_at z
+instant_of (float x) = Err (whole cause.NotWhole)
+
+abbrev pub instant : Data → Reading ℤ
+instant null = wrong_type
+instant (boolean b) = wrong_type
+instant (number n) = instant_of n
+instant (string s) = wrong_type
+instant (array ds) = wrong_type
+instant (object ms) = wrong_type
+
+-- the whole seconds of an instant, rounded down
+abbrev pub second_of : ℤ → ℤ
+second_of n = int_div_euclid n (pos 1_000_000_000)
+
+abbrev pub second_data : ℤ → Data
+second_data n = number (of_integer (second_of n))
+
+-- ---- URLs
+
+-- a text beside the URL that it is, by the URL Standard
+abbrev pub url_text : List ℕ → Reading Addressed
+url_text s = elim (parse_url None s) [ Ok u ↦ Ok (record { text = s; url = u }) | Err e ↦ Err (whole cause.BadUrl) ]
+
+abbrev pub url : Data → Reading Addressed
+url d = read_then (text d) url_text
+
+-- ---- texts that hold another value, or several
+
+-- a text, its ASCII letters lowered, as `kind` reads it
+abbrev pub lowered : {A : Type 0} → (Data → Reading A) → Data → Reading A
+lowered kind d = read_then (text d) (λ s. kind (string (map to_ascii_lowercase s)))
+
+-- each piece as `kind` reads it; a fault names no member
+abbrev pub each : {A : Type 0} → (Data → Reading A) → List (List ℕ) → Reading (List A)
+each kind [] = Ok []
+each kind (p ∷ ps) = Ok (λ first later. first ∷ later) ⊛ at_member [] (kind (string p)) ⊛ each kind ps
+
+-- RFC 6749, 3.3: a text, split at every space, each piece as `kind` reads it
+abbrev pub spaced : {A : Type 0} → (Data → Reading A) → Data → Reading (List A)
+spaced kind d = read_then (text d) (λ s. each kind (pieces s))
+
+-- ---- lists of texts
+
+abbrev pub each_text : Items → Reading (List (List ℕ))
+each_text no_items = Ok []
+each_text (item d ds) = Ok (λ first later. first ∷ later) ⊛ text d ⊛ each_text ds
+
+-- RFC 7662, 2.2, of an audience: a text is a list of one
+abbrev pub texts : Data → Reading (List (List ℕ))
+texts null = wrong_type
+texts (boolean b) = wrong_type
+texts (number n) = wrong_type
+texts (string s) = Ok (s ∷ [])
+texts (array ds) = each_text ds
+texts (object ms) = wrong_type
+
+abbrev pub text_items : List (List ℕ) → Items
+text_items [] = no_items
+text_items (p ∷ ps) = item (string p) (text_items ps)

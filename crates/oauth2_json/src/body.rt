@@ -1,0 +1,37 @@
+//! Whole texts of JSON.
+
+ghost use Rattle.std.specs.Prelude.{◌≡◌, ◌≤◌, Ok, Some, false, IfOk, string_bytes};
+ghost use Rattle.serde_json.specs.Data.{Data, depth};
+ghost use Rattle.serde_json.specs.Read.{read, max_depth};
+ghost use Rattle.serde_json.specs.Written.{has_float, compact_text};
+ghost use Rattle.oauth2_json.specs.Body.{body_reading};
+ghost use Rattle.oauth2_json.specs.Reading.{ReadsAs};
+
+use crate::read::{FromJson, ParseCause, ReadError};
+use crate::write::{ToJson, WriteError};
+use serde_json::Value;
+use std::alloc::Global;
+
+/// Reads one whole JSON value.
+pub fn read_body<T: FromJson>(alloc: Global, bytes: &[u8]) -> Result<T, ReadError>
+    ensures { ReadsAs T.meaning result (body_reading T.reading bytes.now) }
+{
+    match Value::from_slice(alloc, bytes) {
+        Ok(value) => T::from_json(alloc, value),
+        Err(error) => if error.is_memory() {
+            Err(ReadError::Memory)
+        } else {
+            Err(ReadError::whole(alloc, ParseCause::NotJson))
+        },
+    }
+}
+
+/// The compact text of what is written.
+pub fn compact<T: ToJson>(alloc: Global, value: &T) -> Result<String, WriteError>
+    ensures { IfOk result (λ s. (d : Data) × (T.writing value.now ≡ Ok d)
+        × (has_float d ≡ false → string_bytes s ≡ compact_text d)
+        × (depth d ≤ max_depth → read (string_bytes s) ≡ Some d)) }
+{
+    let json = value.to_json(alloc)?;
+    Ok(json.to_string(alloc)?)
+}

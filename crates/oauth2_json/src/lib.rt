@@ -1,0 +1,26 @@
+//! JSON values of OAuth 2.0: what reads to which record, and what is written.
+#![tactic(auto)]
+
+mod body;
+mod error_response;
+mod error_traits;
+mod floats;
+mod instants;
+mod lowered;
+pub mod members;
+mod numbers;
+mod read;
+mod secrets;
+mod spaced;
+mod text_lists;
+mod texts;
+mod token_type;
+mod urls;
+mod write;
+
+pub use body::{compact, read_body};
+pub use error_response::StandardErrorResponse;
+pub use error_traits::{ErrorResponse, ErrorResponseType};
+pub use read::{FromJson, ParseCause, ParseFault, ReadError};
+pub use token_type::{BasicTokenType, TokenType, token_type_laws};
+pub use write::{ToJson, WriteError};

@@ -1,0 +1,109 @@
+//! Numbers and truth values as members.
+
+ghost use Rattle.std.specs.Prelude.{◌≡◌, ℕ, Bool, option_map};
+ghost use Rattle.serde_json.specs.Data.{number, unsigned};
+ghost use Rattle.serde_json.specs.View.{view};
+ghost use Rattle.oauth2_json.specs.Reading.{ReadsAs};
+ghost use Rattle.oauth2_json.specs.Members.{needed, optional, defaulted};
+ghost use Rattle.oauth2_json.specs.Values.{flag, whole_number};
+
+use crate::members;
+use crate::read::{FromJson, ParseCause, ReadError};
+use serde_json::Value;
+use std::alloc::Global;
+
+/// True or false.
+#[derive(Drop)]
+struct Flag(bool);
+
+impl FromJson for Flag {
+    ghost Meaning = { Bool };
+
+    ghost meaning = { λ b. b.0 };
+
+    ghost reading = { flag };
+
+    fn from_json(alloc: Global, value: Value) -> Result<Flag, ReadError> {
+        match value {
+            Value::Bool(b) => Ok(Flag(b)),
+            _ => Err(ReadError::whole(alloc, ParseCause::WrongType)),
+        }
+    }
+}
+
+/// A whole number that is not negative.
+#[derive(Drop)]
+struct WholeNumber(u64);
+
+impl FromJson for WholeNumber {
+    ghost Meaning = { ℕ };
+
+    ghost meaning = { λ n. n.0 };
+
+    ghost reading = { whole_number };
+
+    fn from_json(alloc: Global, value: Value) -> Result<WholeNumber, ReadError> {
+        match value {
+            Value::Number(number) => {
+                if let Some(n) = number.as_u64() {
+                    Ok(WholeNumber(n))
+                } else if number.is_f64() {
+                    Err(ReadError::whole(alloc, ParseCause::NotWhole))
+                } else {
+                    Err(ReadError::whole(alloc, ParseCause::OutOfRange))
+                }
+            }
+            _ => Err(ReadError::whole(alloc, ParseCause::WrongType)),
+        }
+    }
+}
+
+/// A truth value that has to be there.
+pub fn needed_flag(alloc: Global, name: &str, found: Option<Value>) -> Result<bool, ReadError>
+    ensures { ReadsAs (λ b. b) result (needed flag name.now (option_map view found)) }
+{
+    let Flag(b) = members::needed::<Flag>(alloc, name, found)?;
+    Ok(b)
+}
+
+/// A number that has to be there.
+pub fn needed_number(alloc: Global, name: &str, found: Option<Value>) -> Result<u64, ReadError>
+    ensures { ReadsAs (λ n. n) result (needed whole_number name.now (option_map view found)) }
+{
+    let WholeNumber(n) = members::needed::<WholeNumber>(alloc, name, found)?;
+    Ok(n)
+}
+
+/// A number that may be absent or null.
+pub fn optional_number(
+    alloc: Global,
+    name: &str,
+    found: Option<Value>,
+) -> Result<Option<u64>, ReadError>
+    ensures { ReadsAs (λ n. n) result (optional whole_number name.now (option_map view found)) }
+{
+    match members::optional::<WholeNumber>(alloc, name, found)? {
+        Some(WholeNumber(n)) => Ok(Some(n)),
+        None => Ok(None),
+    }
+}
+
+/// A number that is `n` where it is absent or null.
+pub fn number_or(alloc: Global, name: &str, n: u64, found: Option<Value>) -> Result<u64, ReadError>
+    ensures { ReadsAs (λ n. n) result (defaulted whole_number name.now n (option_map view found)) }
+{
+    match members::optional::<WholeNumber>(alloc, name, found)? {
+        Some(WholeNumber(n)) => Ok(n),
+        None => Ok(n),
+    }
+}
+
+/// The value of a number that may be absent.
+pub fn number_value(n: Option<u64>) -> Option<Value>
+    ensures { option_map view result ≡ option_map (λ x. number (unsigned x)) n }
+{
+    match n {
+        Some(n) => Some(Value::from(n)),
+        None => None,
+    }
+}

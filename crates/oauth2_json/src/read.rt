@@ -1,0 +1,105 @@
+//! Reading: what a type reads a JSON value to, and why it reads to nothing.
+
+ghost use Rattle.oauth2_json.specs.Reading.{FaultsAs, UnderAs, whole};
+
+use serde_json::Value;
+use std::alloc::{AllocError, AllocFailed, Global};
+
+/// Why a value reads to nothing.
+#[derive(Clone, Copy, Debug, PartialEq, Eq, Drop)]
+pub enum ParseCause {
+    NotJson,
+    NotObject,
+    Missing,
+    WrongType,
+    NotWhole,
+    OutOfRange,
+    BadUrl,
+    BothNames,
+    Refused,
+}
+
+/// The member at fault, empty where it is the whole value.
+#[derive(Debug, PartialEq, Eq, Drop)]
+pub struct ParseFault {
+    pub member: String,
+    pub cause: ParseCause,
+}
+
+#[derive(Debug, PartialEq, Eq, Drop)]
+pub enum ReadError {
+    Fault(ParseFault),
+    Memory,
+}
+
+impl From<AllocError> for ReadError {
+    ghost use Rattle.std.specs.Prelude.{◌≡◌};
+    ghost use Rattle.oauth2_json.specs.declared.read.ReadError.TheVariants.{Memory};
+
+    ghost from_gives = { λ _ e. e ≡ Memory };
+
+    fn from(_e: AllocError) -> ReadError {
+        ReadError::Memory
+    }
+}
+
+impl<T: Drop> From<AllocFailed<T>> for ReadError {
+    ghost use Rattle.std.specs.Prelude.{◌≡◌};
+    ghost use Rattle.oauth2_json.specs.declared.read.ReadError.TheVariants.{Memory};
+
+    ghost from_gives = { λ _ e. e ≡ Memory };
+
+    fn from(_e: AllocFailed<T>) -> ReadError {
+        ReadError::Memory
+    }
+}
+
+impl ReadError {
+    /// The whole value is at fault.
+    pub fn whole(alloc: Global, cause: ParseCause) -> ReadError
+        ensures { FaultsAs result (whole cause) }
+    {
+        ReadError::Fault(ParseFault {
+            member: String::new(alloc),
+            cause,
+        })
+    }
+
+    /// The member is at fault.
+    pub fn at(alloc: Global, name: &str, cause: ParseCause) -> ReadError
+        ensures { FaultsAs result (record { member = name.now; cause = cause }) }
+    {
+        match String::from_str(alloc, name) {
+            Ok(member) => ReadError::Fault(ParseFault { member, cause }),
+            Err(_) => ReadError::Memory,
+        }
+    }
+
+    /// The same cause, under the outer member's name.
+    pub fn under(self, alloc: Global, name: &str) -> ReadError
+        ensures { UnderAs name.now self result }
+    {
+        match self {
+            ReadError::Fault(fault) => ReadError::at(alloc, name, fault.cause),
+            ReadError::Memory => ReadError::Memory,
+        }
+    }
+}
+
+/// A type that JSON values read to.
+pub trait FromJson {
+    ghost use Rattle.oauth2_json.specs.Reading.{Reading, ReadsAs};
+    ghost use Rattle.serde_json.specs.Data.{Data};
+    ghost use Rattle.serde_json.specs.View.{view};
+
+    /// What contracts see of a record: its texts as bytes, wherever they lie in memory.
+    ghost Meaning: { Type 0 };
+
+    ghost meaning: { Self → Meaning };
+
+    /// What a value reads to.
+    ghost reading: { Data → Reading Meaning };
+
+    fn from_json(alloc: Global, value: Value) -> Result<Self, ReadError>
+        ensures { ReadsAs meaning result (reading (view value)) };
+}

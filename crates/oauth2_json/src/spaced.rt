@@ -1,0 +1,107 @@
+//! Texts that hold a list, with one space between two entries (RFC 6749, section 3.3).
+
+ghost use Rattle.std.specs.Prelude.{◌≡◌, List, IfOk, OnOk, string_bytes, [], ◌++◌, map, option_map};
+ghost use Rattle.serde_json.specs.Data.{string};
+ghost use Rattle.serde_json.specs.View.{view};
+ghost use Rattle.oauth2_json.specs.Reading.{ReadsAs, at_member};
+ghost use Rattle.oauth2_json.specs.Members.{optional};
+ghost use Rattle.oauth2_json.specs.Values.{each, spaced};
+ghost use Rattle.oauth2_json.specs.Words.{pieces, joined, lead};
+
+use crate::members;
+use crate::read::{FromJson, ReadError};
+use serde_json::Value;
+use std::alloc::{AllocError, Global};
+use std::convert::AsStr;
+
+fn piece<T: FromJson>(alloc: Global, text: &str) -> Result<T, ReadError>
+    ensures { ReadsAs T.meaning result (at_member [] (T.reading (string text.now))) }
+{
+    match T::from_json(alloc, Value::try_from_str(alloc, text)?) {
+        Ok(read) => Ok(read),
+        Err(error) => Err(error.under(alloc, "")),
+    }
+}
+
+/// Each piece of the text between spaces, as `T` reads it.
+pub fn pieces<T: FromJson + Drop>(alloc: Global, text: &str) -> Result<Vec<T>, ReadError>
+    ensures { ReadsAs (λ v. map T.meaning v.items) result (each T.reading (pieces text.now)) }
+{
+    let mut read = Vec::new(alloc);
+    let mut rest = text;
+    while let Some((first, later)) = rest.split_once(' ') {
+        read.push(piece(alloc, first)?)?;
+        rest = later;
+    }
+    read.push(piece(alloc, rest)?)?;
+    Ok(read)
+}
+
+fn push_word(text: &mut String, is_first: bool, word: &str) -> Result<(), AllocError>
+    ensures { OnOk result (string_bytes text.new ≡ string_bytes text.old ++ lead is_first word.now) }
+{
+    if !is_first {
+        text.push_str(" ")?;
+    }
+    text.push_str(word)
+}
+
+/// The texts, with one space between two.
+#[tactic(auto, using(crate::proofs::Words::words_facts))]
+pub fn joined<T: AsStr>(alloc: Global, items: &[T]) -> Result<String, AllocError>
+    ensures { IfOk result (λ s. string_bytes s ≡ joined (map T.text items.now)) }
+{
+    let mut text = String::new(alloc);
+    let mut is_first = true;
+    for item in items {
+        push_word(&mut text, is_first, item.as_str())?;
+        is_first = false;
+    }
+    Ok(text)
+}
+
+/// A text, split at every space, of which `T` reads each piece.
+#[derive(Drop)]
+pub(crate) struct Spaced<T>(pub(crate) Vec<T>);
+
+impl<T: FromJson + Drop> FromJson for Spaced<T> {
+    ghost Meaning = { List T.Meaning };
+
+    ghost meaning = { λ s. map T.meaning s.0.items };
+
+    ghost reading = { spaced T.reading };
+
+    fn from_json(alloc: Global, value: Value) -> Result<Spaced<T>, ReadError> {
+        let text = String::from_json(alloc, value)?;
+        Ok(Spaced(pieces(alloc, text.as_str())?))
+    }
+}
+
+/// The list of a text that may be absent or null.
+pub fn optional_words<T: FromJson + Drop>(
+    alloc: Global,
+    name: &str,
+    found: Option<Value>,
+) -> Result<Option<Vec<T>>, ReadError>
+    ensures { ReadsAs (option_map (λ v. map T.meaning v.items)) result
+        (optional (spaced T.reading) name.now (option_map view found)) }
+{
+    match members::optional::<Spaced<T>>(alloc, name, found)? {
+        Some(Spaced(words)) => Ok(Some(words)),
+        None => Ok(None),
+    }
+}
+
+/// The text of a list that may be absent.
+pub fn words_value<T: AsStr>(
+    alloc: Global,
+    words: &Option<Vec<T>>,
+) -> Result<Option<Value>, AllocError>
+    ensures { IfOk result (λ v. option_map view v
+        ≡ option_map (λ ps. string (joined ps)) (option_map (λ v. map T.text v.items) words.now)) }
+{
+    match words {
+        Some(words) => Ok(Some(Value::String(joined(alloc, words.as_slice())?))),
+        None => Ok(None),
+    }
+}

@@ -1,0 +1,99 @@
+//! URLs as JSON texts.
+
+ghost use Rattle.std.specs.Prelude.{◌≡◌, ℕ, List, None, Ok, Err, ◌⊎◌};
+ghost use Rattle.serde_json.specs.Data.{string};
+ghost use Rattle.oauth2_urls.specs.Addressed.{Addressed};
+ghost use Rattle.oauth2_json.specs.Reading.{ErrsAs};
+ghost use Rattle.oauth2_json.specs.Values.{url, url_text};
+ghost use Rattle.url.specs.Parser.{parse_url, IsOutOfRoom};
+
+use crate::read::{FromJson, ParseCause, ReadError};
+use crate::write::{ToJson, WriteError};
+use oauth2_urls::{AuthUrl, RedirectUrl, TokenUrl};
+use serde_json::Value;
+use std::alloc::Global;
+use std::ops::Deref;
+use url::ParseError;
+
+/// Why a text is no URL.
+fn refused(alloc: Global, error: ParseError) -> ReadError
+    ensures { (text : List ℕ) → (parse_url None text ≡ Err error) ⊎ IsOutOfRoom error
+        → ErrsAs result (url_text text) }
+{
+    match error {
+        ParseError::OutOfMemory | ParseError::Overflow => ReadError::Memory,
+        _ => ReadError::whole(alloc, ParseCause::BadUrl),
+    }
+}
+
+impl FromJson for AuthUrl {
+    ghost Meaning = { Addressed };
+
+    ghost meaning = { λ u. u };
+
+    ghost reading = { url };
+
+    fn from_json(alloc: Global, value: Value) -> Result<AuthUrl, ReadError> {
+        let text = String::from_json(alloc, value)?;
+        match AuthUrl::new(alloc, text) {
+            Ok(url) => Ok(url),
+            Err(error) => Err(refused(alloc, error)),
+        }
+    }
+}
+
+impl ToJson for AuthUrl {
+    ghost writing = { λ u. Ok (string u.text) };
+
+    fn to_json(&self, alloc: Global) -> Result<Value, WriteError> {
+        Ok(Value::try_from_str(alloc, self.deref().as_str())?)
+    }
+}
+
+impl FromJson for RedirectUrl {
+    ghost Meaning = { Addressed };
+
+    ghost meaning = { λ u. u };
+
+    ghost reading = { url };
+
+    fn from_json(alloc: Global, value: Value) -> Result<RedirectUrl, ReadError> {
+        let text = String::from_json(alloc, value)?;
+        match RedirectUrl::new(alloc, text) {
+            Ok(url) => Ok(url),
+            Err(error) => Err(refused(alloc, error)),
+        }
+    }
+}
+
+impl ToJson for RedirectUrl {
+    ghost writing = { λ u. Ok (string u.text) };
+
+    fn to_json(&self, alloc: Global) -> Result<Value, WriteError> {
+        Ok(Value::try_from_str(alloc, self.deref().as_str())?)
+    }
+}
+
+impl FromJson for TokenUrl {
+    ghost Meaning = { Addressed };
+
+    ghost meaning = { λ u. u };
+
+    ghost reading = { url };
+
+    fn from_json(alloc: Global, value: Value) -> Result<TokenUrl, ReadError> {
+        let text = String::from_json(alloc, value)?;
+        match TokenUrl::new(alloc, text) {
+            Ok(url) => Ok(url),
+            Err(error) => Err(refused(alloc, error)),
+        }
+    }
+}
+
+impl ToJson for TokenUrl {
+    ghost writing = { λ u. Ok (string u.text) };
+
+    fn to_json(&self, alloc: Global) -> Result<Value, WriteError> {
+        Ok(Value::try_from_str(alloc, self.deref().as_str())?)
+    }
+}
