@@ -1,0 +1,4 @@
+pub mod BasicLemmas
+pub mod WrittenLemmas
+pub mod ByNameLemmas
+pub mod ParamsLemmas

@@ -1,0 +1,78 @@
+-- What a request is to hold, from the configuration of a client and of the request.
+use Rattle.std.specs.Prelude.{ℕ, List, [], ◌∷◌, ◌++◌, codes, Option, Some, None}
+use Rattle.std.specs.List.{join_by}
+use Rattle.http_header.specs.FieldValue.{FieldValue, plain_value}
+use Rattle.http_header.specs.HeaderMap.{Entries}
+use Rattle.oauth2_wire.specs.declared.request.AuthType.{AuthType}
+use Rattle.oauth2_wire.specs.declared.request.AuthType.TheVariants.{RequestBody, BasicAuth}
+use Rattle.oauth2_wire.specs.Pairs.{Pair}
+use Rattle.oauth2_wire.specs.Basic.{basic_value}
+
+-- who asks, how the identifier and the secret are shown, and what is asked, as texts
+pub record Configuration : Type 0 where
+  pub auth_type : AuthType
+  pub client_id : List ℕ
+  pub client_secret : Option (List ℕ)
+  pub own_pairs : List Pair
+  pub scope : Option (List ℕ)
+  pub redirect_uri : Option (List ℕ)
+  pub extra_pairs : List Pair
+
+-- scopes as one text, where there are any
+abbrev pub joined_scope : Option (List (List ℕ)) → Option (List ℕ)
+joined_scope None = None
+joined_scope (Some []) = None
+joined_scope (Some (first ∷ rest)) = Some (join_by (λ s. s) (codes " ") (first ∷ rest))
+
+-- the credentials that go into the header: under `BasicAuth`, where there is a secret
+abbrev pub basic_credentials : AuthType → List ℕ → Option (List ℕ) → Option Pair
+basic_credentials BasicAuth id (Some secret) = Some (id, secret)
+basic_credentials BasicAuth id None = None
+basic_credentials RequestBody id (Some secret) = None
+basic_credentials RequestBody id None = None
+
+-- one pair, where there is a value
+abbrev pub optional_pair : List ℕ → Option (List ℕ) → List Pair
+optional_pair name None = []
+optional_pair name (Some value) = (name, value) ∷ []
+
+-- the credentials that go into the body: where none go into the header
+abbrev pub body_credentials : Option Pair → List ℕ → Option (List ℕ) → List Pair
+body_credentials None id secret = (codes "client_id", id) ∷ optional_pair (codes "client_secret") secret
+body_credentials (Some pair) id secret = []
+
+-- what `basic` reads of the header
+abbrev pub expected_basic : Configuration → Option Pair
+expected_basic c = basic_credentials c.auth_type c.client_id c.client_secret
+
+-- what `form` reads of the body
+abbrev pub expected_pairs : Configuration → List Pair
+expected_pairs c =
+    c.own_pairs ++ optional_pair (codes "scope") c.scope ++ body_credentials (expected_basic c) c.client_id c.client_secret
+    ++ optional_pair (codes "redirect_uri") c.redirect_uri ++ c.extra_pairs
+
+-- a name with one value
+abbrev pub one_header : List ℕ → List ℕ → Entries FieldValue
+one_header name value = (name, plain_value value ∷ []) ∷ []
+
+abbrev pub authorization_header : Option Pair → Entries FieldValue
+authorization_header None = []
+authorization_header (Some pair) = one_header (codes "authorization") (basic_value pair.0 pair.1)
+
+-- the header of a value that is there
+abbrev pub optional_authorization : Option FieldValue → Entries FieldValue
+optional_authorization None = []
+optional_authorization (Some value) = (codes "authorization", value ∷ []) ∷ []
+
+-- the two headers that every request has, and then this one
+abbrev pub headers_before : Entries FieldValue → Entries FieldValue
+headers_before authorization =
+    one_header (codes "accept") (codes "application/json")
+    ++ one_header (codes "content-type") (codes "application/x-www-form-urlencoded") ++ authorization
+
+abbrev pub headers_with : Option FieldValue → Entries FieldValue
+headers_with authorization = headers_before (optional_authorization authorization)
+
+-- every header of the request, in order
+abbrev pub expected_headers : Configuration → Entries FieldValue
+expected_headers c = headers_before (authorization_header (expected_basic c))

@@ -1,0 +1,65 @@
+//! A text that is kept as a form encodes it.
+ghost use Rattle.std.specs.Prelude.{◌≡◌, ◌++◌, All, codes, IfOk, OnOk, OnErr, string_bytes};
+ghost use Rattle.percent_encoding.proofs.PercentLemmas.{IsByte};
+ghost use Rattle.form_urlencoded.specs.Form.{byte_serialize as encoded_text};
+
+use crate::basic::append_encoded;
+use std::alloc::{AllocError, Global};
+use std::marker::Model;
+
+/// A text, kept as a form encodes it. Contracts see the text.
+#[derive(Debug, Drop)]
+pub(crate) struct EncodedText {
+    text: String,
+}
+
+impl Model for EncodedText {
+    ghost use Rattle.std.specs.Prelude.{ℕ, List, string_bytes};
+    ghost use Rattle.form_urlencoded.specs.Form.{decode};
+    ghost use Rattle.oauth2_wire.specs.Written.{IsEncodedText};
+
+    ghost Value = { List ℕ };
+
+    ghost view = { λ t. decode (string_bytes t.text) };
+
+    ghost invariant = { λ t. IsEncodedText (string_bytes t.text) };
+}
+
+impl EncodedText {
+    /// The text, encoded.
+    pub(crate) fn new(alloc: Global, s: &str) -> Result<EncodedText, AllocError>
+        ensures { IfOk result (λ t. t ≡ s.now) }
+    {
+        let mut text = String::new(alloc);
+        append_encoded(&mut text, s)?;
+        Ok(EncodedText { text })
+    }
+
+    /// Adds a space and the word.
+    pub(crate) fn push_word(&mut self, word: &str) -> Result<(), AllocError>
+        ensures ok { OnOk result (self.new ≡ self.old ++ codes " " ++ word.now) }
+        ensures err { OnErr result (self.new ≡ self.old) }
+    {
+        let word = encoded_word(*self.text.allocator(), word)?;
+        self.text.push_str(word.as_str())?;
+        Ok(())
+    }
+
+    /// The encoding.
+    pub(crate) fn as_encoded(&self) -> &str
+        ensures text { result.now ≡ encoded_text self.now }
+        ensures bytes { All IsByte self.now }
+    {
+        self.text.as_str()
+    }
+}
+
+// The encoding of a space and a word.
+fn encoded_word(alloc: Global, word: &str) -> Result<String, AllocError>
+    ensures { IfOk result (λ t. string_bytes t ≡ encoded_text (codes " " ++ word.now)) }
+{
+    let mut text = String::new(alloc);
+    append_encoded(&mut text, " ")?;
+    append_encoded(&mut text, word)?;
+    Ok(text)
+}

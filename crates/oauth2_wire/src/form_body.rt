@@ -1,0 +1,139 @@
+//! The body of a form, as the list of its pairs.
+ghost use Rattle.std.specs.Prelude.{◌≡◌, ℕ, List, [], ◌∷◌, ◌++◌, map, All, IfOk, OnOk, OnErr, string_bytes};
+ghost use Rattle.percent_encoding.proofs.PercentLemmas.{IsByte};
+ghost use Rattle.form_urlencoded.specs.Form.{append_pair as with_pair, byte_serialize as encoded_text, extend_pairs, pair_text};
+ghost use Rattle.oauth2_wire.specs.Pairs.{form};
+ghost use Rattle.oauth2_wire.specs.Written.{IsWritten, JoinsForms};
+
+use crate::encoded_text::EncodedText;
+use form_urlencoded::Serializer;
+use std::alloc::{AllocError, Global};
+use std::marker::Model;
+use std::mem;
+
+/// A form that is being written. Contracts see the pairs that it decodes to.
+#[derive(Debug, Drop)]
+pub(crate) struct FormBody {
+    text: String,
+}
+
+impl Model for FormBody {
+    ghost use Rattle.std.specs.Prelude.{List, string_bytes};
+    ghost use Rattle.std.specs.Coded.{coded_list, coded×, coded_ℕ};
+    ghost use Rattle.form_urlencoded.specs.Form.{parse};
+    ghost use Rattle.oauth2_wire.specs.Pairs.{Pair};
+    ghost use Rattle.oauth2_wire.specs.Written.{IsWritten};
+
+    ghost Value = { List Pair };
+
+    ghost coded = { coded_list (coded× (coded_list coded_ℕ) (coded_list coded_ℕ)) };
+
+    ghost view = { λ b. parse (string_bytes b.text) };
+
+    ghost invariant = { λ b. IsWritten (string_bytes b.text) };
+}
+
+impl FormBody {
+    /// A form with no pairs.
+    pub(crate) fn new(alloc: Global) -> FormBody
+        ensures { result ≡ [] }
+    {
+        FormBody {
+            text: String::new(alloc),
+        }
+    }
+
+    /// Adds a pair at the end.
+    pub(crate) fn push(&mut self, name: &str, value: &str) -> Result<(), AllocError>
+        ensures ok { OnOk result (self.new ≡ self.old ++ (name.now, value.now) ∷ []) }
+        ensures err { OnErr result (self.new ≡ self.old) }
+    {
+        append_pair(&mut self.text, name, value)?;
+        Ok(())
+    }
+
+    /// Adds pairs at the end, in order.
+    pub(crate) fn extend(&mut self, pairs: &[(&str, &str)]) -> Result<(), AllocError>
+        ensures { OnOk result (self.new ≡ self.old ++ map pair_text pairs.now) }
+    {
+        for &(name, value) in pairs {
+            self.push(name, value)?;
+        }
+        Ok(())
+    }
+
+    /// The form with one more pair, whose value is not encoded again.
+    pub(crate) fn push_encoded(
+        self,
+        name: &str,
+        value: &EncodedText,
+    ) -> Result<FormBody, AllocError>
+        ensures { IfOk result (λ body. body ≡ self ++ (name.now, value.now) ∷ []) }
+    {
+        let FormBody { text } = self;
+        let text = append_encoded_pair(text, name, value.as_encoded())?;
+        Ok(FormBody { text })
+    }
+
+    /// The form with the pairs of another after its own, which are not encoded again.
+    pub(crate) fn append(self, other: &FormBody) -> Result<FormBody, AllocError>
+        ensures { IfOk result (λ body. body ≡ self ++ other.now) }
+    {
+        let FormBody { text } = self;
+        let text = join_forms(text, other.text.as_str())?;
+        Ok(FormBody { text })
+    }
+
+    /// The bytes of the form.
+    pub(crate) fn into_bytes(self) -> Vec<u8>
+        ensures text { result.items ≡ extend_pairs [] self }
+        ensures form { form result.items ≡ self }
+    {
+        let FormBody { text } = self;
+        text.into_bytes()
+    }
+}
+
+// Appends a pair to a form's text, or leaves it as it was.
+fn append_pair(text: &mut String, name: &str, value: &str) -> Result<(), AllocError>
+    ensures ok { OnOk result (string_bytes text.new ≡ with_pair (string_bytes text.old) name.now value.now) }
+    ensures err { OnErr result (string_bytes text.new ≡ string_bytes text.old) }
+{
+    let alloc = *text.allocator();
+    let mut form = Serializer::new(mem::replace(text, String::new(alloc)));
+    let pushed = form.append_pair(name, value);
+    *text = form.finish();
+    match pushed {
+        Ok(()) => Ok(()),
+        Err(e) => Err(e),
+    }
+}
+
+// The form's text with a name, encoded, and a value, as it stands.
+fn append_encoded_pair(text: String, name: &str, encoded: &str) -> Result<String, AllocError>
+    ensures { IfOk result (λ new. (value : List ℕ) → encoded.now ≡ encoded_text value → string_bytes new ≡ with_pair (string_bytes text) name.now value) }
+{
+    let mut form = Serializer::new(text);
+    form.append_key_only(name)?;
+    let mut new = form.finish();
+    new.push('=')?;
+    new.push_str(encoded)?;
+    Ok(new)
+}
+
+// The texts of two forms as one.
+fn join_forms(text: String, other: &str) -> Result<String, AllocError>
+    ensures { IfOk result (λ new. IsWritten (string_bytes text) → IsWritten other.now → JoinsForms (string_bytes text) other.now (string_bytes new)) }
+{
+    let mut new = text;
+    if other.is_empty() {
+        return Ok(new);
+    }
+    if new.is_empty() {
+        new.push_str(other)?;
+        return Ok(new);
+    }
+    new.push('&')?;
+    new.push_str(other)?;
+    Ok(new)
+}

@@ -1,0 +1,349 @@
+//! The requests of a client: a POST of a form to an endpoint (RFC 6749, sections 2.3.1 and 3.2).
+ghost use Rattle.std.specs.Prelude.{◌≡◌, ◌<◌, [], ◌∷◌, ◌++◌, length, map, codes, IfOk, OnOk, Err, option_copied, option_and_then, option_map};
+ghost use Rattle.form_urlencoded.specs.Form.{pair_text};
+ghost use Rattle.http_header.specs.HeaderMap.{insert, value_count};
+ghost use Rattle.http_uri.specs.Uri.{Spells, SpellsNone};
+ghost use Rattle.url.specs.Parts.{serialize};
+ghost use Rattle.oauth2_wire.specs.Texts.{param_pair, given_text};
+ghost use Rattle.oauth2_wire.specs.Expected.{Configuration, joined_scope, expected_pairs, basic_credentials, authorization_header, headers_with, optional_authorization, optional_pair, body_credentials};
+ghost use Rattle.oauth2_wire.specs.Params.{Params};
+ghost use Rattle.oauth2_wire.specs.Basic.{basic};
+ghost use Rattle.oauth2_wire.specs.Request.{view_of, IsRequestOf};
+
+use crate::basic::basic_header;
+use crate::encoded_text::EncodedText;
+use crate::form_body::FormBody;
+use crate::param_buffer::ParamBuffer;
+use crate::texts::ParamText;
+use http::request::Parts;
+use http::{Method, Request, Version};
+use http_header::{
+    ACCEPT, AUTHORIZATION, CONTENT_TYPE, HeaderMap, HeaderMapError, HeaderName, HeaderValue,
+};
+use http_uri::{Uri, UriError};
+use oauth2_types::{ClientId, ClientSecret, Scope, TryClone};
+use oauth2_urls::RedirectUrl;
+use std::alloc::{AllocError, Global};
+use url::Url;
+
+/// The request that a client is handed.
+pub type HttpRequest = Request<Vec<u8>>;
+
+/// How a client shows its identifier and its secret (RFC 6749, section 2.3.1).
+#[derive(Clone, Copy, Debug, PartialEq, Eq)]
+pub enum AuthType {
+    /// As pairs of the body.
+    RequestBody,
+    /// By HTTP Basic authentication, where there is a secret.
+    BasicAuth,
+}
+
+impl TryClone for AuthType {
+    ghost use Rattle.oauth2_wire.specs.declared.request.AuthType.{AuthType};
+
+    ghost Seen = { AuthType };
+
+    ghost seen = { λ auth_type. auth_type };
+
+    fn try_clone(&self, _alloc: Global) -> Result<AuthType, AllocError> {
+        Ok(*self)
+    }
+}
+
+/// Why a request could not be built.
+#[derive(Clone, Copy, Debug, PartialEq, Eq)]
+pub enum RequestFault {
+    /// The endpoint's URL is not an HTTP target.
+    NotHttp,
+    /// Memory ran out.
+    Memory,
+}
+
+impl From<AllocError> for RequestFault {
+    ghost use Rattle.std.specs.Prelude.{◌≡◌};
+    ghost use Rattle.oauth2_wire.specs.declared.request.RequestFault.TheVariants.{Memory};
+
+    ghost from_gives = { λ _ e. e ≡ Memory };
+
+    fn from(_: AllocError) -> RequestFault {
+        RequestFault::Memory
+    }
+}
+
+/// The POST to an endpoint: its own pairs `params`, and what the client is and asks beside them.
+pub fn endpoint_request(
+    alloc: Global,
+    auth_type: &AuthType,
+    client_id: &ClientId,
+    client_secret: Option<&ClientSecret>,
+    extra_params: &[(ParamText<'_>, ParamText<'_>)],
+    redirect_url: Option<&RedirectUrl>,
+    scopes: Option<&[Scope]>,
+    url: &Url,
+    params: &[(&str, &str)],
+) -> Result<HttpRequest, RequestFault>
+    ensures request { IfOk result (λ r. IsRequestOf (record {
+      auth_type = auth_type.now;
+      client_id = client_id.now;
+      client_secret = option_copied client_secret.entry;
+      own_pairs = map pair_text params.now;
+      scope = joined_scope (option_copied scopes.entry);
+      redirect_uri = option_map given_text (option_copied redirect_url.entry);
+      extra_pairs = map param_pair extra_params.now;
+    }) (serialize url.now) (view_of r)) }
+
+    // Only a URL that is no HTTP target is refused as one.
+    ensures not_http { result ≡ Err RequestFault.NotHttp → SpellsNone (serialize url.now) }
+{
+    let buffer = filled_buffer(alloc, scopes, extra_params)?;
+    endpoint_request_encoded(
+        alloc,
+        auth_type,
+        client_id,
+        client_secret,
+        &buffer,
+        redirect_url,
+        url,
+        params,
+    )
+}
+
+/// The same request from scopes and parameters that are encoded already.
+pub fn endpoint_request_encoded(
+    alloc: Global,
+    auth_type: &AuthType,
+    client_id: &ClientId,
+    client_secret: Option<&ClientSecret>,
+    extra_params: &ParamBuffer,
+    redirect_url: Option<&RedirectUrl>,
+    url: &Url,
+    params: &[(&str, &str)],
+) -> Result<HttpRequest, RequestFault>
+    ensures request { IfOk result (λ r. IsRequestOf (record {
+      auth_type = auth_type.now;
+      client_id = client_id.now;
+      client_secret = option_copied client_secret.entry;
+      own_pairs = map pair_text params.now;
+      scope = extra_params.now.scope;
+      redirect_uri = option_map given_text (option_copied redirect_url.entry);
+      extra_pairs = extra_params.now.pairs;
+    }) (serialize url.now) (view_of r)) }
+
+    // Only a URL that is no HTTP target is refused as one.
+    ensures not_http { result ≡ Err RequestFault.NotHttp → SpellsNone (serialize url.now) }
+{
+    let uri = target(alloc, url)?;
+    let body = request_body(
+        alloc,
+        auth_type,
+        client_id,
+        client_secret,
+        extra_params,
+        redirect_url,
+        params,
+    )?;
+    let value = authorization(alloc, auth_type, client_id, client_secret)?;
+    let head = Parts {
+        method: Method::POST,
+        uri,
+        version: Version::HTTP_11,
+        headers: request_headers(alloc, value)?,
+    };
+    Ok(Request::from_parts(head, body.into_bytes()))
+}
+
+// A buffer of the scopes and the parameters.
+fn filled_buffer(
+    alloc: Global,
+    scopes: Option<&[Scope]>,
+    extra_params: &[(ParamText<'_>, ParamText<'_>)],
+) -> Result<ParamBuffer, AllocError>
+    ensures { IfOk result (λ buffer. buffer ≡ record {
+      scope = joined_scope (option_copied scopes.entry);
+      pairs = map param_pair extra_params.now;
+    }) }
+{
+    let mut buffer = scopes_buffer(alloc, scopes)?;
+    buffer.add_extras(extra_params)?;
+    Ok(buffer)
+}
+
+// A buffer of the scopes alone.
+#[tactic(auto, using(crate::proofs::ParamsLemmas::joined))]
+fn scopes_buffer(alloc: Global, scopes: Option<&[Scope]>) -> Result<ParamBuffer, AllocError>
+    ensures { IfOk result (λ buffer. buffer ≡ record { scope = joined_scope (option_copied scopes.entry); pairs = [] }) }
+{
+    let mut buffer = ParamBuffer::new(alloc);
+    match scopes {
+        Some(scopes) => {
+            buffer.add_scopes(scopes)?;
+            Ok(buffer)
+        }
+        None => Ok(buffer),
+    }
+}
+
+// The target that the URL's text spells.
+fn target(alloc: Global, url: &Url) -> Result<Uri, RequestFault>
+    ensures ok { IfOk result (Spells (serialize url.now)) }
+    ensures not_http { result ≡ Err RequestFault.NotHttp → SpellsNone (serialize url.now) }
+{
+    match Uri::from_str(alloc, url.as_str()) {
+        Ok(uri) => Ok(uri),
+        Err(UriError::Invalid(_)) => Err(RequestFault::NotHttp),
+        Err(UriError::OutOfMemory) => Err(RequestFault::Memory),
+    }
+}
+
+// The body: the request's own pairs, the scopes, the credentials that go into no header, the
+// redirect URL, and the extra pairs.
+fn request_body(
+    alloc: Global,
+    auth_type: &AuthType,
+    client_id: &ClientId,
+    client_secret: Option<&ClientSecret>,
+    extra_params: &ParamBuffer,
+    redirect_url: Option<&RedirectUrl>,
+    params: &[(&str, &str)],
+) -> Result<FormBody, AllocError>
+    ensures { IfOk result (λ body. body ≡ expected_pairs (record {
+      auth_type = auth_type.now;
+      client_id = client_id.now;
+      client_secret = option_copied client_secret.entry;
+      own_pairs = map pair_text params.now;
+      scope = extra_params.now.scope;
+      redirect_uri = option_map given_text (option_copied redirect_url.entry);
+      extra_pairs = extra_params.now.pairs;
+    })) }
+{
+    let mut body = FormBody::new(alloc);
+    body.extend(params)?;
+    let mut body = with_encoded(body, "scope", extra_params.scope())?;
+    push_credentials(&mut body, auth_type, client_id, client_secret)?;
+    push_redirect(&mut body, redirect_url)?;
+    Ok(body.append(extra_params.pairs())?)
+}
+
+// The body with one more pair, where there is a value.
+fn with_encoded(
+    body: FormBody,
+    name: &str,
+    value: Option<&EncodedText>,
+) -> Result<FormBody, AllocError>
+    ensures { IfOk result (λ new. new ≡ body ++ optional_pair name.now (option_copied value.entry)) }
+{
+    match value {
+        Some(value) => Ok(body.push_encoded(name, value)?),
+        None => Ok(body),
+    }
+}
+
+// Adds the credentials that go into no header.
+fn push_credentials(
+    body: &mut FormBody,
+    auth_type: &AuthType,
+    client_id: &ClientId,
+    client_secret: Option<&ClientSecret>,
+) -> Result<(), AllocError>
+    ensures { let secret = option_copied client_secret.entry in
+        OnOk result (body.new ≡ body.old ++ body_credentials (basic_credentials auth_type.now client_id.now secret) client_id.now secret) }
+{
+    match (auth_type, client_secret) {
+        (AuthType::BasicAuth, Some(_)) => Ok(()),
+        (_, None) => {
+            push_id(body, client_id)?;
+            Ok(())
+        }
+        (AuthType::RequestBody, Some(secret)) => {
+            push_id(body, client_id)?;
+            push_secret(body, secret)?;
+            Ok(())
+        }
+    }
+}
+
+fn push_id(body: &mut FormBody, client_id: &ClientId) -> Result<(), AllocError>
+    ensures { OnOk result (body.new ≡ body.old ++ (codes "client_id", client_id.now) ∷ []) }
+{
+    body.push("client_id", client_id.as_str())?;
+    Ok(())
+}
+
+fn push_secret(body: &mut FormBody, client_secret: &ClientSecret) -> Result<(), AllocError>
+    ensures { OnOk result (body.new ≡ body.old ++ (codes "client_secret", client_secret.now) ∷ []) }
+{
+    body.push("client_secret", client_secret.secret().as_str())?;
+    Ok(())
+}
+
+// Adds the redirect URL's text, where there is one.
+fn push_redirect(body: &mut FormBody, redirect_url: Option<&RedirectUrl>) -> Result<(), AllocError>
+    ensures { OnOk result (body.new ≡ body.old ++ optional_pair (codes "redirect_uri") (option_map given_text (option_copied redirect_url.entry))) }
+{
+    match redirect_url {
+        Some(url) => {
+            body.push("redirect_uri", url.as_str())?;
+            Ok(())
+        }
+        None => Ok(()),
+    }
+}
+
+// The credentials that go into the header.
+fn authorization(
+    alloc: Global,
+    auth_type: &AuthType,
+    client_id: &ClientId,
+    client_secret: Option<&ClientSecret>,
+) -> Result<Option<HeaderValue>, AllocError>
+    ensures { let credentials = basic_credentials auth_type.now client_id.now (option_copied client_secret.entry) in
+        IfOk result (λ value. authorization_header credentials ≡ optional_authorization value
+        × (option_and_then (λ v. basic v.bytes) value ≡ credentials)) }
+{
+    match (auth_type, client_secret) {
+        (AuthType::BasicAuth, Some(secret)) => {
+            Ok(Some(basic_header(alloc, client_id.as_str(), secret.secret().as_str())?))
+        }
+        _ => Ok(None),
+    }
+}
+
+// Every header of a request.
+fn request_headers(
+    alloc: Global,
+    authorization: Option<HeaderValue>,
+) -> Result<HeaderMap, AllocError>
+    ensures { IfOk result (λ headers. headers ≡ headers_with authorization) }
+{
+    let mut headers = HeaderMap::new(alloc);
+    add_header(
+        &mut headers,
+        ACCEPT,
+        HeaderValue::from_static("application/json"),
+    )?;
+    add_header(
+        &mut headers,
+        CONTENT_TYPE,
+        HeaderValue::from_static("application/x-www-form-urlencoded"),
+    )?;
+    if let Some(value) = authorization {
+        add_header(&mut headers, AUTHORIZATION, value)?;
+    }
+    Ok(headers)
+}
+
+fn add_header(
+    headers: &mut HeaderMap,
+    name: HeaderName,
+    value: HeaderValue,
+) -> Result<(), AllocError>
+    requires names { length headers.old < 3 }
+    requires values { value_count headers.old < 3 }
+    ensures { OnOk result (headers.new ≡ insert headers.old name value) }
+{
+    match headers.insert(name, value) {
+        Ok(_) => Ok(()),
+        Err(HeaderMapError::OutOfMemory) => Err(AllocError),
+        Err(HeaderMapError::MaxSizeReached) => unreachable!(),
+    }
+}
