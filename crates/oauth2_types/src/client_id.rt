@@ -1,6 +1,7 @@
 //! Client identifiers (RFC 6749, section 2.2).
 
-ghost use Rattle.std.specs.Prelude.{◌≡◌, ℕ, List, string_bytes};
+ghost use Rattle.std.specs.Prelude.{◌≡◌, ℕ, List, codes, string_bytes};
+ghost use Rattle.std.specs.Fmt.{debug_str, debug_variant};
 
 use crate::plain_text::PlainText;
 use crate::try_clone::TryClone;
@@ -58,7 +59,9 @@ impl TryClone for ClientId {
 }
 
 impl fmt::Debug for ClientId {
+    ghost debug_output = { λ text. debug_variant (codes "ClientId") (debug_str text) };
+
     fn fmt<W: fmt::Write>(&self, f: &mut fmt::Formatter<W>) -> fmt::Result {
-        f.debug_tuple("ClientId").field(self.0.text()).finish()
+        self.0.debug(f, "ClientId")
     }
 }

@@ -1,12 +1,9 @@
-//! The state of an authorization request.
+//! The state of an authorization request (RFC 6749, section 4.1.1).
 
-ghost use Rattle.std.specs.Prelude.{◌≡◌, ℕ, List, string_bytes, codes, Some, IfOk, Ok};
-ghost use Rattle.rand_core.specs.Stream.{fill_bytes};
-ghost use Rattle.base64.specs.Engines.{url_safe_no_pad};
-ghost use Rattle.base64.specs.GeneralPurpose.{decode_of};
-ghost use Rattle.oauth2_types.specs.Pkce.{base64url};
+ghost use Rattle.std.specs.Prelude.{◌≡◌, ℕ, IfOk, List, Some, codes, string_bytes};
+ghost use Rattle.oauth2_types.specs.Pkce.{IsRandomText};
 
-use crate::pkce_code_challenge::random_text;
+use crate::random_text::random_text;
 use crate::secret::Secret;
 use crate::try_clone::TryClone;
 use rand_core::Rng;
@@ -14,6 +11,7 @@ use std::alloc::{AllocError, Global};
 use std::fmt;
 use std::marker::Model;
 
+/// The opaque value by which the client knows its own request again (RFC 6749, section 10.12).
 #[derive(PartialEq, Eq, Hash, Drop)]
 pub struct CsrfToken(Secret);
 
@@ -44,17 +42,23 @@ impl CsrfToken {
         self.0.into_text()
     }
 
+    /// The text of 16 random bytes.
+    pub fn new_random<R: Rng>(alloc: Global, rng: &mut R) -> Result<CsrfToken, AllocError>
+        ensures { IfOk result (λ token. IsRandomText 16 (R.stream rng.old) (R.stream rng.new) token) }
+    {
+        CsrfToken::new_random_len(alloc, rng, 16)
+    }
+
     /// The text of n random bytes.
     pub fn new_random_len<R: Rng>(
         alloc: Global,
         rng: &mut R,
         n: u32,
     ) -> Result<CsrfToken, AllocError>
-        ensures text { IfOk result (λ t. t ≡ base64url (fill_bytes n (R.stream rng.old)).0) }
-        ensures decodes { IfOk result (λ t. decode_of url_safe_no_pad t ≡ Ok (fill_bytes n (R.stream rng.old)).0) }
-        ensures drawn { IfOk result (λ _. R.stream rng.new ≡ (fill_bytes n (R.stream rng.old)).1) }
+        ensures { IfOk result (λ token. IsRandomText n (R.stream rng.old) (R.stream rng.new) token) }
     {
-        Ok(CsrfToken(Secret::new(random_text(alloc, rng, n)?)))
+        let text = random_text(alloc, rng, n)?;
+        Ok(CsrfToken::new(text))
     }
 }
 

@@ -11,6 +11,7 @@ mod pkce_code_challenge;
 mod pkce_code_challenge_method;
 mod pkce_code_verifier;
 mod plain_text;
+mod random_text;
 mod refresh_token;
 mod resource_owner_password;
 mod resource_owner_username;

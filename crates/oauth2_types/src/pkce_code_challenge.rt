@@ -1,71 +1,192 @@
-//! The challenge that goes with an authorization URL.
+//! Code challenges (RFC 7636, section 4.2).
 
-ghost use Rattle.std.specs.Prelude.{◌≡◌, ℕ, ◌+◌, ◌≤◌, List, string_bytes, codes, IfOk, Ok, length};
-ghost use Rattle.base64.specs.Engines.{url_safe_no_pad};
-ghost use Rattle.base64.specs.GeneralPurpose.{decode_of};
-ghost use Rattle.rand_core.specs.Stream.{fill_bytes};
-ghost use Rattle.oauth2_types.specs.Pkce.{Accepts, HasValidLength, base64url};
+ghost use Rattle.std.specs.Prelude.{◌≡◌, ◌≤◌, IfOk, string_bytes};
+ghost use Rattle.oauth2_types.specs.Pkce.{Accepts, HasValidLength, IsRandomText, challenge_debug, plain_challenge, sha256_challenge};
 
+use crate::pkce_code_challenge_method::PkceCodeChallengeMethod;
 use crate::pkce_code_verifier::PkceCodeVerifier;
-use base64::engine::general_purpose::URL_SAFE_NO_PAD;
+use crate::plain_text::PlainText;
+use crate::random_text::{base64url, random_verifier};
+use crate::try_clone::TryClone;
 use rand_core::Rng;
 use sha2::{Digest, Sha256};
 use std::alloc::{AllocError, Global};
+use std::fmt;
 use std::marker::Model;
 
-#[derive(Drop)]
+/// What the client sends with an authorization URL, and what the server later checks a verifier by.
+#[derive(PartialEq, Eq, Drop)]
 pub struct PkceCodeChallenge {
-    text: String,
-    method: String,
+    code_challenge: PlainText,
+    code_challenge_method: PkceCodeChallengeMethod,
 }
 
 impl Model for PkceCodeChallenge {
-    ghost use Rattle.std.specs.Prelude.{string_bytes};
     ghost use Rattle.oauth2_types.specs.Pkce.{Challenge};
 
     ghost Value = { Challenge };
 
-    ghost view = { λ c. record { text = string_bytes c.text; method = string_bytes c.method } };
-}
+    ghost view = { λ c. record { text = c.code_challenge; method = c.code_challenge_method } };
 
-/// The unpadded URL-safe base64 of the bytes.
-#[tactic(auto, unfolding(crate::specs::Pkce::base64url))]
-pub(crate) fn base64url(alloc: Global, bytes: &[u8]) -> Result<String, AllocError>
-    ensures text { IfOk result (λ s. string_bytes s ≡ base64url bytes.now) }
-    ensures decodes { IfOk result (λ s. decode_of url_safe_no_pad (string_bytes s) ≡ Ok bytes.now) }
-{
-    URL_SAFE_NO_PAD.encode(alloc, bytes)
-}
-
-/// The text of n random bytes, drawn by one call of the generator.
-pub(crate) fn random_text<R: Rng>(alloc: Global, rng: &mut R, n: u32) -> Result<String, AllocError>
-    ensures text { IfOk result (λ s. string_bytes s ≡ base64url (fill_bytes n (R.stream rng.old)).0) }
-    ensures decodes { IfOk result (λ s. decode_of url_safe_no_pad (string_bytes s) ≡ Ok (fill_bytes n (R.stream rng.old)).0) }
-    ensures drawn { IfOk result (λ _. R.stream rng.new ≡ (fill_bytes n (R.stream rng.old)).1) }
-{
-    let mut bytes = vec![in alloc; 0u8; n as usize]?;
-    rng.fill_bytes(bytes.as_mut_slice());
-    base64url(alloc, bytes.as_slice())
+    ghost inverse = { λ c. record { code_challenge = c.text; code_challenge_method = c.method } };
 }
 
 impl PkceCodeChallenge {
+    /// A verifier of 32 random bytes, and its challenge.
+    pub fn new_random_sha256<R: Rng>(
+        alloc: Global,
+        rng: &mut R,
+    ) -> Result<(PkceCodeChallenge, PkceCodeVerifier), AllocError>
+        ensures random { IfOk result (λ (_, verifier). IsRandomText 32 (R.stream rng.old) (R.stream rng.new) verifier) }
+        ensures length { IfOk result (λ (_, verifier). HasValidLength verifier) }
+        ensures value { IfOk result (λ (challenge, verifier). challenge ≡ sha256_challenge verifier) }
+        ensures accepts { IfOk result (λ (challenge, verifier). Accepts challenge verifier) }
+    {
+        PkceCodeChallenge::new_random_sha256_len(alloc, rng, 32)
+    }
+
+    /// A verifier of n random bytes, and its challenge.
+    pub fn new_random_sha256_len<R: Rng>(
+        alloc: Global,
+        rng: &mut R,
+        n: u32,
+    ) -> Result<(PkceCodeChallenge, PkceCodeVerifier), AllocError>
+        requires least { 32 ≤ n }
+        requires most { n ≤ 96 }
+        ensures random { IfOk result (λ (_, verifier). IsRandomText n (R.stream rng.old) (R.stream rng.new) verifier) }
+        ensures length { IfOk result (λ (_, verifier). HasValidLength verifier) }
+        ensures value { IfOk result (λ (challenge, verifier). challenge ≡ sha256_challenge verifier) }
+        ensures accepts { IfOk result (λ (challenge, verifier). Accepts challenge verifier) }
+    {
+        let verifier = random_verifier(alloc, rng, n)?;
+        let challenge = PkceCodeChallenge::from_code_verifier_sha256(alloc, &verifier)?;
+        Ok((challenge, verifier))
+    }
+
+    /// A verifier of 32 random bytes, which is its own challenge. Only where S256 can't be had.
+    pub fn new_random_plain<R: Rng>(
+        alloc: Global,
+        rng: &mut R,
+    ) -> Result<(PkceCodeChallenge, PkceCodeVerifier), AllocError>
+        ensures random { IfOk result (λ (_, verifier). IsRandomText 32 (R.stream rng.old) (R.stream rng.new) verifier) }
+        ensures length { IfOk result (λ (_, verifier). HasValidLength verifier) }
+        ensures value { IfOk result (λ (challenge, verifier). challenge ≡ plain_challenge verifier) }
+        ensures accepts { IfOk result (λ (challenge, verifier). Accepts challenge verifier) }
+    {
+        let verifier = random_verifier(alloc, rng, 32)?;
+        let challenge = PkceCodeChallenge::from_code_verifier_plain(alloc, &verifier)?;
+        Ok((challenge, verifier))
+    }
+
+    /// The challenge `S256`; the verifier's characters aren't looked at.
     pub fn from_code_verifier_sha256(
         alloc: Global,
         verifier: &PkceCodeVerifier,
     ) -> Result<PkceCodeChallenge, AllocError>
         requires { HasValidLength verifier.now }
-        ensures method { IfOk result (λ c. c.method ≡ codes "S256") }
-        ensures accepts { IfOk result (λ c. Accepts c verifier.now) }
+        ensures value { IfOk result (λ challenge. challenge ≡ sha256_challenge verifier.now) }
+        ensures accepts { IfOk result (λ challenge. Accepts challenge verifier.now) }
     {
         let digest = Sha256::digest(verifier.secret().as_bytes());
         let text = base64url(alloc, &digest)?;
         let method = String::from_str(alloc, "S256")?;
-        Ok(PkceCodeChallenge { text, method })
+        Ok(PkceCodeChallenge::from_parts(text, PkceCodeChallengeMethod::new(method)))
+    }
+
+    /// The challenge `plain`; the verifier's characters aren't looked at.
+    pub fn from_code_verifier_plain(
+        alloc: Global,
+        verifier: &PkceCodeVerifier,
+    ) -> Result<PkceCodeChallenge, AllocError>
+        requires { HasValidLength verifier.now }
+        ensures value { IfOk result (λ challenge. challenge ≡ plain_challenge verifier.now) }
+        ensures accepts { IfOk result (λ challenge. Accepts challenge verifier.now) }
+    {
+        let text = String::from_str(alloc, verifier.secret().as_str())?;
+        let method = String::from_str(alloc, "plain")?;
+        Ok(PkceCodeChallenge::from_parts(text, PkceCodeChallengeMethod::new(method)))
+    }
+
+    /// The challenge that was written as these two texts.
+    pub fn from_parts(
+        code_challenge: String,
+        code_challenge_method: PkceCodeChallengeMethod,
+    ) -> PkceCodeChallenge
+        ensures { result ≡ record { text = string_bytes code_challenge; method = code_challenge_method } }
+    {
+        PkceCodeChallenge {
+            code_challenge: PlainText::new(code_challenge),
+            code_challenge_method,
+        }
     }
 
     pub fn as_str(&self) -> &str
         ensures { result.now ≡ self.now.text }
     {
-        self.text.as_str()
+        self.code_challenge.text().as_str()
+    }
+
+    pub fn method(&self) -> &PkceCodeChallengeMethod
+        ensures { result.now ≡ self.now.method }
+    {
+        &self.code_challenge_method
+    }
+}
+
+impl TryClone for PkceCodeChallenge {
+    ghost use Rattle.oauth2_types.specs.Pkce.{Challenge};
+
+    ghost Seen = { Challenge };
+
+    ghost seen = { λ challenge. challenge };
+
+    fn try_clone(&self, alloc: Global) -> Result<PkceCodeChallenge, AllocError> {
+        let code_challenge = self.code_challenge.copy(alloc)?;
+        let code_challenge_method = self.code_challenge_method.try_clone(alloc)?;
+        Ok(PkceCodeChallenge {
+            code_challenge,
+            code_challenge_method,
+        })
+    }
+}
+
+/// What stands for the challenge where it is the verifier.
+#[derive(Drop)]
+struct Redacted;
+
+impl fmt::Debug for Redacted {
+    fn fmt<W: fmt::Write>(&self, f: &mut fmt::Formatter<W>) -> fmt::Result {
+        f.write_str("[redacted]")
+    }
+}
+
+impl fmt::Debug for PkceCodeChallenge {
+    ghost debug_output = { challenge_debug };
+
+    #[tactic(auto, unfolding(crate::specs::Pkce::challenge_debug))]
+    fn fmt<W: fmt::Write>(&self, f: &mut fmt::Formatter<W>) -> fmt::Result {
+        let is_plain = self.code_challenge_method.as_str() == "plain";
+        if f.alternate() {
+            let mut fields = f.debug_struct("PkceCodeChallenge");
+            if is_plain {
+                fields.field("code_challenge", &Redacted);
+            } else {
+                fields.field("code_challenge", self.code_challenge.text());
+            }
+            return fields
+                .field("code_challenge_method", self.method())
+                .finish();
+        }
+        if is_plain {
+            return f.write_str(
+                "PkceCodeChallenge { code_challenge: [redacted], code_challenge_method: PkceCodeChallengeMethod(\"plain\") }",
+            );
+        }
+        write!(
+            f,
+            "PkceCodeChallenge {{ code_challenge: {:?}, code_challenge_method: {:?} }}",
+            self.as_str(),
+            self.method()
+        )
     }
 }

@@ -1,6 +1,7 @@
 //! Methods of code challenges (RFC 7636, section 4.2).
 
-ghost use Rattle.std.specs.Prelude.{◌≡◌, ℕ, List, string_bytes};
+ghost use Rattle.std.specs.Prelude.{◌≡◌, ℕ, List, codes, string_bytes};
+ghost use Rattle.std.specs.Fmt.{debug_str, debug_variant};
 
 use crate::plain_text::PlainText;
 use crate::try_clone::TryClone;
@@ -58,9 +59,9 @@ impl TryClone for PkceCodeChallengeMethod {
 }
 
 impl fmt::Debug for PkceCodeChallengeMethod {
+    ghost debug_output = { λ text. debug_variant (codes "PkceCodeChallengeMethod") (debug_str text) };
+
     fn fmt<W: fmt::Write>(&self, f: &mut fmt::Formatter<W>) -> fmt::Result {
-        f.debug_tuple("PkceCodeChallengeMethod")
-            .field(self.0.text())
-            .finish()
+        self.0.debug(f, "PkceCodeChallengeMethod")
     }
 }

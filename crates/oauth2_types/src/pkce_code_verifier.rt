@@ -1,4 +1,4 @@
-//! The secret of a code challenge.
+//! Code verifiers (RFC 7636, section 4.1).
 
 ghost use Rattle.std.specs.Prelude.{◌≡◌, ℕ, List, string_bytes, codes, Some, IsTrue, ◌↔◌};
 ghost use Rattle.oauth2_types.specs.Pkce.{HasValidLength};
@@ -7,6 +7,7 @@ use crate::secret::Secret;
 use std::fmt;
 use std::marker::Model;
 
+/// The secret behind a code challenge. It is used once, so it has no copy.
 #[derive(PartialEq, Eq, Hash, Drop)]
 pub struct PkceCodeVerifier(Secret);
 

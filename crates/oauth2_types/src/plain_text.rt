@@ -5,10 +5,12 @@ ghost use Rattle.std.specs.Cmp.{partial_equiv_from_equiv};
 ghost use Rattle.std.specs.Cmp.Lexicographic.{nat_list_eq_equiv};
 ghost use Rattle.std.specs.Cmp.Rules.{hashing};
 ghost use Rattle.std.proofs.Common.{rules};
+ghost use Rattle.std.specs.Fmt.{DisplaysOnOk, debug_str, debug_variant};
 ghost use Rattle.std.specs.Hash as fed;
 ghost use Rattle.std.specs.Str.{bytes_eq};
 
 use std::alloc::{AllocError, Global};
+use std::fmt;
 use std::hash::{Hash, Hasher};
 use std::marker::Model;
 
@@ -48,6 +50,16 @@ impl PlainText {
         Ok(PlainText {
             text: String::from_str(alloc, self.text.as_str())?,
         })
+    }
+
+    /// The name, and the text in quotes and parentheses.
+    pub(crate) fn debug<W: fmt::Write>(&self, f: &mut fmt::Formatter<W>, name: &str) -> fmt::Result
+        ensures { DisplaysOnOk W.write_str_gives f.old result (debug_variant name.now (debug_str self.now)) f.new }
+    {
+        if f.alternate() {
+            return f.debug_tuple(name).field(&self.text).finish();
+        }
+        write!(f, "{name}({:?})", self.text)
     }
 }
 

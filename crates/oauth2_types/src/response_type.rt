@@ -1,6 +1,7 @@
 //! Response types (RFC 6749, section 3.1.1).
 
-ghost use Rattle.std.specs.Prelude.{◌≡◌, ℕ, List, string_bytes};
+ghost use Rattle.std.specs.Prelude.{◌≡◌, ℕ, List, codes, string_bytes};
+ghost use Rattle.std.specs.Fmt.{debug_str, debug_variant};
 
 use crate::plain_text::PlainText;
 use crate::try_clone::TryClone;
@@ -58,7 +59,9 @@ impl TryClone for ResponseType {
 }
 
 impl fmt::Debug for ResponseType {
+    ghost debug_output = { λ text. debug_variant (codes "ResponseType") (debug_str text) };
+
     fn fmt<W: fmt::Write>(&self, f: &mut fmt::Formatter<W>) -> fmt::Result {
-        f.debug_tuple("ResponseType").field(self.0.text()).finish()
+        self.0.debug(f, "ResponseType")
     }
 }

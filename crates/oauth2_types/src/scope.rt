@@ -1,6 +1,7 @@
 //! Access token scopes (RFC 6749, section 3.3).
 
-ghost use Rattle.std.specs.Prelude.{◌≡◌, ℕ, List, string_bytes};
+ghost use Rattle.std.specs.Prelude.{◌≡◌, ℕ, List, codes, string_bytes};
+ghost use Rattle.std.specs.Fmt.{debug_str, debug_variant};
 
 use crate::plain_text::PlainText;
 use crate::try_clone::TryClone;
@@ -67,7 +68,9 @@ impl TryClone for Scope {
 }
 
 impl fmt::Debug for Scope {
+    ghost debug_output = { λ text. debug_variant (codes "Scope") (debug_str text) };
+
     fn fmt<W: fmt::Write>(&self, f: &mut fmt::Formatter<W>) -> fmt::Result {
-        f.debug_tuple("Scope").field(self.0.text()).finish()
+        self.0.debug(f, "Scope")
     }
 }
