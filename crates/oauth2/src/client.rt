@@ -1,0 +1,912 @@
+//! The configuration of a client.
+
+ghost use Rattle.std.specs.Prelude.{◌≡◌, Some, None, IfOk, option_copied};
+ghost use Rattle.oauth2_wire.specs.declared.request.AuthType.TheVariants.{BasicAuth};
+
+use crate::endpoint::{EndpointMaybeSet, EndpointNotSet, EndpointSet, EndpointState};
+use oauth2_types::{ClientId, ClientSecret, TryClone};
+use oauth2_urls::{
+    AuthUrl, DeviceAuthorizationUrl, IntrospectionUrl, RedirectUrl, RevocationUrl, TokenUrl,
+};
+use oauth2_wire::AuthType;
+use std::alloc::{AllocError, Global};
+use std::fmt;
+use std::marker::{Model, PhantomData};
+
+/// The configuration of a client, whose type says which endpoints have a URL.
+///
+/// The first five parameters name an error response, a token response, an introspection response,
+/// a revocable token and the error response of a revocation; a client holds no value of them.
+/// Contracts see a client of any type as its `Settings`.
+#[derive(Drop)]
+pub struct Client<
+    TE,
+    TR,
+    TIR,
+    RT,
+    TRE,
+    HasAuthUrl = EndpointNotSet,
+    HasDeviceAuthUrl = EndpointNotSet,
+    HasIntrospectionUrl = EndpointNotSet,
+    HasRevocationUrl = EndpointNotSet,
+    HasTokenUrl = EndpointNotSet,
+>
+where
+    HasAuthUrl: EndpointState,
+    HasDeviceAuthUrl: EndpointState,
+    HasIntrospectionUrl: EndpointState,
+    HasRevocationUrl: EndpointState,
+    HasTokenUrl: EndpointState,
+{
+    parts: Parts,
+    phantom: PhantomData<
+        (
+            TE,
+            TR,
+            TIR,
+            RT,
+            TRE,
+            HasAuthUrl,
+            HasDeviceAuthUrl,
+            HasIntrospectionUrl,
+            HasRevocationUrl,
+            HasTokenUrl,
+        ),
+    >,
+}
+
+// What a client of any type holds.
+#[derive(Debug, Drop)]
+struct Parts {
+    client_id: ClientId,
+    client_secret: Option<ClientSecret>,
+    auth_type: AuthType,
+    redirect_url: Option<RedirectUrl>,
+    auth_url: Option<AuthUrl>,
+    device_authorization_url: Option<DeviceAuthorizationUrl>,
+    introspection_url: Option<IntrospectionUrl>,
+    revocation_url: Option<RevocationUrl>,
+    token_url: Option<TokenUrl>,
+}
+
+impl Parts {
+    #[tactic(auto, using(std::proofs::lemmas::Iterator::Adapters::option_map_id))]
+    fn try_clone(&self, alloc: Global) -> Result<Parts, AllocError>
+        ensures { IfOk result (λ copy. copy ≡ self.now) }
+    {
+        Ok(Parts {
+            client_id: self.client_id.try_clone(alloc)?,
+            client_secret: self.client_secret.try_clone(alloc)?,
+            auth_type: self.auth_type,
+            redirect_url: self.redirect_url.try_clone(alloc)?,
+            auth_url: self.auth_url.try_clone(alloc)?,
+            device_authorization_url: self.device_authorization_url.try_clone(alloc)?,
+            introspection_url: self.introspection_url.try_clone(alloc)?,
+            revocation_url: self.revocation_url.try_clone(alloc)?,
+            token_url: self.token_url.try_clone(alloc)?,
+        })
+    }
+}
+
+impl<
+    TE,
+    TR,
+    TIR,
+    RT,
+    TRE,
+    HasAuthUrl,
+    HasDeviceAuthUrl,
+    HasIntrospectionUrl,
+    HasRevocationUrl,
+    HasTokenUrl,
+> Model
+    for Client<
+        TE,
+        TR,
+        TIR,
+        RT,
+        TRE,
+        HasAuthUrl,
+        HasDeviceAuthUrl,
+        HasIntrospectionUrl,
+        HasRevocationUrl,
+        HasTokenUrl,
+    >
+where
+    HasAuthUrl: EndpointState,
+    HasDeviceAuthUrl: EndpointState,
+    HasIntrospectionUrl: EndpointState,
+    HasRevocationUrl: EndpointState,
+    HasTokenUrl: EndpointState,
+{
+    ghost use Rattle.std.specs.Prelude.{IsTrue, is_some};
+    ghost use Rattle.oauth2.specs.Settings.{Settings};
+
+    ghost Value = { Settings };
+
+    ghost view = { λ c. record {
+      client_id = c.parts.client_id;
+      client_secret = c.parts.client_secret;
+      auth_type = c.parts.auth_type;
+      redirect_url = c.parts.redirect_url;
+      auth_url = c.parts.auth_url;
+      device_authorization_url = c.parts.device_authorization_url;
+      introspection_url = c.parts.introspection_url;
+      revocation_url = c.parts.revocation_url;
+      token_url = c.parts.token_url;
+    } };
+
+    ghost invariant = { λ c.
+        IsTrue (HasAuthUrl.allows (is_some c.parts.auth_url))
+        × IsTrue (HasDeviceAuthUrl.allows (is_some c.parts.device_authorization_url))
+        × IsTrue (HasIntrospectionUrl.allows (is_some c.parts.introspection_url))
+        × IsTrue (HasRevocationUrl.allows (is_some c.parts.revocation_url))
+        × IsTrue (HasTokenUrl.allows (is_some c.parts.token_url)) };
+}
+
+impl<TE, TR, TIR, RT, TRE> Client<TE, TR, TIR, RT, TRE> {
+    /// A client with no secret, no redirect and no endpoint, which shows its credentials by
+    /// HTTP Basic.
+    pub fn new(client_id: ClientId) -> Self
+        ensures { result ≡ record {
+          client_id = client_id;
+          client_secret = None;
+          auth_type = BasicAuth;
+          redirect_url = None;
+          auth_url = None;
+          device_authorization_url = None;
+          introspection_url = None;
+          revocation_url = None;
+          token_url = None;
+        } }
+    {
+        Client {
+            parts: Parts {
+                client_id,
+                client_secret: None,
+                auth_type: AuthType::BasicAuth,
+                redirect_url: None,
+                auth_url: None,
+                device_authorization_url: None,
+                introspection_url: None,
+                revocation_url: None,
+                token_url: None,
+            },
+            phantom: PhantomData,
+        }
+    }
+}
+
+impl<
+    TE,
+    TR,
+    TIR,
+    RT,
+    TRE,
+    HasAuthUrl,
+    HasDeviceAuthUrl,
+    HasIntrospectionUrl,
+    HasRevocationUrl,
+    HasTokenUrl,
+> Client<
+    TE,
+    TR,
+    TIR,
+    RT,
+    TRE,
+    HasAuthUrl,
+    HasDeviceAuthUrl,
+    HasIntrospectionUrl,
+    HasRevocationUrl,
+    HasTokenUrl,
+>
+where
+    HasAuthUrl: EndpointState,
+    HasDeviceAuthUrl: EndpointState,
+    HasIntrospectionUrl: EndpointState,
+    HasRevocationUrl: EndpointState,
+    HasTokenUrl: EndpointState,
+{
+    /// Sets how the client shows its identifier and secret.
+    pub fn set_auth_type(mut self, auth_type: AuthType) -> Self
+        ensures { result ≡ record self { auth_type = auth_type } }
+    {
+        self.parts.auth_type = auth_type;
+        self
+    }
+
+    /// Sets the secret.
+    pub fn set_client_secret(mut self, client_secret: ClientSecret) -> Self
+        ensures { result ≡ record self { client_secret = Some client_secret } }
+    {
+        self.parts.client_secret = Some(client_secret);
+        self
+    }
+
+    /// Sets the redirect, which requests that set none of their own send.
+    pub fn set_redirect_uri(mut self, redirect_url: RedirectUrl) -> Self
+        ensures { result ≡ record self { redirect_url = Some redirect_url } }
+    {
+        self.parts.redirect_url = Some(redirect_url);
+        self
+    }
+
+    /// The identifier.
+    pub fn client_id(&self) -> &ClientId
+        ensures { result.now ≡ self.now.client_id }
+    {
+        &self.parts.client_id
+    }
+
+    // The secret.
+    pub(crate) fn client_secret(&self) -> Option<&ClientSecret>
+        ensures { option_copied result ≡ self.now.client_secret }
+    {
+        self.parts.client_secret.as_ref()
+    }
+
+    /// How the client shows its identifier and secret.
+    pub fn auth_type(&self) -> &AuthType
+        ensures { result.now ≡ self.now.auth_type }
+    {
+        &self.parts.auth_type
+    }
+
+    /// The redirect.
+    pub fn redirect_uri(&self) -> Option<&RedirectUrl>
+        ensures { option_copied result ≡ self.now.redirect_url }
+    {
+        self.parts.redirect_url.as_ref()
+    }
+
+    /// Sets the URL of the authorization endpoint (RFC 6749, section 3.1).
+    pub fn set_auth_uri(
+        self,
+        auth_url: AuthUrl,
+    ) -> Client<
+        TE,
+        TR,
+        TIR,
+        RT,
+        TRE,
+        EndpointSet,
+        HasDeviceAuthUrl,
+        HasIntrospectionUrl,
+        HasRevocationUrl,
+        HasTokenUrl,
+    >
+        ensures { result ≡ record self { auth_url = Some auth_url } }
+    {
+        Client {
+            parts: Parts {
+                auth_url: Some(auth_url),
+                ..self.parts
+            },
+            phantom: PhantomData,
+        }
+    }
+
+    /// Sets the URL of the authorization endpoint (RFC 6749, section 3.1), or clears it.
+    pub fn set_auth_uri_option(
+        self,
+        auth_url: Option<AuthUrl>,
+    ) -> Client<
+        TE,
+        TR,
+        TIR,
+        RT,
+        TRE,
+        EndpointMaybeSet,
+        HasDeviceAuthUrl,
+        HasIntrospectionUrl,
+        HasRevocationUrl,
+        HasTokenUrl,
+    >
+        ensures { result ≡ record self { auth_url = auth_url } }
+    {
+        Client {
+            parts: Parts {
+                auth_url,
+                ..self.parts
+            },
+            phantom: PhantomData,
+        }
+    }
+
+    /// Sets the URL of the device authorization endpoint (RFC 8628, section 3.1).
+    pub fn set_device_authorization_url(
+        self,
+        device_authorization_url: DeviceAuthorizationUrl,
+    ) -> Client<
+        TE,
+        TR,
+        TIR,
+        RT,
+        TRE,
+        HasAuthUrl,
+        EndpointSet,
+        HasIntrospectionUrl,
+        HasRevocationUrl,
+        HasTokenUrl,
+    >
+        ensures { result ≡ record self { device_authorization_url = Some device_authorization_url } }
+    {
+        Client {
+            parts: Parts {
+                device_authorization_url: Some(device_authorization_url),
+                ..self.parts
+            },
+            phantom: PhantomData,
+        }
+    }
+
+    /// Sets the URL of the device authorization endpoint (RFC 8628, section 3.1), or clears it.
+    pub fn set_device_authorization_url_option(
+        self,
+        device_authorization_url: Option<DeviceAuthorizationUrl>,
+    ) -> Client<
+        TE,
+        TR,
+        TIR,
+        RT,
+        TRE,
+        HasAuthUrl,
+        EndpointMaybeSet,
+        HasIntrospectionUrl,
+        HasRevocationUrl,
+        HasTokenUrl,
+    >
+        ensures { result ≡ record self { device_authorization_url = device_authorization_url } }
+    {
+        Client {
+            parts: Parts {
+                device_authorization_url,
+                ..self.parts
+            },
+            phantom: PhantomData,
+        }
+    }
+
+    /// Sets the URL of the introspection endpoint (RFC 7662, section 2).
+    pub fn set_introspection_url(
+        self,
+        introspection_url: IntrospectionUrl,
+    ) -> Client<
+        TE,
+        TR,
+        TIR,
+        RT,
+        TRE,
+        HasAuthUrl,
+        HasDeviceAuthUrl,
+        EndpointSet,
+        HasRevocationUrl,
+        HasTokenUrl,
+    >
+        ensures { result ≡ record self { introspection_url = Some introspection_url } }
+    {
+        Client {
+            parts: Parts {
+                introspection_url: Some(introspection_url),
+                ..self.parts
+            },
+            phantom: PhantomData,
+        }
+    }
+
+    /// Sets the URL of the introspection endpoint (RFC 7662, section 2), or clears it.
+    pub fn set_introspection_url_option(
+        self,
+        introspection_url: Option<IntrospectionUrl>,
+    ) -> Client<
+        TE,
+        TR,
+        TIR,
+        RT,
+        TRE,
+        HasAuthUrl,
+        HasDeviceAuthUrl,
+        EndpointMaybeSet,
+        HasRevocationUrl,
+        HasTokenUrl,
+    >
+        ensures { result ≡ record self { introspection_url = introspection_url } }
+    {
+        Client {
+            parts: Parts {
+                introspection_url,
+                ..self.parts
+            },
+            phantom: PhantomData,
+        }
+    }
+
+    /// Sets the URL of the revocation endpoint (RFC 7009, section 2).
+    pub fn set_revocation_url(
+        self,
+        revocation_url: RevocationUrl,
+    ) -> Client<
+        TE,
+        TR,
+        TIR,
+        RT,
+        TRE,
+        HasAuthUrl,
+        HasDeviceAuthUrl,
+        HasIntrospectionUrl,
+        EndpointSet,
+        HasTokenUrl,
+    >
+        ensures { result ≡ record self { revocation_url = Some revocation_url } }
+    {
+        Client {
+            parts: Parts {
+                revocation_url: Some(revocation_url),
+                ..self.parts
+            },
+            phantom: PhantomData,
+        }
+    }
+
+    /// Sets the URL of the revocation endpoint (RFC 7009, section 2), or clears it.
+    pub fn set_revocation_url_option(
+        self,
+        revocation_url: Option<RevocationUrl>,
+    ) -> Client<
+        TE,
+        TR,
+        TIR,
+        RT,
+        TRE,
+        HasAuthUrl,
+        HasDeviceAuthUrl,
+        HasIntrospectionUrl,
+        EndpointMaybeSet,
+        HasTokenUrl,
+    >
+        ensures { result ≡ record self { revocation_url = revocation_url } }
+    {
+        Client {
+            parts: Parts {
+                revocation_url,
+                ..self.parts
+            },
+            phantom: PhantomData,
+        }
+    }
+
+    /// Sets the URL of the token endpoint (RFC 6749, section 3.2).
+    pub fn set_token_uri(
+        self,
+        token_url: TokenUrl,
+    ) -> Client<
+        TE,
+        TR,
+        TIR,
+        RT,
+        TRE,
+        HasAuthUrl,
+        HasDeviceAuthUrl,
+        HasIntrospectionUrl,
+        HasRevocationUrl,
+        EndpointSet,
+    >
+        ensures { result ≡ record self { token_url = Some token_url } }
+    {
+        Client {
+            parts: Parts {
+                token_url: Some(token_url),
+                ..self.parts
+            },
+            phantom: PhantomData,
+        }
+    }
+
+    /// Sets the URL of the token endpoint (RFC 6749, section 3.2), or clears it.
+    pub fn set_token_uri_option(
+        self,
+        token_url: Option<TokenUrl>,
+    ) -> Client<
+        TE,
+        TR,
+        TIR,
+        RT,
+        TRE,
+        HasAuthUrl,
+        HasDeviceAuthUrl,
+        HasIntrospectionUrl,
+        HasRevocationUrl,
+        EndpointMaybeSet,
+    >
+        ensures { result ≡ record self { token_url = token_url } }
+    {
+        Client {
+            parts: Parts {
+                token_url,
+                ..self.parts
+            },
+            phantom: PhantomData,
+        }
+    }
+}
+
+impl<
+    TE,
+    TR,
+    TIR,
+    RT,
+    TRE,
+    HasDeviceAuthUrl,
+    HasIntrospectionUrl,
+    HasRevocationUrl,
+    HasTokenUrl,
+> Client<
+    TE,
+    TR,
+    TIR,
+    RT,
+    TRE,
+    EndpointSet,
+    HasDeviceAuthUrl,
+    HasIntrospectionUrl,
+    HasRevocationUrl,
+    HasTokenUrl,
+>
+where
+    HasDeviceAuthUrl: EndpointState,
+    HasIntrospectionUrl: EndpointState,
+    HasRevocationUrl: EndpointState,
+    HasTokenUrl: EndpointState,
+{
+    /// The URL of the authorization endpoint (RFC 6749, section 3.1).
+    pub fn auth_uri(&self) -> &AuthUrl
+        ensures { self.now.auth_url ≡ Some result.now }
+    {
+        self.parts.auth_url.as_ref().unwrap()
+    }
+}
+
+impl<
+    TE,
+    TR,
+    TIR,
+    RT,
+    TRE,
+    HasDeviceAuthUrl,
+    HasIntrospectionUrl,
+    HasRevocationUrl,
+    HasTokenUrl,
+> Client<
+    TE,
+    TR,
+    TIR,
+    RT,
+    TRE,
+    EndpointMaybeSet,
+    HasDeviceAuthUrl,
+    HasIntrospectionUrl,
+    HasRevocationUrl,
+    HasTokenUrl,
+>
+where
+    HasDeviceAuthUrl: EndpointState,
+    HasIntrospectionUrl: EndpointState,
+    HasRevocationUrl: EndpointState,
+    HasTokenUrl: EndpointState,
+{
+    /// The URL of the authorization endpoint (RFC 6749, section 3.1), if it has one.
+    pub fn auth_uri(&self) -> Option<&AuthUrl>
+        ensures { option_copied result ≡ self.now.auth_url }
+    {
+        self.parts.auth_url.as_ref()
+    }
+}
+
+impl<TE, TR, TIR, RT, TRE, HasAuthUrl, HasIntrospectionUrl, HasRevocationUrl, HasTokenUrl> Client<
+    TE,
+    TR,
+    TIR,
+    RT,
+    TRE,
+    HasAuthUrl,
+    EndpointSet,
+    HasIntrospectionUrl,
+    HasRevocationUrl,
+    HasTokenUrl,
+>
+where
+    HasAuthUrl: EndpointState,
+    HasIntrospectionUrl: EndpointState,
+    HasRevocationUrl: EndpointState,
+    HasTokenUrl: EndpointState,
+{
+    /// The URL of the device authorization endpoint (RFC 8628, section 3.1).
+    pub fn device_authorization_url(&self) -> &DeviceAuthorizationUrl
+        ensures { self.now.device_authorization_url ≡ Some result.now }
+    {
+        self.parts.device_authorization_url.as_ref().unwrap()
+    }
+}
+
+impl<TE, TR, TIR, RT, TRE, HasAuthUrl, HasIntrospectionUrl, HasRevocationUrl, HasTokenUrl> Client<
+    TE,
+    TR,
+    TIR,
+    RT,
+    TRE,
+    HasAuthUrl,
+    EndpointMaybeSet,
+    HasIntrospectionUrl,
+    HasRevocationUrl,
+    HasTokenUrl,
+>
+where
+    HasAuthUrl: EndpointState,
+    HasIntrospectionUrl: EndpointState,
+    HasRevocationUrl: EndpointState,
+    HasTokenUrl: EndpointState,
+{
+    /// The URL of the device authorization endpoint (RFC 8628, section 3.1), if it has one.
+    pub fn device_authorization_url(&self) -> Option<&DeviceAuthorizationUrl>
+        ensures { option_copied result ≡ self.now.device_authorization_url }
+    {
+        self.parts.device_authorization_url.as_ref()
+    }
+}
+
+impl<TE, TR, TIR, RT, TRE, HasAuthUrl, HasDeviceAuthUrl, HasRevocationUrl, HasTokenUrl> Client<
+    TE,
+    TR,
+    TIR,
+    RT,
+    TRE,
+    HasAuthUrl,
+    HasDeviceAuthUrl,
+    EndpointSet,
+    HasRevocationUrl,
+    HasTokenUrl,
+>
+where
+    HasAuthUrl: EndpointState,
+    HasDeviceAuthUrl: EndpointState,
+    HasRevocationUrl: EndpointState,
+    HasTokenUrl: EndpointState,
+{
+    /// The URL of the introspection endpoint (RFC 7662, section 2).
+    pub fn introspection_url(&self) -> &IntrospectionUrl
+        ensures { self.now.introspection_url ≡ Some result.now }
+    {
+        self.parts.introspection_url.as_ref().unwrap()
+    }
+}
+
+impl<TE, TR, TIR, RT, TRE, HasAuthUrl, HasDeviceAuthUrl, HasRevocationUrl, HasTokenUrl> Client<
+    TE,
+    TR,
+    TIR,
+    RT,
+    TRE,
+    HasAuthUrl,
+    HasDeviceAuthUrl,
+    EndpointMaybeSet,
+    HasRevocationUrl,
+    HasTokenUrl,
+>
+where
+    HasAuthUrl: EndpointState,
+    HasDeviceAuthUrl: EndpointState,
+    HasRevocationUrl: EndpointState,
+    HasTokenUrl: EndpointState,
+{
+    /// The URL of the introspection endpoint (RFC 7662, section 2), if it has one.
+    pub fn introspection_url(&self) -> Option<&IntrospectionUrl>
+        ensures { option_copied result ≡ self.now.introspection_url }
+    {
+        self.parts.introspection_url.as_ref()
+    }
+}
+
+impl<TE, TR, TIR, RT, TRE, HasAuthUrl, HasDeviceAuthUrl, HasIntrospectionUrl, HasTokenUrl> Client<
+    TE,
+    TR,
+    TIR,
+    RT,
+    TRE,
+    HasAuthUrl,
+    HasDeviceAuthUrl,
+    HasIntrospectionUrl,
+    EndpointSet,
+    HasTokenUrl,
+>
+where
+    HasAuthUrl: EndpointState,
+    HasDeviceAuthUrl: EndpointState,
+    HasIntrospectionUrl: EndpointState,
+    HasTokenUrl: EndpointState,
+{
+    /// The URL of the revocation endpoint (RFC 7009, section 2).
+    pub fn revocation_url(&self) -> &RevocationUrl
+        ensures { self.now.revocation_url ≡ Some result.now }
+    {
+        self.parts.revocation_url.as_ref().unwrap()
+    }
+}
+
+impl<TE, TR, TIR, RT, TRE, HasAuthUrl, HasDeviceAuthUrl, HasIntrospectionUrl, HasTokenUrl> Client<
+    TE,
+    TR,
+    TIR,
+    RT,
+    TRE,
+    HasAuthUrl,
+    HasDeviceAuthUrl,
+    HasIntrospectionUrl,
+    EndpointMaybeSet,
+    HasTokenUrl,
+>
+where
+    HasAuthUrl: EndpointState,
+    HasDeviceAuthUrl: EndpointState,
+    HasIntrospectionUrl: EndpointState,
+    HasTokenUrl: EndpointState,
+{
+    /// The URL of the revocation endpoint (RFC 7009, section 2), if it has one.
+    pub fn revocation_url(&self) -> Option<&RevocationUrl>
+        ensures { option_copied result ≡ self.now.revocation_url }
+    {
+        self.parts.revocation_url.as_ref()
+    }
+}
+
+impl<
+    TE,
+    TR,
+    TIR,
+    RT,
+    TRE,
+    HasAuthUrl,
+    HasDeviceAuthUrl,
+    HasIntrospectionUrl,
+    HasRevocationUrl,
+> Client<
+    TE,
+    TR,
+    TIR,
+    RT,
+    TRE,
+    HasAuthUrl,
+    HasDeviceAuthUrl,
+    HasIntrospectionUrl,
+    HasRevocationUrl,
+    EndpointSet,
+>
+where
+    HasAuthUrl: EndpointState,
+    HasDeviceAuthUrl: EndpointState,
+    HasIntrospectionUrl: EndpointState,
+    HasRevocationUrl: EndpointState,
+{
+    /// The URL of the token endpoint (RFC 6749, section 3.2).
+    pub fn token_uri(&self) -> &TokenUrl
+        ensures { self.now.token_url ≡ Some result.now }
+    {
+        self.parts.token_url.as_ref().unwrap()
+    }
+}
+
+impl<
+    TE,
+    TR,
+    TIR,
+    RT,
+    TRE,
+    HasAuthUrl,
+    HasDeviceAuthUrl,
+    HasIntrospectionUrl,
+    HasRevocationUrl,
+> Client<
+    TE,
+    TR,
+    TIR,
+    RT,
+    TRE,
+    HasAuthUrl,
+    HasDeviceAuthUrl,
+    HasIntrospectionUrl,
+    HasRevocationUrl,
+    EndpointMaybeSet,
+>
+where
+    HasAuthUrl: EndpointState,
+    HasDeviceAuthUrl: EndpointState,
+    HasIntrospectionUrl: EndpointState,
+    HasRevocationUrl: EndpointState,
+{
+    /// The URL of the token endpoint (RFC 6749, section 3.2), if it has one.
+    pub fn token_uri(&self) -> Option<&TokenUrl>
+        ensures { option_copied result ≡ self.now.token_url }
+    {
+        self.parts.token_url.as_ref()
+    }
+}
+
+impl<
+    TE,
+    TR,
+    TIR,
+    RT,
+    TRE,
+    HasAuthUrl,
+    HasDeviceAuthUrl,
+    HasIntrospectionUrl,
+    HasRevocationUrl,
+    HasTokenUrl,
+> TryClone
+    for Client<
+        TE,
+        TR,
+        TIR,
+        RT,
+        TRE,
+        HasAuthUrl,
+        HasDeviceAuthUrl,
+        HasIntrospectionUrl,
+        HasRevocationUrl,
+        HasTokenUrl,
+    >
+where
+    HasAuthUrl: EndpointState,
+    HasDeviceAuthUrl: EndpointState,
+    HasIntrospectionUrl: EndpointState,
+    HasRevocationUrl: EndpointState,
+    HasTokenUrl: EndpointState,
+{
+    ghost use Rattle.oauth2.specs.Settings.{Settings};
+
+    ghost Seen = { Settings };
+
+    ghost seen = { λ client. client };
+
+    fn try_clone(&self, alloc: Global) -> Result<Self, AllocError> {
+        Ok(Client {
+            parts: self.parts.try_clone(alloc)?,
+            phantom: PhantomData,
+        })
+    }
+}
+
+impl<
+    TE,
+    TR,
+    TIR,
+    RT,
+    TRE,
+    HasAuthUrl,
+    HasDeviceAuthUrl,
+    HasIntrospectionUrl,
+    HasRevocationUrl,
+    HasTokenUrl,
+> fmt::Debug
+    for Client<
+        TE,
+        TR,
+        TIR,
+        RT,
+        TRE,
+        HasAuthUrl,
+        HasDeviceAuthUrl,
+        HasIntrospectionUrl,
+        HasRevocationUrl,
+        HasTokenUrl,
+    >
+where
+    HasAuthUrl: EndpointState,
+    HasDeviceAuthUrl: EndpointState,
+    HasIntrospectionUrl: EndpointState,
+    HasRevocationUrl: EndpointState,
+    HasTokenUrl: EndpointState,
+{
+    fn fmt<W: fmt::Write>(&self, f: &mut fmt::Formatter<W>) -> fmt::Result {
+        f.debug_tuple("Client").field(&self.parts).finish()
+    }
+}
