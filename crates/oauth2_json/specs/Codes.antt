@@ -1,14 +1,18 @@
--- Codes and their texts.
-use Rattle.std.specs.Prelude.{ℕ, List, codes, if◌then◌else◌, String, string_bytes}
+-- Codes and their texts. A text is compared byte by byte, case and all.
+use Rattle.std.specs.Prelude.{ℕ, List, [], ◌∷◌, Ok, codes, if◌then◌else◌, string_bytes}
 use Rattle.std.specs.Str.{bytes_eq}
-use Rattle.serde_json.specs.Data.{Data, string}
+use Rattle.serde_json.specs.Data.{Data}
 use Rattle.oauth2_json.specs.Reading.{Reading, read_then}
-use Rattle.std.specs.Prelude.{Ok}
 use Rattle.oauth2_json.specs.Values.{text}
 use Rattle.oauth2_json.specs.declared.token_type.BasicTokenType.{BasicTokenType}
 use Rattle.oauth2_json.specs.declared.token_type.BasicTokenType.TheVariants.{Bearer, Mac, Extension}
 
--- a token type without where its text lies in memory
+-- what a text stands for in a table of codes, and `other` where no code is that text
+abbrev pub code_in : {C : Type 0} → List (List ℕ × C) → C → List ℕ → C
+code_in [] other s = other
+code_in (r ∷ rs) other s = if bytes_eq s r.0 then r.1 else code_in rs other s
+
+-- a token type, RFC 6749, 7.1, without where its text lies in memory
 pub data TokenCode : Type 0 where
   bearer : TokenCode
   mac : TokenCode
@@ -19,15 +23,18 @@ token_code Bearer = bearer
 token_code Mac = mac
 token_code (Extension s) = extension (string_bytes s)
 
--- the table, from variant to text
+abbrev pub token_codes : List (List ℕ × TokenCode)
+token_codes = (codes "bearer", bearer) ∷ (codes "mac", mac) ∷ []
+
+-- from text to variant: every other text is an extension
+abbrev pub token_code_of : List ℕ → TokenCode
+token_code_of s = code_in token_codes (extension s) s
+
+-- from variant to text
 abbrev pub token_code_text : TokenCode → List ℕ
 token_code_text bearer = codes "bearer"
 token_code_text mac = codes "mac"
 token_code_text (extension s) = s
-
--- the table, from text to variant
-abbrev pub token_code_of : List ℕ → TokenCode
-token_code_of s = if bytes_eq s (codes "bearer") then bearer else (if bytes_eq s (codes "mac") then mac else extension s)
 
 abbrev pub token_code_reading : Data → Reading TokenCode
 token_code_reading d = read_then (text d) (λ s. Ok (token_code_of s))

@@ -6,4 +6,5 @@ pub mod Puts
 pub mod ErrorResponse
 pub mod Words
 pub mod Codes
+pub mod ErrorCodes
 pub mod Body

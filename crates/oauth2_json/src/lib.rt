@@ -1,7 +1,9 @@
 //! JSON values of OAuth 2.0: what reads to which record, and what is written.
 #![tactic(auto)]
 
+mod basic_error;
 mod body;
+mod device_error;
 mod error_response;
 mod error_traits;
 mod floats;
@@ -10,6 +12,7 @@ mod lowered;
 pub mod members;
 mod numbers;
 mod read;
+mod revocation_error;
 mod secrets;
 mod spaced;
 mod text_lists;
@@ -18,9 +21,12 @@ mod token_type;
 mod urls;
 mod write;
 
+pub use basic_error::{BasicErrorResponseType, basic_error_laws};
 pub use body::{compact, read_body};
+pub use device_error::{DeviceCodeErrorResponseType, device_code_error_laws};
 pub use error_response::StandardErrorResponse;
 pub use error_traits::{ErrorResponse, ErrorResponseType};
 pub use read::{FromJson, ParseCause, ParseFault, ReadError};
+pub use revocation_error::{RevocationErrorResponseType, revocation_error_laws};
 pub use token_type::{BasicTokenType, TokenType, token_type_laws};
 pub use write::{ToJson, WriteError};

@@ -22,8 +22,7 @@ pub enum BasicTokenType {
 impl BasicTokenType {
     /// The variant of a text.
     fn from_text(text: String) -> BasicTokenType
-        ensures code { token_code result ≡ token_code_of (string_bytes text) }
-        ensures text { token_code_text (token_code result) ≡ string_bytes text }
+        ensures { token_code result ≡ token_code_of (string_bytes text) }
     {
         match text.as_str() {
             "bearer" => BasicTokenType::Bearer,
@@ -70,21 +69,38 @@ impl TryClone for BasicTokenType {
 
     ghost seen = { token_code };
 
-    fn try_clone(&self, _alloc: Global) -> Result<BasicTokenType, AllocError> {
+    fn try_clone(&self, alloc: Global) -> Result<BasicTokenType, AllocError> {
         match self {
             BasicTokenType::Bearer => Ok(BasicTokenType::Bearer),
             BasicTokenType::Mac => Ok(BasicTokenType::Mac),
-            BasicTokenType::Extension(text) => Ok(BasicTokenType::Extension(text.clone()?)),
+            BasicTokenType::Extension(text) => Ok(BasicTokenType::Extension(text.try_clone(
+                alloc,
+            )?)),
         }
     }
 }
 
-pub trait TokenType: FromJson + ToJson + fmt::Debug + PartialEq + TryClone {}
+/// The type of a token. Copies read and are written alike.
+pub trait TokenType: FromJson + ToJson + fmt::Debug + PartialEq + TryClone {
+    ghost use Rattle.std.specs.Prelude.{◌≡◌};
 
-impl TokenType for BasicTokenType {}
+    ghost copies_mean_alike: { (a b : Self) → Self.TryClone.seen a ≡ Self.TryClone.seen b
+        → Self.FromJson.meaning a ≡ Self.FromJson.meaning b };
+
+    ghost copies_are_written_alike: { (a b : Self) → Self.TryClone.seen a ≡ Self.TryClone.seen b
+        → Self.ToJson.writing a ≡ Self.ToJson.writing b };
+}
+
+impl TokenType for BasicTokenType {
+    ghost use Rattle.std.proofs.Common.{ap};
+
+    ghost copies_mean_alike = { λ a b h. h };
+
+    ghost copies_are_written_alike = { λ a b h. ap (λ c. Ok (string (token_code_text c))) h };
+}
 
 /// Writing what was read from a text gives that text, and what a variant is written as reads back as
-/// its canonical form.
+/// its canonical form, which reads back as itself.
 pub fn token_type_laws()
     ensures text { (s : List ℕ) → token_code_text (token_code_of s) ≡ s }
     ensures back { (c : TokenCode) → token_code_reading (string (token_code_text c)) ≡ Ok (canonical c) }
