@@ -2,3 +2,4 @@ pub mod BasicLemmas
 pub mod WrittenLemmas
 pub mod ByNameLemmas
 pub mod ParamsLemmas
+pub mod OneShotLemmas

@@ -1,16 +1,26 @@
-//! The wire of an OAuth 2.0 client: the requests that it sends, and what a server that only decodes reads of them.
+//! The wire of an OAuth 2.0 client: the requests that it sends, what a server that only decodes
+//! reads of them, and what the replies say.
 #![tactic(auto)]
 
 mod basic;
+mod client;
+mod content_type;
 mod encoded_text;
+mod error;
 mod form_body;
+mod once;
 mod param_buffer;
+mod reply;
 mod request;
 mod texts;
 mod view;
 
 pub use basic::basic_header;
+pub use client::{FnClient, HttpResponse, SyncHttpClient};
+pub use error::{ConfigurationError, HttpClientError, RequestTokenError};
+pub use once::{send_once, send_once_status_only};
 pub use param_buffer::ParamBuffer;
+pub use reply::{endpoint_response, endpoint_response_status_only};
 pub use request::{
     AuthType, HttpRequest, RequestFault, endpoint_request, endpoint_request_encoded,
 };

@@ -1,0 +1,21 @@
+-- The texts of errors.
+use Rattle.std.specs.Prelude.{ℕ, List, ◌++◌, Option, Some, string_bytes, codes, option_map}
+use Rattle.oauth2_wire.specs.declared.error.ConfigurationError.{ConfigurationError}
+use Rattle.oauth2_wire.specs.declared.error.ConfigurationError.TheVariants.{MissingUrl, InsecureUrl}
+use Rattle.oauth2_wire.specs.declared.error.RequestTokenError.{RequestTokenError}
+use Rattle.oauth2_wire.specs.declared.error.RequestTokenError.TheVariants.{ServerResponse, Request, Parse, Other, Memory}
+
+-- the text of an error of the configuration
+abbrev pub configuration_text : ConfigurationError → Option (List ℕ)
+configuration_text (MissingUrl name) = Some (codes "No " ++ name.now ++ codes " endpoint URL specified")
+configuration_text (InsecureUrl name) = Some (codes "Scheme for " ++ name.now ++ codes " endpoint URL must be HTTPS")
+
+module _ {RE T : Type 0} where
+  -- the text of an error of a request, where that of the server's error is `text`
+  abbrev pub fault_text : (T → Option (List ℕ)) → RequestTokenError RE T → Option (List ℕ)
+  fault_text text (ServerResponse error) =
+      option_map (λ bytes. codes "Server returned error response: " ++ bytes) (text error)
+  fault_text text (Request _) = Some (codes "Request failed")
+  fault_text text (Parse _ _) = Some (codes "Failed to parse server response")
+  fault_text text (Other given) = Some (codes "Other error: " ++ string_bytes given)
+  fault_text text (Memory _) = Some (codes "Out of memory")

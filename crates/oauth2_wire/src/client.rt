@@ -1,0 +1,84 @@
+//! The caller's HTTP client.
+use crate::request::HttpRequest;
+use http::Response;
+use std::marker::{Model, PhantomData};
+
+/// The reply that a client hands back.
+pub type HttpResponse = Response<Vec<u8>>;
+
+/// A client that sends one request and waits for its reply.
+pub trait SyncHttpClient {
+    ghost use Rattle.std.specs.Prelude.{ℕ, Vec, Result, ⊤};
+    ghost use Rattle.std.specs.declared.alloc.Global.{Global};
+    ghost use Rattle.http.specs.declared.request.Request.{Request};
+    ghost use Rattle.http.specs.declared.response.Response.{Response};
+
+    /// Why a request got no reply.
+    type Error;
+
+    // The client may be called in this state, on every request.
+    ghost is_ready: { Self → Type 0 } = { λ _. ⊤ };
+
+    // What a call may do: the state before, the request, the answer and the state after.
+    ghost step: { Self → Request (Vec ℕ Global) → Result (Response (Vec ℕ Global)) Self.Error → Self → Type 0 } = { λ _ _ _ _. ⊤ };
+
+    /// Sends one request.
+    fn call(&mut self, request: HttpRequest) -> Result<HttpResponse, Self::Error>
+        requires { is_ready self.old }
+        ensures step { step self.old request result self.new }
+        ensures ready { is_ready self.new };
+}
+
+/// A closure as a client. Contracts see the closure.
+#[derive(Drop)]
+pub struct FnClient<F, E> {
+    f: F,
+    error: PhantomData<E>,
+}
+
+impl<F, E> Model for FnClient<F, E> {
+    ghost Value = { F };
+
+    ghost view = { λ c. c.f };
+}
+
+impl<F, E> FnClient<F, E>
+where
+    F: FnMut(HttpRequest) -> Result<HttpResponse, E>,
+{
+    ghost use Rattle.std.specs.Prelude.{◌≡◌};
+
+    /// The client that calls the closure.
+    pub fn new(f: F) -> FnClient<F, E>
+        requires { F.IsAlwaysCallable f }
+        ensures { result ≡ f }
+    {
+        FnClient {
+            f,
+            error: PhantomData,
+        }
+    }
+
+    /// The closure.
+    pub fn into_inner(self) -> F
+        ensures { result ≡ self }
+    {
+        let FnClient { f, error: _ } = self;
+        f
+    }
+}
+
+impl<F, E> SyncHttpClient for FnClient<F, E>
+where
+    F: FnMut(HttpRequest) -> Result<HttpResponse, E>,
+{
+    type Error = E;
+
+    ghost is_ready = { λ f. F.IsAlwaysCallable f };
+
+    ghost step = { λ f request answer g. F.step f request answer g };
+
+    fn call(&mut self, request: HttpRequest) -> Result<HttpResponse, E> {
+        (self.f)(request)
+    }
+}

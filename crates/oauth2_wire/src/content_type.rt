@@ -1,0 +1,80 @@
+//! The Content-Type of a reply (RFC 9110, section 8.3).
+ghost use Rattle.std.specs.Prelude.{◌≡◌, ◌<◌, ◌++◌, take, IfOk, OnOk, string_bytes};
+ghost use Rattle.std.specs.List.{list_all};
+ghost use Rattle.std.specs.Char.{digit_char};
+ghost use Rattle.oauth2_wire.specs.ContentType.{is_text_byte, begins_with_json, is_json_type, shown_byte, shown_value, unexpected_type_text};
+
+use std::alloc::{AllocError, Global};
+
+// Whether a value is that of a JSON text.
+pub(crate) fn is_json_type(value: &[u8]) -> bool
+    ensures { result ≡ is_json_type value.now }
+{
+    is_text(value) && begins_with_json(value)
+}
+
+fn is_text(value: &[u8]) -> bool
+    ensures { result ≡ list_all is_text_byte value.now }
+{
+    value.iter().all(|&b| b == b'\t' || (32 <= b && b <= 126))
+}
+
+fn begins_with_json(value: &[u8]) -> bool
+    ensures { result ≡ begins_with_json value.now }
+{
+    front(value, 16).eq_ignore_ascii_case(b"application/json".as_slice())
+}
+
+// The first n bytes, or all of fewer.
+fn front(value: &[u8], n: usize) -> &[u8]
+    ensures { result.now ≡ take n value.now }
+{
+    if value.len() < n { value } else { &value[..n] }
+}
+
+// What is said of a value that is not that of a JSON text.
+pub(crate) fn unexpected_type_text(alloc: Global, value: &[u8]) -> Result<String, AllocError>
+    ensures { IfOk result (λ text. string_bytes text ≡ unexpected_type_text value.now) }
+{
+    let mut text = String::from_str(alloc, "unexpected response Content-Type: \"")?;
+    push_shown(&mut text, value)?;
+    text.push_str("\", should be `application/json`")?;
+    Ok(text)
+}
+
+fn push_shown(text: &mut String, value: &[u8]) -> Result<(), AllocError>
+    ensures { OnOk result (string_bytes text.new ≡ string_bytes text.old ++ shown_value value.now) }
+{
+    for &b in value {
+        push_shown_byte(text, b)?;
+    }
+    Ok(())
+}
+
+fn push_shown_byte(text: &mut String, b: u8) -> Result<(), AllocError>
+    ensures { OnOk result (string_bytes text.new ≡ string_bytes text.old ++ shown_byte b) }
+{
+    if b == b'"' {
+        text.push_str("\\\"")?;
+        return Ok(());
+    }
+    if b <= 126 {
+        text.push(char::from(b))?;
+        return Ok(());
+    }
+    text.push_str("\\x")?;
+    text.push(hex_digit(b / 16))?;
+    text.push(hex_digit(b % 16))?;
+    Ok(())
+}
+
+fn hex_digit(n: u8) -> char
+    requires { n < 16 }
+    ensures { result ≡ digit_char n }
+{
+    if n < 10 {
+        char::from(b'0' + n)
+    } else {
+        char::from(b'a' + (n - 10))
+    }
+}

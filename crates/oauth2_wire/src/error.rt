@@ -1,0 +1,99 @@
+//! Why a request could not be made, was not sent, or got no answer.
+use oauth2_json::ParseFault;
+use std::{fmt, io};
+use thiserror::Error;
+
+/// Why a `Client` cannot make a request.
+#[derive(Debug, Drop)]
+pub enum ConfigurationError {
+    /// The endpoint of this name has no URL.
+    MissingUrl(&'static str),
+    /// The URL of the endpoint of this name is not an `https` URL.
+    InsecureUrl(&'static str),
+}
+
+impl fmt::Display for ConfigurationError {
+    ghost use Rattle.oauth2_wire.specs.Display.{configuration_text};
+
+    ghost output = { configuration_text };
+
+    fn fmt<W: fmt::Write>(&self, f: &mut fmt::Formatter<W>) -> fmt::Result {
+        match self {
+            ConfigurationError::MissingUrl(name) => write!(f, "No {name} endpoint URL specified"),
+            ConfigurationError::InsecureUrl(name) => write!(
+                f,
+                "Scheme for {name} endpoint URL must be HTTPS"
+            ),
+        }
+    }
+}
+
+impl std::error::Error for ConfigurationError {}
+
+/// Why a request got no answer.
+#[derive(Debug, Drop)]
+pub enum RequestTokenError<RE, T> {
+    /// The server's own error (RFC 6749, section 5.2).
+    ServerResponse(T),
+    /// The client's error.
+    Request(RE),
+    /// Why the reply's body does not read, and its bytes.
+    Parse(ParseFault, Vec<u8>),
+    /// Another fault, in words.
+    Other(String),
+    /// Memory ran out.
+    Memory {
+        /// Whether the client was called.
+        sent: bool,
+    },
+}
+
+impl<RE, T: fmt::Display> fmt::Display for RequestTokenError<RE, T> {
+    ghost use Rattle.oauth2_wire.specs.Display.{fault_text};
+
+    ghost output = { fault_text T.output };
+
+    fn fmt<W: fmt::Write>(&self, f: &mut fmt::Formatter<W>) -> fmt::Result {
+        match self {
+            RequestTokenError::ServerResponse(error) => {
+                f.write_str("Server returned error response: ")?;
+                fmt::Display::fmt(error, f)
+            }
+            RequestTokenError::Request(_) => f.write_str("Request failed"),
+            RequestTokenError::Parse(_, _) => f.write_str("Failed to parse server response"),
+            RequestTokenError::Other(text) => {
+                f.write_str("Other error: ")?;
+                f.write_str(text.as_str())
+            }
+            RequestTokenError::Memory { sent: _ } => f.write_str("Out of memory"),
+        }
+    }
+}
+
+impl<RE, T> From<RE> for RequestTokenError<RE, T> {
+    ghost use Rattle.std.specs.Prelude.{◌≡◌};
+    ghost use Rattle.oauth2_wire.specs.declared.error.RequestTokenError.TheVariants.{Request};
+
+    ghost from_gives = { λ error fault. fault ≡ Request error };
+
+    fn from(error: RE) -> RequestTokenError<RE, T> {
+        RequestTokenError::Request(error)
+    }
+}
+
+/// An error for clients that the caller writes.
+#[derive(Debug, Drop, Error)]
+pub enum HttpClientError<RE> {
+    /// The client library's error.
+    #[error("client error")]
+    Reqwest(#[from] Box<RE>),
+    /// A part of a request or a reply that is none.
+    #[error("HTTP error")]
+    Http(#[from] http::Error),
+    /// An error of input or output.
+    #[error("I/O error")]
+    Io(#[from] io::Error),
+    /// Another error, in words.
+    #[error("{0}")]
+    Other(String),
+}

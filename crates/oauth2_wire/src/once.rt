@@ -1,0 +1,70 @@
+//! One request and its answer.
+ghost use Rattle.oauth2_wire.specs.Reply.{reply_of, answer_of, status_answer_of};
+ghost use Rattle.oauth2_wire.specs.OneShot.{SendsOnce, RefusesAs};
+
+use crate::client::SyncHttpClient;
+use crate::error::RequestTokenError;
+use crate::reply::{endpoint_response, endpoint_response_status_only};
+use crate::request::{HttpRequest, RequestFault};
+use oauth2_json::FromJson;
+use std::alloc::{AllocError, Global};
+
+/// Sends a prepared request once, and reads its reply.
+pub fn send_once<C: SyncHttpClient, TE: FromJson, DO: FromJson>(
+    alloc: Global,
+    prepared: Result<HttpRequest, RequestFault>,
+    http_client: &mut C,
+) -> Result<DO, RequestTokenError<C::Error, TE>>
+    requires { C.is_ready http_client.old }
+    ensures once { SendsOnce DO.meaning TE.meaning C.step (λ reply. answer_of DO.reading TE.reading (reply_of reply)) http_client.old prepared result http_client.new }
+    ensures ready { C.is_ready http_client.new }
+{
+    match prepared {
+        Ok(request) => match http_client.call(request) {
+            Ok(reply) => endpoint_response(alloc, reply),
+            Err(error) => Err(RequestTokenError::Request(error)),
+        },
+        Err(fault) => Err(unsent(alloc, fault)),
+    }
+}
+
+/// Sends a prepared request whose success says nothing more once, and reads its reply.
+pub fn send_once_status_only<C: SyncHttpClient, TE: FromJson>(
+    alloc: Global,
+    prepared: Result<HttpRequest, RequestFault>,
+    http_client: &mut C,
+) -> Result<(), RequestTokenError<C::Error, TE>>
+    requires { C.is_ready http_client.old }
+    ensures once { SendsOnce (λ done. done) TE.meaning C.step (λ reply. status_answer_of TE.reading (reply_of reply)) http_client.old prepared result http_client.new }
+    ensures ready { C.is_ready http_client.new }
+{
+    match prepared {
+        Ok(request) => match http_client.call(request) {
+            Ok(reply) => endpoint_response_status_only(alloc, reply),
+            Err(error) => Err(RequestTokenError::Request(error)),
+        },
+        Err(fault) => Err(unsent(alloc, fault)),
+    }
+}
+
+// The error of a request that was not sent.
+fn unsent<RE, TE>(alloc: Global, fault: RequestFault) -> RequestTokenError<RE, TE>
+    ensures { RefusesAs fault result }
+{
+    match fault {
+        RequestFault::NotHttp => not_http(alloc),
+        RequestFault::Memory => RequestTokenError::Memory { sent: false },
+    }
+}
+
+fn not_http<RE, TE>(alloc: Global) -> RequestTokenError<RE, TE>
+    ensures { RefusesAs RequestFault.NotHttp result }
+{
+    match String::from_str(
+        alloc,
+        "failed to prepare request: endpoint URL is not an HTTP target",
+    ) {
+        Ok(text) => RequestTokenError::Other(text),
+        Err(AllocError) => RequestTokenError::Memory { sent: false },
+    }
+}

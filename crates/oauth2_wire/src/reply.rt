@@ -1,0 +1,106 @@
+//! What a reply says (RFC 6749, sections 5.1 and 5.2).
+ghost use Rattle.oauth2_wire.specs.ContentType.{unexpected_type_text};
+ghost use Rattle.oauth2_wire.specs.Reply.{reply_of, answer_of, status_answer_of, success_answer, failure_answer, body_answer, Shows, ShowsFailure, other};
+
+use crate::client::HttpResponse;
+use crate::content_type::{is_json_type, unexpected_type_text};
+use crate::error::RequestTokenError;
+use http_header::CONTENT_TYPE;
+use oauth2_json::{FromJson, ReadError, read_body};
+use std::alloc::{AllocError, Global};
+
+/// What a reply says to a request for a `DO` (RFC 6749, section 5).
+pub fn endpoint_response<RE, TE: FromJson, DO: FromJson>(
+    alloc: Global,
+    reply: HttpResponse,
+) -> Result<DO, RequestTokenError<RE, TE>>
+    ensures { Shows DO.meaning TE.meaning (answer_of DO.reading TE.reading (reply_of reply)) result }
+{
+    if reply.status().as_u16() == 200 {
+        read_success(alloc, reply)
+    } else {
+        Err(read_failure(alloc, reply.into_body()))
+    }
+}
+
+/// What a reply says to a request whose success says nothing more (RFC 7009, section 2.2).
+pub fn endpoint_response_status_only<RE, TE: FromJson>(
+    alloc: Global,
+    reply: HttpResponse,
+) -> Result<(), RequestTokenError<RE, TE>>
+    ensures { Shows (λ done. done) TE.meaning (status_answer_of TE.reading (reply_of reply)) result }
+{
+    if reply.status().as_u16() == 200 {
+        Ok(())
+    } else {
+        Err(read_failure(alloc, reply.into_body()))
+    }
+}
+
+// A reply of status 200.
+fn read_success<RE, TE: FromJson, DO: FromJson>(
+    alloc: Global,
+    reply: HttpResponse,
+) -> Result<DO, RequestTokenError<RE, TE>>
+    ensures { Shows DO.meaning TE.meaning (success_answer DO.reading (reply_of reply).content_type (reply_of reply).body) result }
+{
+    match reply.headers().get(CONTENT_TYPE) {
+        Some(value) => if is_json_type(value.as_bytes()) {
+            read_answer(alloc, reply.into_body())
+        } else {
+            Err(refused_type(alloc, value.as_bytes()))
+        },
+        None => read_answer(alloc, reply.into_body()),
+    }
+}
+
+// The body of a success.
+fn read_answer<RE, TE: FromJson, DO: FromJson>(
+    alloc: Global,
+    body: Vec<u8>,
+) -> Result<DO, RequestTokenError<RE, TE>>
+    ensures { Shows DO.meaning TE.meaning (body_answer DO.reading body.items) result }
+{
+    if body.is_empty() {
+        return Err(other(alloc, "server returned empty response body"));
+    }
+    match read_body::<DO>(alloc, &body) {
+        Ok(answer) => Ok(answer),
+        Err(ReadError::Fault(fault)) => Err(RequestTokenError::Parse(fault, body)),
+        Err(ReadError::Memory) => Err(RequestTokenError::Memory { sent: true }),
+    }
+}
+
+// The body of a failure.
+fn read_failure<RE, TE: FromJson>(alloc: Global, body: Vec<u8>) -> RequestTokenError<RE, TE>
+    ensures { ShowsFailure TE.meaning (failure_answer TE.reading body.items) result }
+{
+    if body.is_empty() {
+        return other(alloc, "server returned empty error response");
+    }
+    match read_body::<TE>(alloc, &body) {
+        Ok(error) => RequestTokenError::ServerResponse(error),
+        Err(ReadError::Fault(fault)) => RequestTokenError::Parse(fault, body),
+        Err(ReadError::Memory) => RequestTokenError::Memory { sent: true },
+    }
+}
+
+// A fault in words, after a call of the client.
+fn other<RE, TE: FromJson>(alloc: Global, text: &str) -> RequestTokenError<RE, TE>
+    ensures { ShowsFailure TE.meaning (other text.now) result }
+{
+    match String::from_str(alloc, text) {
+        Ok(text) => RequestTokenError::Other(text),
+        Err(AllocError) => RequestTokenError::Memory { sent: true },
+    }
+}
+
+// The refusal of a Content-Type.
+fn refused_type<RE, TE: FromJson>(alloc: Global, value: &[u8]) -> RequestTokenError<RE, TE>
+    ensures { ShowsFailure TE.meaning (other (unexpected_type_text value.now)) result }
+{
+    match unexpected_type_text(alloc, value) {
+        Ok(text) => RequestTokenError::Other(text),
+        Err(AllocError) => RequestTokenError::Memory { sent: true },
+    }
+}
