@@ -7,3 +7,4 @@ pub mod Words
 pub mod Seconds
 pub mod ErrorMembers
 pub mod Codes
+pub mod Challenges

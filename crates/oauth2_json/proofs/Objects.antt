@@ -1,5 +1,5 @@
 -- Taking members out of an object, and putting them in.
-use Rattle.std.proofs.Common.{◌≡◌, ℕ, List, [], ◌∷◌, Option, Some, None, is_some, option_map, Result, Ok, Err, IfOk, String, Global, Ordering, Less, Equal, Greater, string_bytes, nat_cmp, is_eq, cond, not, ◌&&◌, ◌||◌, Bool, true, false, bytes_eq, true≢false, refl, sym, ap, ◌∙◌, arith, rules}
+use Rattle.std.proofs.Common.{◌≡◌, ℕ, List, [], ◌∷◌, Option, Some, None, is_some, option_map, Result, Ok, Err, IfOk, Ordering, Less, Equal, Greater, string_bytes, nat_cmp, is_eq, cond, not, ◌&&◌, ◌||◌, Bool, true, false, bytes_eq, true≢false, refl, sym, ap, ◌∙◌}
 use Rattle.std.proofs.lemmas.Cmp.{nat_list_cmp_total, tied_itself}
 use Rattle.std.proofs.lemmas.Map.Text.{is_eq-slice_cmp}
 use Rattle.std.proofs.lemmas.Slice.Eq.{bytes_eq-Decides}
@@ -13,7 +13,7 @@ use Rattle.serde_json.specs.Written.{members_have_float}
 use Rattle.serde_json.specs.View.{view, members_view}
 use Rattle.serde_json.specs.declared.value.Value.{Value}
 use Rattle.serde_json.proofs.Views.{Entry, view-lookup, get_member-put, get_member-put_other}
-use Rattle.oauth2_json.specs.Members.{without, others, put_some, optional, clashes, beside}
+use Rattle.oauth2_json.specs.Members.{without, others, put_some, optional, optional_writing, clashes, beside}
 use Rattle.oauth2_json.specs.Values.{text, whole_number}
 use Rattle.oauth2_json.specs.Writing.{Writing, WritesAs, write_then, name_clash, float}
 use Rattle.oauth2_json.specs.declared.write.WriteError.{WriteError}
@@ -149,3 +149,8 @@ beside_taken own ms f d h = taken_if (clashes own ms) (members_have_float ms) ms
 pub optional-number : (name : List ℕ) (o : Option ℕ) → optional whole_number name (option_map (λ n. number (unsigned n)) o) ≡ Ok o
 optional-number name None = refl
 optional-number name (Some n) = refl
+
+-- a text that may be absent, as it is written
+pub optional_writing-text : (o : Option (List ℕ)) → optional_writing (λ s. Ok (string s)) o ≡ Ok (option_map string o)
+optional_writing-text None = refl
+optional_writing-text (Some s) = refl

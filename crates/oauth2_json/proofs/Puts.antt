@@ -1,9 +1,9 @@
 -- Members that were put in, one for each row.
-use Rattle.std.proofs.Common.{◌≡◌, ℕ, List, [], ◌∷◌, map, Bool, true, false, not, cond, ◌&&◌, Option, Some, None, Ordering, Less, Equal, Greater, nat_cmp, bytes_eq, refl, sym, ap, ◌∙◌}
+use Rattle.std.proofs.Common.{◌≡◌, ℕ, List, [], ◌∷◌, Bool, true, false, not, cond, ◌&&◌, Option, None, bytes_eq, refl, sym, ap, ◌∙◌}
 use Rattle.std.proofs.lemmas.Slice.Eq.{bytes_eq-Decides}
 use Rattle.serde_json.specs.Data.{Data, Members}
 use Rattle.serde_json.specs.Find.{get_member}
-use Rattle.oauth2_json.specs.Members.{without, others, put_some, clashes}
+use Rattle.oauth2_json.specs.Members.{others, put_some, clashes}
 use Rattle.oauth2_json.proofs.Objects.{pass_some, find_some, without-some, absent_first, misses}
 use Rattle.oauth2_json.specs.Puts.{Row, put_all, names, value_in}
 

@@ -1,15 +1,17 @@
 -- A text, split at every space.
-use Rattle.std.proofs.Common.{◌≡◌, ◌≢◌, ℕ, suc, ◌<◌, List, [], ◌∷◌, ◌++◌, length, get_or, Bool, true, false, not, cond, ◌&&◌, eqb, Option, Some, None, Ok, Err, Bor, length-append, append-nil, inl, inr, refl, sym, ap, ◌∙◌, arith, append_assoc}
+use Rattle.std.proofs.Common.{◌≡◌, ◌≢◌, ◌↔◌, ℕ, suc, ◌<◌, List, [], ◌∷◌, ◌++◌, length, get_or, Bool, true, false, not, cond, ◌&&◌, eqb, Option, Some, None, option_map, IfSome, IsTrue, Ok, Err, Bor, length-append, append-nil, inl, inr, refl, sym, ap, ◌∙◌, arith, append_assoc}
 use Rattle.std.proofs.lemmas.Bool.{ne_eqb}
 use Rattle.std.proofs.lemmas.Bool.Decides.{eqb_tells}
 use Rattle.std.proofs.lemmas.Option.{MatchOption-at_some, MatchOption-at_none}
 use Rattle.std.proofs.lemmas.Str.Pattern.{IsSplitOnceResult, split_parts}
 use Rattle.serde_json.specs.Data.{Data, string}
 use Rattle.oauth2_json.specs.Reading.{Reading, Fault, fault_of, ErrsAs, at_member, ◌⊛◌}
-use Rattle.oauth2_json.specs.Values.{each, text}
+use Rattle.oauth2_json.specs.Values.{each, spaced, text}
+use Rattle.oauth2_json.specs.Members.{optional, some_of}
+use Rattle.oauth2_json.specs.Helpers.{nullable, words_data}
 use Rattle.oauth2_json.specs.declared.read.ReadError.{ReadError}
 use Rattle.oauth2_json.specs.declared.read.ReadError.TheVariants as errors
-use Rattle.oauth2_json.specs.Words.{onto_first, pieces, joined, has_no_space, have_no_space, are_words, each_after_space, lead}
+use Rattle.oauth2_json.specs.Words.{onto_first, pieces, joined, has_no_space, are_words, each_after_space, lead}
 
 no_space : (x : List ℕ) → ((i : ℕ) → i < length x → get_or x i 0 ≢ 32) → has_no_space x ≡ true
 no_space [] h = refl
@@ -140,3 +142,20 @@ still-nil true = refl
 still-nil false = refl
 
 pub ruleset words_facts = (still_word, still-nil)
+
+-- ---- lists that may be absent
+
+pub optional-words : (name : List ℕ) (o : Option (List (List ℕ))) → IfSome o (λ ps. IsTrue (are_words ps)) → optional (spaced text) name (option_map (λ ps. string (joined ps)) o) ≡ Ok o
+optional-words name None h = refl
+optional-words name (Some ps) h = rw (pieces-joined ps h, each-text ps) refl
+
+ok_inner : {A : Type 0} (a b : A) → some_of (at_member [] (Ok a)) ≡ Ok (Some b) → a ≡ b
+ok_inner a b h = cc
+
+words_back_at : (o : Option (List (List ℕ))) → (nullable (spaced text) (words_data o) ≡ Ok o) ↔ IfSome o (λ ps. IsTrue (are_words ps))
+words_back_at None = (λ _. tt, λ _. refl)
+words_back_at (Some ps) = (λ h. words_only ps (ok_inner (pieces (joined ps)) ps (rw (each-text (pieces (joined ps))) at h)), λ w. rw (pieces-joined ps w, each-text ps) refl)
+
+-- a list reads back exactly where it is one of words
+pub words_back : (o : Option (List (List ℕ))) (d : Data) → d ≡ words_data o → (nullable (spaced text) d ≡ Ok o) ↔ IfSome o (λ ps. IsTrue (are_words ps))
+words_back o d e = rw e (words_back_at o)

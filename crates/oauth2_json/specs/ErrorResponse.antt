@@ -1,10 +1,11 @@
--- RFC 6749, 5.2: the members of an error response.
-use Rattle.std.specs.Prelude.{◌≡◌, ℕ, List, [], ◌++◌, Option, Some, None, Ok, Err, codes, option_map, string_bytes}
-use Rattle.serde_json.specs.Data.{Data, Members, string, object, no_members, put}
+-- The error response of RFC 6749, 5.2 (and so of RFC 7009, 2.2.1, and RFC 8628, 3.5).
+use Rattle.std.specs.Prelude.{◌≡◌, ℕ, List, [], ◌∷◌, ◌++◌, Option, Some, None, Ok, codes, option_map, string_bytes}
+use Rattle.serde_json.specs.Data.{Data, Members, string, object, no_members}
 use Rattle.serde_json.specs.Find.{get_member}
 use Rattle.oauth2_json.specs.Reading.{Reading, read_then, ◌⊛◌}
 use Rattle.oauth2_json.specs.Writing.{Writing, write_then}
-use Rattle.oauth2_json.specs.Members.{members_of_object, needed, optional, put_some}
+use Rattle.oauth2_json.specs.Members.{members_of_object, needed, optional}
+use Rattle.oauth2_json.specs.Puts.{Row, put_all}
 use Rattle.oauth2_json.specs.Values.{text}
 use Rattle.oauth2_json.specs.declared.error_response.StandardErrorResponse.{StandardErrorResponse}
 
@@ -20,7 +21,7 @@ parts e d u = record { error = e; description = d; uri = u }
 abbrev pub parts_of : {T M : Type 0} → (T → M) → StandardErrorResponse T → ErrorParts M
 parts_of f r = parts (f r.error) (option_map string_bytes r.error_description) (option_map string_bytes r.error_uri)
 
--- the table
+-- other members are ignored
 abbrev pub error_row : {T : Type 0} → (Data → Reading T) → Members → Reading (ErrorParts T)
 error_row code ms =
     Ok parts
@@ -31,13 +32,16 @@ error_row code ms =
 abbrev pub error_reading : {T : Type 0} → (Data → Reading T) → Data → Reading (ErrorParts T)
 error_reading code d = read_then (members_of_object d) (error_row code)
 
-abbrev pub error_members : Data → Option (List ℕ) → Option (List ℕ) → Members
-error_members code description uri =
-    put (codes "error") code (put_some (codes "error_description") (option_map string description)
-    (put_some (codes "error_uri") (option_map string uri) no_members))
+-- the members of a response whose code is written as `code`
+abbrev pub error_rows : {T : Type 0} → Data → ErrorParts T → List Row
+error_rows code r =
+    (codes "error", Some code)
+    ∷ (codes "error_description", option_map string r.description)
+    ∷ (codes "error_uri", option_map string r.uri)
+    ∷ []
 
 abbrev pub error_writing : {T : Type 0} → (T → Writing) → ErrorParts T → Writing
-error_writing code r = write_then (code r.error) (λ d. Ok (object (error_members d r.description r.uri)))
+error_writing code r = write_then (code r.error) (λ d. Ok (object (put_all (error_rows d r) no_members)))
 
 -- the code is written as a text that reads back as itself
 abbrev pub IsReadBack : {T M : Type 0} → (Data → Reading M) → (T → M) → (T → Writing) → T → Type 0

@@ -8,3 +8,5 @@ pub mod Words
 pub mod Codes
 pub mod ErrorCodes
 pub mod Body
+pub mod Challenge
+pub mod Helpers

@@ -1,7 +1,7 @@
 -- The kinds of values that members hold.
 use Rattle.url.specs.Parser.{parse_url}
 use Rattle.oauth2_urls.specs.Addressed.{Addressed}
-use Rattle.std.specs.Prelude.{ℕ, ℤ, pos, neg_ℤ, ◌*ℤ◌, int_lt, not, ◌&&◌, List, [], ◌∷◌, map, Bool, if◌then◌else◌, Option, Some, None, Result, Ok, Err}
+use Rattle.std.specs.Prelude.{◌≡◌, ℕ, ℤ, pos, neg_ℤ, ◌*ℤ◌, int_lt, not, ◌&&◌, List, [], ◌∷◌, map, Bool, if◌then◌else◌, None, Ok, Err}
 use Rattle.std.specs.Char.{to_ascii_lowercase}
 use Rattle.std.specs.Int.{int_div_euclid}
 use Rattle.serde_json.specs.Data.{Num, unsigned, negative, float, Data, null, boolean, number, string, array, object, Items, no_items, item}
@@ -71,6 +71,10 @@ instant (object ms) = wrong_type
 -- the whole seconds of an instant, rounded down
 abbrev pub second_of : ℤ → ℤ
 second_of n = int_div_euclid n (pos 1_000_000_000)
+
+-- an instant of whole seconds
+abbrev pub IsWholeSeconds : ℤ → Type 0
+IsWholeSeconds n = (z : ℤ) × (n ≡ z *ℤ pos 1_000_000_000)
 
 abbrev pub second_data : ℤ → Data
 second_data n = number (of_integer (second_of n))

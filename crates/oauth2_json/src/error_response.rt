@@ -2,6 +2,7 @@
 
 ghost use Rattle.std.specs.Prelude.{◌≡◌};
 
+use crate::error_traits::{ErrorResponse, ErrorResponseType};
 use crate::members;
 use crate::read::{FromJson, ReadError};
 use crate::write::{ToJson, WriteError};
@@ -15,6 +16,44 @@ pub struct StandardErrorResponse<T> {
     error: T,
     error_description: Option<String>,
     error_uri: Option<String>,
+}
+
+impl<T> StandardErrorResponse<T> {
+    ghost use Rattle.std.specs.Prelude.{◌≡◌, option_map, option_copied, string_bytes};
+    ghost use Rattle.oauth2_json.specs.ErrorResponse.{parts, parts_of};
+
+    pub fn new(
+        error: T,
+        error_description: Option<String>,
+        error_uri: Option<String>,
+    ) -> StandardErrorResponse<T>
+        ensures { parts_of (λ t. t) result
+            ≡ parts error (option_map string_bytes error_description) (option_map string_bytes error_uri) }
+    {
+        StandardErrorResponse {
+            error,
+            error_description,
+            error_uri,
+        }
+    }
+
+    pub fn error(&self) -> &T
+        ensures { result.now ≡ (parts_of (λ t. t) self.now).error }
+    {
+        &self.error
+    }
+
+    pub fn error_description(&self) -> Option<&String>
+        ensures { option_map string_bytes (option_copied result) ≡ (parts_of (λ t. t) self.now).description }
+    {
+        self.error_description.as_ref()
+    }
+
+    pub fn error_uri(&self) -> Option<&String>
+        ensures { option_map string_bytes (option_copied result) ≡ (parts_of (λ t. t) self.now).uri }
+    {
+        self.error_uri.as_ref()
+    }
 }
 
 impl<T: FromJson + Drop> FromJson for StandardErrorResponse<T> {
@@ -108,3 +147,5 @@ impl<T: fmt::Display> fmt::Display for StandardErrorResponse<T> {
         Ok(())
     }
 }
+
+impl<T: ErrorResponseType + fmt::Display + Drop> ErrorResponse for StandardErrorResponse<T> {}

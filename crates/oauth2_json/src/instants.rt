@@ -1,10 +1,10 @@
 //! Instants as members: whole seconds since 1970-01-01T00:00:00Z.
 
-ghost use Rattle.std.specs.Prelude.{◌≡◌, ℤ, option_map};
+ghost use Rattle.std.specs.Prelude.{◌≡◌, ℕ, ℤ, List, Ok, IfSome, option_map};
 ghost use Rattle.serde_json.specs.View.{view};
 ghost use Rattle.oauth2_json.specs.Reading.{ReadsAs};
 ghost use Rattle.oauth2_json.specs.Members.{optional};
-ghost use Rattle.oauth2_json.specs.Values.{instant, instant_at, second_of, second_data};
+ghost use Rattle.oauth2_json.specs.Values.{instant, instant_at, second_of, second_data, IsWholeSeconds};
 
 use crate::members;
 use crate::read::{FromJson, ParseCause, ReadError};
@@ -71,7 +71,9 @@ fn second_of(at: Timestamp) -> i64
 
 /// The value of an instant that may be absent: its whole seconds, rounded down.
 pub fn time_value(at: Option<Timestamp>) -> Option<Value>
-    ensures { option_map view result ≡ option_map second_data (option_map (λ t. t.nanosecond) at) }
+    ensures value { option_map view result ≡ option_map second_data (option_map (λ t. t.nanosecond) at) }
+    ensures reads_back { (name : List ℕ) → IfSome (option_map (λ t. t.nanosecond) at) IsWholeSeconds
+        → optional instant name (option_map view result) ≡ Ok (option_map (λ t. t.nanosecond) at) }
 {
     match at {
         Some(at) => Some(Value::from(second_of(at))),

@@ -3,10 +3,12 @@
 
 mod basic_error;
 mod body;
+mod challenge;
 mod device_error;
 mod error_response;
 mod error_traits;
 mod floats;
+pub mod helpers;
 mod instants;
 mod lowered;
 pub mod members;

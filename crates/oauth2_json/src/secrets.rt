@@ -6,7 +6,10 @@ ghost use Rattle.oauth2_json.specs.Values.{text};
 
 use crate::read::{FromJson, ReadError};
 use crate::write::{ToJson, WriteError};
-use oauth2_types::{AccessToken, ClientSecret, CsrfToken, PkceCodeVerifier, RefreshToken};
+use oauth2_types::{
+    AccessToken, AuthorizationCode, ClientSecret, CsrfToken, DeviceCode, PkceCodeVerifier,
+    RefreshToken, UserCode, VerificationUriComplete,
+};
 use serde_json::Value;
 use std::alloc::Global;
 
@@ -23,6 +26,26 @@ impl FromJson for AccessToken {
 }
 
 impl ToJson for AccessToken {
+    ghost writing = { λ t. Ok (string t) };
+
+    fn to_json(&self, alloc: Global) -> Result<Value, WriteError> {
+        self.secret().to_json(alloc)
+    }
+}
+
+impl FromJson for AuthorizationCode {
+    ghost Meaning = { List ℕ };
+
+    ghost meaning = { λ t. t };
+
+    ghost reading = { text };
+
+    fn from_json(alloc: Global, value: Value) -> Result<AuthorizationCode, ReadError> {
+        Ok(AuthorizationCode::new(String::from_json(alloc, value)?))
+    }
+}
+
+impl ToJson for AuthorizationCode {
     ghost writing = { λ t. Ok (string t) };
 
     fn to_json(&self, alloc: Global) -> Result<Value, WriteError> {
@@ -70,6 +93,26 @@ impl ToJson for CsrfToken {
     }
 }
 
+impl FromJson for DeviceCode {
+    ghost Meaning = { List ℕ };
+
+    ghost meaning = { λ t. t };
+
+    ghost reading = { text };
+
+    fn from_json(alloc: Global, value: Value) -> Result<DeviceCode, ReadError> {
+        Ok(DeviceCode::new(String::from_json(alloc, value)?))
+    }
+}
+
+impl ToJson for DeviceCode {
+    ghost writing = { λ t. Ok (string t) };
+
+    fn to_json(&self, alloc: Global) -> Result<Value, WriteError> {
+        self.secret().to_json(alloc)
+    }
+}
+
 impl FromJson for PkceCodeVerifier {
     ghost Meaning = { List ℕ };
 
@@ -103,6 +146,46 @@ impl FromJson for RefreshToken {
 }
 
 impl ToJson for RefreshToken {
+    ghost writing = { λ t. Ok (string t) };
+
+    fn to_json(&self, alloc: Global) -> Result<Value, WriteError> {
+        self.secret().to_json(alloc)
+    }
+}
+
+impl FromJson for UserCode {
+    ghost Meaning = { List ℕ };
+
+    ghost meaning = { λ t. t };
+
+    ghost reading = { text };
+
+    fn from_json(alloc: Global, value: Value) -> Result<UserCode, ReadError> {
+        Ok(UserCode::new(String::from_json(alloc, value)?))
+    }
+}
+
+impl ToJson for UserCode {
+    ghost writing = { λ t. Ok (string t) };
+
+    fn to_json(&self, alloc: Global) -> Result<Value, WriteError> {
+        self.secret().to_json(alloc)
+    }
+}
+
+impl FromJson for VerificationUriComplete {
+    ghost Meaning = { List ℕ };
+
+    ghost meaning = { λ t. t };
+
+    ghost reading = { text };
+
+    fn from_json(alloc: Global, value: Value) -> Result<VerificationUriComplete, ReadError> {
+        Ok(VerificationUriComplete::new(String::from_json(alloc, value)?))
+    }
+}
+
+impl ToJson for VerificationUriComplete {
     ghost writing = { λ t. Ok (string t) };
 
     fn to_json(&self, alloc: Global) -> Result<Value, WriteError> {

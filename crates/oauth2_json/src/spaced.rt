@@ -92,6 +92,13 @@ pub fn optional_words<T: FromJson + Drop>(
     }
 }
 
+/// The text of a list, as a JSON value.
+pub(crate) fn words_text<T: AsStr>(alloc: Global, words: &[T]) -> Result<Value, AllocError>
+    ensures { IfOk result (λ v. view v ≡ string (joined (map T.text words.now))) }
+{
+    Ok(Value::String(joined(alloc, words)?))
+}
+
 /// The text of a list that may be absent.
 pub fn words_value<T: AsStr>(
     alloc: Global,
@@ -101,7 +108,7 @@ pub fn words_value<T: AsStr>(
         ≡ option_map (λ ps. string (joined ps)) (option_map (λ v. map T.text v.items) words.now)) }
 {
     match words {
-        Some(words) => Ok(Some(Value::String(joined(alloc, words.as_slice())?))),
+        Some(words) => Ok(Some(words_text(alloc, words.as_slice())?)),
         None => Ok(None),
     }
 }

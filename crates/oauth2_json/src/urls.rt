@@ -9,7 +9,10 @@ ghost use Rattle.url.specs.Parser.{parse_url, IsOutOfRoom};
 
 use crate::read::{FromJson, ParseCause, ReadError};
 use crate::write::{ToJson, WriteError};
-use oauth2_urls::{AuthUrl, RedirectUrl, TokenUrl};
+use oauth2_urls::{
+    AuthUrl, DeviceAuthorizationUrl, EndUserVerificationUrl, IntrospectionUrl, RedirectUrl,
+    RevocationUrl, TokenUrl,
+};
 use serde_json::Value;
 use std::alloc::Global;
 use std::ops::Deref;
@@ -46,7 +49,79 @@ impl ToJson for AuthUrl {
     ghost writing = { λ u. Ok (string u.text) };
 
     fn to_json(&self, alloc: Global) -> Result<Value, WriteError> {
-        Ok(Value::try_from_str(alloc, self.deref().as_str())?)
+        self.deref().to_json(alloc)
+    }
+}
+
+impl FromJson for DeviceAuthorizationUrl {
+    ghost Meaning = { Addressed };
+
+    ghost meaning = { λ u. u };
+
+    ghost reading = { url };
+
+    fn from_json(alloc: Global, value: Value) -> Result<DeviceAuthorizationUrl, ReadError> {
+        let text = String::from_json(alloc, value)?;
+        match DeviceAuthorizationUrl::new(alloc, text) {
+            Ok(url) => Ok(url),
+            Err(error) => Err(refused(alloc, error)),
+        }
+    }
+}
+
+impl ToJson for DeviceAuthorizationUrl {
+    ghost writing = { λ u. Ok (string u.text) };
+
+    fn to_json(&self, alloc: Global) -> Result<Value, WriteError> {
+        self.deref().to_json(alloc)
+    }
+}
+
+impl FromJson for EndUserVerificationUrl {
+    ghost Meaning = { Addressed };
+
+    ghost meaning = { λ u. u };
+
+    ghost reading = { url };
+
+    fn from_json(alloc: Global, value: Value) -> Result<EndUserVerificationUrl, ReadError> {
+        let text = String::from_json(alloc, value)?;
+        match EndUserVerificationUrl::new(alloc, text) {
+            Ok(url) => Ok(url),
+            Err(error) => Err(refused(alloc, error)),
+        }
+    }
+}
+
+impl ToJson for EndUserVerificationUrl {
+    ghost writing = { λ u. Ok (string u.text) };
+
+    fn to_json(&self, alloc: Global) -> Result<Value, WriteError> {
+        self.deref().to_json(alloc)
+    }
+}
+
+impl FromJson for IntrospectionUrl {
+    ghost Meaning = { Addressed };
+
+    ghost meaning = { λ u. u };
+
+    ghost reading = { url };
+
+    fn from_json(alloc: Global, value: Value) -> Result<IntrospectionUrl, ReadError> {
+        let text = String::from_json(alloc, value)?;
+        match IntrospectionUrl::new(alloc, text) {
+            Ok(url) => Ok(url),
+            Err(error) => Err(refused(alloc, error)),
+        }
+    }
+}
+
+impl ToJson for IntrospectionUrl {
+    ghost writing = { λ u. Ok (string u.text) };
+
+    fn to_json(&self, alloc: Global) -> Result<Value, WriteError> {
+        self.deref().to_json(alloc)
     }
 }
 
@@ -70,7 +145,31 @@ impl ToJson for RedirectUrl {
     ghost writing = { λ u. Ok (string u.text) };
 
     fn to_json(&self, alloc: Global) -> Result<Value, WriteError> {
-        Ok(Value::try_from_str(alloc, self.deref().as_str())?)
+        self.deref().to_json(alloc)
+    }
+}
+
+impl FromJson for RevocationUrl {
+    ghost Meaning = { Addressed };
+
+    ghost meaning = { λ u. u };
+
+    ghost reading = { url };
+
+    fn from_json(alloc: Global, value: Value) -> Result<RevocationUrl, ReadError> {
+        let text = String::from_json(alloc, value)?;
+        match RevocationUrl::new(alloc, text) {
+            Ok(url) => Ok(url),
+            Err(error) => Err(refused(alloc, error)),
+        }
+    }
+}
+
+impl ToJson for RevocationUrl {
+    ghost writing = { λ u. Ok (string u.text) };
+
+    fn to_json(&self, alloc: Global) -> Result<Value, WriteError> {
+        self.deref().to_json(alloc)
     }
 }
 
@@ -94,6 +193,6 @@ impl ToJson for TokenUrl {
     ghost writing = { λ u. Ok (string u.text) };
 
     fn to_json(&self, alloc: Global) -> Result<Value, WriteError> {
-        Ok(Value::try_from_str(alloc, self.deref().as_str())?)
+        self.deref().to_json(alloc)
     }
 }

@@ -1,5 +1,4 @@
 use Rattle.std.proofs.Common.{◌≡◌, Ok, string_bytes, option_map}
-use Rattle.serde_json.specs.Data.{Data}
 use Rattle.oauth2_json.specs.ErrorResponse.{parts_of, error_writing, error_reading, IsReadBack}
 use Rattle.oauth2_json.proofs.Objects.{if_written}
 use Rattle.oauth2_json.proofs.ErrorMembers.{error_back}

@@ -1,0 +1,32 @@
+-- A code challenge and its method (RFC 7636, 4.3) as the members of an object.
+use Rattle.std.specs.Prelude.{ℕ, List, [], ◌∷◌, Some, Ok, codes}
+use Rattle.serde_json.specs.Data.{Data, Members, string, object, no_members}
+use Rattle.serde_json.specs.Find.{get_member}
+use Rattle.oauth2_types.specs.Pkce.{Challenge}
+use Rattle.oauth2_json.specs.Reading.{Reading, read_then, ◌⊛◌}
+use Rattle.oauth2_json.specs.Writing.{Writing}
+use Rattle.oauth2_json.specs.Members.{members_of_object, needed}
+use Rattle.oauth2_json.specs.Puts.{Row, put_all}
+use Rattle.oauth2_json.specs.Values.{text}
+
+abbrev pub challenge : List ℕ → List ℕ → Challenge
+challenge c m = record { text = c; method = m }
+
+-- other members are ignored
+abbrev pub challenge_row : Members → Reading Challenge
+challenge_row ms =
+    Ok challenge
+    ⊛ needed text (codes "code_challenge") (get_member (codes "code_challenge") ms)
+    ⊛ needed text (codes "code_challenge_method") (get_member (codes "code_challenge_method") ms)
+
+abbrev pub challenge_reading : Data → Reading Challenge
+challenge_reading d = read_then (members_of_object d) challenge_row
+
+abbrev pub challenge_rows : Challenge → List Row
+challenge_rows c =
+    (codes "code_challenge", Some (string c.text))
+    ∷ (codes "code_challenge_method", Some (string c.method))
+    ∷ []
+
+abbrev pub challenge_writing : Challenge → Writing
+challenge_writing c = Ok (object (put_all (challenge_rows c) no_members))
