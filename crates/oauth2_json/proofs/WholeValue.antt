@@ -4,7 +4,7 @@ use Rattle.std.specs.Str.{is_utf8}
 use Rattle.std.proofs.lemmas.Str.{IsUtf8-from_is_utf8, is_utf8-from_IsUtf8}
 use Rattle.serde_json.specs.Data.{Data}
 use Rattle.serde_json.specs.Read.{read}
-use Rattle.oauth2_json.specs.Reading.{Reading, Fault, FaultsAs, ErrsAs, whole}
+use Rattle.oauth2_json.specs.Reading.{Reading, Fault, IsFault, ErrsAs, whole}
 use Rattle.oauth2_json.specs.Body.{body_reading, value_reading}
 use Rattle.oauth2_json.specs.declared.read.ReadError.{ReadError}
 use Rattle.oauth2_json.specs.declared.read.ReadError.TheVariants as errors
@@ -21,6 +21,6 @@ pub body_reading-not_json : {M : Type 0} (reading : Data → Reading M) (bytes :
 body_reading-not_json reading bytes h = no_value (is_utf8 bytes) reading bytes refl h
 
 -- a fault is that of the reading
-pub errs_as : {M : Type 0} (e : ReadError) (f : Fault) (r : Reading M) → r ≡ Err f → FaultsAs e f → ErrsAs e r
+pub errs_as : {M : Type 0} (e : ReadError) (f : Fault) (r : Reading M) → r ≡ Err f → IsFault e f → ErrsAs e r
 errs_as errors.Memory f r is h = tt
 errs_as (errors.Fault g) f r is h = is ∙ ap Err h

@@ -1,11 +1,12 @@
 //! Whole texts of JSON.
 
-ghost use Rattle.std.specs.Prelude.{◌≡◌, ◌≤◌, Ok, Some, false, IfOk, string_bytes};
+ghost use Rattle.std.specs.Prelude.{◌≡◌, ◌≤◌, Ok, Some, false, IfOk, IfErr, string_bytes};
 ghost use Rattle.serde_json.specs.Data.{Data, depth};
 ghost use Rattle.serde_json.specs.Read.{read, max_depth};
 ghost use Rattle.serde_json.specs.Written.{has_float, compact_text};
 ghost use Rattle.oauth2_json.specs.Body.{body_reading};
 ghost use Rattle.oauth2_json.specs.Reading.{ReadsAs};
+ghost use Rattle.oauth2_json.specs.Writing.{RefusesAs};
 
 use crate::read::{FromJson, ParseCause, ReadError};
 use crate::write::{ToJson, WriteError};
@@ -28,9 +29,10 @@ pub fn read_body<T: FromJson>(alloc: Global, bytes: &[u8]) -> Result<T, ReadErro
 
 /// The compact text of what is written.
 pub fn compact<T: ToJson>(alloc: Global, value: &T) -> Result<String, WriteError>
-    ensures { IfOk result (λ s. (d : Data) × (T.writing value.now ≡ Ok d)
+    ensures text { IfOk result (λ s. (d : Data) × (T.writing value.now ≡ Ok d)
         × (has_float d ≡ false → string_bytes s ≡ compact_text d)
         × (depth d ≤ max_depth → read (string_bytes s) ≡ Some d)) }
+    ensures refused { IfErr result (λ e. RefusesAs e (T.writing value.now)) }
 {
     let json = value.to_json(alloc)?;
     Ok(json.to_string(alloc)?)

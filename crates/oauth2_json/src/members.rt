@@ -1,7 +1,7 @@
 //! The members of an object, by name: a reader for each kind, and what the writer of an object
 //! needs.
 
-ghost use Rattle.std.specs.Prelude.{◌≡◌, option_map, is_some, IfOk, OnOk, map};
+ghost use Rattle.std.specs.Prelude.{◌≡◌, option_map, is_some, IfOk, OnOk, OnErr, map};
 ghost use Rattle.serde_json.specs.Find.{get_member};
 ghost use Rattle.serde_json.specs.Data.{string};
 ghost use Rattle.serde_json.specs.View.{view, members_view};
@@ -145,8 +145,9 @@ pub fn put_some(
     name: &str,
     value: Option<Value>,
 ) -> Result<(), AllocError>
-    ensures { OnOk result (members_view members.new.entries
+    ensures ok { OnOk result (members_view members.new.entries
         ≡ put_some name.now (option_map view value) (members_view members.old.entries)) }
+    ensures err { OnErr result (members.new.entries ≡ members.old.entries) }
 {
     match value {
         Some(value) => serde_json::put(members, alloc, name, value),

@@ -1,6 +1,6 @@
 //! Reading: what a type reads a JSON value to, and why it reads to nothing.
 
-ghost use Rattle.oauth2_json.specs.Reading.{FaultsAs, UnderAs, whole};
+ghost use Rattle.oauth2_json.specs.Reading.{FaultsAs, IsFault, UnderAs, whole};
 
 use serde_json::Value;
 use std::alloc::{AllocError, AllocFailed, Global};
@@ -55,9 +55,9 @@ impl<T: Drop> From<AllocFailed<T>> for ReadError {
 }
 
 impl ReadError {
-    /// The whole value is at fault.
+    /// The whole value is at fault. Takes no memory.
     pub fn whole(alloc: Global, cause: ParseCause) -> ReadError
-        ensures { FaultsAs result (whole cause) }
+        ensures { IsFault result (whole cause) }
     {
         ReadError::Fault(ParseFault {
             member: String::new(alloc),
