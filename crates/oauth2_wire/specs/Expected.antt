@@ -45,11 +45,16 @@ body_credentials (Some pair) id secret = []
 abbrev pub expected_basic : Configuration → Option Pair
 expected_basic c = basic_credentials c.auth_type c.client_id c.client_secret
 
--- what `form` reads of the body
-abbrev pub expected_pairs : Configuration → List Pair
-expected_pairs c =
+-- the pairs that are set: the request's own, the scope, the credentials that go into the body, and
+-- the redirect URL
+abbrev pub set_pairs : Configuration → List Pair
+set_pairs c =
     c.own_pairs ++ optional_pair (codes "scope") c.scope ++ body_credentials (expected_basic c) c.client_id c.client_secret
-    ++ optional_pair (codes "redirect_uri") c.redirect_uri ++ c.extra_pairs
+    ++ optional_pair (codes "redirect_uri") c.redirect_uri
+
+-- what `form` reads of the body: these, and then the extra pairs
+abbrev pub expected_pairs : Configuration → List Pair
+expected_pairs c = set_pairs c ++ c.extra_pairs
 
 -- a name with one value
 abbrev pub one_header : List ℕ → List ℕ → Entries FieldValue

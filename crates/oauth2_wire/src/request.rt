@@ -1,5 +1,5 @@
 //! The requests of a client: a POST of a form to an endpoint (RFC 6749, sections 2.3.1 and 3.2).
-ghost use Rattle.std.specs.Prelude.{◌≡◌, ◌<◌, [], ◌∷◌, ◌++◌, length, map, codes, IfOk, OnOk, Err, option_copied, option_and_then, option_map};
+ghost use Rattle.std.specs.Prelude.{◌≡◌, ◌<◌, [], ◌∷◌, ◌++◌, length, map, codes, IfOk, IsErr, OnOk, Err, option_copied, option_and_then, option_map};
 ghost use Rattle.form_urlencoded.specs.Form.{pair_text};
 ghost use Rattle.http_header.specs.HeaderMap.{insert, value_count};
 ghost use Rattle.http_uri.specs.Uri.{Spells, SpellsNone};
@@ -92,7 +92,8 @@ pub fn endpoint_request(
       extra_pairs = map param_pair extra_params.now;
     }) (serialize url.now) (view_of r)) }
 
-    // Only a URL that is no HTTP target is refused as one.
+    // A URL that is no HTTP target gives no request, and no other is refused as one.
+    ensures no_target { SpellsNone (serialize url.now) → IsErr result }
     ensures not_http { result ≡ Err RequestFault.NotHttp → SpellsNone (serialize url.now) }
 {
     let buffer = filled_buffer(alloc, scopes, extra_params)?;
@@ -109,6 +110,7 @@ pub fn endpoint_request(
 }
 
 /// The same request from scopes and parameters that are encoded already.
+#[tactic(auto, using(crate::proofs::ByNameLemmas::by_name))]
 pub fn endpoint_request_encoded(
     alloc: Global,
     auth_type: &AuthType,
@@ -129,7 +131,8 @@ pub fn endpoint_request_encoded(
       extra_pairs = extra_params.now.pairs;
     }) (serialize url.now) (view_of r)) }
 
-    // Only a URL that is no HTTP target is refused as one.
+    // A URL that is no HTTP target gives no request, and no other is refused as one.
+    ensures no_target { SpellsNone (serialize url.now) → IsErr result }
     ensures not_http { result ≡ Err RequestFault.NotHttp → SpellsNone (serialize url.now) }
 {
     let uri = target(alloc, url)?;
