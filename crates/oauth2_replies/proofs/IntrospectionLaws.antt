@@ -1,0 +1,83 @@
+-- An introspection response reads back.
+use Rattle.std.proofs.Common.{◌≡◌, ℕ, List, [], ◌∷◌, false, Option, Some, None, option_map, Ok, codes, refl}
+use Rattle.serde_json.specs.Data.{Data, Members, boolean, string, array, object}
+use Rattle.serde_json.specs.Find.{get_member}
+use Rattle.oauth2_json.specs.Reading.{Reading}
+use Rattle.oauth2_json.specs.Writing.{Writing, write_then}
+use Rattle.oauth2_json.specs.Members.{members_of_object, present, others, clashes, beside, optional_writing}
+use Rattle.oauth2_json.specs.Values.{lowered, text_items, second_data}
+use Rattle.oauth2_json.specs.Words.{joined}
+use Rattle.oauth2_json.specs.Puts.{put_all}
+use Rattle.oauth2_json.proofs.Puts.{found, rest}
+use Rattle.oauth2_json.proofs.Objects.{beside_taken, optional-text}
+use Rattle.oauth2_replies.specs.Kept.{IsTypeKept, AreScopesKept, AreFieldsKept}
+use Rattle.oauth2_replies.specs.Introspection.{Introspection, introspection, introspection_seen, own_names, own_rows, introspection_row, introspection_reading, introspection_writing, IsTimeKept, IsSomeTypeKept, IsIntrospectionKept}
+use Rattle.oauth2_replies.specs.IntrospectionRows.{AreRows, of_rows, IsInstant, AreInstants}
+use Rattle.oauth2_replies.specs.declared.introspection_json.Rows.{Rows}
+use Rattle.oauth2_replies.proofs.Optionals.{optional-words, optional-texts, optional-time}
+
+pub rows_are : {E T : Type 0} (er : Data → Reading E) (tr : Data → Reading T) (d : Data) (ms : Members) (rows : Rows) → members_of_object d ≡ Ok ms → AreRows ms rows → of_rows er tr rows ≡ introspection_reading er tr d
+rows_are er tr d ms rows h are = rw (h, are.active, are.scope, are.client_id, are.username, are.token_type, are.exp, are.iat, are.nbf, are.sub, are.aud, are.iss, are.jti, are.rest) refl
+
+-- a token type that may be absent, written and read
+type_back : {T M : Type 0} (tr : Data → Reading M) (tm : T → M) (tw : T → Writing) (name : List ℕ) (o : Option T) → IsSomeTypeKept tr tm tw o
+    → (v : Option Data) × (optional_writing tw o ≡ Ok v) × (present (lowered tr) name v ≡ Ok (option_map tm o))
+type_back tr tm tw name None k = (None, refl, refl)
+type_back tr tm tw name (Some t) k = (Some (string k.type_text), (rw k.written refl), rw (k.lowered, k.back) refl)
+
+-- what was put beside the extra members is found again
+pub introspection_again : {E T : Type 0} (er : Data → Reading E) (tr : Data → Reading T) (tv : Option Data) (r : Introspection E T) (ms : Members)
+    → clashes own_names ms ≡ false → present (lowered tr) (codes "token_type") tv ≡ Ok r.token_type → AreScopesKept r.scopes → AreInstants r → IsTimeKept r.exp → IsTimeKept r.iat → IsTimeKept r.nbf → er (object ms) ≡ Ok r.extra_fields
+    → introspection_row er tr (put_all (own_rows tv r) ms) ≡ Ok r
+introspection_again er tr tv r ms free type_kept scopes in_range exp iat nbf again =
+    let rs = own_rows tv r in
+    let in_active : get_member (codes "active") (put_all rs ms) ≡ Some (boolean r.active) = found (codes "active") rs ms refl free in
+    let in_scope : get_member (codes "scope") (put_all rs ms) ≡ option_map (λ ps. string (joined ps)) r.scopes = found (codes "scope") rs ms refl free in
+    let in_client_id : get_member (codes "client_id") (put_all rs ms) ≡ option_map string r.client_id = found (codes "client_id") rs ms refl free in
+    let in_username : get_member (codes "username") (put_all rs ms) ≡ option_map string r.username = found (codes "username") rs ms refl free in
+    let in_token_type : get_member (codes "token_type") (put_all rs ms) ≡ tv = found (codes "token_type") rs ms refl free in
+    let in_exp : get_member (codes "exp") (put_all rs ms) ≡ option_map second_data r.exp = found (codes "exp") rs ms refl free in
+    let in_iat : get_member (codes "iat") (put_all rs ms) ≡ option_map second_data r.iat = found (codes "iat") rs ms refl free in
+    let in_nbf : get_member (codes "nbf") (put_all rs ms) ≡ option_map second_data r.nbf = found (codes "nbf") rs ms refl free in
+    let in_sub : get_member (codes "sub") (put_all rs ms) ≡ option_map string r.sub = found (codes "sub") rs ms refl free in
+    let in_aud : get_member (codes "aud") (put_all rs ms) ≡ option_map (λ ps. array (text_items ps)) r.aud = found (codes "aud") rs ms refl free in
+    let in_iss : get_member (codes "iss") (put_all rs ms) ≡ option_map string r.iss = found (codes "iss") rs ms refl free in
+    let in_jti : get_member (codes "jti") (put_all rs ms) ≡ option_map string r.jti = found (codes "jti") rs ms refl free in
+    let in_rest : others own_names (put_all rs ms) ≡ ms = rest rs ms refl free in
+    rw (
+      in_active,
+      in_scope,
+      in_client_id,
+      in_username,
+      in_token_type,
+      in_exp,
+      in_iat,
+      in_nbf,
+      in_sub,
+      in_aud,
+      in_iss,
+      in_jti,
+      in_rest,
+      type_kept,
+      optional-words (codes "scope") r.scopes scopes,
+      optional-text (codes "client_id") r.client_id,
+      optional-text (codes "username") r.username,
+      optional-time (codes "exp") r.exp in_range.exp exp,
+      optional-time (codes "iat") r.iat in_range.iat iat,
+      optional-time (codes "nbf") r.nbf in_range.nbf nbf,
+      optional-text (codes "sub") r.sub,
+      optional-texts (codes "aud") r.aud,
+      optional-text (codes "iss") r.iss,
+      optional-text (codes "jti") r.jti,
+      again,
+    ) refl
+
+pub introspection_back : {E T F M : Type 0} (er : Data → Reading F) (em : E → F) (ew : E → Writing) (tr : Data → Reading M) (tm : T → M) (tw : T → Writing) (r : Introspection E T) → AreInstants r → (d : Data)
+    → introspection_writing ew tw r ≡ Ok d → IsIntrospectionKept er em ew tr tm tw r → introspection_reading er tr d ≡ Ok (introspection_seen em tm r)
+introspection_back er em ew tr tm tw r in_range d h k =
+    let t = type_back tr tm tw (codes "token_type") r.token_type k.token_type in
+    let x = k.extra_fields in
+    let written : write_then (beside own_names (object x.members)) (λ ms. Ok (object (put_all (own_rows t.0 r) ms))) ≡ Ok d = rw (t.1, x.written) at h in
+    let taken = beside_taken own_names x.members (λ ms. object (put_all (own_rows t.0 r) ms)) d written in
+    let same : AreInstants (introspection_seen em tm r) = record { exp = in_range.exp; iat = in_range.iat; nbf = in_range.nbf } in
+    rw (← taken.1) (introspection_again er tr t.0 (introspection_seen em tm r) x.members taken.0 t.2 k.scopes same k.exp k.iat k.nbf x.back)

@@ -1,0 +1,3 @@
+pub mod Optionals
+pub mod TokenLaws
+pub mod IntrospectionLaws

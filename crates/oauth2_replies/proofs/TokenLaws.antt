@@ -1,0 +1,56 @@
+-- A token response reads back.
+use Rattle.std.proofs.Common.{◌≡◌, ℕ, List, [], ◌∷◌, map, Option, Some, None, option_map, Ok, codes, false, refl}
+use Rattle.std.specs.Char.{to_ascii_lowercase}
+use Rattle.serde_json.specs.Data.{Data, Members, number, unsigned, string, object}
+use Rattle.serde_json.specs.Find.{get_member}
+use Rattle.oauth2_json.specs.Reading.{Reading}
+use Rattle.oauth2_json.specs.Writing.{Writing, write_then}
+use Rattle.oauth2_json.specs.Members.{members_of_object, others, clashes, beside}
+use Rattle.oauth2_json.specs.Words.{joined}
+use Rattle.oauth2_json.specs.Puts.{put_all}
+use Rattle.oauth2_json.proofs.Puts.{found, rest}
+use Rattle.oauth2_json.proofs.Objects.{beside_taken, optional-text, optional-number}
+use Rattle.oauth2_replies.specs.Kept.{IsTypeKept, AreScopesKept, AreFieldsKept}
+use Rattle.oauth2_replies.specs.Token.{Token, token, token_seen, own_names, own_rows, token_row, token_reading, token_writing, IsTokenKept}
+use Rattle.oauth2_replies.specs.TokenRows.{AreRows, of_rows}
+use Rattle.oauth2_replies.specs.declared.token_json.Rows.{Rows}
+use Rattle.oauth2_replies.proofs.Optionals.{optional-words}
+
+pub rows_are : {E T : Type 0} (er : Data → Reading E) (tr : Data → Reading T) (d : Data) (ms : Members) (rows : Rows) → members_of_object d ≡ Ok ms → AreRows ms rows → of_rows er tr rows ≡ token_reading er tr d
+rows_are er tr d ms rows h are = rw (h, are.access_token, are.token_type, are.expires_in, are.refresh_token, are.scope, are.rest) refl
+
+-- what was put beside the extra members is found again
+pub token_again : {E T : Type 0} (er : Data → Reading E) (tr : Data → Reading T) (tv : List ℕ) (r : Token E T) (ms : Members)
+    → clashes own_names ms ≡ false → map to_ascii_lowercase tv ≡ tv → tr (string tv) ≡ Ok r.token_type → AreScopesKept r.scopes → er (object ms) ≡ Ok r.extra_fields
+    → token_row er tr (put_all (own_rows (string tv) r) ms) ≡ Ok r
+token_again er tr tv r ms free low back scopes again =
+    let rs = own_rows (string tv) r in
+    let in_access_token : get_member (codes "access_token") (put_all rs ms) ≡ Some (string r.access_token) = found (codes "access_token") rs ms refl free in
+    let in_token_type : get_member (codes "token_type") (put_all rs ms) ≡ Some (string tv) = found (codes "token_type") rs ms refl free in
+    let in_expires_in : get_member (codes "expires_in") (put_all rs ms) ≡ option_map (λ n. number (unsigned n)) r.expires_in = found (codes "expires_in") rs ms refl free in
+    let in_refresh_token : get_member (codes "refresh_token") (put_all rs ms) ≡ option_map string r.refresh_token = found (codes "refresh_token") rs ms refl free in
+    let in_scope : get_member (codes "scope") (put_all rs ms) ≡ option_map (λ ps. string (joined ps)) r.scopes = found (codes "scope") rs ms refl free in
+    let in_rest : others own_names (put_all rs ms) ≡ ms = rest rs ms refl free in
+    rw (
+      in_access_token,
+      in_token_type,
+      in_expires_in,
+      in_refresh_token,
+      in_scope,
+      in_rest,
+      low,
+      back,
+      optional-number (codes "expires_in") r.expires_in,
+      optional-text (codes "refresh_token") r.refresh_token,
+      optional-words (codes "scope") r.scopes scopes,
+      again,
+    ) refl
+
+pub token_back : {E T F M : Type 0} (er : Data → Reading F) (em : E → F) (ew : E → Writing) (tr : Data → Reading M) (tm : T → M) (tw : T → Writing) (r : Token E T) (d : Data)
+    → token_writing ew tw r ≡ Ok d → IsTokenKept er em ew tr tm tw r → token_reading er tr d ≡ Ok (token_seen em tm r)
+token_back er em ew tr tm tw r d h k =
+    let t = k.token_type in
+    let x = k.extra_fields in
+    let written : write_then (beside own_names (object x.members)) (λ ms. Ok (object (put_all (own_rows (string t.type_text) r) ms))) ≡ Ok d = rw (t.written, x.written) at h in
+    let taken = beside_taken own_names x.members (λ ms. object (put_all (own_rows (string t.type_text) r) ms)) d written in
+    rw (← taken.1) (token_again er tr t.type_text (token_seen em tm r) x.members taken.0 t.lowered t.back k.scopes x.back)

@@ -1,0 +1,131 @@
+-- RFC 7662, 2.2: the members of an introspection response.
+use Rattle.std.specs.Prelude.{◌≡◌, ℕ, ℤ, pos, ◌*ℤ◌, List, [], ◌∷◌, Bool, Option, Some, None, Ok, codes, option_map}
+use Rattle.serde_json.specs.Data.{Data, Members, boolean, string, array, object}
+use Rattle.serde_json.specs.Find.{get_member}
+use Rattle.oauth2_json.specs.Reading.{Reading, read_then, ◌⊛◌}
+use Rattle.oauth2_json.specs.Writing.{Writing, write_then}
+use Rattle.oauth2_json.specs.Members.{members_of_object, needed, optional, present, others, beside, optional_writing}
+use Rattle.oauth2_json.specs.Values.{text, flag, instant, lowered, spaced, texts, text_items, second_of, second_data}
+use Rattle.oauth2_json.specs.Words.{joined}
+use Rattle.oauth2_json.specs.Puts.{Row, put_all}
+use Rattle.oauth2_replies.specs.Kept.{IsTypeKept, AreFieldsKept, AreScopesKept}
+
+-- an introspection response; its times are in nanoseconds since 1970-01-01T00:00:00Z
+pub record Introspection (E T : Type 0) : Type 0 where
+  pub active : Bool
+  pub scopes : Option (List (List ℕ))
+  pub client_id : Option (List ℕ)
+  pub username : Option (List ℕ)
+  pub token_type : Option T
+  pub exp : Option ℤ
+  pub iat : Option ℤ
+  pub nbf : Option ℤ
+  pub sub : Option (List ℕ)
+  pub aud : Option (List (List ℕ))
+  pub iss : Option (List ℕ)
+  pub jti : Option (List ℕ)
+  pub extra_fields : E
+
+abbrev pub introspection : {E T : Type 0} → Bool → Option (List (List ℕ)) → Option (List ℕ) → Option (List ℕ) → Option T → Option ℤ → Option ℤ → Option ℤ → Option (List ℕ) → Option (List (List ℕ)) → Option (List ℕ) → Option (List ℕ) → E → Introspection E T
+introspection a s c u t e i n b d o j x = record { active = a; scopes = s; client_id = c; username = u; token_type = t; exp = e; iat = i; nbf = n; sub = b; aud = d; iss = o; jti = j; extra_fields = x }
+
+-- a response whose extra fields are seen by f and whose token type is seen by g
+abbrev pub introspection_seen : {E T F M : Type 0} → (E → F) → (T → M) → Introspection E T → Introspection F M
+introspection_seen f g r =
+    introspection r.active r.scopes r.client_id r.username (option_map g r.token_type) r.exp r.iat r.nbf r.sub r.aud r.iss r.jti (f r.extra_fields)
+
+abbrev pub own_names : List (List ℕ)
+own_names =
+    codes "active"
+    ∷ codes "scope"
+    ∷ codes "client_id"
+    ∷ codes "username"
+    ∷ codes "token_type"
+    ∷ codes "exp"
+    ∷ codes "iat"
+    ∷ codes "nbf"
+    ∷ codes "sub"
+    ∷ codes "aud"
+    ∷ codes "iss"
+    ∷ codes "jti"
+    ∷ []
+
+-- the table, over what stands under each name and the object of the other members
+abbrev pub introspection_rows : {E T : Type 0} → (Data → Reading E) → (Data → Reading T)
+    → Option Data → Option Data → Option Data → Option Data → Option Data → Option Data → Option Data → Option Data → Option Data → Option Data → Option Data → Option Data
+    → Members → Reading (Introspection E T)
+introspection_rows extra_fields token_type a s c u t e i n b d o j rest =
+    Ok introspection
+    ⊛ needed flag (codes "active") a
+    ⊛ optional (spaced text) (codes "scope") s
+    ⊛ optional text (codes "client_id") c
+    ⊛ optional text (codes "username") u
+    ⊛ present (lowered token_type) (codes "token_type") t
+    ⊛ optional instant (codes "exp") e
+    ⊛ optional instant (codes "iat") i
+    ⊛ optional instant (codes "nbf") n
+    ⊛ optional text (codes "sub") b
+    ⊛ optional texts (codes "aud") d
+    ⊛ optional text (codes "iss") o
+    ⊛ optional text (codes "jti") j
+    ⊛ extra_fields (object rest)
+
+abbrev pub introspection_row : {E T : Type 0} → (Data → Reading E) → (Data → Reading T) → Members → Reading (Introspection E T)
+introspection_row extra_fields token_type ms =
+    introspection_rows extra_fields token_type
+    (get_member (codes "active") ms)
+    (get_member (codes "scope") ms)
+    (get_member (codes "client_id") ms)
+    (get_member (codes "username") ms)
+    (get_member (codes "token_type") ms)
+    (get_member (codes "exp") ms)
+    (get_member (codes "iat") ms)
+    (get_member (codes "nbf") ms)
+    (get_member (codes "sub") ms)
+    (get_member (codes "aud") ms)
+    (get_member (codes "iss") ms)
+    (get_member (codes "jti") ms)
+    (others own_names ms)
+
+abbrev pub introspection_reading : {E T : Type 0} → (Data → Reading E) → (Data → Reading T) → Data → Reading (Introspection E T)
+introspection_reading extra_fields token_type d = read_then (members_of_object d) (introspection_row extra_fields token_type)
+
+-- the type's own members, none of which is written where it is none
+abbrev pub own_rows : {E T : Type 0} → Option Data → Introspection E T → List Row
+own_rows token_type r =
+    (codes "active", Some (boolean r.active))
+    ∷ (codes "scope", option_map (λ scopes. string (joined scopes)) r.scopes)
+    ∷ (codes "client_id", option_map string r.client_id)
+    ∷ (codes "username", option_map string r.username)
+    ∷ (codes "token_type", token_type)
+    ∷ (codes "exp", option_map second_data r.exp)
+    ∷ (codes "iat", option_map second_data r.iat)
+    ∷ (codes "nbf", option_map second_data r.nbf)
+    ∷ (codes "sub", option_map string r.sub)
+    ∷ (codes "aud", option_map (λ list. array (text_items list)) r.aud)
+    ∷ (codes "iss", option_map string r.iss)
+    ∷ (codes "jti", option_map string r.jti)
+    ∷ []
+
+-- the type's own members beside those of its extra fields
+abbrev pub introspection_writing : {E T : Type 0} → (E → Writing) → (T → Writing) → Introspection E T → Writing
+introspection_writing extra_fields token_type r =
+    write_then (optional_writing token_type r.token_type) (λ t. write_then (extra_fields r.extra_fields) (λ x. write_then (beside own_names x) (λ ms. Ok (object (put_all (own_rows t r) ms)))))
+
+-- no time at all, or whole seconds
+abbrev pub IsTimeKept : Option ℤ → Type 0
+IsTimeKept None = Unit {0}
+IsTimeKept (Some n) = second_of n *ℤ pos 1_000_000_000 ≡ n
+
+abbrev pub IsSomeTypeKept : {T M : Type 0} → (Data → Reading M) → (T → M) → (T → Writing) → Option T → Type 0
+IsSomeTypeKept reading meaning writing None = Unit {0}
+IsSomeTypeKept reading meaning writing (Some t) = IsTypeKept reading meaning writing t
+
+-- what reads back as itself once it is written
+pub record IsIntrospectionKept {E T F M : Type 0} (er : Data → Reading F) (em : E → F) (ew : E → Writing) (tr : Data → Reading M) (tm : T → M) (tw : T → Writing) (r : Introspection E T) : Type 0 where
+  pub token_type : IsSomeTypeKept tr tm tw r.token_type
+  pub scopes : AreScopesKept r.scopes
+  pub exp : IsTimeKept r.exp
+  pub iat : IsTimeKept r.iat
+  pub nbf : IsTimeKept r.nbf
+  pub extra_fields : AreFieldsKept er em ew r.extra_fields

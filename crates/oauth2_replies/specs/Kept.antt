@@ -1,0 +1,30 @@
+-- What reads back as itself once it is written.
+use Rattle.std.specs.Prelude.{◌≡◌, ℕ, List, map, true, Option, Some, None, Ok}
+use Rattle.std.specs.Char.{to_ascii_lowercase}
+use Rattle.serde_json.specs.Data.{Data, Members, string, object}
+use Rattle.oauth2_json.specs.Reading.{Reading, read_then}
+use Rattle.oauth2_json.specs.Members.{members_of_object}
+use Rattle.oauth2_json.specs.Writing.{Writing}
+use Rattle.oauth2_json.specs.Words.{are_words}
+
+-- a token type is written as a text that lowering its ASCII letters keeps and that reads back as it
+pub record IsTypeKept {T M : Type 0} (reading : Data → Reading M) (meaning : T → M) (writing : T → Writing) (t : T) : Type 0 where
+  pub type_text : List ℕ
+  pub written : writing t ≡ Ok (string type_text)
+  pub lowered : map to_ascii_lowercase type_text ≡ type_text
+  pub back : reading (string type_text) ≡ Ok (meaning t)
+
+-- extra fields are written as an object that reads back as them
+pub record AreFieldsKept {E F : Type 0} (reading : Data → Reading F) (meaning : E → F) (writing : E → Writing) (x : E) : Type 0 where
+  pub members : Members
+  pub written : writing x ≡ Ok (object members)
+  pub back : reading (object members) ≡ Ok (meaning x)
+
+-- no scopes at all, or at least one and no space in any
+abbrev pub AreScopesKept : Option (List (List ℕ)) → Type 0
+AreScopesKept None = Unit {0}
+AreScopesKept (Some scopes) = are_words scopes ≡ true
+
+-- any object, of which nothing is kept
+abbrev pub any_object : Data → Reading (Unit {0})
+any_object d = read_then (members_of_object d) (λ ms. Ok tt)

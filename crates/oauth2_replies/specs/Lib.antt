@@ -1,0 +1,5 @@
+pub mod Kept
+pub mod Token
+pub mod TokenRows
+pub mod Introspection
+pub mod IntrospectionRows

@@ -1,0 +1,70 @@
+-- RFC 6749, 5.1: the members of a token response.
+use Rattle.std.specs.Prelude.{◌≡◌, ℕ, List, [], ◌∷◌, Option, Some, Ok, codes, option_map}
+use Rattle.serde_json.specs.Data.{Data, Members, number, unsigned, string, object}
+use Rattle.serde_json.specs.Find.{get_member}
+use Rattle.oauth2_json.specs.Reading.{Reading, read_then, ◌⊛◌}
+use Rattle.oauth2_json.specs.Writing.{Writing, write_then}
+use Rattle.oauth2_json.specs.Members.{members_of_object, needed, optional, others, beside}
+use Rattle.oauth2_json.specs.Values.{text, whole_number, lowered, spaced}
+use Rattle.oauth2_json.specs.Words.{joined}
+use Rattle.oauth2_json.specs.Puts.{Row, put_all}
+use Rattle.oauth2_replies.specs.Kept.{IsTypeKept, AreFieldsKept, AreScopesKept}
+
+-- a token response; its lifetime is in whole seconds
+pub record Token (E T : Type 0) : Type 0 where
+  pub access_token : List ℕ
+  pub token_type : T
+  pub expires_in : Option ℕ
+  pub refresh_token : Option (List ℕ)
+  pub scopes : Option (List (List ℕ))
+  pub extra_fields : E
+
+abbrev pub token : {E T : Type 0} → List ℕ → T → Option ℕ → Option (List ℕ) → Option (List (List ℕ)) → E → Token E T
+token a t e r s x = record { access_token = a; token_type = t; expires_in = e; refresh_token = r; scopes = s; extra_fields = x }
+
+-- a response whose extra fields are seen by f and whose token type is seen by g
+abbrev pub token_seen : {E T F M : Type 0} → (E → F) → (T → M) → Token E T → Token F M
+token_seen f g r = token r.access_token (g r.token_type) r.expires_in r.refresh_token r.scopes (f r.extra_fields)
+
+abbrev pub own_names : List (List ℕ)
+own_names = codes "access_token" ∷ codes "token_type" ∷ codes "expires_in" ∷ codes "refresh_token" ∷ codes "scope" ∷ []
+
+-- the table, over what stands under each name and the object of the other members
+abbrev pub token_rows : {E T : Type 0} → (Data → Reading E) → (Data → Reading T) → Option Data → Option Data → Option Data → Option Data → Option Data → Members → Reading (Token E T)
+token_rows extra_fields token_type a t e r s rest =
+    Ok token
+    ⊛ needed text (codes "access_token") a
+    ⊛ needed (lowered token_type) (codes "token_type") t
+    ⊛ optional whole_number (codes "expires_in") e
+    ⊛ optional text (codes "refresh_token") r
+    ⊛ optional (spaced text) (codes "scope") s
+    ⊛ extra_fields (object rest)
+
+abbrev pub token_row : {E T : Type 0} → (Data → Reading E) → (Data → Reading T) → Members → Reading (Token E T)
+token_row extra_fields token_type ms =
+    token_rows extra_fields token_type (get_member (codes "access_token") ms) (get_member (codes "token_type") ms) (get_member (codes "expires_in") ms)
+    (get_member (codes "refresh_token") ms) (get_member (codes "scope") ms) (others own_names ms)
+
+abbrev pub token_reading : {E T : Type 0} → (Data → Reading E) → (Data → Reading T) → Data → Reading (Token E T)
+token_reading extra_fields token_type d = read_then (members_of_object d) (token_row extra_fields token_type)
+
+-- the type's own members, none of which is written where it is none
+abbrev pub own_rows : {E T : Type 0} → Data → Token E T → List Row
+own_rows token_type r =
+    (codes "access_token", Some (string r.access_token))
+    ∷ (codes "token_type", Some token_type)
+    ∷ (codes "expires_in", option_map (λ n. number (unsigned n)) r.expires_in)
+    ∷ (codes "refresh_token", option_map string r.refresh_token)
+    ∷ (codes "scope", option_map (λ scopes. string (joined scopes)) r.scopes)
+    ∷ []
+
+-- the type's own members beside those of its extra fields
+abbrev pub token_writing : {E T : Type 0} → (E → Writing) → (T → Writing) → Token E T → Writing
+token_writing extra_fields token_type r =
+    write_then (token_type r.token_type) (λ t. write_then (extra_fields r.extra_fields) (λ x. write_then (beside own_names x) (λ ms. Ok (object (put_all (own_rows t r) ms)))))
+
+-- what reads back as itself once it is written
+pub record IsTokenKept {E T F M : Type 0} (er : Data → Reading F) (em : E → F) (ew : E → Writing) (tr : Data → Reading M) (tm : T → M) (tw : T → Writing) (r : Token E T) : Type 0 where
+  pub token_type : IsTypeKept tr tm tw r.token_type
+  pub scopes : AreScopesKept r.scopes
+  pub extra_fields : AreFieldsKept er em ew r.extra_fields

@@ -1,0 +1,23 @@
+//! Scopes as one text, with a space between two (RFC 6749, section 3.3).
+
+ghost use Rattle.std.specs.Prelude.{◌≡◌, IfOk, option_map};
+ghost use Rattle.serde_json.specs.Data.{string};
+ghost use Rattle.serde_json.specs.View.{view};
+ghost use Rattle.oauth2_json.specs.Words.{joined};
+
+use oauth2_json::members;
+use oauth2_types::Scope;
+use serde_json::Value;
+use std::alloc::{AllocError, Global};
+
+/// The value of scopes that may be absent.
+#[tactic(auto, using(crate::proofs::Optionals::words_alone))]
+pub(crate) fn scopes_value(
+    alloc: Global,
+    scopes: &Option<Vec<Scope>>,
+) -> Result<Option<Value>, AllocError>
+    ensures { IfOk result (λ v. option_map view v
+        ≡ option_map (λ words. string (joined words)) (option_map (λ list. list.items) scopes.now)) }
+{
+    members::words_value(alloc, scopes)
+}
