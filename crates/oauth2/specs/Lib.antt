@@ -1,1 +1,10 @@
 pub mod Settings
+pub mod Base
+pub mod Code
+pub mod Refresh
+pub mod Password
+pub mod ClientCredentials
+pub mod Missing
+pub mod Once
+pub mod Query
+pub mod Authorization

@@ -1,0 +1,28 @@
+-- The exchange of a refresh token (RFC 6749, section 6).
+use Rattle.std.specs.Prelude.{ℕ, List, [], ◌∷◌, codes, None}
+use Rattle.oauth2_urls.specs.Addressed.{Addressed}
+use Rattle.oauth2_wire.specs.Pairs.{Pair}
+use Rattle.oauth2_wire.specs.Expected.{Configuration}
+use Rattle.oauth2.specs.Settings.{Settings}
+use Rattle.oauth2.specs.Base.{Base, base_of, configuration_of}
+
+pub record RefreshRequest : Type 0 where
+  pub base : Base
+  pub token_url : Addressed
+  pub refresh_token : List ℕ
+
+-- a new request of this client at this endpoint
+abbrev pub new_refresh_request : Settings → Addressed → List ℕ → RefreshRequest
+new_refresh_request client url refresh_token = record {
+  base = base_of client;
+  token_url = url;
+  refresh_token = refresh_token;
+}
+
+-- the grant and its token
+abbrev pub refresh_pairs : List ℕ → List Pair
+refresh_pairs refresh_token =
+    (codes "grant_type", codes "refresh_token") ∷ (codes "refresh_token", refresh_token) ∷ []
+
+abbrev pub refresh_configuration : RefreshRequest → Configuration
+refresh_configuration r = configuration_of r.base (refresh_pairs r.refresh_token) None

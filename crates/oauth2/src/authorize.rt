@@ -1,0 +1,354 @@
+//! The request for an authorization URL (RFC 6749, section 4.1.1).
+
+ghost use Rattle.std.specs.Prelude.{◌≡◌, ◌++◌, ◌∷◌, [], Some, None, IfOk, IfErr, IfSome, IfNone, IsErrAnd, IsOkAnd, OnOk, OnSome, List, ℕ, codes, map, option_map, string_bytes};
+ghost use Rattle.std.specs.Iterator.{Drains, IsFinite};
+ghost use Rattle.std.specs.List.{join_by, flat_map};
+ghost use Rattle.url.specs.Parser.{IsOutOfRoom};
+ghost use Rattle.oauth2_wire.specs.Expected.{optional_pair};
+ghost use Rattle.oauth2_wire.specs.Texts.{param_bytes, param_pair, redirect_of, given_text};
+ghost use Rattle.oauth2.specs.Authorization.{IsAuthorization, challenge_pairs, scope_pairs, query_pairs};
+ghost use Rattle.oauth2.specs.Missing.{IsMissing};
+ghost use Rattle.oauth2.specs.Query.{ExtendsQuery};
+
+use crate::client::Client;
+use crate::endpoint::{EndpointMaybeSet, EndpointSet, EndpointState};
+use crate::query::append_query_pair;
+use oauth2_types::{ClientId, CsrfToken, PkceCodeChallenge, ResponseType, Scope};
+use oauth2_urls::AuthUrl;
+use oauth2_wire::{ConfigurationError, ParamText, RedirectRef};
+use std::alloc::{AllocError, Global};
+use std::marker::Model;
+use url::{ParseError, Url};
+
+/// A request for an authorization URL.
+#[derive(Debug, Drop)]
+pub struct AuthorizationRequest<'a> {
+    auth_url: &'a AuthUrl,
+    client_id: &'a ClientId,
+    state: CsrfToken,
+    response_type: ParamText<'a>,
+    pkce_challenge: Option<PkceCodeChallenge>,
+    redirect_url: Option<RedirectRef<'a>>,
+    scopes: Vec<Scope>,
+    extra_params: Vec<(ParamText<'a>, ParamText<'a>)>,
+}
+
+impl<'a> Model for AuthorizationRequest<'a> {
+    ghost use Rattle.std.specs.Prelude.{map, option_map};
+    ghost use Rattle.oauth2_wire.specs.Texts.{param_bytes, param_pair, redirect_of};
+    ghost use Rattle.oauth2.specs.Authorization.{Authorization};
+
+    ghost Value = { Authorization };
+
+    ghost view = { λ r. record {
+      auth_url = r.auth_url.now;
+      client_id = r.client_id.now;
+      state = r.state;
+      response_type = param_bytes r.response_type;
+      pkce_challenge = r.pkce_challenge;
+      redirect_url = option_map redirect_of r.redirect_url;
+      scopes = r.scopes.items;
+      extra_params = map param_pair r.extra_params.items;
+    } };
+}
+
+impl<'a> AuthorizationRequest<'a> {
+    /// Adds a scope.
+    pub fn add_scope(mut self, scope: Scope) -> Result<Self, AllocError>
+        ensures { IfOk result (λ r. r ≡ record self.entry { scopes = self.entry.scopes ++ scope ∷ [] }) }
+    {
+        self.scopes.push(scope)?;
+        Ok(self)
+    }
+
+    /// Adds scopes, in order, from an iterator that ends.
+    pub fn add_scopes<I: IntoIterator<Item = Scope>>(
+        mut self,
+        scopes: I,
+    ) -> Result<Self, AllocError>
+        requires { (it : I.IntoIter) → I.into_iter_gives scopes it
+            → I.IntoIter.can_next it × IsFinite (I.IntoIter.remaining it) }
+        ensures { IfOk result (λ r. (it : I.IntoIter) × (added : List (List ℕ))
+            × I.into_iter_gives scopes it × Drains I.IntoIter.next_gives it added
+            × (r ≡ record self.entry { scopes = self.entry.scopes ++ added })) }
+    {
+        self.scopes.extend(scopes)?;
+        Ok(self)
+    }
+
+    /// Adds a parameter. It may bear a name that the request itself sends, and both are then sent.
+    pub fn add_extra_param(
+        mut self,
+        name: ParamText<'a>,
+        value: ParamText<'a>,
+    ) -> Result<Self, AllocError>
+        ensures { IfOk result (λ r. r ≡ record self.entry {
+          extra_params = self.entry.extra_params ++ (param_bytes name.entry, param_bytes value.entry) ∷ [];
+        }) }
+    {
+        self.extra_params.push((name, value))?;
+        Ok(self)
+    }
+
+    /// Asks for a token in place of a code: the implicit flow (RFC 6749, section 4.2.1).
+    pub fn use_implicit_flow(mut self) -> Self
+        ensures { result ≡ record self.entry { response_type = codes "token" } }
+    {
+        self.response_type = ParamText::Borrowed("token");
+        self
+    }
+
+    /// Sets the response type, which is `code` unless set.
+    pub fn set_response_type(
+        mut self,
+        alloc: Global,
+        response_type: &ResponseType,
+    ) -> Result<Self, AllocError>
+        ensures { IfOk result (λ r. r ≡ record self.entry { response_type = response_type.now }) }
+    {
+        self.response_type = ParamText::Owned(String::from_str(alloc, response_type.as_str())?);
+        Ok(self)
+    }
+
+    /// Sets the code challenge (RFC 7636, section 4.3).
+    pub fn set_pkce_challenge(mut self, pkce_code_challenge: PkceCodeChallenge) -> Self
+        ensures { result ≡ record self.entry { pkce_challenge = Some pkce_code_challenge } }
+    {
+        self.pkce_challenge = Some(pkce_code_challenge);
+        self
+    }
+
+    /// Sets the redirect, which is the client's unless set.
+    pub fn set_redirect_uri(mut self, redirect_url: RedirectRef<'a>) -> Self
+        ensures { result ≡ record self.entry { redirect_url = Some (redirect_of redirect_url.entry) } }
+    {
+        self.redirect_url = Some(redirect_url);
+        self
+    }
+
+    /// The URL to send a user to, and the state. It refuses only for want of memory, or where the
+    /// URL would be longer than a URL may be.
+    pub fn url(self, alloc: Global) -> Result<(Url, CsrfToken), ParseError>
+        ensures ok { IfOk result (λ r. ExtendsQuery self.entry.auth_url.url r.0 (query_pairs self.entry)) }
+        ensures state { IfOk result (λ r. r.1 ≡ self.entry.state) }
+        ensures refusal { IfErr result IsOutOfRoom }
+    {
+        let mut url = self.auth_url.url().clone()?;
+        append_query_pair(&mut url, "response_type", self.response_type.as_str())?;
+        append_query_pair(&mut url, "client_id", self.client_id.as_str())?;
+        append_query_pair(&mut url, "state", self.state.secret().as_str())?;
+        append_challenge(&mut url, &self.pkce_challenge)?;
+        append_redirect(&mut url, &self.redirect_url)?;
+        append_scopes(alloc, &mut url, &self.scopes)?;
+        append_params(&mut url, &self.extra_params)?;
+        Ok((url, self.state))
+    }
+}
+
+fn append_challenge(url: &mut Url, challenge: &Option<PkceCodeChallenge>) -> Result<(), ParseError>
+    ensures ok { OnOk result (ExtendsQuery url.old url.new (challenge_pairs challenge.now)) }
+    ensures refusal { IfErr result IsOutOfRoom }
+{
+    if let Some(challenge) = challenge {
+        append_query_pair(url, "code_challenge", challenge.as_str())?;
+        append_query_pair(url, "code_challenge_method", challenge.method().as_str())?;
+    }
+    Ok(())
+}
+
+fn append_redirect(url: &mut Url, redirect: &Option<RedirectRef<'_>>) -> Result<(), ParseError>
+    ensures ok { let text = option_map given_text (option_map redirect_of redirect.now) in
+        OnOk result (ExtendsQuery url.old url.new (optional_pair (codes "redirect_uri") text)) }
+    ensures refusal { IfErr result IsOutOfRoom }
+{
+    if let Some(redirect) = redirect {
+        append_query_pair(url, "redirect_uri", redirect.redirect_url().as_str())?;
+    }
+    Ok(())
+}
+
+fn append_scopes(alloc: Global, url: &mut Url, scopes: &[Scope]) -> Result<(), ParseError>
+    ensures ok { let text = join_by (λ s. s) (codes " ") scopes.now in
+        OnOk result (ExtendsQuery url.old url.new (scope_pairs text)) }
+    ensures refusal { IfErr result IsOutOfRoom }
+{
+    let text = joined(alloc, scopes)?;
+    if !text.is_empty() {
+        append_query_pair(url, "scope", text.as_str())?;
+    }
+    Ok(())
+}
+
+// The scopes as one text, with a space between each two.
+fn joined(alloc: Global, scopes: &[Scope]) -> Result<String, AllocError>
+    ensures { IfOk result (λ text. string_bytes text ≡ join_by (λ s. s) (codes " ") scopes.now) }
+{
+    let mut text = String::new(alloc);
+    let Some((first, rest)) = scopes.split_first() else {
+        return Ok(text);
+    };
+    text.push_str(first.as_str())?;
+    push_scopes(&mut text, rest)?;
+    Ok(text)
+}
+
+// Appends the scopes with a space before each.
+fn push_scopes(text: &mut String, scopes: &[Scope]) -> Result<(), AllocError>
+    ensures { OnOk result (string_bytes text.new ≡ string_bytes text.old ++ flat_map (λ s. codes " " ++ s) scopes.now) }
+{
+    for scope in scopes {
+        text.push(' ')?;
+        text.push_str(scope.as_str())?;
+    }
+    Ok(())
+}
+
+fn append_params(url: &mut Url, params: &[(ParamText<'_>, ParamText<'_>)]) -> Result<(), ParseError>
+    ensures ok { OnOk result (ExtendsQuery url.old url.new (map param_pair params.now)) }
+    ensures refusal { IfErr result IsOutOfRoom }
+{
+    for (name, value) in params {
+        append_query_pair(url, name.as_str(), value.as_str())?;
+    }
+    Ok(())
+}
+
+impl<
+    TE,
+    TR,
+    TIR,
+    RT,
+    TRE,
+    HasAuthUrl,
+    HasDeviceAuthUrl,
+    HasIntrospectionUrl,
+    HasRevocationUrl,
+    HasTokenUrl,
+> Client<
+    TE,
+    TR,
+    TIR,
+    RT,
+    TRE,
+    HasAuthUrl,
+    HasDeviceAuthUrl,
+    HasIntrospectionUrl,
+    HasRevocationUrl,
+    HasTokenUrl,
+>
+where
+    HasAuthUrl: EndpointState,
+    HasDeviceAuthUrl: EndpointState,
+    HasIntrospectionUrl: EndpointState,
+    HasRevocationUrl: EndpointState,
+    HasTokenUrl: EndpointState,
+{
+    fn authorize_url_at<'a, S: FnOnce() -> CsrfToken>(
+        &'a self,
+        alloc: Global,
+        auth_url: &'a AuthUrl,
+        state_fn: S,
+    ) -> AuthorizationRequest<'a>
+        requires { S.IsAlwaysCallable state_fn }
+        ensures { IsAuthorization (S.post state_fn) self.now auth_url.now result }
+    {
+        AuthorizationRequest {
+            auth_url,
+            client_id: self.client_id(),
+            state: state_fn(),
+            response_type: ParamText::Borrowed("code"),
+            pkce_challenge: None,
+            redirect_url: self.redirect_uri().map(RedirectRef::Borrowed),
+            scopes: Vec::new(alloc),
+            extra_params: Vec::new(alloc),
+        }
+    }
+}
+
+impl<
+    TE,
+    TR,
+    TIR,
+    RT,
+    TRE,
+    HasDeviceAuthUrl,
+    HasIntrospectionUrl,
+    HasRevocationUrl,
+    HasTokenUrl,
+> Client<
+    TE,
+    TR,
+    TIR,
+    RT,
+    TRE,
+    EndpointSet,
+    HasDeviceAuthUrl,
+    HasIntrospectionUrl,
+    HasRevocationUrl,
+    HasTokenUrl,
+>
+where
+    HasDeviceAuthUrl: EndpointState,
+    HasIntrospectionUrl: EndpointState,
+    HasRevocationUrl: EndpointState,
+    HasTokenUrl: EndpointState,
+{
+    /// Starts a request for an authorization URL, whose state `state_fn` answers.
+    pub fn authorize_url<S: FnOnce() -> CsrfToken>(
+        &self,
+        alloc: Global,
+        state_fn: S,
+    ) -> AuthorizationRequest<'_>
+        requires { S.IsAlwaysCallable state_fn }
+        ensures url { self.now.auth_url ≡ Some result.auth_url }
+        ensures new { IsAuthorization (S.post state_fn) self.now result.auth_url result }
+    {
+        self.authorize_url_at(alloc, self.auth_uri(), state_fn)
+    }
+}
+
+impl<
+    TE,
+    TR,
+    TIR,
+    RT,
+    TRE,
+    HasDeviceAuthUrl,
+    HasIntrospectionUrl,
+    HasRevocationUrl,
+    HasTokenUrl,
+> Client<
+    TE,
+    TR,
+    TIR,
+    RT,
+    TRE,
+    EndpointMaybeSet,
+    HasDeviceAuthUrl,
+    HasIntrospectionUrl,
+    HasRevocationUrl,
+    HasTokenUrl,
+>
+where
+    HasDeviceAuthUrl: EndpointState,
+    HasIntrospectionUrl: EndpointState,
+    HasRevocationUrl: EndpointState,
+    HasTokenUrl: EndpointState,
+{
+    /// Starts a request for an authorization URL, whose state `state_fn` answers. Where there is no
+    /// endpoint, it is an error, and `state_fn` is not called.
+    pub fn authorize_url<S: FnOnce() -> CsrfToken + Drop>(
+        &self,
+        alloc: Global,
+        state_fn: S,
+    ) -> Result<AuthorizationRequest<'_>, ConfigurationError>
+        requires { OnSome self.now.auth_url (S.IsAlwaysCallable state_fn) }
+        ensures there { IfSome self.now.auth_url (λ url. IsOkAnd result (IsAuthorization (S.post state_fn) self.now url)) }
+        ensures missing { IfNone self.now.auth_url (IsErrAnd result (IsMissing (codes "authorization"))) }
+    {
+        match self.auth_uri() {
+            Some(auth_url) => Ok(self.authorize_url_at(alloc, auth_url, state_fn)),
+            None => Err(ConfigurationError::MissingUrl("authorization")),
+        }
+    }
+}
