@@ -1,7 +1,7 @@
 //! The state of an authorization request (RFC 6749, section 4.1.1).
 
-ghost use Rattle.std.specs.Prelude.{◌≡◌, ℕ, IfOk, List, Some, codes, string_bytes};
-ghost use Rattle.oauth2_types.specs.Pkce.{IsRandomText};
+ghost use Rattle.std.specs.Prelude.{◌≡◌, ℕ, IfOk, List, OnErr, Some, codes, string_bytes};
+ghost use Rattle.oauth2_types.specs.Pkce.{DrewAtMost, IsRandomText};
 
 use crate::random_text::random_text;
 use crate::secret::Secret;
@@ -44,7 +44,8 @@ impl CsrfToken {
 
     /// The text of 16 random bytes.
     pub fn new_random<R: Rng>(alloc: Global, rng: &mut R) -> Result<CsrfToken, AllocError>
-        ensures { IfOk result (λ token. IsRandomText 16 (R.stream rng.old) (R.stream rng.new) token) }
+        ensures random { IfOk result (λ token. IsRandomText 16 (R.stream rng.old) (R.stream rng.new) token) }
+        ensures err { OnErr result (DrewAtMost 16 (R.stream rng.old) (R.stream rng.new)) }
     {
         CsrfToken::new_random_len(alloc, rng, 16)
     }
@@ -55,7 +56,8 @@ impl CsrfToken {
         rng: &mut R,
         n: u32,
     ) -> Result<CsrfToken, AllocError>
-        ensures { IfOk result (λ token. IsRandomText n (R.stream rng.old) (R.stream rng.new) token) }
+        ensures random { IfOk result (λ token. IsRandomText n (R.stream rng.old) (R.stream rng.new) token) }
+        ensures err { OnErr result (DrewAtMost n (R.stream rng.old) (R.stream rng.new)) }
     {
         let text = random_text(alloc, rng, n)?;
         Ok(CsrfToken::new(text))

@@ -1,7 +1,7 @@
 //! Code challenges (RFC 7636, section 4.2).
 
-ghost use Rattle.std.specs.Prelude.{◌≡◌, ◌≤◌, IfOk, string_bytes};
-ghost use Rattle.oauth2_types.specs.Pkce.{Accepts, HasValidLength, IsRandomText, challenge_debug, plain_challenge, sha256_challenge};
+ghost use Rattle.std.specs.Prelude.{◌≡◌, ◌≤◌, IfOk, OnErr, string_bytes};
+ghost use Rattle.oauth2_types.specs.Pkce.{Accepts, DrewAtMost, HasValidLength, IsRandomText, challenge_debug, plain_challenge, sha256_challenge};
 
 use crate::pkce_code_challenge_method::PkceCodeChallengeMethod;
 use crate::pkce_code_verifier::PkceCodeVerifier;
@@ -41,6 +41,7 @@ impl PkceCodeChallenge {
         ensures length { IfOk result (λ (_, verifier). HasValidLength verifier) }
         ensures value { IfOk result (λ (challenge, verifier). challenge ≡ sha256_challenge verifier) }
         ensures accepts { IfOk result (λ (challenge, verifier). Accepts challenge verifier) }
+        ensures err { OnErr result (DrewAtMost 32 (R.stream rng.old) (R.stream rng.new)) }
     {
         PkceCodeChallenge::new_random_sha256_len(alloc, rng, 32)
     }
@@ -57,6 +58,7 @@ impl PkceCodeChallenge {
         ensures length { IfOk result (λ (_, verifier). HasValidLength verifier) }
         ensures value { IfOk result (λ (challenge, verifier). challenge ≡ sha256_challenge verifier) }
         ensures accepts { IfOk result (λ (challenge, verifier). Accepts challenge verifier) }
+        ensures err { OnErr result (DrewAtMost n (R.stream rng.old) (R.stream rng.new)) }
     {
         let verifier = random_verifier(alloc, rng, n)?;
         let challenge = PkceCodeChallenge::from_code_verifier_sha256(alloc, &verifier)?;
@@ -72,6 +74,7 @@ impl PkceCodeChallenge {
         ensures length { IfOk result (λ (_, verifier). HasValidLength verifier) }
         ensures value { IfOk result (λ (challenge, verifier). challenge ≡ plain_challenge verifier) }
         ensures accepts { IfOk result (λ (challenge, verifier). Accepts challenge verifier) }
+        ensures err { OnErr result (DrewAtMost 32 (R.stream rng.old) (R.stream rng.new)) }
     {
         let verifier = random_verifier(alloc, rng, 32)?;
         let challenge = PkceCodeChallenge::from_code_verifier_plain(alloc, &verifier)?;
