@@ -1,8 +1,12 @@
-//! An OAuth 2.0 client.
+//! An OAuth 2.0 client (RFC 6749): its configuration, its requests and what replies say, proved.
+//!
+//! The crates below are passed on: every public name of theirs stands here, those that begin with
+//! `Basic` in `basic` and the functions for JSON members in `helpers`.
 #![tactic(auto)]
 
 mod authorize;
 mod base_request;
+pub mod basic;
 mod client;
 mod client_credentials;
 mod code;
@@ -17,5 +21,37 @@ pub use client::Client;
 pub use client_credentials::ClientCredentialsTokenRequest;
 pub use code::CodeTokenRequest;
 pub use endpoint::{EndpointMaybeSet, EndpointNotSet, EndpointSet, EndpointState};
+pub use oauth2_json::{
+    DeviceCodeErrorResponseType, ErrorResponse, ErrorResponseType, FromJson, ParseCause,
+    ParseFault, ReadError, RevocationErrorResponseType, StandardErrorResponse, ToJson, TokenType,
+    WriteError, compact, device_code_error_laws, helpers, members, read_body,
+    revocation_error_laws, token_type_laws,
+};
+pub use oauth2_replies::{
+    EmptyExtraTokenFields, ExtraTokenFields, StandardTokenIntrospectionResponse,
+    StandardTokenResponse, TokenIntrospectionResponse, TokenResponse,
+};
+pub use oauth2_types::{
+    AccessToken, AuthorizationCode, ClientId, ClientSecret, CsrfToken, DeviceCode,
+    PkceCodeChallenge, PkceCodeChallengeMethod, PkceCodeVerifier, RefreshToken,
+    ResourceOwnerPassword, ResourceOwnerUsername, ResponseType, Scope, TryClone, UserCode,
+    VerificationUriComplete,
+};
+pub use oauth2_urls::{
+    AuthUrl, DeviceAuthorizationUrl, EndUserVerificationUrl, IntrospectionUrl, RedirectUrl,
+    RevocationUrl, TokenUrl,
+};
+pub use oauth2_wire::{
+    AuthType, ConfigurationError, FnClient, HttpClientError, HttpRequest, HttpResponse,
+    ParamBuffer, ParamText, RedirectRef, RequestFault, RequestTokenError, ServerView,
+    SyncHttpClient, ViewError, basic_header, endpoint_request, endpoint_request_encoded,
+    endpoint_response, endpoint_response_status_only, send_once, send_once_status_only,
+    server_view,
+};
 pub use password::PasswordTokenRequest;
 pub use refresh::RefreshTokenRequest;
+
+/// The types of HTTP clients.
+pub use http;
+/// The types of URLs.
+pub use url;
