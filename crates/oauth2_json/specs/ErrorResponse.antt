@@ -55,6 +55,7 @@ abbrev pub in_brackets : Option (List ℕ) → List ℕ
 in_brackets None = []
 in_brackets (Some u) = codes " (see " ++ u ++ codes ")"
 
--- what `Display` writes, where the code's own text is known
-abbrev pub error_text : {T : Type 0} → Option (List ℕ) → StandardErrorResponse T → Option (List ℕ)
-error_text code r = option_map (λ c. (c ++ after_colon (option_map string_bytes r.error_description)) ++ in_brackets (option_map string_bytes r.error_uri)) code
+-- what `Display` writes, where the code's own text is known: the code, `: ` and the description, and
+-- ` (see `, the URI and `)`
+abbrev pub error_text : {T : Type 0} → Option (List ℕ) → ErrorParts T → Option (List ℕ)
+error_text code r = option_map (λ c. (c ++ after_colon r.description) ++ in_brackets r.uri) code

@@ -31,8 +31,8 @@ flag (string s) = wrong_type
 flag (array ds) = wrong_type
 flag (object ms) = wrong_type
 
--- a whole number that is not negative; `serde_json` holds a fraction, an exponent, -0 and a whole
--- number outside its integers as a float
+-- RFC 6749, 5.1, of a lifetime: a whole number that is not negative; `serde_json` holds a fraction,
+-- an exponent, -0 and a whole number outside its integers as a float
 abbrev pub natural : Num → Reading ℕ
 natural (unsigned n) = Ok n
 natural (negative z) = Err (whole cause.OutOfRange)
@@ -46,7 +46,7 @@ whole_number (string s) = wrong_type
 whole_number (array ds) = wrong_type
 whole_number (object ms) = wrong_type
 
--- ---- instants: whole seconds since 1970-01-01T00:00:00Z, seen as nanoseconds
+-- ---- instants, RFC 7662, 2.2: whole seconds since 1970-01-01T00:00:00Z, seen as nanoseconds
 
 -- whether `jiff` has the instant of that many nanoseconds
 abbrev pub is_instant : ℤ → Bool

@@ -124,6 +124,8 @@ impl ErrorResponseType for BasicErrorResponseType {}
 /// its canonical form, which reads back as itself.
 pub fn basic_error_laws()
     ensures text { (s : List ℕ) → error_code_text (error_code_of s) ≡ s }
-    ensures back { (c : ErrorCode) → error_code_reading (string (error_code_text c)) ≡ Ok (error_canonical c) }
-    ensures once { (c : ErrorCode) → error_canonical (error_canonical c) ≡ error_canonical c }
+    ensures back { (c : ErrorCode)
+        → error_code_reading (string (error_code_text c)) ≡ Ok (error_canonical c) }
+    ensures once { (c : ErrorCode)
+        → error_canonical (error_canonical c) ≡ error_canonical c }
 {}

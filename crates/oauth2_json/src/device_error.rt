@@ -119,6 +119,8 @@ impl ErrorResponseType for DeviceCodeErrorResponseType {}
 /// its canonical form, which reads back as itself.
 pub fn device_code_error_laws()
     ensures text { (s : List ℕ) → device_error_code_text (device_error_code_of s) ≡ s }
-    ensures back { (c : DeviceErrorCode) → device_error_code_reading (string (device_error_code_text c)) ≡ Ok (device_error_canonical c) }
-    ensures once { (c : DeviceErrorCode) → device_error_canonical (device_error_canonical c) ≡ device_error_canonical c }
+    ensures back { (c : DeviceErrorCode)
+        → device_error_code_reading (string (device_error_code_text c)) ≡ Ok (device_error_canonical c) }
+    ensures once { (c : DeviceErrorCode)
+        → device_error_canonical (device_error_canonical c) ≡ device_error_canonical c }
 {}

@@ -44,7 +44,8 @@ impl<T> StandardErrorResponse<T> {
     }
 
     pub fn error_description(&self) -> Option<&String>
-        ensures { option_map string_bytes (option_copied result) ≡ (parts_of (λ t. t) self.now).description }
+        ensures { option_map string_bytes (option_copied result)
+            ≡ (parts_of (λ t. t) self.now).description }
     {
         self.error_description.as_ref()
     }
@@ -108,7 +109,8 @@ impl<T: FromJson + ToJson> ToJson for StandardErrorResponse<T> {
     fn to_json(&self, alloc: Global) -> Result<Value, WriteError>
         ensures written { WritesAs result (error_writing T.writing (parts_of (λ t. t) self.now)) }
         // A response whose code reads back as itself reads back as itself.
-        ensures reads_back { IfOk result (λ v. IsReadBack T.reading T.meaning T.writing self.now.error
+        ensures reads_back { IfOk result (λ v.
+            IsReadBack T.reading T.meaning T.writing (parts_of (λ t. t) self.now).error
             → error_reading T.reading (view v) ≡ Ok (parts_of T.meaning self.now)) }
     {
         self.written(alloc)
@@ -132,9 +134,9 @@ impl<T: TryClone + Drop> TryClone for StandardErrorResponse<T> {
 }
 
 impl<T: fmt::Display> fmt::Display for StandardErrorResponse<T> {
-    ghost use Rattle.oauth2_json.specs.ErrorResponse.{error_text};
+    ghost use Rattle.oauth2_json.specs.ErrorResponse.{error_text, parts_of};
 
-    ghost output = { λ r. error_text (T.output r.error) r };
+    ghost output = { λ r. let p = parts_of (λ t. t) r in error_text (T.output p.error) p };
 
     fn fmt<W: fmt::Write>(&self, f: &mut fmt::Formatter<W>) -> fmt::Result {
         write!(f, "{}", self.error)?;

@@ -22,10 +22,8 @@ pub fn deserialize_untagged_enum_case_insensitive<T: FromJson>(
 ) -> Result<T, ReadError>
     ensures { ReadsAs T.meaning result (at_member [] (lowered T.reading (view value))) }
 {
-    match Lowered::<T>::from_json(alloc, value) {
-        Ok(Lowered(read)) => Ok(read),
-        Err(error) => Err(error.under(alloc, "")),
-    }
+    let Lowered(read) = members::under_name::<Lowered<T>>(alloc, "", value)?;
+    Ok(read)
 }
 
 /// Reads a text, split at every space (RFC 6749, section 3.3); null is none. A fault names no member.
@@ -33,7 +31,8 @@ pub fn deserialize_space_delimited_vec<T: FromJson + Drop>(
     alloc: Global,
     value: Value,
 ) -> Result<Option<Vec<T>>, ReadError>
-    ensures { ReadsAs (option_map (λ v. map T.meaning v.items)) result (nullable (spaced T.reading) (view value)) }
+    ensures { ReadsAs (option_map (λ v. map T.meaning v.items)) result
+        (nullable (spaced T.reading) (view value)) }
 {
     members::optional_words(alloc, "", Some(value))
 }
@@ -43,7 +42,8 @@ pub fn deserialize_optional_string_or_vec_string(
     alloc: Global,
     value: Value,
 ) -> Result<Option<Vec<String>>, ReadError>
-    ensures { ReadsAs (option_map (λ v. map string_bytes v.items)) result (nullable texts (view value)) }
+    ensures { ReadsAs (option_map (λ v. map string_bytes v.items)) result
+        (nullable texts (view value)) }
 {
     members::optional_texts(alloc, "", Some(value))
 }
@@ -53,10 +53,12 @@ pub fn serialize_space_delimited_vec<T: AsStr>(
     alloc: Global,
     words: &Option<Vec<T>>,
 ) -> Result<Value, AllocError>
-    ensures value { IfOk result (λ v. view v ≡ words_data (option_map (λ v. map T.text v.items) words.now)) }
+    ensures value { IfOk result (λ v. view v
+        ≡ words_data (option_map (λ v. map T.text v.items) words.now)) }
     // A list reads back exactly where it isn't empty and no entry holds a space.
     ensures reads_back { let lists = option_map (λ v. map T.text v.items) words.now in
-        IfOk result (λ v. (nullable (spaced text) (view v) ≡ Ok lists) ↔ IfSome lists (λ ps. IsTrue (are_words ps))) }
+        IfOk result (λ v. (nullable (spaced text) (view v) ≡ Ok lists)
+        ↔ IfSome lists (λ ps. IsTrue (are_words ps))) }
 {
     match words {
         Some(words) => words_text(alloc, words.as_slice()),

@@ -54,7 +54,8 @@ pub fn optional_time(
     name: &str,
     found: Option<Value>,
 ) -> Result<Option<Timestamp>, ReadError>
-    ensures { ReadsAs (option_map (λ t. t.nanosecond)) result (optional instant name.now (option_map view found)) }
+    ensures { ReadsAs (option_map (λ t. t.nanosecond)) result
+        (optional instant name.now (option_map view found)) }
 {
     match members::optional::<Instant>(alloc, name, found)? {
         Some(Instant(at)) => Ok(Some(at)),

@@ -47,7 +47,8 @@ pub fn present_lowered<T: FromJson>(
     name: &str,
     found: Option<Value>,
 ) -> Result<Option<T>, ReadError>
-    ensures { ReadsAs (option_map T.meaning) result (present (lowered T.reading) name.now (option_map view found)) }
+    ensures { ReadsAs (option_map T.meaning) result
+        (present (lowered T.reading) name.now (option_map view found)) }
 {
     match members::present::<Lowered<T>>(alloc, name, found)? {
         Some(Lowered(read)) => Ok(Some(read)),

@@ -1,12 +1,14 @@
 //! The members of an object, by name: a reader for each kind, and what the writer of an object
 //! needs.
 
-ghost use Rattle.std.specs.Prelude.{◌≡◌, option_map, is_some, IfOk, OnOk, OnErr, map};
+ghost use Rattle.std.specs.Prelude.{◌≡◌, true, option_map, is_some, IfOk, OnOk, OnErr, map};
 ghost use Rattle.serde_json.specs.Find.{get_member};
 ghost use Rattle.serde_json.specs.Data.{string};
 ghost use Rattle.serde_json.specs.View.{view, members_view};
-ghost use Rattle.oauth2_json.specs.Reading.{ReadsAs};
-ghost use Rattle.oauth2_json.specs.Members.{members_of_object, without, needed, optional, present, either_name, put_some, beside, clashes, optional_writing};
+ghost use Rattle.oauth2_json.specs.Reading.{ReadsAs, at_member};
+ghost use Rattle.oauth2_json.specs.Members.{members_of_object, without, needed, optional, present, either_name};
+ghost use Rattle.oauth2_json.specs.Members.{put_some, beside, clashes, optional_writing};
+ghost use Rattle.oauth2_json.specs.Puts.{in_order};
 ghost use Rattle.oauth2_json.specs.Writing.{GivesAs};
 
 use crate::floats::members_have_float;
@@ -39,6 +41,20 @@ pub fn take(members: &mut Map<String, Value>, name: &str) -> Option<Value>
     members.remove(name)
 }
 
+/// What a member's value reads to; a fault stands under the member's name.
+pub(crate) fn under_name<T: FromJson>(
+    alloc: Global,
+    name: &str,
+    value: Value,
+) -> Result<T, ReadError>
+    ensures { ReadsAs T.meaning result (at_member name.now (T.reading (view value))) }
+{
+    match T::from_json(alloc, value) {
+        Ok(read) => Ok(read),
+        Err(error) => Err(error.under(alloc, name)),
+    }
+}
+
 /// A member that has to be there.
 pub fn needed<T: FromJson>(alloc: Global, name: &str, found: Option<Value>) -> Result<T, ReadError>
     ensures { ReadsAs T.meaning result (needed T.reading name.now (option_map view found)) }
@@ -46,10 +62,7 @@ pub fn needed<T: FromJson>(alloc: Global, name: &str, found: Option<Value>) -> R
     match found {
         None => Err(ReadError::at(alloc, name, ParseCause::Missing)),
         Some(Value::Null) => Err(ReadError::at(alloc, name, ParseCause::WrongType)),
-        Some(value) => match T::from_json(alloc, value) {
-            Ok(read) => Ok(read),
-            Err(error) => Err(error.under(alloc, name)),
-        },
+        Some(value) => under_name(alloc, name, value),
     }
 }
 
@@ -59,14 +72,12 @@ pub fn optional<T: FromJson>(
     name: &str,
     found: Option<Value>,
 ) -> Result<Option<T>, ReadError>
-    ensures { ReadsAs (option_map T.meaning) result (optional T.reading name.now (option_map view found)) }
+    ensures { ReadsAs (option_map T.meaning) result
+        (optional T.reading name.now (option_map view found)) }
 {
     match found {
         None | Some(Value::Null) => Ok(None),
-        Some(value) => match T::from_json(alloc, value) {
-            Ok(read) => Ok(Some(read)),
-            Err(error) => Err(error.under(alloc, name)),
-        },
+        Some(value) => Ok(Some(under_name(alloc, name, value)?)),
     }
 }
 
@@ -76,14 +87,12 @@ pub fn present<T: FromJson>(
     name: &str,
     found: Option<Value>,
 ) -> Result<Option<T>, ReadError>
-    ensures { ReadsAs (option_map T.meaning) result (present T.reading name.now (option_map view found)) }
+    ensures { ReadsAs (option_map T.meaning) result
+        (present T.reading name.now (option_map view found)) }
 {
     match found {
         None => Ok(None),
-        Some(value) => match T::from_json(alloc, value) {
-            Ok(read) => Ok(Some(read)),
-            Err(error) => Err(error.under(alloc, name)),
-        },
+        Some(member) => Ok(Some(under_name(alloc, name, member)?)),
     }
 }
 
@@ -94,7 +103,8 @@ pub fn either_name<T: FromJson>(
     found: Option<Value>,
     other: Option<Value>,
 ) -> Result<T, ReadError>
-    ensures { ReadsAs T.meaning result (either_name T.reading name.now (option_map view found) (option_map view other)) }
+    ensures { ReadsAs T.meaning result
+        (either_name T.reading name.now (option_map view found) (option_map view other)) }
 {
     match found {
         None => needed(alloc, name, other),
@@ -124,7 +134,8 @@ fn clashes(own: &[&str], members: &Map<String, Value>) -> bool
 
 /// The members that stand beside a type's own: none of them bears an own name or holds a float.
 pub fn beside(own: &[&str], extra: Value) -> Result<Map<String, Value>, WriteError>
-    ensures { GivesAs (λ m. members_view m.entries) result (beside (map (λ k. k.now) own.now) (view extra)) }
+    ensures { GivesAs (λ m. members_view m.entries) result
+        (beside (map (λ k. k.now) own.now) (view extra)) }
 {
     let Value::Object(members) = extra else {
         return Err(WriteError::NameClash);
@@ -147,6 +158,9 @@ pub fn put_some(
 ) -> Result<(), AllocError>
     ensures ok { OnOk result (members_view members.new.entries
         ≡ put_some name.now (option_map view value) (members_view members.old.entries)) }
+    // Members in byte order of their names stay so.
+    ensures ordered { OnOk result (in_order (members_view members.old.entries) ≡ true
+        → in_order (members_view members.new.entries) ≡ true) }
     ensures err { OnErr result (members.new.entries ≡ members.old.entries) }
 {
     match value {

@@ -59,10 +59,8 @@ impl ReadError {
     pub fn whole(alloc: Global, cause: ParseCause) -> ReadError
         ensures { IsFault result (whole cause) }
     {
-        ReadError::Fault(ParseFault {
-            member: String::new(alloc),
-            cause,
-        })
+        let member = String::new(alloc);
+        ReadError::Fault(ParseFault { member, cause })
     }
 
     /// The member is at fault.

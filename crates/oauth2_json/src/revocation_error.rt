@@ -103,6 +103,8 @@ impl ErrorResponseType for RevocationErrorResponseType {}
 /// its canonical form, which reads back as itself.
 pub fn revocation_error_laws()
     ensures text { (s : List ℕ) → revocation_error_code_text (revocation_error_code_of s) ≡ s }
-    ensures back { (c : RevocationErrorCode) → revocation_error_code_reading (string (revocation_error_code_text c)) ≡ Ok (revocation_error_canonical c) }
-    ensures once { (c : RevocationErrorCode) → revocation_error_canonical (revocation_error_canonical c) ≡ revocation_error_canonical c }
+    ensures back { (c : RevocationErrorCode)
+        → revocation_error_code_reading (string (revocation_error_code_text c)) ≡ Ok (revocation_error_canonical c) }
+    ensures once { (c : RevocationErrorCode)
+        → revocation_error_canonical (revocation_error_canonical c) ≡ revocation_error_canonical c }
 {}

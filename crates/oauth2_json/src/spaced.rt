@@ -17,10 +17,7 @@ use std::convert::AsStr;
 fn piece<T: FromJson>(alloc: Global, text: &str) -> Result<T, ReadError>
     ensures { ReadsAs T.meaning result (at_member [] (T.reading (string text.now))) }
 {
-    match T::from_json(alloc, Value::try_from_str(alloc, text)?) {
-        Ok(read) => Ok(read),
-        Err(error) => Err(error.under(alloc, "")),
-    }
+    members::under_name(alloc, "", Value::try_from_str(alloc, text)?)
 }
 
 /// Each piece of the text between spaces, as `T` reads it.

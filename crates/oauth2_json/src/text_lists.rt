@@ -66,7 +66,8 @@ pub fn optional_texts(
     name: &str,
     found: Option<Value>,
 ) -> Result<Option<Vec<String>>, ReadError>
-    ensures { ReadsAs (option_map (λ v. map string_bytes v.items)) result (optional texts name.now (option_map view found)) }
+    ensures { ReadsAs (option_map (λ v. map string_bytes v.items)) result
+        (optional texts name.now (option_map view found)) }
 {
     match members::optional::<Texts>(alloc, name, found)? {
         Some(Texts(list)) => Ok(Some(list)),
@@ -76,7 +77,8 @@ pub fn optional_texts(
 
 /// The value of a list of texts that may be absent.
 pub fn texts_value(alloc: Global, texts: &Option<Vec<String>>) -> Result<Option<Value>, AllocError>
-    ensures { IfOk result (λ v. option_map view v ≡ option_map (λ ps. array (text_items ps)) (option_map (λ t. map string_bytes t.items) texts.now)) }
+    ensures { IfOk result (λ v. option_map view v
+        ≡ option_map (λ ps. array (text_items ps)) (option_map (λ t. map string_bytes t.items) texts.now)) }
 {
     match texts {
         Some(texts) => Ok(Some(Value::Array(values(alloc, texts.as_slice())?))),
