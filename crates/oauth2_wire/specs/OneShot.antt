@@ -40,6 +40,14 @@ module _ {T RE : Type 0} where
   Refuses kind (Ok value) = ⊥
   Refuses kind (Err error) = RefusesAs kind error
 
+module _ {T RE C : Type 0} where
+  -- the reply of the one step that a prepared request makes, or why there is none
+  abbrev pub IsCallOf : (C → HttpRequest → Result HttpResponse RE → C → Type 0) → C → Result HttpRequest RequestFault → Result HttpResponse (RequestTokenError RE T) → C → Type 0
+  IsCallOf step before (Ok request) (Ok reply) after = step before request (Ok reply) after
+  IsCallOf step before (Ok request) (Err error) after = (cause : RE) × step before request (Err cause) after × (error ≡ token.Request cause)
+  IsCallOf step before (Err kind) (Ok reply) after = ⊥
+  IsCallOf step before (Err kind) (Err error) after = RefusesAs kind error × (after ≡ before)
+
 module _ {D A T E RE C : Type 0} where
   -- a prepared request is sent once, and a fault of its preparation is answered without a call
   abbrev pub SendsOnce : (D → A) → (T → E) → (C → HttpRequest → Result HttpResponse RE → C → Type 0) → (HttpResponse → Answer A E) → C → Result HttpRequest RequestFault → Result D (RequestTokenError RE T) → C → Type 0

@@ -1,5 +1,5 @@
 //! Why a request could not be made, was not sent, or got no answer.
-use oauth2_json::ParseFault;
+use oauth2_json::{BasicErrorResponseType, ParseFault, StandardErrorResponse};
 use std::{fmt, io};
 use thiserror::Error;
 
@@ -47,6 +47,12 @@ pub enum RequestTokenError<RE, T> {
         sent: bool,
     },
 }
+
+/// The error of a request to an endpoint that answers with the basic errors (RFC 6749, section 5.2).
+pub type BasicRequestTokenError<RE> = RequestTokenError<
+    RE,
+    StandardErrorResponse<BasicErrorResponseType>,
+>;
 
 impl<RE, T: fmt::Display> fmt::Display for RequestTokenError<RE, T> {
     ghost use Rattle.oauth2_wire.specs.Display.{fault_text};

@@ -17,7 +17,7 @@ mod view;
 
 pub use basic::basic_header;
 pub use client::{FnClient, HttpResponse, SyncHttpClient};
-pub use error::{ConfigurationError, HttpClientError, RequestTokenError};
+pub use error::{BasicRequestTokenError, ConfigurationError, HttpClientError, RequestTokenError};
 pub use once::{send_once, send_once_status_only};
 pub use param_buffer::ParamBuffer;
 pub use reply::{endpoint_response, endpoint_response_status_only};
@@ -26,3 +26,6 @@ pub use request::{
 };
 pub use texts::{ParamText, RedirectRef};
 pub use view::{ServerView, ViewError, server_view};
+
+#[cfg(test)]
+mod tests;

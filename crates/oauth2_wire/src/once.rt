@@ -1,8 +1,8 @@
 //! One request and its answer.
 ghost use Rattle.oauth2_wire.specs.Reply.{reply_of, answer_of, status_answer_of};
-ghost use Rattle.oauth2_wire.specs.OneShot.{SendsOnce, RefusesAs};
+ghost use Rattle.oauth2_wire.specs.OneShot.{IsCallOf, SendsOnce, RefusesAs};
 
-use crate::client::SyncHttpClient;
+use crate::client::{HttpResponse, SyncHttpClient};
 use crate::error::RequestTokenError;
 use crate::reply::{endpoint_response, endpoint_response_status_only};
 use crate::request::{HttpRequest, RequestFault};
@@ -19,12 +19,9 @@ pub fn send_once<C: SyncHttpClient, TE: FromJson, DO: FromJson>(
     ensures once { SendsOnce DO.meaning TE.meaning C.step (λ reply. answer_of DO.reading TE.reading (reply_of reply)) http_client.old prepared result http_client.new }
     ensures ready { C.is_ready http_client.new }
 {
-    match prepared {
-        Ok(request) => match http_client.call(request) {
-            Ok(reply) => endpoint_response(alloc, reply),
-            Err(error) => Err(RequestTokenError::Request(error)),
-        },
-        Err(fault) => Err(unsent(alloc, fault)),
+    match call(alloc, prepared, http_client) {
+        Ok(reply) => endpoint_response(alloc, reply),
+        Err(error) => Err(error),
     }
 }
 
@@ -38,9 +35,25 @@ pub fn send_once_status_only<C: SyncHttpClient, TE: FromJson>(
     ensures once { SendsOnce (λ done. done) TE.meaning C.step (λ reply. status_answer_of TE.reading (reply_of reply)) http_client.old prepared result http_client.new }
     ensures ready { C.is_ready http_client.new }
 {
+    match call(alloc, prepared, http_client) {
+        Ok(reply) => endpoint_response_status_only(alloc, reply),
+        Err(error) => Err(error),
+    }
+}
+
+// The reply to a prepared request, or why there is none.
+fn call<C: SyncHttpClient, TE>(
+    alloc: Global,
+    prepared: Result<HttpRequest, RequestFault>,
+    http_client: &mut C,
+) -> Result<HttpResponse, RequestTokenError<C::Error, TE>>
+    requires { C.is_ready http_client.old }
+    ensures once { IsCallOf C.step http_client.old prepared result http_client.new }
+    ensures ready { C.is_ready http_client.new }
+{
     match prepared {
         Ok(request) => match http_client.call(request) {
-            Ok(reply) => endpoint_response_status_only(alloc, reply),
+            Ok(reply) => Ok(reply),
             Err(error) => Err(RequestTokenError::Request(error)),
         },
         Err(fault) => Err(unsent(alloc, fault)),

@@ -1,4 +1,5 @@
 //! What a reply says (RFC 6749, sections 5.1 and 5.2).
+ghost use Rattle.std.specs.Prelude.{◌≡◌, ◌==◌};
 ghost use Rattle.oauth2_wire.specs.ContentType.{unexpected_type_text};
 ghost use Rattle.oauth2_wire.specs.Reply.{reply_of, answer_of, status_answer_of, success_answer, failure_answer, body_answer, Shows, ShowsFailure, other};
 
@@ -16,11 +17,10 @@ pub fn endpoint_response<RE, TE: FromJson, DO: FromJson>(
 ) -> Result<DO, RequestTokenError<RE, TE>>
     ensures { Shows DO.meaning TE.meaning (answer_of DO.reading TE.reading (reply_of reply)) result }
 {
-    if reply.status().as_u16() == 200 {
-        read_success(alloc, reply)
-    } else {
-        Err(read_failure(alloc, reply.into_body()))
+    if !is_success(&reply) {
+        return Err(read_failure(alloc, reply.into_body()));
     }
+    read_success(alloc, reply)
 }
 
 /// What a reply says to a request whose success says nothing more (RFC 7009, section 2.2).
@@ -30,14 +30,21 @@ pub fn endpoint_response_status_only<RE, TE: FromJson>(
 ) -> Result<(), RequestTokenError<RE, TE>>
     ensures { Shows (λ done. done) TE.meaning (status_answer_of TE.reading (reply_of reply)) result }
 {
-    if reply.status().as_u16() == 200 {
+    if is_success(&reply) {
         Ok(())
     } else {
         Err(read_failure(alloc, reply.into_body()))
     }
 }
 
-// A reply of status 200.
+// Whether the status is that of a success, which is 200 alone.
+fn is_success(reply: &HttpResponse) -> bool
+    ensures { result ≡ (reply_of reply.now).status == 200 }
+{
+    reply.status().as_u16() == 200
+}
+
+// The reply of a success.
 fn read_success<RE, TE: FromJson, DO: FromJson>(
     alloc: Global,
     reply: HttpResponse,
