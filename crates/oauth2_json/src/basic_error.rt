@@ -13,6 +13,7 @@ use std::alloc::{AllocError, Global};
 use std::convert::AsStr;
 use std::fmt;
 
+/// The code of a token endpoint's error, written as its text.
 #[derive(PartialEq, Eq, Drop)]
 pub enum BasicErrorResponseType {
     InvalidClient,
@@ -21,7 +22,7 @@ pub enum BasicErrorResponseType {
     InvalidScope,
     UnauthorizedClient,
     UnsupportedGrantType,
-    /// A code that this crate does not name.
+    /// Every other text.
     Extension(String),
 }
 

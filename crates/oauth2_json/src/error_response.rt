@@ -2,15 +2,19 @@
 
 ghost use Rattle.std.specs.Prelude.{◌≡◌};
 
+use crate::basic_error::BasicErrorResponseType;
+use crate::device_error::DeviceCodeErrorResponseType;
 use crate::error_traits::{ErrorResponse, ErrorResponseType};
 use crate::members;
 use crate::read::{FromJson, ReadError};
+use crate::revocation_error::RevocationErrorResponseType;
 use crate::write::{ToJson, WriteError};
 use oauth2_types::TryClone;
 use serde_json::{Map, Value};
 use std::alloc::{AllocError, Global};
 use std::fmt;
 
+/// An error response: a code, and a description and a page about it for people.
 #[derive(Debug, PartialEq, Eq, Drop)]
 pub struct StandardErrorResponse<T> {
     error: T,
@@ -149,5 +153,14 @@ impl<T: fmt::Display> fmt::Display for StandardErrorResponse<T> {
         Ok(())
     }
 }
+
+/// The error response of the token, introspection and device authorization endpoints.
+pub type BasicErrorResponse = StandardErrorResponse<BasicErrorResponseType>;
+
+/// The error response of the revocation endpoint.
+pub type BasicRevocationErrorResponse = StandardErrorResponse<RevocationErrorResponseType>;
+
+/// The error response of the token endpoint while a device polls.
+pub type DeviceCodeErrorResponse = StandardErrorResponse<DeviceCodeErrorResponseType>;
 
 impl<T: ErrorResponseType + fmt::Display + Drop> ErrorResponse for StandardErrorResponse<T> {}

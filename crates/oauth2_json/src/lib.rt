@@ -26,7 +26,10 @@ mod write;
 pub use basic_error::{BasicErrorResponseType, basic_error_laws};
 pub use body::{compact, read_body};
 pub use device_error::{DeviceCodeErrorResponseType, device_code_error_laws};
-pub use error_response::StandardErrorResponse;
+pub use error_response::{
+    BasicErrorResponse, BasicRevocationErrorResponse, DeviceCodeErrorResponse,
+    StandardErrorResponse,
+};
 pub use error_traits::{ErrorResponse, ErrorResponseType};
 pub use read::{FromJson, ParseCause, ParseFault, ReadError};
 pub use revocation_error::{RevocationErrorResponseType, revocation_error_laws};

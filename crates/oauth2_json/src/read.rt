@@ -8,14 +8,23 @@ use std::alloc::{AllocError, AllocFailed, Global};
 /// Why a value reads to nothing.
 #[derive(Clone, Copy, Debug, PartialEq, Eq, Drop)]
 pub enum ParseCause {
+    /// The body is not one whole JSON value.
     NotJson,
+    /// The value is not an object.
     NotObject,
+    /// The member is absent.
     Missing,
+    /// The value is of another type.
     WrongType,
+    /// The number is no whole one.
     NotWhole,
+    /// The number is outside the range.
     OutOfRange,
+    /// The text is not a URL.
     BadUrl,
+    /// The member stands under both of its names.
     BothNames,
+    /// The object is of another shape.
     Refused,
 }
 
@@ -26,6 +35,7 @@ pub struct ParseFault {
     pub cause: ParseCause,
 }
 
+/// Why nothing was read.
 #[derive(Debug, PartialEq, Eq, Drop)]
 pub enum ReadError {
     Fault(ParseFault),

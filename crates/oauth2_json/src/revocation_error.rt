@@ -14,6 +14,7 @@ use std::alloc::{AllocError, Global};
 use std::convert::AsStr;
 use std::fmt;
 
+/// The code of a revocation endpoint's error, written as its text.
 #[derive(PartialEq, Eq, Drop)]
 pub enum RevocationErrorResponseType {
     UnsupportedTokenType,

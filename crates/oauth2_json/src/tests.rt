@@ -1,11 +1,11 @@
 use crate::helpers::{
-    deserialize_optional_string_or_vec_string, deserialize_space_delimited_vec,
-    deserialize_untagged_enum_case_insensitive, serialize_space_delimited_vec,
+    VariantName, deserialize_optional_string_or_vec_string, deserialize_space_delimited_vec,
+    deserialize_untagged_enum_case_insensitive, serialize_space_delimited_vec, variant_name,
 };
 use crate::{
-    BasicErrorResponseType, BasicTokenType, DeviceCodeErrorResponseType, FromJson, ParseCause,
-    ReadError, RevocationErrorResponseType, StandardErrorResponse, ToJson, WriteError, compact,
-    members, read_body,
+    BasicErrorResponse, BasicErrorResponseType, BasicTokenType, DeviceCodeErrorResponseType,
+    FromJson, ParseCause, ReadError, RevocationErrorResponseType, StandardErrorResponse, ToJson,
+    WriteError, compact, members, read_body,
 };
 use jiff::Timestamp;
 use oauth2_types::{
@@ -20,8 +20,6 @@ use oauth2_urls::{
 use serde_json::Value;
 use std::convert::AsStr;
 use std::test::Fail;
-
-type BasicErrorResponse = StandardErrorResponse<BasicErrorResponseType>;
 
 /// Whether the text reads to a value that is written as that text.
 fn is_kept<T: FromJson + ToJson + Drop>(rt: &HostRuntime, text: &str) -> bool {
@@ -453,4 +451,21 @@ fn members_are_taken_out(rt: HostRuntime) -> Result<(), Fail> {
     assert!(rt; none.is_none());
     assert_eq!(rt; members::pieces::<Scope>(rt.alloc(), " ")?.len(), 2);
     Ok(())
+}
+
+struct Plain;
+
+impl VariantName for Plain {
+    ghost use Rattle.std.specs.Prelude.{codes};
+
+    ghost variant = { λ _. codes "Plain" };
+
+    fn variant_name(&self) -> &'static str {
+        "Plain"
+    }
+}
+
+#[test]
+fn variants_have_names(rt: HostRuntime) {
+    assert_eq!(rt; variant_name(&Plain), "Plain");
 }

@@ -12,10 +12,12 @@ use std::alloc::{AllocError, Global};
 use std::convert::AsStr;
 use std::fmt;
 
+/// A token type by its text, case and all.
 #[derive(Debug, PartialEq, Eq, Drop)]
 pub enum BasicTokenType {
     Bearer,
     Mac,
+    /// Every other text.
     Extension(String),
 }
 

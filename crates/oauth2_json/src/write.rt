@@ -3,6 +3,7 @@
 use serde_json::Value;
 use std::alloc::{AllocError, AllocFailed, Global};
 
+/// Why nothing was written: an extra member bears a name of the type's own, or holds a float.
 #[derive(Clone, Copy, Debug, PartialEq, Eq, Drop)]
 pub enum WriteError {
     Memory,
