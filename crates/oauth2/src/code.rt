@@ -9,7 +9,8 @@ ghost use Rattle.oauth2.specs.Code.{code_configuration};
 ghost use Rattle.oauth2.specs.Once.{AsksOnce};
 
 use crate::base_request::BaseRequest;
-use oauth2_json::FromJson;
+use oauth2_json::ErrorResponse;
+use oauth2_replies::TokenResponse;
 use oauth2_types::{AuthorizationCode, PkceCodeVerifier};
 use oauth2_urls::{RedirectUrl, TokenUrl};
 use oauth2_wire::{
@@ -141,7 +142,7 @@ impl<'a, TE, TR> CodeTokenRequest<'a, TE, TR> {
     }
 }
 
-impl<'a, TE: FromJson, TR: FromJson> CodeTokenRequest<'a, TE, TR> {
+impl<'a, TE: ErrorResponse, TR: TokenResponse> CodeTokenRequest<'a, TE, TR> {
     /// Sends the request, once, and reads its reply.
     pub fn request<C: SyncHttpClient>(
         self,

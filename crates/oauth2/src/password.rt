@@ -11,7 +11,8 @@ ghost use Rattle.oauth2.specs.Password.{password_configuration};
 ghost use Rattle.oauth2.specs.Once.{AsksOnce};
 
 use crate::base_request::BaseRequest;
-use oauth2_json::FromJson;
+use oauth2_json::ErrorResponse;
+use oauth2_replies::TokenResponse;
 use oauth2_types::{ResourceOwnerPassword, ResourceOwnerUsername, Scope};
 use oauth2_urls::TokenUrl;
 use oauth2_wire::{
@@ -124,7 +125,7 @@ impl<'a, TE, TR> PasswordTokenRequest<'a, TE, TR> {
     }
 }
 
-impl<'a, TE: FromJson, TR: FromJson> PasswordTokenRequest<'a, TE, TR> {
+impl<'a, TE: ErrorResponse, TR: TokenResponse> PasswordTokenRequest<'a, TE, TR> {
     /// Sends the request, once, and reads its reply.
     pub fn request<C: SyncHttpClient>(
         self,

@@ -11,7 +11,8 @@ ghost use Rattle.oauth2.specs.Refresh.{refresh_configuration};
 ghost use Rattle.oauth2.specs.Once.{AsksOnce};
 
 use crate::base_request::BaseRequest;
-use oauth2_json::FromJson;
+use oauth2_json::ErrorResponse;
+use oauth2_replies::TokenResponse;
 use oauth2_types::{RefreshToken, Scope};
 use oauth2_urls::TokenUrl;
 use oauth2_wire::{
@@ -119,7 +120,7 @@ impl<'a, TE, TR> RefreshTokenRequest<'a, TE, TR> {
     }
 }
 
-impl<'a, TE: FromJson, TR: FromJson> RefreshTokenRequest<'a, TE, TR> {
+impl<'a, TE: ErrorResponse, TR: TokenResponse> RefreshTokenRequest<'a, TE, TR> {
     /// Sends the request, once, and reads its reply.
     pub fn request<C: SyncHttpClient>(
         self,
