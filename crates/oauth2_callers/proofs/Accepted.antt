@@ -1,0 +1,21 @@
+-- An answer that was accepted was asked for once.
+use Rattle.std.proofs.Common.{◌≡◌, ℕ, List, Ok, Err, inl, inr, subst}
+use Rattle.std.specs.Prelude.{Result, IfOk}
+use Rattle.oauth2_wire.specs.Reply.{HttpResponse, Answer, accepted}
+use Rattle.oauth2_wire.specs.OneShot.{HttpRequest, OneShot}
+use Rattle.oauth2_wire.specs.Request.{RequestView, IsRequestOf}
+use Rattle.oauth2_wire.specs.declared.error.RequestTokenError.{RequestTokenError}
+use Rattle.oauth2.specs.Password.{PasswordRequest, password_configuration}
+
+module _ {D A T E RE C : Type 0} (meaning : D → A) (error_meaning : T → E) (step : C → HttpRequest → Result HttpResponse RE → C → Type 0) (says : HttpResponse → Answer A E) (IsRequest : HttpRequest → Type 0) (NotHttp : Type 0) (before after : C) where
+  pub IfOk-from_OneShot : (Wanted : HttpRequest → Type 0) → ((r : HttpRequest) → IsRequest r → Wanted r) → (result : Result D (RequestTokenError RE T)) → OneShot meaning error_meaning step says IsRequest NotHttp before result after
+      → IfOk result (λ value. (request : HttpRequest) × Wanted request × (reply : HttpResponse) × step before request (Ok reply) after × (says reply ≡ accepted (meaning value)))
+  IfOk-from_OneShot Wanted weaker (Ok value) (inl (request, is, (Ok reply, did, shown))) = (request, weaker request is, reply, did, shown)
+  IfOk-from_OneShot Wanted weaker (Ok value) (inl (request, is, (Err error, did, shown))) = cc
+  IfOk-from_OneShot Wanted weaker (Ok value) (inr (inl (refused, _), _)) = absurd refused
+  IfOk-from_OneShot Wanted weaker (Ok value) (inr (inr refused, _)) = absurd refused
+  IfOk-from_OneShot Wanted weaker (Err error) sent = tt
+
+-- the request of an equal configuration
+pub IsRequestOf-equal : (a b : PasswordRequest) (url : List ℕ) (v : RequestView) → a ≡ b → IsRequestOf (password_configuration a) url v → IsRequestOf (password_configuration b) url v
+IsRequestOf-equal a b url v same is = subst (λ r. IsRequestOf (password_configuration r) url v) same is

@@ -1,0 +1,123 @@
+//! Clients that are made, read and copied.
+
+ghost use Rattle.std.specs.Prelude.{◌≡◌, Some, None, IfOk, option_copied};
+ghost use Rattle.oauth2_wire.specs.declared.request.AuthType.TheVariants.{RequestBody, BasicAuth};
+
+use oauth2::basic::{BasicErrorResponseType, BasicTokenResponse};
+use oauth2::{
+    AuthType, AuthUrl, Client, ClientId, ClientSecret, DeviceAuthorizationUrl, EndpointMaybeSet,
+    EndpointNotSet, EndpointSet, IntrospectionUrl, RedirectUrl, RevocationUrl,
+    StandardErrorResponse, TokenUrl, TryClone,
+};
+use std::alloc::{AllocError, Global};
+
+/// The error response of a server without extensions.
+pub type BasicErrorResponse = StandardErrorResponse<BasicErrorResponseType>;
+
+/// A client of a server without extensions, which neither introspects nor revokes.
+pub type PlainClient<HasAuthUrl = EndpointNotSet, HasTokenUrl = EndpointNotSet> = Client<
+    BasicErrorResponse,
+    BasicTokenResponse,
+    (),
+    (),
+    (),
+    HasAuthUrl,
+    EndpointNotSet,
+    EndpointNotSet,
+    EndpointNotSet,
+    HasTokenUrl,
+>;
+
+/// A client for the code flow.
+pub type CodeClient = PlainClient<EndpointSet, EndpointSet>;
+
+/// A client whose token endpoint is known at run time alone.
+pub type TokenClient = PlainClient<EndpointNotSet, EndpointMaybeSet>;
+
+/// A client for the code flow, which shows its credentials in the body.
+pub fn code_client(
+    id: ClientId,
+    secret: ClientSecret,
+    redirect: RedirectUrl,
+    auth: AuthUrl,
+    token: TokenUrl,
+) -> CodeClient
+    ensures { result ≡ record {
+      client_id = id;
+      client_secret = Some secret;
+      auth_type = RequestBody;
+      redirect_url = Some redirect;
+      auth_url = Some auth;
+      device_authorization_url = None;
+      introspection_url = None;
+      revocation_url = None;
+      token_url = Some token;
+    } }
+{
+    Client::new(id)
+        .set_token_uri(token)
+        .set_client_secret(secret)
+        .set_auth_type(AuthType::RequestBody)
+        .set_auth_uri(auth)
+        .set_redirect_uri(redirect)
+}
+
+/// A client that shows its credentials by HTTP Basic, at a token endpoint if there is one.
+pub fn token_client(id: ClientId, token: Option<TokenUrl>) -> TokenClient
+    ensures id { result.client_id ≡ id }
+    ensures secret { result.client_secret ≡ None }
+    ensures auth_type { result.auth_type ≡ BasicAuth }
+    ensures url { result.token_url ≡ token }
+{
+    Client::new(id).set_token_uri_option(token)
+}
+
+/// A client with every endpoint, and its URLs in the order in which they were given.
+pub fn every_endpoint(
+    client: PlainClient,
+    auth: AuthUrl,
+    device: DeviceAuthorizationUrl,
+    introspection: IntrospectionUrl,
+    revocation: Option<RevocationUrl>,
+    token: TokenUrl,
+) -> Client<
+    BasicErrorResponse,
+    BasicTokenResponse,
+    (),
+    (),
+    (),
+    EndpointSet,
+    EndpointSet,
+    EndpointSet,
+    EndpointMaybeSet,
+    EndpointSet,
+>
+    ensures { result ≡ record client {
+      auth_url = Some auth;
+      device_authorization_url = Some device;
+      introspection_url = Some introspection;
+      revocation_url = revocation;
+      token_url = Some token;
+    } }
+{
+    client
+        .set_auth_uri(auth)
+        .set_device_authorization_url(device)
+        .set_introspection_url(introspection)
+        .set_revocation_url_option(revocation)
+        .set_token_uri(token)
+}
+
+/// The URL of the token endpoint of a client that has one.
+pub fn token_url(client: &CodeClient) -> &TokenUrl
+    ensures { client.now.token_url ≡ Some result.now }
+{
+    client.token_uri()
+}
+
+/// An equal client.
+pub fn copy_of(alloc: Global, client: &TokenClient) -> Result<TokenClient, AllocError>
+    ensures { IfOk result (λ copy. copy ≡ client.now) }
+{
+    client.try_clone(alloc)
+}

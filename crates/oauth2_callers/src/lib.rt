@@ -1,0 +1,15 @@
+//! Callers of the client's calls at concrete types, with contracts of their own.
+#![tactic(auto)]
+
+mod authorization;
+mod client;
+mod exchange;
+
+pub use authorization::{challenged_login, login_url, login_url_if_set};
+pub use client::{
+    CodeClient, PlainClient, TokenClient, code_client, copy_of, every_endpoint, token_client,
+    token_url,
+};
+pub use exchange::{
+    code_request, lacks_token_url, password_token, refresh_request, with_all_scopes,
+};
