@@ -1,3 +1,4 @@
 pub mod Optionals
 pub mod TokenLaws
 pub mod IntrospectionLaws
+pub mod DeviceLaws

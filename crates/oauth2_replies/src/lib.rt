@@ -2,15 +2,23 @@
 //! authorization (RFC 8628); and the tokens that can be revoked (RFC 7009).
 #![tactic(auto)]
 
+mod device;
+mod device_json;
 mod introspection;
 mod introspection_json;
+mod revocation;
 mod scopes;
 mod token;
 mod token_json;
 
+pub use device::{
+    DeviceAuthorizationResponse, EmptyExtraDeviceAuthorizationFields,
+    ExtraDeviceAuthorizationFields, StandardDeviceAuthorizationResponse,
+};
 pub use introspection::{
     BasicTokenIntrospectionResponse, StandardTokenIntrospectionResponse, TokenIntrospectionResponse,
 };
+pub use revocation::{RevocableToken, StandardRevocableToken};
 pub use token::{
     BasicTokenResponse, EmptyExtraTokenFields, ExtraTokenFields, StandardTokenResponse,
     TokenResponse,

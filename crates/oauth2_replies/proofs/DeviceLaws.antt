@@ -1,0 +1,110 @@
+-- A device authorization response reads back.
+use Rattle.std.proofs.Common.{◌≡◌, ℕ, List, [], ◌∷◌, false, Option, Some, None, option_map, Ok, Err, codes, refl, sym, ap, subst, ◌∙◌}
+use Rattle.serde_json.specs.Data.{Data, Members, null, boolean, number, unsigned, string, array, object}
+use Rattle.serde_json.specs.Find.{get_member}
+use Rattle.url.specs.Parser.{Parsed, parse_url}
+use Rattle.url.specs.Parts.{Parts}
+use Rattle.oauth2_urls.specs.Addressed.{Addressed}
+use Rattle.oauth2_json.specs.Reading.{Reading, whole, at_member, ErrsAs, fault_of}
+use Rattle.oauth2_json.specs.declared.read.ReadError.{ReadError}
+use Rattle.oauth2_json.specs.declared.read.ReadError.TheVariants as errors
+use Rattle.oauth2_json.specs.declared.read.ParseCause.TheVariants as cause
+use Rattle.oauth2_json.specs.Writing.{Writing, write_then}
+use Rattle.oauth2_json.specs.Members.{members_of_object, needed, either_name, others, clashes, beside}
+use Rattle.oauth2_json.specs.Values.{text, url, url_text}
+use Rattle.oauth2_json.specs.Puts.{put_all}
+use Rattle.oauth2_json.proofs.Puts.{found, rest}
+use Rattle.oauth2_json.proofs.Objects.{beside_taken, optional-text}
+use Rattle.oauth2_replies.specs.Kept.{AreFieldsKept}
+use Rattle.oauth2_replies.specs.Device.{DeviceAuthorization, device_authorization, device_seen, own_names, own_rows, device_rows, device_row, device_reading, device_writing, IsAddress}
+use Rattle.oauth2_replies.specs.DeviceRows.{AreRows, of_rows}
+use Rattle.oauth2_replies.specs.declared.device_json.Rows.{Rows}
+
+pub rows_are : {E : Type 0} (er : Data → Reading E) (d : Data) (ms : Members) (rows : Rows) → members_of_object d ≡ Ok ms → AreRows ms rows → of_rows er rows ≡ device_reading er d
+rows_are er d ms rows h are = rw (h, are.device_code, are.user_code, are.verification_uri, are.verification_url, are.verification_uri_complete, are.expires_in, are.interval, are.rest) refl
+
+-- ---- the URL
+
+abbrev text_and_url : List ℕ → List ℕ → Parsed Parts → Reading Addressed
+text_and_url name s p = at_member name (elim p [ Ok u ↦ Ok (record { text = s; url = u }) | Err e ↦ Err (whole cause.BadUrl) ])
+
+address_at : (p : Parsed Parts) (name s : List ℕ) (a : Addressed) → parse_url None s ≡ p → text_and_url name s p ≡ Ok a → IsAddress a
+unfolding IsAddress
+address_at (Ok u) name s a is h =
+    let t : a.text ≡ s = cc in
+    let v : a.url ≡ u = cc in
+    rw (t, v) is
+address_at (Err e) name s a is h = cc
+
+address_needed : (name : List ℕ) (o : Option Data) (a : Addressed) → needed url name o ≡ Ok a → IsAddress a
+address_needed name None a h = cc
+address_needed name (Some null) a h = cc
+address_needed name (Some (boolean b)) a h = cc
+address_needed name (Some (number n)) a h = cc
+address_needed name (Some (string s)) a h = address_at (parse_url None s) name s a refl h
+address_needed name (Some (array ds)) a h = cc
+address_needed name (Some (object ms)) a h = cc
+
+-- a URL that was read is that of its text
+pub address_read : (name : List ℕ) (v o : Option Data) (a : Addressed) → either_name url name v o ≡ Ok a → IsAddress a
+address_read name None o a h = address_needed name o a h
+address_read name (Some d) None a h = address_needed name (Some d) a h
+address_read name (Some d) (Some e) a h = cc
+
+-- and it is read again from the text
+address_back : (name : List ℕ) (a : Addressed) → IsAddress a → either_name url name (Some (string a.text)) None ≡ Ok a
+unfolding IsAddress
+address_back name a h = subst (λ p. text_and_url name a.text p ≡ Ok a) (sym h) refl
+
+-- ---- the first rows at fault
+
+pub fault_device_code : {E : Type 0} (er : Data → Reading E) (d u v o c e i : Option Data) (rest : Members) (error : ReadError) → ErrsAs error (needed text (codes "device_code") d) → ErrsAs error (device_rows er d u v o c e i rest)
+fault_device_code er d u v o c e i rest errors.Memory h = tt
+fault_device_code er d u v o c e i rest (errors.Fault f) h = rw h refl
+
+pub fault_user_code : {E : Type 0} (er : Data → Reading E) (d u v o c e i : Option Data) (rest : Members) (code : List ℕ) (error : ReadError) → needed text (codes "device_code") d ≡ Ok code
+    → ErrsAs error (needed text (codes "user_code") u) → ErrsAs error (device_rows er d u v o c e i rest)
+fault_user_code er d u v o c e i rest code errors.Memory is h = tt
+fault_user_code er d u v o c e i rest code (errors.Fault f) is h = rw (is, h) refl
+
+pub fault_address : {E : Type 0} (er : Data → Reading E) (d u v o c e i : Option Data) (rest : Members) (code user : List ℕ) (error : ReadError) → needed text (codes "device_code") d ≡ Ok code → needed text (codes "user_code") u ≡ Ok user
+    → ErrsAs error (either_name url (codes "verification_uri") v o) → ErrsAs error (device_rows er d u v o c e i rest)
+fault_address er d u v o c e i rest code user errors.Memory is is2 h = tt
+fault_address er d u v o c e i rest code user (errors.Fault f) is is2 h = rw (is, is2, h) refl
+
+-- ---- the whole response
+
+-- what was put beside the extra members is found again
+pub device_again : {E : Type 0} (er : Data → Reading E) (r : DeviceAuthorization E) (ms : Members)
+    → clashes own_names ms ≡ false → IsAddress r.verification_uri → er (object ms) ≡ Ok r.extra_fields
+    → device_row er (put_all (own_rows r) ms) ≡ Ok r
+device_again er r ms free address again =
+    let rs = own_rows r in
+    let in_device_code : get_member (codes "device_code") (put_all rs ms) ≡ Some (string r.device_code) = found (codes "device_code") rs ms refl free in
+    let in_user_code : get_member (codes "user_code") (put_all rs ms) ≡ Some (string r.user_code) = found (codes "user_code") rs ms refl free in
+    let in_verification_uri : get_member (codes "verification_uri") (put_all rs ms) ≡ Some (string r.verification_uri.text) = found (codes "verification_uri") rs ms refl free in
+    let in_verification_url : get_member (codes "verification_url") (put_all rs ms) ≡ None = found (codes "verification_url") rs ms refl free in
+    let in_complete : get_member (codes "verification_uri_complete") (put_all rs ms) ≡ option_map string r.verification_uri_complete = found (codes "verification_uri_complete") rs ms refl free in
+    let in_expires_in : get_member (codes "expires_in") (put_all rs ms) ≡ Some (number (unsigned r.expires_in)) = found (codes "expires_in") rs ms refl free in
+    let in_interval : get_member (codes "interval") (put_all rs ms) ≡ Some (number (unsigned r.interval)) = found (codes "interval") rs ms refl free in
+    let in_rest : others own_names (put_all rs ms) ≡ ms = rest rs ms refl free in
+    rw (
+      in_device_code,
+      in_user_code,
+      in_verification_uri,
+      in_verification_url,
+      in_complete,
+      in_expires_in,
+      in_interval,
+      in_rest,
+      address_back (codes "verification_uri") r.verification_uri address,
+      optional-text (codes "verification_uri_complete") r.verification_uri_complete,
+      again,
+    ) refl
+
+pub device_back : {E F : Type 0} (er : Data → Reading F) (em : E → F) (ew : E → Writing) (r : DeviceAuthorization E) → IsAddress r.verification_uri → (d : Data)
+    → device_writing ew r ≡ Ok d → AreFieldsKept er em ew r.extra_fields → device_reading er d ≡ Ok (device_seen em r)
+device_back er em ew r address d h x =
+    let written : write_then (beside own_names (object x.members)) (λ ms. Ok (object (put_all (own_rows r) ms))) ≡ Ok d = rw x.written at h in
+    let taken = beside_taken own_names x.members (λ ms. object (put_all (own_rows r) ms)) d written in
+    rw (← taken.1) (device_again er (device_seen em r) x.members taken.0 address x.back)

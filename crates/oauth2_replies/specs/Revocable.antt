@@ -1,0 +1,51 @@
+-- RFC 7009, 2.1: tokens that can be revoked.
+use Rattle.std.specs.Prelude.{ℕ, List, [], ◌∷◌, Bool, true, false, if◌then◌else◌, Option, Some, None, Ok, Err, codes}
+use Rattle.serde_json.specs.Data.{Data, Members, no_members, member, put, string, object}
+use Rattle.serde_json.specs.Find.{get_member}
+use Rattle.oauth2_json.specs.Reading.{Reading, whole, read_then}
+use Rattle.oauth2_json.specs.Members.{members_of_object, needed, others}
+use Rattle.oauth2_json.specs.Values.{text}
+use Rattle.oauth2_json.specs.Writing.{Writing}
+use Rattle.oauth2_json.specs.declared.read.ParseCause.TheVariants as cause
+use Rattle.oauth2_replies.specs.declared.revocation.StandardRevocableToken.{StandardRevocableToken}
+use Rattle.oauth2_replies.specs.declared.revocation.StandardRevocableToken.TheVariants.{AccessToken, RefreshToken}
+
+abbrev pub secret_of : StandardRevocableToken → List ℕ
+secret_of (AccessToken text) = text
+secret_of (RefreshToken text) = text
+
+-- the hint that the server is given
+abbrev pub hint_of : StandardRevocableToken → List ℕ
+hint_of (AccessToken text) = codes "access_token"
+hint_of (RefreshToken text) = codes "refresh_token"
+
+abbrev pub variant_of : StandardRevocableToken → List ℕ
+variant_of (AccessToken text) = codes "AccessToken"
+variant_of (RefreshToken text) = codes "RefreshToken"
+
+abbrev pub has_any : Members → Bool
+has_any no_members = false
+has_any (member k d ms) = true
+
+abbrev pub refused : Reading StandardRevocableToken
+refused = Err (whole cause.Refused)
+
+-- what stands under the two names: one of the two
+abbrev pub one_of : Option Data → Option Data → Reading StandardRevocableToken
+one_of (Some d) None = read_then (needed text (codes "AccessToken") (Some d)) (λ text. Ok (AccessToken text))
+one_of None (Some d) = read_then (needed text (codes "RefreshToken") (Some d)) (λ text. Ok (RefreshToken text))
+one_of (Some d) (Some e) = refused
+one_of None None = refused
+
+-- and nothing else
+abbrev pub sole_token : Option Data → Option Data → Members → Reading StandardRevocableToken
+sole_token access_token refresh_token rest = if has_any rest then refused else one_of access_token refresh_token
+
+abbrev pub revocable_row : Members → Reading StandardRevocableToken
+revocable_row ms = sole_token (get_member (codes "AccessToken") ms) (get_member (codes "RefreshToken") ms) (others (codes "AccessToken" ∷ codes "RefreshToken" ∷ []) ms)
+
+abbrev pub revocable_reading : Data → Reading StandardRevocableToken
+revocable_reading d = read_then (members_of_object d) revocable_row
+
+abbrev pub revocable_writing : StandardRevocableToken → Writing
+revocable_writing token = Ok (object (put (variant_of token) (string (secret_of token)) no_members))

@@ -1,0 +1,167 @@
+//! The response of a device authorization endpoint (RFC 8628, section 3.2).
+
+ghost use Rattle.std.specs.Prelude.{◌≡◌, ℕ, ◌*◌, Ok, option_copied};
+ghost use Rattle.std.specs.Duration.{as_nanos};
+ghost use Rattle.oauth2_replies.specs.Device.{DeviceAuthorization, device_seen};
+
+use oauth2_json::{FromJson, ReadError, ToJson, WriteError, members};
+use oauth2_types::{DeviceCode, TryClone, UserCode, VerificationUriComplete};
+use oauth2_urls::EndUserVerificationUrl;
+use serde_json::{Map, Value};
+use std::alloc::{AllocError, Global};
+use std::fmt;
+use std::marker::Model;
+use std::time::Duration;
+
+/// The device authorization response without extra fields.
+pub type StandardDeviceAuthorizationResponse = DeviceAuthorizationResponse<
+    EmptyExtraDeviceAuthorizationFields,
+>;
+
+/// Members of a device authorization response that the standard does not name.
+pub trait ExtraDeviceAuthorizationFields: FromJson + ToJson + fmt::Debug {
+    ghost use Rattle.std.specs.Prelude.{◌≡◌, Ok};
+    ghost use Rattle.serde_json.specs.Data.{Data, Members, object};
+
+    /// What is written is an object.
+    ghost writes_object: { (x : Self) (d : Data) → Self.ToJson.writing x ≡ Ok d → (ms : Members) × (d ≡ object ms) };
+}
+
+/// The device authorization response of the standard, with extra fields `EF`. It is made by reading
+/// one.
+#[derive(Debug, Drop)]
+pub struct DeviceAuthorizationResponse<EF> {
+    pub(crate) device_code: DeviceCode,
+    pub(crate) user_code: UserCode,
+    pub(crate) verification_uri: EndUserVerificationUrl,
+    pub(crate) verification_uri_complete: Option<VerificationUriComplete>,
+    pub(crate) expires_in: u64,
+    pub(crate) interval: u64,
+    pub(crate) extra_fields: EF,
+}
+
+impl<EF> Model for DeviceAuthorizationResponse<EF> {
+    ghost use Rattle.oauth2_replies.specs.Device.{DeviceAuthorization, device_authorization, IsAddress};
+
+    ghost Value = { DeviceAuthorization EF };
+
+    ghost view = { λ r. device_authorization r.device_code r.user_code r.verification_uri r.verification_uri_complete r.expires_in r.interval r.extra_fields };
+
+    ghost invariant = { λ r. IsAddress r.verification_uri };
+}
+
+impl<EF> DeviceAuthorizationResponse<EF> {
+    /// The code that the device asks for its token with.
+    pub fn device_code(&self) -> &DeviceCode
+        ensures { result.now ≡ self.now.device_code }
+    {
+        &self.device_code
+    }
+
+    /// The code that the user types in.
+    pub fn user_code(&self) -> &UserCode
+        ensures { result.now ≡ self.now.user_code }
+    {
+        &self.user_code
+    }
+
+    /// Where the user types in the code.
+    pub fn verification_uri(&self) -> &EndUserVerificationUrl
+        ensures { result.now ≡ self.now.verification_uri }
+    {
+        &self.verification_uri
+    }
+
+    /// The same with the code in it.
+    pub fn verification_uri_complete(&self) -> Option<&VerificationUriComplete>
+        ensures { option_copied result ≡ self.now.verification_uri_complete }
+    {
+        self.verification_uri_complete.as_ref()
+    }
+
+    /// How long the codes are good.
+    pub fn expires_in(&self) -> Duration
+        ensures { as_nanos result ≡ self.now.expires_in * 1_000_000_000 }
+    {
+        Duration::from_secs(self.expires_in)
+    }
+
+    /// How long the device waits between two requests, at least.
+    pub fn interval(&self) -> Duration
+        ensures { as_nanos result ≡ self.now.interval * 1_000_000_000 }
+    {
+        Duration::from_secs(self.interval)
+    }
+
+    pub fn extra_fields(&self) -> &EF
+        ensures { result.now ≡ self.now.extra_fields }
+    {
+        &self.extra_fields
+    }
+}
+
+impl<EF: TryClone + Drop> TryClone for DeviceAuthorizationResponse<EF> {
+    ghost Seen = { DeviceAuthorization EF.Seen };
+
+    ghost seen = { device_seen EF.seen };
+
+    fn try_clone(&self, alloc: Global) -> Result<DeviceAuthorizationResponse<EF>, AllocError> {
+        Ok(DeviceAuthorizationResponse {
+            device_code: self.device_code.try_clone(alloc)?,
+            user_code: self.user_code.try_clone(alloc)?,
+            verification_uri: self.verification_uri.try_clone(alloc)?,
+            verification_uri_complete: self.verification_uri_complete.try_clone(alloc)?,
+            expires_in: self.expires_in,
+            interval: self.interval,
+            extra_fields: self.extra_fields.try_clone(alloc)?,
+        })
+    }
+}
+
+/// No extra fields: read from any object, written as an empty one.
+#[derive(Debug, Drop)]
+pub struct EmptyExtraDeviceAuthorizationFields {}
+
+impl FromJson for EmptyExtraDeviceAuthorizationFields {
+    ghost use Rattle.oauth2_replies.specs.Kept.{any_object};
+
+    ghost Meaning = { Unit {0} };
+
+    ghost meaning = { λ _. tt };
+
+    ghost reading = { any_object };
+
+    fn from_json(
+        alloc: Global,
+        value: Value,
+    ) -> Result<EmptyExtraDeviceAuthorizationFields, ReadError> {
+        drop(members::of_object(alloc, value)?);
+        Ok(EmptyExtraDeviceAuthorizationFields {})
+    }
+}
+
+impl ToJson for EmptyExtraDeviceAuthorizationFields {
+    ghost use Rattle.serde_json.specs.Data.{object, no_members};
+
+    ghost writing = { λ _. Ok (object no_members) };
+
+    fn to_json(&self, alloc: Global) -> Result<Value, WriteError> {
+        Ok(Value::Object(Map::new(alloc)))
+    }
+}
+
+impl ExtraDeviceAuthorizationFields for EmptyExtraDeviceAuthorizationFields {
+    ghost use Rattle.serde_json.specs.Data.{no_members};
+
+    ghost writes_object = { λ x d h. (no_members, Prim.cc) };
+}
+
+impl TryClone for EmptyExtraDeviceAuthorizationFields {
+    ghost Seen = { Unit {0} };
+
+    ghost seen = { λ _. tt };
+
+    fn try_clone(&self, _alloc: Global) -> Result<EmptyExtraDeviceAuthorizationFields, AllocError> {
+        Ok(EmptyExtraDeviceAuthorizationFields {})
+    }
+}

@@ -1,0 +1,173 @@
+//! Device authorization responses as JSON objects.
+
+ghost use Rattle.std.specs.Prelude.{◌≡◌, Ok, IfOk, option_map};
+ghost use Rattle.serde_json.specs.Data.{object, string};
+ghost use Rattle.serde_json.specs.View.{view, members_view};
+ghost use Rattle.oauth2_json.specs.Reading.{ReadsAs};
+ghost use Rattle.oauth2_json.specs.Writing.{WritesAs};
+ghost use Rattle.oauth2_json.specs.Puts.{put_all};
+ghost use Rattle.oauth2_replies.specs.Kept.{AreFieldsKept};
+ghost use Rattle.oauth2_replies.specs.Device.{DeviceAuthorization, device_seen, device_reading, device_writing, own_rows, IsAddress};
+ghost use Rattle.oauth2_replies.specs.DeviceRows.{AreRows, of_rows};
+
+use crate::device::{DeviceAuthorizationResponse, ExtraDeviceAuthorizationFields};
+use oauth2_json::{FromJson, ReadError, ToJson, WriteError, members};
+use oauth2_types::VerificationUriComplete;
+use oauth2_urls::EndUserVerificationUrl;
+use serde_json::{Map, Value};
+use std::alloc::{AllocError, Global};
+use std::ops::Deref;
+
+impl<EF: ExtraDeviceAuthorizationFields + Drop> FromJson for DeviceAuthorizationResponse<EF> {
+    ghost Meaning = { DeviceAuthorization EF.Meaning };
+
+    ghost meaning = { device_seen EF.meaning };
+
+    ghost reading = { device_reading EF.reading };
+
+    fn from_json(
+        alloc: Global,
+        value: Value,
+    ) -> Result<DeviceAuthorizationResponse<EF>, ReadError> {
+        let members = members::of_object(alloc, value)?;
+        let rows = taken(members);
+        from_rows(alloc, rows)
+    }
+}
+
+/// What stands under each own name, and the other members.
+#[derive(Drop)]
+struct Rows {
+    device_code: Option<Value>,
+    user_code: Option<Value>,
+    verification_uri: Option<Value>,
+    verification_url: Option<Value>,
+    verification_uri_complete: Option<Value>,
+    expires_in: Option<Value>,
+    interval: Option<Value>,
+    rest: Map<String, Value>,
+}
+
+fn taken(mut members: Map<String, Value>) -> Rows
+    ensures { AreRows (members_view members.entries) result }
+{
+    let device_code = members::take(&mut members, "device_code");
+    let user_code = members::take(&mut members, "user_code");
+    let verification_uri = members::take(&mut members, "verification_uri");
+    let verification_url = members::take(&mut members, "verification_url");
+    let verification_uri_complete = members::take(&mut members, "verification_uri_complete");
+    let expires_in = members::take(&mut members, "expires_in");
+    let interval = members::take(&mut members, "interval");
+    Rows {
+        device_code,
+        user_code,
+        verification_uri,
+        verification_url,
+        verification_uri_complete,
+        expires_in,
+        interval,
+        rest: members,
+    }
+}
+
+#[tactic(auto, using(crate::proofs::DeviceLaws::address_read, crate::proofs::DeviceLaws::fault_device_code))]
+fn from_rows<EF: ExtraDeviceAuthorizationFields + Drop>(
+    alloc: Global,
+    rows: Rows,
+) -> Result<DeviceAuthorizationResponse<EF>, ReadError>
+    ensures { ReadsAs (device_seen EF.meaning) result (of_rows EF.reading rows) }
+{
+    Ok(DeviceAuthorizationResponse {
+        device_code: members::needed(alloc, "device_code", rows.device_code)?,
+        user_code: members::needed(alloc, "user_code", rows.user_code)?,
+        verification_uri: members::either_name(
+            alloc,
+            "verification_uri",
+            rows.verification_uri,
+            rows.verification_url,
+        )?,
+        verification_uri_complete: members::optional(
+            alloc,
+            "verification_uri_complete",
+            rows.verification_uri_complete,
+        )?,
+        expires_in: members::needed_number(alloc, "expires_in", rows.expires_in)?,
+        interval: members::number_or(alloc, "interval", 5, rows.interval)?,
+        extra_fields: EF::from_json(alloc, Value::Object(rows.rest))?,
+    })
+}
+
+fn uri_value(alloc: Global, uri: &EndUserVerificationUrl) -> Result<Value, AllocError>
+    ensures { IfOk result (λ v. view v ≡ string uri.now.text) }
+{
+    Value::try_from_str(alloc, uri.deref().as_str())
+}
+
+fn uri_complete_value(
+    alloc: Global,
+    uri: &Option<VerificationUriComplete>,
+) -> Result<Option<Value>, AllocError>
+    ensures { IfOk result (λ v. option_map view v ≡ option_map string uri.now) }
+{
+    match uri {
+        Some(uri) => Ok(Some(Value::try_from_str(alloc, uri.secret().as_str())?)),
+        None => Ok(None),
+    }
+}
+
+impl<EF: ExtraDeviceAuthorizationFields> DeviceAuthorizationResponse<EF> {
+    fn written(&self, alloc: Global) -> Result<Value, WriteError>
+        ensures written { WritesAs result (device_writing EF.writing self.now) }
+        ensures address { IsAddress self.now.verification_uri }
+    {
+        let extra = self.extra_fields.to_json(alloc)?;
+        let members = members::beside(
+            &[
+                "device_code",
+                "user_code",
+                "verification_uri",
+                "verification_url",
+                "verification_uri_complete",
+                "expires_in",
+                "interval",
+            ],
+            extra,
+        )?;
+        Ok(Value::Object(self.with_members(alloc, members)?))
+    }
+
+    fn with_members(
+        &self,
+        alloc: Global,
+        mut members: Map<String, Value>,
+    ) -> Result<Map<String, Value>, AllocError>
+        ensures { IfOk result (λ all. members_view all.entries ≡ put_all (own_rows self.now) (members_view members.entries)) }
+    {
+        let interval = members::number_value(Some(self.interval));
+        members::put_some(&mut members, alloc, "interval", interval)?;
+        let expires_in = members::number_value(Some(self.expires_in));
+        members::put_some(&mut members, alloc, "expires_in", expires_in)?;
+        let complete = uri_complete_value(alloc, &self.verification_uri_complete)?;
+        members::put_some(&mut members, alloc, "verification_uri_complete", complete)?;
+        let uri = uri_value(alloc, &self.verification_uri)?;
+        members::put_some(&mut members, alloc, "verification_uri", Some(uri))?;
+        let user_code = Value::try_from_str(alloc, self.user_code.secret().as_str())?;
+        members::put_some(&mut members, alloc, "user_code", Some(user_code))?;
+        let device_code = Value::try_from_str(alloc, self.device_code.secret().as_str())?;
+        members::put_some(&mut members, alloc, "device_code", Some(device_code))?;
+        Ok(members)
+    }
+}
+
+impl<EF: ExtraDeviceAuthorizationFields> ToJson for DeviceAuthorizationResponse<EF> {
+    ghost writing = { device_writing EF.writing };
+
+    fn to_json(&self, alloc: Global) -> Result<Value, WriteError>
+        ensures written { WritesAs result (device_writing EF.writing self.now) }
+        // Where its extra fields are kept, it reads back as the same response.
+        ensures reads_back { IfOk result (λ v. AreFieldsKept EF.reading EF.meaning EF.writing self.now.extra_fields
+            → device_reading EF.reading (view v) ≡ Ok (device_seen EF.meaning self.now)) }
+    {
+        self.written(alloc)
+    }
+}
