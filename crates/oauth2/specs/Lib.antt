@@ -28,6 +28,9 @@ pub use Rattle.oauth2_replies.specs.Token
 pub use Rattle.oauth2_replies.specs.TokenRows
 pub use Rattle.oauth2_replies.specs.Introspection
 pub use Rattle.oauth2_replies.specs.IntrospectionRows
+pub use Rattle.oauth2_replies.specs.Device
+pub use Rattle.oauth2_replies.specs.DeviceRows
+pub use Rattle.oauth2_replies.specs.Revocable
 pub use Rattle.oauth2_wire.specs.Pairs
 pub use Rattle.oauth2_wire.specs.Basic
 pub use Rattle.oauth2_wire.specs.Texts
@@ -41,3 +44,4 @@ pub use Rattle.oauth2_wire.specs.ContentType
 pub use Rattle.oauth2_wire.specs.Reply
 pub use Rattle.oauth2_wire.specs.OneShot
 pub use Rattle.oauth2_wire.specs.Display
+pub use Rattle.oauth2_wire.specs.ConfigurationError

@@ -1,4 +1,8 @@
-//! The types of a client and a server that use no extension.
+//! The types for a server that uses no extension.
 
-pub use oauth2_json::{BasicErrorResponseType, BasicTokenType, basic_error_laws};
+pub use crate::client::BasicClient;
+pub use oauth2_json::{
+    BasicErrorResponse, BasicErrorResponseType, BasicRevocationErrorResponse, BasicTokenType,
+};
 pub use oauth2_replies::{BasicTokenIntrospectionResponse, BasicTokenResponse};
+pub use oauth2_wire::BasicRequestTokenError;

@@ -4,6 +4,8 @@ ghost use Rattle.std.specs.Prelude.{◌≡◌, Some, None, IfOk, option_copied};
 ghost use Rattle.oauth2_wire.specs.declared.request.AuthType.TheVariants.{BasicAuth};
 
 use crate::endpoint::{EndpointMaybeSet, EndpointNotSet, EndpointSet, EndpointState};
+use oauth2_json::{BasicErrorResponse, BasicRevocationErrorResponse};
+use oauth2_replies::{BasicTokenIntrospectionResponse, BasicTokenResponse, StandardRevocableToken};
 use oauth2_types::{ClientId, ClientSecret, TryClone};
 use oauth2_urls::{
     AuthUrl, DeviceAuthorizationUrl, IntrospectionUrl, RedirectUrl, RevocationUrl, TokenUrl,
@@ -910,3 +912,23 @@ where
         f.debug_tuple("Client").field(&self.parts).finish()
     }
 }
+
+/// A client of a server that uses no extension.
+pub type BasicClient<
+    HasAuthUrl = EndpointNotSet,
+    HasDeviceAuthUrl = EndpointNotSet,
+    HasIntrospectionUrl = EndpointNotSet,
+    HasRevocationUrl = EndpointNotSet,
+    HasTokenUrl = EndpointNotSet,
+> = Client<
+    BasicErrorResponse,
+    BasicTokenResponse,
+    BasicTokenIntrospectionResponse,
+    StandardRevocableToken,
+    BasicRevocationErrorResponse,
+    HasAuthUrl,
+    HasDeviceAuthUrl,
+    HasIntrospectionUrl,
+    HasRevocationUrl,
+    HasTokenUrl,
+>;

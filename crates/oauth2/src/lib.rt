@@ -22,14 +22,17 @@ pub use client_credentials::ClientCredentialsTokenRequest;
 pub use code::CodeTokenRequest;
 pub use endpoint::{EndpointMaybeSet, EndpointNotSet, EndpointSet, EndpointState};
 pub use oauth2_json::{
-    DeviceCodeErrorResponseType, ErrorResponse, ErrorResponseType, FromJson, ParseCause,
-    ParseFault, ReadError, RevocationErrorResponseType, StandardErrorResponse, ToJson, TokenType,
-    WriteError, compact, device_code_error_laws, helpers, members, read_body,
-    revocation_error_laws, token_type_laws,
+    DeviceCodeErrorResponse, DeviceCodeErrorResponseType, ErrorResponse, ErrorResponseType,
+    FromJson, ParseCause, ParseFault, ReadError, RevocationErrorResponseType,
+    StandardErrorResponse, ToJson, TokenType, WriteError, basic_error_laws, compact,
+    device_code_error_laws, helpers, members, read_body, revocation_error_laws, token_type_laws,
 };
 pub use oauth2_replies::{
-    EmptyExtraTokenFields, ExtraTokenFields, StandardTokenIntrospectionResponse,
-    StandardTokenResponse, TokenIntrospectionResponse, TokenResponse,
+    DeviceAuthorizationResponse, EmptyExtraDeviceAuthorizationFields, EmptyExtraTokenFields,
+    ExtraDeviceAuthorizationFields, ExtraTokenFields, RevocableToken,
+    StandardDeviceAuthorizationResponse, StandardRevocableToken,
+    StandardTokenIntrospectionResponse, StandardTokenResponse, TokenIntrospectionResponse,
+    TokenResponse,
 };
 pub use oauth2_types::{
     AccessToken, AuthorizationCode, ClientId, ClientSecret, CsrfToken, DeviceCode,
