@@ -1,0 +1,9 @@
+pub mod Parts
+pub mod Inputs
+pub mod Fields
+pub mod Refusals
+pub mod ViewLines
+pub mod NoFloats
+pub mod Results
+pub mod Exchanges
+pub mod Codes

@@ -1,0 +1,101 @@
+-- A request to an endpoint, as a run shows it.
+use Rattle.std.specs.Prelude.{◌≡◌, ℕ, List, ◌++◌, Option, Some, None, Result, Ok, Err, string_bytes, codes}
+use Rattle.http_uri.specs.declared.uri.Uri.{Uri}
+use Rattle.http_uri.specs.Uri.{Spells, SpellsNone, uri_text}
+use Rattle.serde_json.specs.Data.{Data, string, object, no_members}
+use Rattle.serde_json.specs.Written.{compact_text}
+use Rattle.url.specs.Parts.{serialize}
+use Rattle.oauth2_json.specs.Codes.{TokenCode, token_code_text, token_code_reading}
+use Rattle.oauth2_json.specs.ErrorCodes.{ErrorCode, error_code_text, error_code_reading}
+use Rattle.oauth2_json.specs.ErrorResponse.{ErrorParts, error_reading, after_colon, in_brackets}
+use Rattle.oauth2_json.specs.Puts.{put_all}
+use Rattle.oauth2_json.specs.Reading.{Reading, Fault}
+use Rattle.oauth2_json.specs.declared.read.ParseCause.{ParseCause}
+use Rattle.oauth2_json.specs.declared.read.ParseCause.TheVariants as cause
+use Rattle.oauth2_replies.specs.Kept.{any_object}
+use Rattle.oauth2_replies.specs.Token.{Token, token_reading, own_rows}
+use Rattle.oauth2_urls.specs.Addressed.{Addressed}
+use Rattle.oauth2_wire.specs.Expected.{Configuration}
+use Rattle.oauth2_wire.specs.OneShot.{not_http_text}
+use Rattle.oauth2_wire.specs.Reply.{Answer, accepted, refused, unread, other, ReplyView, answer_of}
+use Rattle.oauth2_run.specs.Lines.{line, quoted, expected_lines}
+use Rattle.oauth2_run.specs.Out.{Output, answered, failed, after}
+use Rattle.oauth2_run.specs.Replies.{Reply, next_reply}
+use Rattle.oauth2_run.specs.declared.status.RunStatus.TheVariants as status
+
+-- ---- the target of a URL's text, in the forms of RFC 9112, 3.2, where it has one
+
+abbrev pub IsTarget : List ℕ → Option (List ℕ) → Type 0
+IsTarget text None = SpellsNone text
+IsTarget text (Some shown) = (target : Uri) × Spells text target × (shown ≡ uri_text target)
+
+-- ---- what a reply says
+
+abbrev pub cause_name : ParseCause → List ℕ
+cause_name cause.NotJson = codes "NotJson"
+cause_name cause.NotObject = codes "NotObject"
+cause_name cause.Missing = codes "Missing"
+cause_name cause.WrongType = codes "WrongType"
+cause_name cause.NotWhole = codes "NotWhole"
+cause_name cause.OutOfRange = codes "OutOfRange"
+cause_name cause.BadUrl = codes "BadUrl"
+cause_name cause.BothNames = codes "BothNames"
+cause_name cause.Refused = codes "Refused"
+
+-- the member at fault and its cause, behind the display
+unfoldable pub unread_line : List ℕ → List ℕ → List ℕ
+unread_line member cause =
+    line (codes "answer fault" ++ codes " " ++ quoted (codes "Failed to parse server response") ++ codes " " ++ quoted member ++ codes " " ++ cause)
+
+abbrev pub not_read : Fault → Output
+not_read fault = record { lines = unread_line fault.member (cause_name fault.cause); status = status.Fault }
+
+abbrev pub refused_text : List ℕ → List ℕ
+refused_text text = codes "Server returned error response: " ++ text
+
+abbrev pub other_text : List ℕ → List ℕ
+other_text text = codes "Other error: " ++ text
+
+module _ {A E : Type 0} (json : A → List ℕ) (text : E → List ℕ) where
+  abbrev pub answer_output : Answer A E → Output
+  answer_output (accepted a) = answered (json a)
+  answer_output (refused e) = failed (refused_text (text e))
+  answer_output (unread fault body) = not_read fault
+  answer_output (other said) = failed (other_text said)
+
+  -- a failure of the client, or what its reply says
+  abbrev pub reply_output : (ReplyView → Answer A E) → Option ReplyView → Output
+  reply_output says None = failed (codes "Request failed")
+  reply_output says (Some reply) = answer_output (says reply)
+
+  -- one request and its answer, or none where the URL has no target
+  abbrev pub exchange_output : (ReplyView → Answer A E) → Configuration → Option (List ℕ) → List Reply → Output
+  exchange_output says c None replies = failed (other_text not_http_text)
+  exchange_output says c (Some target) replies = after (expected_lines c target) (reply_output says (next_reply replies))
+
+  abbrev pub IsExchange : (ReplyView → Answer A E) → Configuration → Addressed → List Reply → Output → Type 0
+  IsExchange says c endpoint replies o =
+      (target : Option (List ℕ)) × IsTarget (serialize endpoint.url) target × (o ≡ exchange_output says c target replies)
+
+-- ---- tokens
+
+-- the text of an error response
+unfoldable pub error_display : ErrorParts ErrorCode → List ℕ
+error_display r = (error_code_text r.error ++ after_colon r.description) ++ in_brackets r.uri
+
+abbrev pub BasicToken : Type 0
+BasicToken = Token (Unit {0}) TokenCode
+
+unfoldable pub token_data : BasicToken → Data
+token_data r = object (put_all (own_rows (string (token_code_text r.token_type)) r) no_members)
+
+-- a token response as compact JSON
+unfoldable pub token_json : BasicToken → List ℕ
+token_json r = compact_text (token_data r)
+
+abbrev pub token_answer : ReplyView → Answer BasicToken (ErrorParts ErrorCode)
+token_answer = answer_of (token_reading any_object token_code_reading) (error_reading error_code_reading)
+
+-- a request for a token
+abbrev pub IsTokenExchange : Configuration → Addressed → List Reply → Output → Type 0
+IsTokenExchange = IsExchange token_json error_display token_answer

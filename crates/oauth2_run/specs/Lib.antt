@@ -1,0 +1,13 @@
+pub mod Part
+pub mod Gives
+pub mod Lines
+pub mod Out
+pub mod Client
+pub mod Replies
+pub mod Replay
+pub mod Exchange
+pub mod Results
+pub mod Code
+pub mod Script
+pub mod Views
+pub mod Run

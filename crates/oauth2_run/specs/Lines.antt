@@ -1,0 +1,80 @@
+-- The lines that a run writes.
+use Rattle.std.specs.Prelude.{ℕ, List, [], ◌++◌, map, Option, Some, None, option_map, codes}
+use Rattle.std.specs.List.{flat_map}
+use Rattle.std.specs.Str.Lossy.{utf8_lossy}
+use Rattle.form_urlencoded.specs.Form.{extend_pairs}
+use Rattle.http_header.specs.FieldValue.{FieldValue}
+use Rattle.http_uri.specs.Uri.{uri_text}
+use Rattle.serde_json.specs.Data.{string}
+use Rattle.serde_json.specs.Written.{compact_text}
+use Rattle.oauth2_wire.specs.Pairs.{Pair, form}
+use Rattle.oauth2_wire.specs.Basic.{basic, basic_value}
+use Rattle.oauth2_wire.specs.Expected.{Configuration, expected_basic, expected_pairs}
+use Rattle.oauth2_wire.specs.Request.{RequestView, authorization_of}
+use Rattle.oauth2_wire.specs.ServerView.{shown_pair}
+
+-- a text as JSON writes it
+unfoldable pub quoted : List ℕ → List ℕ
+quoted text = compact_text (string text)
+
+abbrev pub line : List ℕ → List ℕ
+line text = text ++ codes "\n"
+
+unfoldable pub request_line : List ℕ → List ℕ → List ℕ
+request_line method target = line (codes "request " ++ method ++ codes " " ++ target)
+
+unfoldable pub authorization_line : Option (List ℕ) → List ℕ
+authorization_line None = line (codes "authorization none")
+authorization_line (Some value) = line (codes "authorization " ++ utf8_lossy value)
+
+unfoldable pub body_line : List ℕ → List ℕ
+body_line body = line (codes "body " ++ quoted (utf8_lossy body))
+
+unfoldable pub basic_line : Option Pair → List ℕ
+basic_line None = line (codes "basic none")
+basic_line (Some pair) = line (codes "basic " ++ quoted pair.0 ++ codes " " ++ quoted pair.1)
+
+unfoldable pub pair_line : Pair → List ℕ
+pair_line pair = line (codes "pair " ++ quoted pair.0 ++ codes " " ++ quoted pair.1)
+
+abbrev pub pair_lines : List Pair → List ℕ
+pair_lines pairs = flat_map pair_line pairs
+
+-- ---- of a request that the client is handed
+
+-- what a server that decodes reads: the credentials of the Authorization value and the pairs; no
+-- pairs where that value says no credentials
+abbrev pub read_lines : Option (Option Pair) → List Pair → List ℕ
+read_lines None pairs = basic_line None ++ pair_lines pairs
+read_lines (Some None) pairs = basic_line None
+read_lines (Some (Some pair)) pairs = basic_line (Some pair) ++ pair_lines pairs
+
+abbrev pub view_lines : RequestView → List ℕ
+view_lines v =
+    read_lines (option_map (λ value. option_map shown_pair (basic value.bytes)) (authorization_of v)) (map shown_pair (form v.body))
+
+unfoldable pub request_lines : RequestView → List ℕ
+request_lines v =
+    request_line v.method (uri_text v.target) ++ authorization_line (option_map (λ value. value.bytes) (authorization_of v))
+    ++ body_line v.body ++ view_lines v
+
+-- ---- of the request that a configuration asks for, at this target
+
+abbrev pub authorization_text : Option Pair → Option (List ℕ)
+authorization_text credentials = option_map (λ c. basic_value c.0 c.1) credentials
+
+unfoldable pub expected_lines : Configuration → List ℕ → List ℕ
+expected_lines c target =
+    request_line (codes "POST") target ++ authorization_line (authorization_text (expected_basic c))
+    ++ body_line (extend_pairs [] (expected_pairs c))
+    ++ basic_line (option_map shown_pair (expected_basic c)) ++ pair_lines (map shown_pair (expected_pairs c))
+
+-- ---- of an end
+
+-- an answer, as JSON
+unfoldable pub answer_line : List ℕ → List ℕ
+answer_line json = line (codes "answer ok " ++ json)
+
+-- the display of a fault
+unfoldable pub fault_line : List ℕ → List ℕ
+fault_line text = line (codes "answer fault " ++ quoted text)

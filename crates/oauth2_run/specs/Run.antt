@@ -1,0 +1,24 @@
+-- What a run over an input writes, and how it ends.
+use Rattle.std.specs.Prelude.{◌≡◌, ℕ, List, Option, Some, None, codes}
+use Rattle.oauth2.specs.Settings.{Settings}
+use Rattle.oauth2_run.specs.Code.{IsCodeOutput}
+use Rattle.oauth2_run.specs.Lines.{line}
+use Rattle.oauth2_run.specs.Out.{Output}
+use Rattle.oauth2_run.specs.Script.{Script, Command, code, script_in}
+use Rattle.oauth2_run.specs.Client.{settings_of}
+use Rattle.oauth2_run.specs.Replies.{Reply}
+use Rattle.oauth2_run.specs.declared.status.RunStatus.TheVariants as status
+
+abbrev pub IsCommandOutput : Settings → List Reply → Command → Output → Type 0
+IsCommandOutput client replies (code p) o = IsCodeOutput client p replies o
+
+abbrev pub bad_script : Output
+bad_script = record { lines = line (codes "bad script"); status = status.BadScript }
+
+abbrev pub IsScriptOutput : Option Script → Output → Type 0
+IsScriptOutput None o = o ≡ bad_script
+IsScriptOutput (Some s) o = IsCommandOutput (settings_of s.client) s.replies s.command o
+
+-- a function of the input but for the target, which is the one that its URL's text has
+unfoldable pub IsOutputOf : List ℕ → Output → Type 0
+IsOutputOf input o = IsScriptOutput (script_in input) o

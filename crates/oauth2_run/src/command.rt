@@ -1,0 +1,30 @@
+//! The commands of a script.
+
+ghost use Rattle.std.specs.Prelude.{◌≡◌, false, string_bytes, IfOk};
+ghost use Rattle.oauth2_run.specs.Out.{Adds};
+ghost use Rattle.oauth2_run.specs.Replay.{replies_of};
+ghost use Rattle.oauth2_run.specs.Run.{IsCommandOutput};
+ghost use Rattle.oauth2_run.specs.Views.{command_view};
+
+use crate::client::ScriptClient;
+use crate::code::run_code;
+use crate::replay::ScriptedClient;
+use crate::script::Command;
+use crate::status::RunStatus;
+use std::alloc::{AllocError, Global};
+
+/// Runs a command, and gathers its lines.
+pub fn run_command(
+    alloc: Global,
+    client: &ScriptClient,
+    command: Command,
+    http_client: &mut ScriptedClient,
+) -> Result<RunStatus, AllocError>
+    ensures { IfOk result (λ status. http_client.new.is_starved ≡ false
+        → Adds (string_bytes http_client.old.lines) (string_bytes http_client.new.lines) status
+        (IsCommandOutput client.now (replies_of http_client.old) (command_view command))) }
+{
+    match command {
+        Command::Code(params) => run_code(alloc, client, params, http_client),
+    }
+}
