@@ -15,6 +15,8 @@ mod run;
 mod script;
 mod script_error;
 mod status;
+#[cfg(test)]
+mod tests;
 
 use run::run_script;
 use status::{RunFault, RunStatus};
