@@ -1,0 +1,44 @@
+//! The client whose calls are timed.
+
+use crate::fault::Fault;
+use oauth2::basic::{BasicErrorResponseType, BasicTokenIntrospectionResponse, BasicTokenResponse};
+use oauth2::{
+    AuthUrl, Client, ClientId, ClientSecret, EndpointNotSet, EndpointSet, RedirectUrl,
+    StandardErrorResponse, TokenUrl,
+};
+use std::alloc::Global;
+
+pub type BasicErrorResponse = StandardErrorResponse<BasicErrorResponseType>;
+
+/// A client with an authorization endpoint and a token endpoint.
+pub type BenchClient = Client<
+    BasicErrorResponse,
+    BasicTokenResponse,
+    BasicTokenIntrospectionResponse,
+    (),
+    (),
+    EndpointSet,
+    EndpointNotSet,
+    EndpointNotSet,
+    EndpointNotSet,
+    EndpointSet,
+>;
+
+/// The client `aaa` with the secret `bbb`.
+pub fn client(alloc: Global) -> Result<BenchClient, Fault> {
+    let auth = AuthUrl::new(alloc, String::from_str(alloc, "https://example.com/auth")?)?;
+    let token = TokenUrl::new(alloc, String::from_str(alloc, "https://example.com/token")?)?;
+    Ok(
+        Client::new(ClientId::new(String::from_str(alloc, "aaa")?))
+            .set_client_secret(ClientSecret::new(String::from_str(alloc, "bbb")?))
+            .set_auth_uri(auth)
+            .set_token_uri(token),
+    )
+}
+
+/// The same with a redirect.
+pub fn redirecting_client(alloc: Global) -> Result<BenchClient, Fault> {
+    let text = String::from_str(alloc, "https://localhost/redirect")?;
+    let redirect = RedirectUrl::new(alloc, text)?;
+    Ok(client(alloc)?.set_redirect_uri(redirect))
+}

@@ -1,0 +1,67 @@
+//! What the calls of the client cost: each operation a few times, or one of them so many times by
+//! the clock.
+//!
+//! Without arguments it runs every operation and prints its name, how many bytes its last request's
+//! body had and a length of what was read. With `--time NAME ITERATIONS` it prints the nanoseconds
+//! that so many runs of one operation took.
+#![tactic(auto)]
+
+mod arguments;
+mod authorization_url;
+mod canned;
+mod challenge;
+mod client_credentials;
+mod clients;
+mod code_exchange;
+mod fault;
+mod inputs;
+mod operation;
+mod reading;
+mod table;
+
+use arguments::{Mode, asked_mode};
+use fault::Fault;
+use std::process::ExitCode;
+use table::{Bench, NAMES};
+
+/// How often each operation runs without arguments.
+const PLAIN_ITERATIONS: u64 = 3;
+
+fn print_all(rt: &HostRuntime) -> Result<(), Fault> {
+    let bench = Bench {
+        clock: rt,
+        alloc: rt.alloc(),
+        iterations: PLAIN_ITERATIONS,
+    };
+    for name in &NAMES {
+        let done = bench.measure(name)?.done;
+        println!(rt; "{name} {} {}", done.sent, done.read)?;
+    }
+    Ok(())
+}
+
+fn print_time(rt: &HostRuntime, name: &str, iterations: u64) -> Result<(), Fault> {
+    let bench = Bench {
+        clock: rt,
+        alloc: rt.alloc(),
+        iterations,
+    };
+    println!(rt; "{}", bench.measure(name)?.nanoseconds)?;
+    Ok(())
+}
+
+fn run(rt: &HostRuntime) -> Result<(), Fault> {
+    match asked_mode(rt)? {
+        Mode::Plain => print_all(rt),
+        Mode::Time { name, iterations } => print_time(rt, name.as_str(), iterations),
+    }
+}
+
+/// Exit status 2 stands for arguments that are not known.
+fn main(rt: HostRuntime) -> ExitCode {
+    match run(&rt) {
+        Ok(()) => ExitCode::from(0),
+        Err(Fault::Arguments) => ExitCode::from(2),
+        Err(_) => ExitCode::from(1),
+    }
+}

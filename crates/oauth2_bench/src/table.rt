@@ -1,0 +1,107 @@
+//! The operations by their names.
+
+use crate::authorization_url::AuthorizationUrl;
+use crate::challenge::Challenge;
+use crate::client_credentials::ClientCredentials;
+use crate::code_exchange::CodeExchange;
+use crate::fault::Fault;
+use crate::inputs::{introspection, long_token, params, scopes, short_token};
+use crate::operation::{Run, timed};
+use crate::reading::{IntrospectionReading, TokenReading};
+use std::alloc::Global;
+use std::rt::Clock;
+
+/// Every operation.
+pub const NAMES: [&str; 13] = [
+    "a_code_exchange",
+    "b_client_credentials_20_extra_5_scopes",
+    "b_client_credentials_200_extra_5_scopes",
+    "b_client_credentials_2000_extra_5_scopes",
+    "c_authorize_url_pkce_3_scopes_redirect",
+    "d_introspection_1kb_read_alone",
+    "e_token_4kb_request",
+    "e_token_64kb_request",
+    "e_token_1mb_request",
+    "e_token_4kb_read_alone",
+    "e_token_64kb_read_alone",
+    "e_token_1mb_read_alone",
+    "f_pkce_challenge_sha256",
+];
+
+const KILOBYTE: u32 = 1024;
+
+const MEGABYTE: u32 = 1024 * KILOBYTE;
+
+/// By which clock an operation runs, and how often.
+#[derive(Clone, Copy)]
+pub struct Bench<'a, C> {
+    pub clock: &'a C,
+    pub alloc: Global,
+    pub iterations: u64,
+}
+
+impl<C: Clock> Bench<'_, C> {
+    /// Runs the operation of this name.
+    pub fn measure(&self, name: &str) -> Result<Run, Fault> {
+        match name {
+            "a_code_exchange" => self.exchange(short_token(self.alloc)?),
+            "b_client_credentials_20_extra_5_scopes" => self.credentials(20),
+            "b_client_credentials_200_extra_5_scopes" => self.credentials(200),
+            "b_client_credentials_2000_extra_5_scopes" => self.credentials(2000),
+            "c_authorize_url_pkce_3_scopes_redirect" => self.authorization_url(),
+            "d_introspection_1kb_read_alone" => self.introspection(),
+            "e_token_4kb_request" => self.exchange(long_token(self.alloc, 4 * KILOBYTE)?),
+            "e_token_64kb_request" => self.exchange(long_token(self.alloc, 64 * KILOBYTE)?),
+            "e_token_1mb_request" => self.exchange(long_token(self.alloc, MEGABYTE)?),
+            "e_token_4kb_read_alone" => self.token(4 * KILOBYTE),
+            "e_token_64kb_read_alone" => self.token(64 * KILOBYTE),
+            "e_token_1mb_read_alone" => self.token(MEGABYTE),
+            "f_pkce_challenge_sha256" => self.challenge(),
+            _ => Err(Fault::Arguments),
+        }
+    }
+
+    fn exchange(&self, body: String) -> Result<Run, Fault> {
+        let operation = CodeExchange::new(self.alloc, body)?;
+        timed(self.clock, self.alloc, operation, self.iterations)
+    }
+
+    fn credentials(&self, number: u32) -> Result<Run, Fault> {
+        let body = short_token(self.alloc)?;
+        let scopes = scopes(self.alloc)?;
+        let params = params(self.alloc, number)?;
+        let operation = ClientCredentials::new(self.alloc, body, scopes, params)?;
+        timed(self.clock, self.alloc, operation, self.iterations)
+    }
+
+    fn authorization_url(&self) -> Result<Run, Fault> {
+        let challenge = Challenge::new(self.alloc)?.challenge(self.alloc)?;
+        let operation = AuthorizationUrl::new(self.alloc, challenge)?;
+        timed(self.clock, self.alloc, operation, self.iterations)
+    }
+
+    fn introspection(&self) -> Result<Run, Fault> {
+        let body = introspection(self.alloc)?;
+        timed(
+            self.clock,
+            self.alloc,
+            IntrospectionReading { body },
+            self.iterations,
+        )
+    }
+
+    fn token(&self, size: u32) -> Result<Run, Fault> {
+        let body = long_token(self.alloc, size)?;
+        timed(
+            self.clock,
+            self.alloc,
+            TokenReading { body },
+            self.iterations,
+        )
+    }
+
+    fn challenge(&self) -> Result<Run, Fault> {
+        let operation = Challenge::new(self.alloc)?;
+        timed(self.clock, self.alloc, operation, self.iterations)
+    }
+}
