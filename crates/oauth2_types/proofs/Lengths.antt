@@ -1,5 +1,5 @@
 -- How long a text of bytes is.
-use Rattle.std.proofs.Common.{◌≡◌, ℕ, List, [], length, length-append, ◌∙◌, add-zero, arith}
+use Rattle.std.proofs.Common.{◌≡◌, ℕ, List, [], length, length-append, arith}
 use Rattle.base64.specs.Rfc4648.{encode_symbols, unpadded_len}
 use Rattle.base64.proofs.RoundTrip.{length-encode_symbols}
 use Rattle.oauth2_types.specs.Pkce.{alphabet, base64url}

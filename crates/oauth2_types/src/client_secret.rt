@@ -27,12 +27,14 @@ impl ClientSecret {
         ClientSecret(Secret::new(secret))
     }
 
+    /// Leaking this text may compromise the security of the flow.
     pub fn secret(&self) -> &String
         ensures { string_bytes result.now ≡ self.now }
     {
         self.0.text()
     }
 
+    /// Leaking this text may compromise the security of the flow.
     pub fn into_secret(self) -> String
         ensures { string_bytes result ≡ self }
     {

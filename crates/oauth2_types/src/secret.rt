@@ -66,10 +66,13 @@ impl PartialEq for Secret {
     }
 }
 
+// Reflexive, symmetric and transitive. Secrets of equal texts are equal; equal secrets may have other texts,
+// where two texts have one digest.
 impl Eq for Secret {
     ghost laws = { Prim.search (comparing, rules) };
 }
 
+// Equal secrets hash alike.
 impl Hash for Secret {
     ghost hash_input = { digest_input };
 
