@@ -7,4 +7,3 @@ pub mod Words
 pub mod Seconds
 pub mod ErrorMembers
 pub mod Codes
-pub mod Challenges

@@ -149,8 +149,3 @@ beside_taken own ms f d h = taken_if (clashes own ms) (members_have_float ms) ms
 pub optional-number : (name : List ℕ) (o : Option ℕ) → optional whole_number name (option_map (λ n. number (unsigned n)) o) ≡ Ok o
 optional-number name None = refl
 optional-number name (Some n) = refl
-
--- a text that may be absent, as it is written
-pub optional_writing-text : (o : Option (List ℕ)) → optional_writing (λ s. Ok (string s)) o ≡ Ok (option_map string o)
-optional_writing-text None = refl
-optional_writing-text (Some s) = refl

@@ -14,4 +14,5 @@ value_reading reading (Some d) = reading d
 -- the bytes are UTF-8 and one whole JSON value, of nesting to 127, with nothing after it but white
 -- space; else the whole body is at fault
 abbrev pub body_reading : {M : Type 0} → (Data → Reading M) → List ℕ → Reading M
-body_reading reading bytes = if is_utf8 bytes then value_reading reading (read bytes) else Err (whole cause.NotJson)
+body_reading reading bytes =
+    if is_utf8 bytes then value_reading reading (read bytes) else Err (whole cause.NotJson)

@@ -19,7 +19,8 @@ parts e d u = record { error = e; description = d; uri = u }
 
 -- a response without where its texts lie in memory, its code seen by f
 abbrev pub parts_of : {T M : Type 0} → (T → M) → StandardErrorResponse T → ErrorParts M
-parts_of f r = parts (f r.error) (option_map string_bytes r.error_description) (option_map string_bytes r.error_uri)
+parts_of f r =
+    parts (f r.error) (option_map string_bytes r.error_description) (option_map string_bytes r.error_uri)
 
 -- other members are ignored
 abbrev pub error_row : {T : Type 0} → (Data → Reading T) → Members → Reading (ErrorParts T)
@@ -41,11 +42,13 @@ error_rows code r =
     ∷ []
 
 abbrev pub error_writing : {T : Type 0} → (T → Writing) → ErrorParts T → Writing
-error_writing code r = write_then (code r.error) (λ d. Ok (object (put_all (error_rows d r) no_members)))
+error_writing code r =
+    write_then (code r.error) (λ d. Ok (object (put_all (error_rows d r) no_members)))
 
 -- the code is written as a text that reads back as itself
 abbrev pub IsReadBack : {T M : Type 0} → (Data → Reading M) → (T → M) → (T → Writing) → T → Type 0
-IsReadBack reading meaning writing t = (s : List ℕ) × (writing t ≡ Ok (string s)) × (reading (string s) ≡ Ok (meaning t))
+IsReadBack reading meaning writing t =
+    (s : List ℕ) × (writing t ≡ Ok (string s)) × (reading (string s) ≡ Ok (meaning t))
 
 abbrev pub after_colon : Option (List ℕ) → List ℕ
 after_colon None = []

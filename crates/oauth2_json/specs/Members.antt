@@ -53,7 +53,8 @@ either_name kind name (Some d) (Some e) = Err (record { member = name; cause = c
 -- the members but the one of that name
 abbrev pub without : List ℕ → Members → Members
 without k no_members = no_members
-without k (member l e ms) = match_ordering (slice_cmp nat_cmp k l) (member l e (without k ms)) ms (member l e (without k ms))
+without k (member l e ms) =
+    match_ordering (slice_cmp nat_cmp k l) (member l e (without k ms)) ms (member l e (without k ms))
 
 abbrev pub others : List (List ℕ) → Members → Members
 others [] ms = ms
@@ -87,4 +88,5 @@ beside own (boolean b) = Err name_clash
 beside own (number n) = Err name_clash
 beside own (string s) = Err name_clash
 beside own (array ds) = Err name_clash
-beside own (object ms) = if clashes own ms then Err name_clash else (if members_have_float ms then Err refused_float else Ok ms)
+beside own (object ms) =
+    if clashes own ms then Err name_clash else (if members_have_float ms then Err refused_float else Ok ms)

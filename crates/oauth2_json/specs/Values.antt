@@ -50,10 +50,12 @@ whole_number (object ms) = wrong_type
 
 -- whether `jiff` has the instant of that many nanoseconds
 abbrev pub is_instant : ℤ → Bool
-is_instant n = not (int_lt n (neg_ℤ (pos 377_705_023_201_000_000_000))) && not (int_lt (pos 253_402_207_200_999_999_999) n)
+is_instant n =
+    not (int_lt n (neg_ℤ (pos 377_705_023_201_000_000_000))) && not (int_lt (pos 253_402_207_200_999_999_999) n)
 
 abbrev pub instant_at : ℤ → Reading ℤ
-instant_at z = if is_instant (z *ℤ pos 1_000_000_000) then Ok (z *ℤ pos 1_000_000_000) else Err (whole cause.OutOfRange)
+instant_at z =
+    if is_instant (z *ℤ pos 1_000_000_000) then Ok (z *ℤ pos 1_000_000_000) else Err (whole cause.OutOfRange)
 
 abbrev pub instant_of : Num → Reading ℤ
 instant_of (unsigned n) = instant_at (pos n)
@@ -83,7 +85,8 @@ second_data n = number (of_integer (second_of n))
 
 -- a text beside the URL that it is, by the URL Standard
 abbrev pub url_text : List ℕ → Reading Addressed
-url_text s = elim (parse_url None s) [ Ok u ↦ Ok (record { text = s; url = u }) | Err e ↦ Err (whole cause.BadUrl) ]
+url_text s =
+    elim (parse_url None s) [ Ok u ↦ Ok (record { text = s; url = u }) | Err e ↦ Err (whole cause.BadUrl) ]
 
 abbrev pub url : Data → Reading Addressed
 url d = read_then (text d) url_text

@@ -4,8 +4,8 @@ use crate::helpers::{
 };
 use crate::{
     BasicErrorResponse, BasicErrorResponseType, BasicTokenType, DeviceCodeErrorResponseType,
-    FromJson, ParseCause, ReadError, RevocationErrorResponseType, StandardErrorResponse, ToJson,
-    WriteError, compact, members, read_body,
+    ErrorResponse, FromJson, ParseCause, ReadError, RevocationErrorResponseType,
+    StandardErrorResponse, ToJson, TokenType, WriteError, compact, members, read_body,
 };
 use jiff::Timestamp;
 use oauth2_types::{
@@ -42,6 +42,18 @@ fn is_fault<T: Drop>(read: Result<T, ReadError>, member: &str, cause: ParseCause
 
 fn parsed(rt: &HostRuntime, text: &str) -> Result<Value, Fail> {
     Ok(Value::from_str(rt.alloc(), text)?)
+}
+
+/// What a caller that knows no more than the bound shows.
+fn shown<E: ErrorResponse>(rt: &HostRuntime, response: &E) -> Result<String, Fail> {
+    Ok(format!(in rt.alloc(); "{response}")?)
+}
+
+/// Whether a copy is written as its original.
+fn is_copied<T: TokenType + Drop>(rt: &HostRuntime, value: &T) -> Result<bool, Fail> {
+    let copy = value.try_clone(rt.alloc())?;
+    let original = compact(rt.alloc(), value)?;
+    Ok(compact(rt.alloc(), &copy)? == original)
 }
 
 #[test]
@@ -335,6 +347,7 @@ fn token_type_is_lowered_first(rt: HostRuntime) -> Result<(), Fail> {
     let text = parsed(&rt, "\"ÄB\"")?;
     let read = deserialize_untagged_enum_case_insensitive::<BasicTokenType>(rt.alloc(), text)?;
     assert_eq!(rt; read.as_str(), "Äb");
+    assert!(rt; is_copied(&rt, &read)?);
     Ok(())
 }
 
