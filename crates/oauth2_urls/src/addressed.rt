@@ -103,6 +103,7 @@ impl PartialOrd for AddressedUrl {
     }
 }
 
+// Total. Two URLs tie exactly where they are equal, that is where their texts are.
 impl Ord for AddressedUrl {
     ghost cmp = { λ a b. slice_cmp nat_cmp a.text b.text };
 
@@ -117,6 +118,7 @@ impl Ord for AddressedUrl {
     }
 }
 
+// Equal URLs hash alike.
 impl Hash for AddressedUrl {
     ghost hash_input = { λ a. fed.str a.text };
 
