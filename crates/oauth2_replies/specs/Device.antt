@@ -44,7 +44,8 @@ own_names =
 
 -- the table, over what stands under each name and the object of the other members; the URL may stand
 -- under another name, and the interval is 5 seconds where none is told
-abbrev pub device_rows : {E : Type 0} → (Data → Reading E) → Option Data → Option Data → Option Data → Option Data → Option Data → Option Data → Option Data → Members → Reading (DeviceAuthorization E)
+abbrev pub device_rows : {E : Type 0} → (Data → Reading E)
+    → Option Data → Option Data → Option Data → Option Data → Option Data → Option Data → Option Data → Members → Reading (DeviceAuthorization E)
 device_rows extra_fields d u v o c e i rest =
     Ok device_authorization
     ⊛ needed text (codes "device_code") d
@@ -85,4 +86,6 @@ own_rows r =
 -- the type's own members beside those of its extra fields
 abbrev pub device_writing : {E : Type 0} → (E → Writing) → DeviceAuthorization E → Writing
 device_writing extra_fields r =
-    write_then (extra_fields r.extra_fields) (λ x. write_then (beside own_names x) (λ ms. Ok (object (put_all (own_rows r) ms))))
+    write_then (extra_fields r.extra_fields) (λ x.
+    write_then (beside own_names x) (λ ms.
+    Ok (object (put_all (own_rows r) ms))))

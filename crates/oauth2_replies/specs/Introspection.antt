@@ -26,7 +26,9 @@ pub record Introspection (E T : Type 0) : Type 0 where
   pub jti : Option (List ℕ)
   pub extra_fields : E
 
-abbrev pub introspection : {E T : Type 0} → Bool → Option (List (List ℕ)) → Option (List ℕ) → Option (List ℕ) → Option T → Option ℤ → Option ℤ → Option ℤ → Option (List ℕ) → Option (List (List ℕ)) → Option (List ℕ) → Option (List ℕ) → E → Introspection E T
+abbrev pub introspection : {E T : Type 0}
+    → Bool → Option (List (List ℕ)) → Option (List ℕ) → Option (List ℕ) → Option T → Option ℤ → Option ℤ → Option ℤ
+    → Option (List ℕ) → Option (List (List ℕ)) → Option (List ℕ) → Option (List ℕ) → E → Introspection E T
 introspection a s c u t e i n b d o j x = record { active = a; scopes = s; client_id = c; username = u; token_type = t; exp = e; iat = i; nbf = n; sub = b; aud = d; iss = o; jti = j; extra_fields = x }
 
 -- a response whose extra fields are seen by f and whose token type is seen by g
@@ -52,7 +54,8 @@ own_names =
 
 -- the table, over what stands under each name and the object of the other members
 abbrev pub introspection_rows : {E T : Type 0} → (Data → Reading E) → (Data → Reading T)
-    → Option Data → Option Data → Option Data → Option Data → Option Data → Option Data → Option Data → Option Data → Option Data → Option Data → Option Data → Option Data
+    → Option Data → Option Data → Option Data → Option Data → Option Data → Option Data
+    → Option Data → Option Data → Option Data → Option Data → Option Data → Option Data
     → Members → Reading (Introspection E T)
 introspection_rows extra_fields token_type a s c u t e i n b d o j rest =
     Ok introspection
@@ -110,7 +113,10 @@ own_rows token_type r =
 -- the type's own members beside those of its extra fields
 abbrev pub introspection_writing : {E T : Type 0} → (E → Writing) → (T → Writing) → Introspection E T → Writing
 introspection_writing extra_fields token_type r =
-    write_then (optional_writing token_type r.token_type) (λ t. write_then (extra_fields r.extra_fields) (λ x. write_then (beside own_names x) (λ ms. Ok (object (put_all (own_rows t r) ms)))))
+    write_then (optional_writing token_type r.token_type) (λ t.
+    write_then (extra_fields r.extra_fields) (λ x.
+    write_then (beside own_names x) (λ ms.
+    Ok (object (put_all (own_rows t r) ms)))))
 
 -- no time at all, or whole seconds
 abbrev pub IsTimeKept : Option ℤ → Type 0

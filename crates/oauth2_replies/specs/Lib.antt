@@ -6,3 +6,4 @@ pub mod IntrospectionRows
 pub mod Device
 pub mod DeviceRows
 pub mod Revocable
+pub mod Colorful

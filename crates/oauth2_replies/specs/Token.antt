@@ -30,7 +30,8 @@ abbrev pub own_names : List (List ℕ)
 own_names = codes "access_token" ∷ codes "token_type" ∷ codes "expires_in" ∷ codes "refresh_token" ∷ codes "scope" ∷ []
 
 -- the table, over what stands under each name and the object of the other members
-abbrev pub token_rows : {E T : Type 0} → (Data → Reading E) → (Data → Reading T) → Option Data → Option Data → Option Data → Option Data → Option Data → Members → Reading (Token E T)
+abbrev pub token_rows : {E T : Type 0} → (Data → Reading E) → (Data → Reading T)
+    → Option Data → Option Data → Option Data → Option Data → Option Data → Members → Reading (Token E T)
 token_rows extra_fields token_type a t e r s rest =
     Ok token
     ⊛ needed text (codes "access_token") a
@@ -61,7 +62,10 @@ own_rows token_type r =
 -- the type's own members beside those of its extra fields
 abbrev pub token_writing : {E T : Type 0} → (E → Writing) → (T → Writing) → Token E T → Writing
 token_writing extra_fields token_type r =
-    write_then (token_type r.token_type) (λ t. write_then (extra_fields r.extra_fields) (λ x. write_then (beside own_names x) (λ ms. Ok (object (put_all (own_rows t r) ms)))))
+    write_then (token_type r.token_type) (λ t.
+    write_then (extra_fields r.extra_fields) (λ x.
+    write_then (beside own_names x) (λ ms.
+    Ok (object (put_all (own_rows t r) ms)))))
 
 -- what reads back as itself once it is written
 pub record IsTokenKept {E T F M : Type 0} (er : Data → Reading F) (em : E → F) (ew : E → Writing) (tr : Data → Reading M) (tm : T → M) (tw : T → Writing) (r : Token E T) : Type 0 where

@@ -24,7 +24,8 @@ pub trait ExtraDeviceAuthorizationFields: FromJson + ToJson + fmt::Debug {
     ghost use Rattle.serde_json.specs.Data.{Data, Members, object};
 
     /// What is written is an object.
-    ghost writes_object: { (x : Self) (d : Data) → Self.ToJson.writing x ≡ Ok d → (ms : Members) × (d ≡ object ms) };
+    ghost writes_object: { (x : Self) (d : Data) → Self.ToJson.writing x ≡ Ok d
+        → (ms : Members) × (d ≡ object ms) };
 }
 
 /// The device authorization response of the standard, with extra fields `EF`. It is made by reading
@@ -45,7 +46,8 @@ impl<EF> Model for DeviceAuthorizationResponse<EF> {
 
     ghost Value = { DeviceAuthorization EF };
 
-    ghost view = { λ r. device_authorization r.device_code r.user_code r.verification_uri r.verification_uri_complete r.expires_in r.interval r.extra_fields };
+    ghost view = { λ r. device_authorization r.device_code r.user_code r.verification_uri
+        r.verification_uri_complete r.expires_in r.interval r.extra_fields };
 
     ghost invariant = { λ r. IsAddress r.verification_uri };
 }

@@ -1,7 +1,7 @@
 //! Device authorization responses as JSON objects.
 
 ghost use Rattle.std.specs.Prelude.{◌≡◌, Ok, IfOk, option_map};
-ghost use Rattle.serde_json.specs.Data.{object, string};
+ghost use Rattle.serde_json.specs.Data.{string};
 ghost use Rattle.serde_json.specs.View.{view, members_view};
 ghost use Rattle.oauth2_json.specs.Reading.{ReadsAs};
 ghost use Rattle.oauth2_json.specs.Writing.{WritesAs};
@@ -141,7 +141,8 @@ impl<EF: ExtraDeviceAuthorizationFields> DeviceAuthorizationResponse<EF> {
         alloc: Global,
         mut members: Map<String, Value>,
     ) -> Result<Map<String, Value>, AllocError>
-        ensures { IfOk result (λ all. members_view all.entries ≡ put_all (own_rows self.now) (members_view members.entries)) }
+        ensures { IfOk result (λ all. members_view all.entries
+            ≡ put_all (own_rows self.now) (members_view members.entries)) }
     {
         let interval = members::number_value(Some(self.interval));
         members::put_some(&mut members, alloc, "interval", interval)?;
@@ -165,7 +166,8 @@ impl<EF: ExtraDeviceAuthorizationFields> ToJson for DeviceAuthorizationResponse<
     fn to_json(&self, alloc: Global) -> Result<Value, WriteError>
         ensures written { WritesAs result (device_writing EF.writing self.now) }
         // Where its extra fields are kept, it reads back as the same response.
-        ensures reads_back { IfOk result (λ v. AreFieldsKept EF.reading EF.meaning EF.writing self.now.extra_fields
+        ensures reads_back { IfOk result (λ v.
+            AreFieldsKept EF.reading EF.meaning EF.writing self.now.extra_fields
             → device_reading EF.reading (view v) ≡ Ok (device_seen EF.meaning self.now)) }
     {
         self.written(alloc)

@@ -141,7 +141,8 @@ impl<EF: Drop, TT: Drop> StandardTokenIntrospectionResponse<EF, TT> {
 
     /// A response that tells nothing else.
     pub fn new(active: bool, extra_fields: EF) -> Self
-        ensures { result ≡ introspection active None None None None None None None None None None None extra_fields }
+        ensures { result
+            ≡ introspection active None None None None None None None None None None None extra_fields }
     {
         StandardTokenIntrospectionResponse {
             active,

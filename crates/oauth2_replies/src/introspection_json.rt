@@ -1,7 +1,7 @@
 //! Introspection responses as JSON objects.
 
 ghost use Rattle.std.specs.Prelude.{◌≡◌, Ok, IfOk, option_map};
-ghost use Rattle.serde_json.specs.Data.{object, string};
+ghost use Rattle.serde_json.specs.Data.{string};
 ghost use Rattle.serde_json.specs.View.{view, members_view};
 ghost use Rattle.oauth2_json.specs.Reading.{ReadsAs};
 ghost use Rattle.oauth2_json.specs.Writing.{WritesAs};
@@ -142,7 +142,7 @@ impl<EF: ExtraTokenFields, TT: TokenType> StandardTokenIntrospectionResponse<EF,
             ],
             extra,
         )?;
-        Ok(self.with_members(alloc, token_type, members)?)
+        Ok(Value::Object(self.with_members(alloc, token_type, members)?))
     }
 
     fn with_members(
@@ -150,8 +150,9 @@ impl<EF: ExtraTokenFields, TT: TokenType> StandardTokenIntrospectionResponse<EF,
         alloc: Global,
         token_type: Option<Value>,
         mut members: Map<String, Value>,
-    ) -> Result<Value, AllocError>
-        ensures { IfOk result (λ v. view v ≡ object (put_all (own_rows (option_map view token_type) self.now) (members_view members.entries))) }
+    ) -> Result<Map<String, Value>, AllocError>
+        ensures { IfOk result (λ all. members_view all.entries
+            ≡ put_all (own_rows (option_map view token_type) self.now) (members_view members.entries)) }
     {
         let jti = members::text_value(alloc, &self.jti)?;
         members::put_some(&mut members, alloc, "jti", jti)?;
@@ -177,7 +178,7 @@ impl<EF: ExtraTokenFields, TT: TokenType> StandardTokenIntrospectionResponse<EF,
             "active",
             Some(Value::from(self.active)),
         )?;
-        Ok(Value::Object(members))
+        Ok(members)
     }
 }
 
@@ -187,8 +188,10 @@ impl<EF: ExtraTokenFields, TT: TokenType> ToJson for StandardTokenIntrospectionR
     fn to_json(&self, alloc: Global) -> Result<Value, WriteError>
         ensures written { WritesAs result (introspection_writing EF.writing TT.writing self.now) }
         // What is kept reads back as the same response.
-        ensures reads_back { IfOk result (λ v. IsIntrospectionKept EF.reading EF.meaning EF.writing TT.reading TT.meaning TT.writing self.now
-            → introspection_reading EF.reading TT.reading (view v) ≡ Ok (introspection_seen EF.meaning TT.meaning self.now)) }
+        ensures reads_back { IfOk result (λ v.
+            IsIntrospectionKept EF.reading EF.meaning EF.writing TT.reading TT.meaning TT.writing self.now
+            → introspection_reading EF.reading TT.reading (view v)
+            ≡ Ok (introspection_seen EF.meaning TT.meaning self.now)) }
     {
         self.written(alloc)
     }

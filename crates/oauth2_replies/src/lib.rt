@@ -23,3 +23,6 @@ pub use token::{
     BasicTokenResponse, EmptyExtraTokenFields, ExtraTokenFields, StandardTokenResponse,
     TokenResponse,
 };
+
+#[cfg(test)]
+mod tests;

@@ -143,7 +143,8 @@ fn sole_token(
     refresh_token: Option<Value>,
     rest: Map<String, Value>,
 ) -> Result<StandardRevocableToken, ReadError>
-    ensures { ReadsAs (λ token. token) result (sole_token (option_map view access_token) (option_map view refresh_token) (members_view rest.entries)) }
+    ensures { ReadsAs (λ token. token) result
+        (sole_token (option_map view access_token) (option_map view refresh_token) (members_view rest.entries)) }
 {
     if has_any(&rest) {
         return Err(ReadError::whole(alloc, ParseCause::Refused));

@@ -21,7 +21,8 @@ pub trait ExtraTokenFields: FromJson + ToJson + fmt::Debug {
     ghost use Rattle.serde_json.specs.Data.{Data, Members, object};
 
     /// What is written is an object.
-    ghost writes_object: { (x : Self) (d : Data) → Self.ToJson.writing x ≡ Ok d → (ms : Members) × (d ≡ object ms) };
+    ghost writes_object: { (x : Self) (d : Data) → Self.ToJson.writing x ≡ Ok d
+        → (ms : Members) × (d ≡ object ms) };
 }
 
 /// What every token response tells.
@@ -79,7 +80,8 @@ impl<EF, TT> Model for StandardTokenResponse<EF, TT> {
 
     ghost Value = { Token EF TT };
 
-    ghost view = { λ r. token r.access_token r.token_type r.expires_in r.refresh_token (option_map (λ list. list.items) r.scopes) r.extra_fields };
+    ghost view = { λ r. token r.access_token r.token_type r.expires_in r.refresh_token
+        (option_map (λ list. list.items) r.scopes) r.extra_fields };
 }
 
 impl<EF: Drop, TT: Drop> StandardTokenResponse<EF, TT> {
@@ -113,7 +115,9 @@ impl<EF: Drop, TT: Drop> StandardTokenResponse<EF, TT> {
 
     /// Keeps the whole seconds.
     pub fn set_expires_in(&mut self, expires_in: Option<&Duration>)
-        ensures { self.new ≡ record self.old { expires_in = option_map (λ lifetime. as_nanos lifetime.now / 1_000_000_000) expires_in.entry } }
+        ensures { self.new ≡ record self.old {
+          expires_in = option_map (λ lifetime. as_nanos lifetime.now / 1_000_000_000) expires_in.entry;
+        } }
     {
         self.expires_in = match expires_in {
             Some(lifetime) => Some(lifetime.as_secs()),

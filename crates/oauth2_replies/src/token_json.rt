@@ -1,7 +1,7 @@
 //! Token responses as JSON objects.
 
 ghost use Rattle.std.specs.Prelude.{◌≡◌, Ok, IfOk, option_map};
-ghost use Rattle.serde_json.specs.Data.{object, string};
+ghost use Rattle.serde_json.specs.Data.{string};
 ghost use Rattle.serde_json.specs.View.{view, members_view};
 ghost use Rattle.oauth2_json.specs.Reading.{ReadsAs};
 ghost use Rattle.oauth2_json.specs.Writing.{WritesAs};
@@ -103,7 +103,7 @@ impl<EF: ExtraTokenFields, TT: TokenType> StandardTokenResponse<EF, TT> {
             ],
             extra,
         )?;
-        Ok(self.with_members(alloc, token_type, members)?)
+        Ok(Value::Object(self.with_members(alloc, token_type, members)?))
     }
 
     fn with_members(
@@ -111,8 +111,9 @@ impl<EF: ExtraTokenFields, TT: TokenType> StandardTokenResponse<EF, TT> {
         alloc: Global,
         token_type: Value,
         mut members: Map<String, Value>,
-    ) -> Result<Value, AllocError>
-        ensures { IfOk result (λ v. view v ≡ object (put_all (own_rows (view token_type) self.now) (members_view members.entries))) }
+    ) -> Result<Map<String, Value>, AllocError>
+        ensures { IfOk result (λ all. members_view all.entries
+            ≡ put_all (own_rows (view token_type) self.now) (members_view members.entries)) }
     {
         let scope = scopes::scopes_value(alloc, &self.scopes)?;
         members::put_some(&mut members, alloc, "scope", scope)?;
@@ -123,7 +124,7 @@ impl<EF: ExtraTokenFields, TT: TokenType> StandardTokenResponse<EF, TT> {
         members::put_some(&mut members, alloc, "token_type", Some(token_type))?;
         let access_token = Value::try_from_str(alloc, self.access_token.secret().as_str())?;
         members::put_some(&mut members, alloc, "access_token", Some(access_token))?;
-        Ok(Value::Object(members))
+        Ok(members)
     }
 }
 
@@ -133,7 +134,8 @@ impl<EF: ExtraTokenFields, TT: TokenType> ToJson for StandardTokenResponse<EF, T
     fn to_json(&self, alloc: Global) -> Result<Value, WriteError>
         ensures written { WritesAs result (token_writing EF.writing TT.writing self.now) }
         // What is kept reads back as the same response.
-        ensures reads_back { IfOk result (λ v. IsTokenKept EF.reading EF.meaning EF.writing TT.reading TT.meaning TT.writing self.now
+        ensures reads_back { IfOk result (λ v.
+            IsTokenKept EF.reading EF.meaning EF.writing TT.reading TT.meaning TT.writing self.now
             → token_reading EF.reading TT.reading (view v) ≡ Ok (token_seen EF.meaning TT.meaning self.now)) }
     {
         self.written(alloc)
