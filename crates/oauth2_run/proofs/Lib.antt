@@ -6,4 +6,4 @@ pub mod ViewLines
 pub mod NoFloats
 pub mod Results
 pub mod Exchanges
-pub mod Codes
+pub mod Commands

@@ -1,5 +1,5 @@
 -- The client of a script.
-use Rattle.std.specs.Prelude.{◌≡◌, ℕ, List, Option, Some, None, unwrap_or, if◌then◌else◌, codes}
+use Rattle.std.specs.Prelude.{◌≡◌, ℕ, List, ◌++◌, Option, Some, None, unwrap_or, if◌then◌else◌, codes}
 use Rattle.std.specs.Str.{bytes_eq}
 use Rattle.serde_json.specs.Data.{Data}
 use Rattle.serde_json.specs.Find.{as_str}
@@ -63,13 +63,16 @@ settings_of c = record {
   token_url = c.endpoints.token;
 }
 
-abbrev pub missing_token : Output
-missing_token = failed (codes "No token endpoint URL specified")
+abbrev pub missing : List ℕ → Output
+missing name = failed (codes "No " ++ name ++ codes " endpoint URL specified")
 
--- what is shown with the token endpoint, or that there is none
+-- what is shown with an endpoint, or that there is none of this name
+abbrev pub WithEndpoint : List ℕ → (Addressed → Output → Type 0) → Option Addressed → Output → Type 0
+WithEndpoint name IsOutput None o = o ≡ missing name
+WithEndpoint name IsOutput (Some url) o = IsOutput url o
+
 abbrev pub WithToken : (Addressed → Output → Type 0) → Option Addressed → Output → Type 0
-WithToken IsOutput None o = o ≡ missing_token
-WithToken IsOutput (Some url) o = IsOutput url o
+WithToken = WithEndpoint (codes "token")
 
 -- what a command gives, or what the client has
 abbrev pub given_or : {A : Type 0} → Option A → Option A → Option A

@@ -7,7 +7,10 @@ pub mod Replies
 pub mod Replay
 pub mod Exchange
 pub mod Results
+pub mod ClientCredentials
 pub mod Code
+pub mod Password
+pub mod Refresh
 pub mod Script
 pub mod Views
 pub mod Run

@@ -6,11 +6,17 @@ use Rattle.serde_json.specs.Find.{get, as_str, as_object}
 use Rattle.serde_json.specs.Read.{read}
 use Rattle.oauth2_run.specs.Part.{◌>>=◌, needed, listed, second}
 use Rattle.oauth2_run.specs.Client.{Client, client}
+use Rattle.oauth2_run.specs.ClientCredentials.{ClientCredentialsParams, client_credentials_params}
 use Rattle.oauth2_run.specs.Code.{CodeParams, code_params}
+use Rattle.oauth2_run.specs.Password.{PasswordParams, password_params}
+use Rattle.oauth2_run.specs.Refresh.{RefreshParams, refresh_params}
 use Rattle.oauth2_run.specs.Replies.{Reply, reply}
 
 pub data Command : Type 0 where
   code : CodeParams → Command
+  refresh : RefreshParams → Command
+  password : PasswordParams → Command
+  client_credentials : ClientCredentialsParams → Command
 
 pub record Script : Type 0 where
   pub client : Client
@@ -24,7 +30,12 @@ object_or_empty None = Some (object no_members)
 object_or_empty (Some d) = option_map (λ _. d) (as_object d)
 
 unfoldable pub command_of : List ℕ → Data → Option Command
-command_of name params = if bytes_eq name (codes "code") then option_map code (code_params params) else None
+command_of name params =
+    if bytes_eq name (codes "code") then option_map code (code_params params)
+    else (if bytes_eq name (codes "refresh") then option_map refresh (refresh_params params)
+    else (if bytes_eq name (codes "password") then option_map password (password_params params)
+    else (if bytes_eq name (codes "client_credentials") then option_map client_credentials (client_credentials_params params)
+    else None)))
 
 unfoldable pub script_of : Data → Option Script
 script_of d = do

@@ -4,12 +4,18 @@ use Rattle.oauth2_wire.specs.Reply.{ReplyView}
 use Rattle.oauth2_run.specs.Client as client_said
 use Rattle.oauth2_run.specs.Replies as replies_said
 use Rattle.oauth2_run.specs.Script as said
+use Rattle.oauth2_run.specs.ClientCredentials as client_credentials_said
 use Rattle.oauth2_run.specs.Code as code_said
+use Rattle.oauth2_run.specs.Password as password_said
+use Rattle.oauth2_run.specs.Refresh as refresh_said
+use Rattle.oauth2_run.specs.declared.client_credentials.ClientCredentialsParams.{ClientCredentialsParams}
 use Rattle.oauth2_run.specs.declared.code.CodeParams.{CodeParams}
+use Rattle.oauth2_run.specs.declared.password.PasswordParams.{PasswordParams}
+use Rattle.oauth2_run.specs.declared.refresh.RefreshParams.{RefreshParams}
 use Rattle.oauth2_run.specs.declared.script.Answer.{Answer}
 use Rattle.oauth2_run.specs.declared.script.ClientPart.{ClientPart}
 use Rattle.oauth2_run.specs.declared.script.Command.{Command}
-use Rattle.oauth2_run.specs.declared.script.Command.TheVariants.{Code}
+use Rattle.oauth2_run.specs.declared.script.Command.TheVariants.{Code, Refresh, Password, ClientCredentials}
 use Rattle.oauth2_run.specs.declared.script.Endpoints.{Endpoints}
 use Rattle.oauth2_run.specs.declared.script.Reply.{Reply}
 use Rattle.oauth2_run.specs.declared.script.Reply.TheVariants.{Answered, Failed}
@@ -20,6 +26,27 @@ code_view p = record {
   code = string_bytes p.code;
   verifier = p.verifier;
   redirect = p.redirect;
+  extra = map (λ e. (string_bytes e.0, string_bytes e.1)) p.extra.items;
+}
+
+abbrev pub refresh_view : RefreshParams → refresh_said.RefreshParams
+refresh_view p = record {
+  refresh_token = string_bytes p.refresh_token;
+  scopes = p.scopes.items;
+  extra = map (λ e. (string_bytes e.0, string_bytes e.1)) p.extra.items;
+}
+
+abbrev pub password_view : PasswordParams → password_said.PasswordParams
+password_view p = record {
+  username = string_bytes p.username;
+  password = string_bytes p.password;
+  scopes = p.scopes.items;
+  extra = map (λ e. (string_bytes e.0, string_bytes e.1)) p.extra.items;
+}
+
+abbrev pub client_credentials_view : ClientCredentialsParams → client_credentials_said.ClientCredentialsParams
+client_credentials_view p = record {
+  scopes = p.scopes.items;
   extra = map (λ e. (string_bytes e.0, string_bytes e.1)) p.extra.items;
 }
 
@@ -44,6 +71,9 @@ reply_view Failed = replies_said.failed
 
 abbrev pub command_view : Command → said.Command
 command_view (Code p) = said.code (code_view p)
+command_view (Refresh p) = said.refresh (refresh_view p)
+command_view (Password p) = said.password (password_view p)
+command_view (ClientCredentials p) = said.client_credentials (client_credentials_view p)
 
 abbrev pub script_view : Script → said.Script
 script_view s = record {

@@ -1,11 +1,11 @@
 //! What a run shows of the end of a request.
 
-ghost use Rattle.std.specs.Prelude.{◌≡◌, ◌++◌, string_bytes, codes, IfOk, OnOk};
+ghost use Rattle.std.specs.Prelude.{◌≡◌, ◌++◌, ℕ, List, string_bytes, codes, IfOk, OnOk};
 ghost use Rattle.oauth2.specs.Missing.{IsMissing};
 ghost use Rattle.oauth2_run.specs.Exchange.{cause_name, unread_line};
 ghost use Rattle.oauth2_run.specs.Lines.{line};
 ghost use Rattle.oauth2_run.specs.Results.{Prints, token_text, token_output, fault_output};
-ghost use Rattle.oauth2_run.specs.Client.{missing_token};
+ghost use Rattle.oauth2_run.specs.Client.{missing};
 
 use crate::client::BasicErrorResponse;
 use crate::lines::{print_answer, print_fault, quoted};
@@ -129,9 +129,8 @@ pub fn show_missing(
     lines: &mut String,
     error: &ConfigurationError,
 ) -> Result<RunStatus, AllocError>
-    requires { IsMissing (codes "token") error.now }
-    ensures { IfOk result (λ status. Prints (string_bytes lines.old) (string_bytes lines.new) status
-        missing_token) }
+    ensures { IfOk result (λ status. (name : List ℕ) → IsMissing name error.now
+        → Prints (string_bytes lines.old) (string_bytes lines.new) status (missing name)) }
 {
     let text = error.to_string(alloc)?;
     print_fault(alloc, lines, text.as_str())?;

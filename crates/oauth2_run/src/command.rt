@@ -7,7 +7,10 @@ ghost use Rattle.oauth2_run.specs.Run.{IsCommandOutput};
 ghost use Rattle.oauth2_run.specs.Views.{command_view};
 
 use crate::client::ScriptClient;
+use crate::client_credentials::run_client_credentials;
 use crate::code::run_code;
+use crate::password::run_password;
+use crate::refresh::run_refresh;
 use crate::replay::ScriptedClient;
 use crate::script::Command;
 use crate::status::RunStatus;
@@ -26,5 +29,13 @@ pub fn run_command(
 {
     match command {
         Command::Code(params) => run_code(alloc, client, params, http_client),
+        Command::Refresh(params) => run_refresh(alloc, client, params, http_client),
+        Command::Password(params) => run_password(alloc, client, params, http_client),
+        Command::ClientCredentials(params) => run_client_credentials(
+            alloc,
+            client,
+            params,
+            http_client,
+        ),
     }
 }

@@ -11,7 +11,7 @@ use crate::part::Part;
 use crate::script_error::ScriptError;
 use http::StatusCode;
 use http_header::HeaderValue;
-use oauth2_types::PkceCodeVerifier;
+use oauth2_types::{PkceCodeVerifier, Scope};
 use oauth2_urls::{
     AuthUrl, DeviceAuthorizationUrl, IntrospectionUrl, RedirectUrl, RevocationUrl, TokenUrl,
 };
@@ -161,6 +161,18 @@ impl Part for PkceCodeVerifier {
         } else {
             Err(ScriptError::Bad)
         }
+    }
+}
+
+impl Part for Scope {
+    ghost Meaning = { List ℕ };
+
+    ghost meaning = { λ scope. scope };
+
+    ghost reading = { as_str };
+
+    fn from_value(alloc: Global, value: &Value) -> Result<Scope, ScriptError> {
+        Ok(Scope::new(String::from_value(alloc, value)?))
     }
 }
 

@@ -3,13 +3,16 @@
 
 mod answer;
 mod client;
+mod client_credentials;
 mod code;
 mod command;
 mod input;
 mod kinds;
 mod lines;
 mod part;
+mod password;
 mod reading;
+mod refresh;
 mod replay;
 mod run;
 mod script;

@@ -9,8 +9,11 @@ ghost use Rattle.oauth2_run.specs.Script as said;
 ghost use Rattle.oauth2_run.specs.Gives.{Gives};
 ghost use Rattle.oauth2_run.specs.Views.{command_view, script_view};
 
+use crate::client_credentials::ClientCredentialsParams;
 use crate::code::CodeParams;
 use crate::part::{Part, listed, needed, optional};
+use crate::password::PasswordParams;
+use crate::refresh::RefreshParams;
 use crate::script::{Answer, ClientPart, Command, Endpoints, Reply, Script};
 use crate::script_error::ScriptError;
 use oauth2_wire::AuthType;
@@ -117,6 +120,11 @@ fn command_of(alloc: Global, name: &str, params: &Value) -> Result<Command, Scri
 {
     match name {
         "code" => Ok(Command::Code(CodeParams::from_value(alloc, params)?)),
+        "refresh" => Ok(Command::Refresh(RefreshParams::from_value(alloc, params)?)),
+        "password" => Ok(Command::Password(PasswordParams::from_value(alloc, params)?)),
+        "client_credentials" => Ok(Command::ClientCredentials(ClientCredentialsParams::from_value(
+            alloc, params,
+        )?)),
         _ => Err(ScriptError::Bad),
     }
 }

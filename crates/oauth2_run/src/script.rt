@@ -1,7 +1,10 @@
 //! What a script says.
 
+use crate::client_credentials::ClientCredentialsParams;
 use crate::code::CodeParams;
 use crate::kinds::Second;
+use crate::password::PasswordParams;
+use crate::refresh::RefreshParams;
 use http::StatusCode;
 use http_header::HeaderValue;
 use oauth2_urls::{
@@ -47,6 +50,9 @@ pub enum Reply {
 #[derive(Drop)]
 pub enum Command {
     Code(CodeParams),
+    Refresh(RefreshParams),
+    Password(PasswordParams),
+    ClientCredentials(ClientCredentialsParams),
 }
 
 #[derive(Drop)]

@@ -1,10 +1,11 @@
-use Rattle.std.proofs.Common.{◌≡◌, ℕ, List, subst, string_bytes}
+use Rattle.std.proofs.Common.{◌≡◌, ℕ, List, subst, string_bytes, codes}
 use Rattle.std.specs.Prelude.{IfSome}
+use Rattle.oauth2.specs.Missing.{IsMissing}
 use Rattle.oauth2.specs.Code.{new_code_request}
 use Rattle.std.proofs.lemmas.Result.{IfOk-weaker}
 use Rattle.oauth2_run.specs.Replay.{replies_of}
 use Rattle.oauth2_run.specs.Views.{code_view}
-use Rattle.oauth2_run.proofs.Codes.{given, missing_told, code_told}
+use Rattle.oauth2_run.proofs.Commands.{given, missing_told, code_told}
 use Rattle.oauth2_run.proofs.code.run_code.Goals as goal
 
 pub returns-in_ok-request-in-Ok : goal.returns-in_ok-request-in-Ok
@@ -23,5 +24,6 @@ pub returns-in-Err : goal.returns-in-Err
 returns-in-Err c =
     IfOk-weaker c.show_missing.result _ _
     (λ status printed. λ fed.
-    missing_told _ c.args.client.now.token_url (string_bytes c.args.http_client.now.lines) (string_bytes c.show_missing.new.lines) status c.in-Err.ensures.there printed)
+    missing_told (codes "token") _ c.args.client.now.token_url (string_bytes c.args.http_client.now.lines) (string_bytes c.show_missing.new.lines) status
+    (IsMissing (codes "token") c.in-Err.error) c.in-Err.ensures.there c.in-Err.ensures.missing (printed (codes "token")))
     c.show_missing.ensures

@@ -1,4 +1,13 @@
 use Rattle.oauth2_run.proofs.command.run_command.Goals as goal
 
-pub returns : goal.returns
-returns c = rw c.command-1.given.1 c.run_code.ensures
+pub returns-in-Code : goal.returns-in-Code
+returns-in-Code c = rw c.in-Code.is c.run_code.ensures
+
+pub returns-in-Refresh : goal.returns-in-Refresh
+returns-in-Refresh c = rw c.in-Refresh.is c.run_refresh.ensures
+
+pub returns-in-Password : goal.returns-in-Password
+returns-in-Password c = rw c.in-Password.is c.run_password.ensures
+
+pub returns-in-ClientCredentials : goal.returns-in-ClientCredentials
+returns-in-ClientCredentials c = rw c.in-ClientCredentials.is c.run_client_credentials.ensures

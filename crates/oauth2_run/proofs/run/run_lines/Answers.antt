@@ -1,7 +1,7 @@
 use Rattle.std.proofs.Common.{◌≡◌, string_bytes}
 use Rattle.oauth2_run.specs.Client.{settings_of}
 use Rattle.oauth2_run.specs.Views.{client_view}
-use Rattle.oauth2_run.proofs.Codes.{Shows-from_Adds}
+use Rattle.oauth2_run.proofs.Commands.{Shows-from_Adds}
 use Rattle.oauth2_run.proofs.run.run_lines.Goals as goal
 
 pub returns : goal.returns

@@ -1,23 +1,35 @@
--- The command `code`, from its request.
-use Rattle.std.proofs.Common.{◌≡◌, ℕ, List, [], ◌++◌, Option, Some, None, inl, refl, subst, sym}
+-- The commands, from their requests.
+use Rattle.std.proofs.Common.{◌≡◌, ℕ, List, [], ◌++◌, Option, Some, None, inl, refl, ap, ◌∙◌, subst, sym}
 use Rattle.std.specs.Prelude.{IfSome, IfNone}
 use Rattle.oauth2_urls.specs.Addressed.{Addressed}
 use Rattle.oauth2.specs.Code.{CodeRequest, new_code_request, code_configuration}
+use Rattle.oauth2_wire.specs.Expected.{Configuration}
 use Rattle.oauth2.specs.Settings.{Settings}
-use Rattle.oauth2_run.specs.Client.{WithToken, given_or}
+use Rattle.oauth2_run.specs.Client.{WithEndpoint, WithToken, missing, given_or}
 use Rattle.oauth2_run.specs.Code.{CodeParams, code_request, IsCodeOutput}
 use Rattle.oauth2_run.specs.Exchange.{IsTokenExchange}
 use Rattle.oauth2_run.specs.Out.{Output, Adds, Shows}
 use Rattle.oauth2_run.specs.Replies.{Reply}
 use Rattle.oauth2_run.specs.Results.{Prints}
-use Rattle.oauth2_run.specs.Client.{missing_token}
 use Rattle.oauth2_run.specs.declared.status.RunStatus.{RunStatus}
 
--- there is no token endpoint
-pub missing_told : (IsOut : Addressed → Output → Type 0) (url : Option Addressed) (old new : List ℕ) (s : RunStatus) → IfSome url (λ _. ⊥) → Prints old new s missing_token
-    → Adds old new s (WithToken IsOut url)
-missing_told IsOut (Some url) old new s h p = absurd h
-missing_told IsOut None old new s h (printed, ended) = (missing_token.lines, printed, inl (missing_token, refl, refl, ended))
+-- there is no endpoint of this name
+pub missing_told : (name : List ℕ) (IsOut : Addressed → Output → Type 0) (url : Option Addressed) (old new : List ℕ) (s : RunStatus) (Missing : Type 0)
+    → IfSome url (λ _. ⊥) → IfNone url Missing → (Missing → Prints old new s (missing name)) → Adds old new s (WithEndpoint name IsOut url)
+missing_told name IsOut (Some url) old new s Missing h m p = absurd h
+missing_told name IsOut None old new s Missing h m p = ((missing name).lines, (p m).0, inl (missing name, refl, refl, (p m).1))
+
+-- a request for a token, from what `start` makes of the endpoint and `give` adds
+pub token_command_told : {R : Type 0} (configuration : R → Configuration) (endpoint : R → Addressed) (start : Addressed → R) (give : R → R) (replies : List Reply) (old new : List ℕ) (s : RunStatus)
+    → ((u : Addressed) → endpoint (give (start u)) ≡ u) → (url : Option Addressed) (started asked : R) → IfSome url (λ u. started ≡ start u) → IfNone url ⊥ → asked ≡ give started
+    → Adds old new s (IsTokenExchange (configuration asked) (endpoint asked) replies)
+    → Adds old new s (WithToken (λ u o. IsTokenExchange (configuration (give (start u))) u replies o) url)
+token_command_told configuration endpoint start give replies old new s at None started asked there missing is adds = absurd missing
+token_command_told {R} configuration endpoint start give replies old new s at (Some u) started asked there missing is adds =
+    let e : asked ≡ give (start u) = is ∙ ap give there in
+    let asks : Adds old new s (IsTokenExchange (configuration (give (start u))) (endpoint (give (start u))) replies) =
+    subst (λ (r : R). Adds old new s (IsTokenExchange (configuration r) (endpoint r) replies)) e adds in
+    subst (λ (x : Addressed). Adds old new s (IsTokenExchange (configuration (give (start u))) x replies)) (at u) asks
 
 -- the request with what the command gives
 abbrev pub given : CodeRequest → CodeParams → CodeRequest

@@ -1,0 +1,41 @@
+-- The command `password`: the name and the password of a resource owner are exchanged for a token.
+use Rattle.std.specs.Prelude.{ℕ, List, Option, Some, None, codes}
+use Rattle.serde_json.specs.Data.{Data}
+use Rattle.serde_json.specs.Find.{as_str}
+use Rattle.oauth2_urls.specs.Addressed.{Addressed}
+use Rattle.oauth2_wire.specs.Pairs.{Pair}
+use Rattle.oauth2_wire.specs.Params.{with_scopes}
+use Rattle.oauth2.specs.Base.{base_of}
+use Rattle.oauth2.specs.Password.{PasswordRequest, password_configuration}
+use Rattle.oauth2.specs.Settings.{Settings}
+use Rattle.oauth2_run.specs.Client.{WithToken}
+use Rattle.oauth2_run.specs.Exchange.{IsTokenExchange}
+use Rattle.oauth2_run.specs.Out.{Output}
+use Rattle.oauth2_run.specs.Part.{◌>>=◌, needed, listed, pair}
+use Rattle.oauth2_run.specs.Replies.{Reply}
+
+pub record PasswordParams : Type 0 where
+  pub username : List ℕ
+  pub password : List ℕ
+  pub scopes : List (List ℕ)
+  pub extra : List Pair
+
+unfoldable pub password_params : Data → Option PasswordParams
+password_params d = do
+  username ← needed as_str (codes "username") d
+  password ← needed as_str (codes "password") d
+  scopes ← listed as_str (codes "scopes") d
+  extra ← listed pair (codes "extra") d
+  Some (record { username = username; password = password; scopes = scopes; extra = extra })
+
+abbrev pub password_request : Settings → PasswordParams → Addressed → PasswordRequest
+password_request client p url = record {
+  base = record (base_of client) { scope = with_scopes None p.scopes; extra_params = p.extra };
+  token_url = url;
+  username = p.username;
+  password = p.password;
+}
+
+abbrev pub IsPasswordOutput : Settings → PasswordParams → List Reply → Output → Type 0
+IsPasswordOutput client p replies o =
+    WithToken (λ url o. IsTokenExchange (password_configuration (password_request client p url)) url replies o) client.token_url o
