@@ -3,24 +3,15 @@
 ghost use Rattle.std.specs.Prelude.{◌≡◌, Some, None, IfOk, option_copied};
 ghost use Rattle.oauth2_wire.specs.declared.request.AuthType.TheVariants.{RequestBody, BasicAuth};
 
-use oauth2::basic::{BasicErrorResponseType, BasicTokenResponse};
+use oauth2::basic::BasicClient;
 use oauth2::{
     AuthType, AuthUrl, Client, ClientId, ClientSecret, DeviceAuthorizationUrl, EndpointMaybeSet,
-    EndpointNotSet, EndpointSet, IntrospectionUrl, RedirectUrl, RevocationUrl,
-    StandardErrorResponse, TokenUrl, TryClone,
+    EndpointNotSet, EndpointSet, IntrospectionUrl, RedirectUrl, RevocationUrl, TokenUrl, TryClone,
 };
 use std::alloc::{AllocError, Global};
 
-/// The error response of a server without extensions.
-pub type BasicErrorResponse = StandardErrorResponse<BasicErrorResponseType>;
-
 /// A client of a server without extensions, which neither introspects nor revokes.
-pub type PlainClient<HasAuthUrl = EndpointNotSet, HasTokenUrl = EndpointNotSet> = Client<
-    BasicErrorResponse,
-    BasicTokenResponse,
-    (),
-    (),
-    (),
+pub type PlainClient<HasAuthUrl = EndpointNotSet, HasTokenUrl = EndpointNotSet> = BasicClient<
     HasAuthUrl,
     EndpointNotSet,
     EndpointNotSet,
@@ -80,18 +71,7 @@ pub fn every_endpoint(
     introspection: IntrospectionUrl,
     revocation: Option<RevocationUrl>,
     token: TokenUrl,
-) -> Client<
-    BasicErrorResponse,
-    BasicTokenResponse,
-    (),
-    (),
-    (),
-    EndpointSet,
-    EndpointSet,
-    EndpointSet,
-    EndpointMaybeSet,
-    EndpointSet,
->
+) -> BasicClient<EndpointSet, EndpointSet, EndpointSet, EndpointMaybeSet, EndpointSet>
     ensures { result ≡ record client {
       auth_url = Some auth;
       device_authorization_url = Some device;

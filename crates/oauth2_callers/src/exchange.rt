@@ -14,8 +14,8 @@ ghost use Rattle.oauth2.specs.Base.{base_of, configuration_of};
 ghost use Rattle.oauth2.specs.Code.{code_pairs};
 ghost use Rattle.oauth2.specs.Password.{password_pairs};
 
-use crate::client::{BasicErrorResponse, CodeClient, TokenClient};
-use oauth2::basic::BasicTokenResponse;
+use crate::client::{CodeClient, TokenClient};
+use oauth2::basic::{BasicErrorResponse, BasicTokenResponse};
 use oauth2::{
     AuthorizationCode, ClientCredentialsTokenRequest, FnClient, FromJson, HttpRequest,
     HttpResponse, PkceCodeVerifier, RefreshToken, RequestFault, RequestTokenError,

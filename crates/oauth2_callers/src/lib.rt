@@ -3,13 +3,17 @@
 
 mod authorization;
 mod client;
+mod example;
 mod exchange;
+#[cfg(test)]
+mod tests;
 
 pub use authorization::{challenged_login, login_url, login_url_if_set};
 pub use client::{
     CodeClient, PlainClient, TokenClient, code_client, copy_of, every_endpoint, token_client,
     token_url,
 };
+pub use example::{TokenOnlyClient, new_client, token_for_code};
 pub use exchange::{
     code_request, lacks_token_url, password_token, refresh_request, with_all_scopes,
 };

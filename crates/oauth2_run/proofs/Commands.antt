@@ -19,6 +19,15 @@ pub missing_told : (name : List ℕ) (IsOut : Addressed → Output → Type 0) (
 missing_told name IsOut (Some url) old new s Missing h m p = absurd h
 missing_told name IsOut None old new s Missing h m p = ((missing name).lines, (p m).0, inl (missing name, refl, refl, (p m).1))
 
+-- what is shown of a request, from what `start` makes of the endpoint and `give` adds
+pub command_told : {R : Type 0} (name : List ℕ) (IsOut : R → Output → Type 0) (start : Addressed → R) (give : R → R) (made : Addressed → R) (old new : List ℕ) (s : RunStatus)
+    → ((u : Addressed) → give (start u) ≡ made u) → (url : Option Addressed) (started asked : R) → IfSome url (λ u. started ≡ start u) → IfNone url ⊥ → asked ≡ give started
+    → Adds old new s (IsOut asked) → Adds old new s (WithEndpoint name (λ u o. IsOut (made u) o) url)
+command_told name IsOut start give made old new s same None started asked there missing is adds = absurd missing
+command_told {R} name IsOut start give made old new s same (Some u) started asked there missing is adds =
+    let e : asked ≡ made u = is ∙ ap give there ∙ same u in
+    subst (λ (r : R). Adds old new s (IsOut r)) e adds
+
 -- a request for a token, from what `start` makes of the endpoint and `give` adds
 pub token_command_told : {R : Type 0} (configuration : R → Configuration) (endpoint : R → Addressed) (start : Addressed → R) (give : R → R) (replies : List Reply) (old new : List ℕ) (s : RunStatus)
     → ((u : Addressed) → endpoint (give (start u)) ≡ u) → (url : Option Addressed) (started asked : R) → IfSome url (λ u. started ≡ start u) → IfNone url ⊥ → asked ≡ give started
@@ -41,7 +50,7 @@ given started p = record {
   redirect_url = given_or p.redirect started.redirect_url;
 }
 
-given_or-none : {A : Type 0} (o : Option A) → given_or o None ≡ o
+pub given_or-none : {A : Type 0} (o : Option A) → given_or o None ≡ o
 given_or-none None = refl
 given_or-none (Some a) = refl
 

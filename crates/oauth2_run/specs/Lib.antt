@@ -7,6 +7,7 @@ pub mod Replies
 pub mod Replay
 pub mod Exchange
 pub mod Results
+pub mod Authorize
 pub mod ClientCredentials
 pub mod Code
 pub mod Password

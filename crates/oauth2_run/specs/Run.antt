@@ -1,13 +1,14 @@
 -- What a run over an input writes, and how it ends.
 use Rattle.std.specs.Prelude.{◌≡◌, ℕ, List, Option, Some, None, codes}
 use Rattle.oauth2.specs.Settings.{Settings}
+use Rattle.oauth2_run.specs.Authorize.{IsAuthorizeOutput}
 use Rattle.oauth2_run.specs.ClientCredentials.{IsClientCredentialsOutput}
 use Rattle.oauth2_run.specs.Code.{IsCodeOutput}
 use Rattle.oauth2_run.specs.Password.{IsPasswordOutput}
 use Rattle.oauth2_run.specs.Refresh.{IsRefreshOutput}
 use Rattle.oauth2_run.specs.Lines.{line}
 use Rattle.oauth2_run.specs.Out.{Output}
-use Rattle.oauth2_run.specs.Script.{Script, Command, code, refresh, password, client_credentials, script_in}
+use Rattle.oauth2_run.specs.Script.{Script, Command, code, refresh, password, client_credentials, authorize, script_in}
 use Rattle.oauth2_run.specs.Client.{settings_of}
 use Rattle.oauth2_run.specs.Replies.{Reply}
 use Rattle.oauth2_run.specs.declared.status.RunStatus.TheVariants as status
@@ -17,6 +18,7 @@ IsCommandOutput client replies (code p) o = IsCodeOutput client p replies o
 IsCommandOutput client replies (refresh p) o = IsRefreshOutput client p replies o
 IsCommandOutput client replies (password p) o = IsPasswordOutput client p replies o
 IsCommandOutput client replies (client_credentials p) o = IsClientCredentialsOutput client p replies o
+IsCommandOutput client replies (authorize p) o = IsAuthorizeOutput client p o
 
 abbrev pub bad_script : Output
 bad_script = record { lines = line (codes "bad script"); status = status.BadScript }

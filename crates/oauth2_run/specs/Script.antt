@@ -6,6 +6,7 @@ use Rattle.serde_json.specs.Find.{get, as_str, as_object}
 use Rattle.serde_json.specs.Read.{read}
 use Rattle.oauth2_run.specs.Part.{◌>>=◌, needed, listed, second}
 use Rattle.oauth2_run.specs.Client.{Client, client}
+use Rattle.oauth2_run.specs.Authorize.{AuthorizeParams, authorize_params}
 use Rattle.oauth2_run.specs.ClientCredentials.{ClientCredentialsParams, client_credentials_params}
 use Rattle.oauth2_run.specs.Code.{CodeParams, code_params}
 use Rattle.oauth2_run.specs.Password.{PasswordParams, password_params}
@@ -17,6 +18,7 @@ pub data Command : Type 0 where
   refresh : RefreshParams → Command
   password : PasswordParams → Command
   client_credentials : ClientCredentialsParams → Command
+  authorize : AuthorizeParams → Command
 
 pub record Script : Type 0 where
   pub client : Client
@@ -35,7 +37,8 @@ command_of name params =
     else (if bytes_eq name (codes "refresh") then option_map refresh (refresh_params params)
     else (if bytes_eq name (codes "password") then option_map password (password_params params)
     else (if bytes_eq name (codes "client_credentials") then option_map client_credentials (client_credentials_params params)
-    else None)))
+    else (if bytes_eq name (codes "authorize") then option_map authorize (authorize_params params)
+    else None))))
 
 unfoldable pub script_of : Data → Option Script
 script_of d = do

@@ -4,10 +4,12 @@ use Rattle.oauth2_wire.specs.Reply.{ReplyView}
 use Rattle.oauth2_run.specs.Client as client_said
 use Rattle.oauth2_run.specs.Replies as replies_said
 use Rattle.oauth2_run.specs.Script as said
+use Rattle.oauth2_run.specs.Authorize as authorize_said
 use Rattle.oauth2_run.specs.ClientCredentials as client_credentials_said
 use Rattle.oauth2_run.specs.Code as code_said
 use Rattle.oauth2_run.specs.Password as password_said
 use Rattle.oauth2_run.specs.Refresh as refresh_said
+use Rattle.oauth2_run.specs.declared.authorize.AuthorizeParams.{AuthorizeParams}
 use Rattle.oauth2_run.specs.declared.client_credentials.ClientCredentialsParams.{ClientCredentialsParams}
 use Rattle.oauth2_run.specs.declared.code.CodeParams.{CodeParams}
 use Rattle.oauth2_run.specs.declared.password.PasswordParams.{PasswordParams}
@@ -15,7 +17,7 @@ use Rattle.oauth2_run.specs.declared.refresh.RefreshParams.{RefreshParams}
 use Rattle.oauth2_run.specs.declared.script.Answer.{Answer}
 use Rattle.oauth2_run.specs.declared.script.ClientPart.{ClientPart}
 use Rattle.oauth2_run.specs.declared.script.Command.{Command}
-use Rattle.oauth2_run.specs.declared.script.Command.TheVariants.{Code, Refresh, Password, ClientCredentials}
+use Rattle.oauth2_run.specs.declared.script.Command.TheVariants.{Code, Refresh, Password, ClientCredentials, Authorize}
 use Rattle.oauth2_run.specs.declared.script.Endpoints.{Endpoints}
 use Rattle.oauth2_run.specs.declared.script.Reply.{Reply}
 use Rattle.oauth2_run.specs.declared.script.Reply.TheVariants.{Answered, Failed}
@@ -50,6 +52,16 @@ client_credentials_view p = record {
   extra = map (λ e. (string_bytes e.0, string_bytes e.1)) p.extra.items;
 }
 
+abbrev pub authorize_view : AuthorizeParams → authorize_said.AuthorizeParams
+authorize_view p = record {
+  state = string_bytes p.state;
+  challenge = p.challenge;
+  redirect = p.redirect;
+  response_type = option_map string_bytes p.response_type;
+  scopes = p.scopes.items;
+  extra = map (λ e. (string_bytes e.0, string_bytes e.1)) p.extra.items;
+}
+
 abbrev pub endpoints_view : Endpoints → client_said.Endpoints
 endpoints_view e = record { auth = e.auth; token = e.token; device = e.device; introspection = e.introspection; revocation = e.revocation }
 
@@ -74,6 +86,7 @@ command_view (Code p) = said.code (code_view p)
 command_view (Refresh p) = said.refresh (refresh_view p)
 command_view (Password p) = said.password (password_view p)
 command_view (ClientCredentials p) = said.client_credentials (client_credentials_view p)
+command_view (Authorize p) = said.authorize (authorize_view p)
 
 abbrev pub script_view : Script → said.Script
 script_view s = record {

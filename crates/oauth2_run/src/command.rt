@@ -6,6 +6,7 @@ ghost use Rattle.oauth2_run.specs.Replay.{replies_of};
 ghost use Rattle.oauth2_run.specs.Run.{IsCommandOutput};
 ghost use Rattle.oauth2_run.specs.Views.{command_view};
 
+use crate::authorize::run_authorize;
 use crate::client::ScriptClient;
 use crate::client_credentials::run_client_credentials;
 use crate::code::run_code;
@@ -37,5 +38,6 @@ pub fn run_command(
             params,
             http_client,
         ),
+        Command::Authorize(params) => run_authorize(alloc, client, params, &mut http_client.lines),
     }
 }

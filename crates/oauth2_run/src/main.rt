@@ -2,6 +2,7 @@
 #![tactic(auto)]
 
 mod answer;
+mod authorize;
 mod client;
 mod client_credentials;
 mod code;

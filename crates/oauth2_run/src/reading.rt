@@ -9,6 +9,7 @@ ghost use Rattle.oauth2_run.specs.Script as said;
 ghost use Rattle.oauth2_run.specs.Gives.{Gives};
 ghost use Rattle.oauth2_run.specs.Views.{command_view, script_view};
 
+use crate::authorize::AuthorizeParams;
 use crate::client_credentials::ClientCredentialsParams;
 use crate::code::CodeParams;
 use crate::part::{Part, listed, needed, optional};
@@ -122,6 +123,7 @@ fn command_of(alloc: Global, name: &str, params: &Value) -> Result<Command, Scri
         "code" => Ok(Command::Code(CodeParams::from_value(alloc, params)?)),
         "refresh" => Ok(Command::Refresh(RefreshParams::from_value(alloc, params)?)),
         "password" => Ok(Command::Password(PasswordParams::from_value(alloc, params)?)),
+        "authorize" => Ok(Command::Authorize(AuthorizeParams::from_value(alloc, params)?)),
         "client_credentials" => Ok(Command::ClientCredentials(ClientCredentialsParams::from_value(
             alloc, params,
         )?)),

@@ -1,5 +1,6 @@
 //! What a script says.
 
+use crate::authorize::AuthorizeParams;
 use crate::client_credentials::ClientCredentialsParams;
 use crate::code::CodeParams;
 use crate::kinds::Second;
@@ -53,6 +54,7 @@ pub enum Command {
     Refresh(RefreshParams),
     Password(PasswordParams),
     ClientCredentials(ClientCredentialsParams),
+    Authorize(AuthorizeParams),
 }
 
 #[derive(Drop)]

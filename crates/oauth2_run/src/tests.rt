@@ -10,6 +10,8 @@ use std::test::Fail;
 const SCRIPT: &str =
     "{\"client\":{\"id\":\"aaa\",\"secret\":\"bbb\",\"token_url\":\"https://example.com/token\"},\"command\":\"code\",\"params\":{\"code\":\"ccc\"},\"replies\":[{\"status\":200,\"body\":\"{\\\"access_token\\\": \\\"12/34\\\", \\\"token_type\\\": \\\"BEARER\\\"}\"}]}";
 
+const COMMAND: &str = "\"command\":\"code\",\"params\":{\"code\":\"ccc\"}";
+
 const REQUEST: &str =
     "request POST https://example.com/token\nauthorization Basic YWFhOmJiYg==\nbody \"grant_type=authorization_code&code=ccc\"\nbasic \"aaa\" \"bbb\"\npair \"grant_type\" \"authorization_code\"\npair \"code\" \"ccc\"\n";
 
@@ -244,6 +246,185 @@ fn code_exchanges(rt: HostRuntime) -> Result<(), Fail> {
         let result = run_script(rt.alloc(), &mut input, &mut written);
         assert_eq!(rt; result, Ok(status), "at {script}");
         assert_eq!(rt; written.as_slice(), lines.as_bytes(), "at {script}");
+    }
+    Ok(())
+}
+
+#[test]
+fn other_grants(rt: HostRuntime) -> Result<(), Fail> {
+    // What stands in place of the command, and the lines of its request.
+    let cases = [
+        (
+            "\"command\":\"refresh\",\"params\":{\"refresh_token\":\"r\",\"scopes\":[\"a\",\"b\"]}",
+            "request POST https://example.com/token\nauthorization Basic YWFhOmJiYg==\nbody \"grant_type=refresh_token&refresh_token=r&scope=a+b\"\nbasic \"aaa\" \"bbb\"\npair \"grant_type\" \"refresh_token\"\npair \"refresh_token\" \"r\"\npair \"scope\" \"a b\"\n",
+        ),
+        (
+            "\"command\":\"refresh\",\"params\":{\"refresh_token\":\"r\",\"extra\":[[\"a\",\"b\"]],\"verifier\":1}",
+            "request POST https://example.com/token\nauthorization Basic YWFhOmJiYg==\nbody \"grant_type=refresh_token&refresh_token=r&a=b\"\nbasic \"aaa\" \"bbb\"\npair \"grant_type\" \"refresh_token\"\npair \"refresh_token\" \"r\"\npair \"a\" \"b\"\n",
+        ),
+        (
+            "\"command\":\"password\",\"params\":{\"username\":\"user\",\"password\":\"p&w\",\"scopes\":[\"read\",\"write\"]}",
+            "request POST https://example.com/token\nauthorization Basic YWFhOmJiYg==\nbody \"grant_type=password&username=user&password=p%26w&scope=read+write\"\nbasic \"aaa\" \"bbb\"\npair \"grant_type\" \"password\"\npair \"username\" \"user\"\npair \"password\" \"p&w\"\npair \"scope\" \"read write\"\n",
+        ),
+        (
+            "\"command\":\"client_credentials\"",
+            "request POST https://example.com/token\nauthorization Basic YWFhOmJiYg==\nbody \"grant_type=client_credentials\"\nbasic \"aaa\" \"bbb\"\npair \"grant_type\" \"client_credentials\"\n",
+        ),
+        (
+            "\"command\":\"client_credentials\",\"params\":{\"scopes\":[\"\"]}",
+            "request POST https://example.com/token\nauthorization Basic YWFhOmJiYg==\nbody \"grant_type=client_credentials&scope=\"\nbasic \"aaa\" \"bbb\"\npair \"grant_type\" \"client_credentials\"\npair \"scope\" \"\"\n",
+        ),
+        (
+            "\"command\":\"client_credentials\",\"params\":{\"extra\":[[\"\\u0000\",\"~\"]]}",
+            "request POST https://example.com/token\nauthorization Basic YWFhOmJiYg==\nbody \"grant_type=client_credentials&%00=%7E\"\nbasic \"aaa\" \"bbb\"\npair \"grant_type\" \"client_credentials\"\npair \"\\u0000\" \"~\"\n",
+        ),
+    ];
+    for (command, request) in cases {
+        let Some((before, after)) = SCRIPT.split_once(COMMAND) else {
+            assert!(rt; false, "no command");
+            return Ok(());
+        };
+        let script = format!(in rt.alloc(); "{before}{command}{after}")?;
+        let lines = format!(in rt.alloc(); "{request}{TOKEN}")?;
+        let mut written = Vec::new(rt.alloc());
+        let mut input = script.as_bytes();
+        let result = run_script(rt.alloc(), &mut input, &mut written);
+        assert_eq!(rt; result, Ok(RunStatus::Answered), "at {script}");
+        assert_eq!(rt; written.as_slice(), lines.as_bytes(), "at {script}");
+    }
+    Ok(())
+}
+
+#[test]
+fn clients_without_a_secret(rt: HostRuntime) -> Result<(), Fail> {
+    let cases = [
+        (
+            "\"command\":\"client_credentials\"",
+            "request POST https://example.com/token\nauthorization none\nbody \"grant_type=client_credentials&client_id=aaa\"\nbasic none\npair \"grant_type\" \"client_credentials\"\npair \"client_id\" \"aaa\"\n",
+        ),
+        (
+            "\"command\":\"client_credentials\",\"params\":{\"extra\":[[\"\",\"\"]]}",
+            "request POST https://example.com/token\nauthorization none\nbody \"grant_type=client_credentials&client_id=aaa&=\"\nbasic none\npair \"grant_type\" \"client_credentials\"\npair \"client_id\" \"aaa\"\npair \"\" \"\"\n",
+        ),
+        (
+            "\"command\":\"client_credentials\",\"params\":{\"extra\":[[\"x y\",\"é&=\"]]}",
+            "request POST https://example.com/token\nauthorization none\nbody \"grant_type=client_credentials&client_id=aaa&x+y=%C3%A9%26%3D\"\nbasic none\npair \"grant_type\" \"client_credentials\"\npair \"client_id\" \"aaa\"\npair \"x y\" \"é&=\"\n",
+        ),
+    ];
+    for (command, request) in cases {
+        let script = format!(in rt.alloc();
+            "{{\"client\":{{\"id\":\"aaa\",\"token_url\":\"https://example.com/token\"}},{command},\"replies\":[{{\"fail\":true}}]}}",
+        )?;
+        let lines = format!(in rt.alloc(); "{request}answer fault \"Request failed\"\n")?;
+        let mut written = Vec::new(rt.alloc());
+        let mut input = script.as_bytes();
+        let result = run_script(rt.alloc(), &mut input, &mut written);
+        assert_eq!(rt; result, Ok(RunStatus::Fault), "at {script}");
+        assert_eq!(rt; written.as_slice(), lines.as_bytes(), "at {script}");
+    }
+    Ok(())
+}
+
+#[test]
+fn authorization_urls(rt: HostRuntime) -> Result<(), Fail> {
+    // Members of the client, further parameters, and the URL.
+    let cases = [
+        (
+            "\"auth_url\":\"https://example.com/auth\"",
+            "",
+            "https://example.com/auth?response_type=code&client_id=aaa&state=csrf_token",
+        ),
+        (
+            "\"auth_url\":\"https://example.com/auth\"",
+            ",\"scopes\":[\"\"]",
+            "https://example.com/auth?response_type=code&client_id=aaa&state=csrf_token",
+        ),
+        (
+            "\"auth_url\":\"https://example.com/auth#x\"",
+            "",
+            "https://example.com/auth?response_type=code&client_id=aaa&state=csrf_token#x",
+        ),
+        (
+            "\"auth_url\":\"https://example.com/auth?foo=bar\"",
+            "",
+            "https://example.com/auth?foo=bar&response_type=code&client_id=aaa&state=csrf_token",
+        ),
+        (
+            "\"auth_url\":\"https://example.com/auth\",\"redirect\":\"https://localhost/redirect\"",
+            ",\"redirect\":\"https://localhost/alternative\"",
+            "https://example.com/auth?response_type=code&client_id=aaa&state=csrf_token&redirect_uri=https%3A%2F%2Flocalhost%2Falternative",
+        ),
+        (
+            "\"auth_url\":\"https://example.com/auth\"",
+            ",\"response_type\":\"code token\",\"extra\":[[\"foo\",\"bar\"]]",
+            "https://example.com/auth?response_type=code+token&client_id=aaa&state=csrf_token&foo=bar",
+        ),
+        (
+            "\"auth_url\":\"https://example.com/auth\",\"redirect\":\"https://localhost/redirect\"",
+            ",\"verifier\":\"dBjftJeZ4CVP-mB92K27uhbUJU1p1r_wW1gFWFOEjXk\",\"scopes\":[\"read\"]",
+            "https://example.com/auth?response_type=code&client_id=aaa&state=csrf_token&code_challenge=E9Melhoa2OwvFrEMTJguCHaoeK1t8URWbuGJSstw-cM&code_challenge_method=S256&redirect_uri=https%3A%2F%2Flocalhost%2Fredirect&scope=read",
+        ),
+        (
+            "\"auth_url\":\"https://example.com/auth\"",
+            ",\"scopes\":[\"\",\"\"]",
+            "https://example.com/auth?response_type=code&client_id=aaa&state=csrf_token&scope=+",
+        ),
+    ];
+    for (client, params, url) in cases {
+        let script = format!(in rt.alloc();
+            "{{\"client\":{{\"id\":\"aaa\",{client}}},\"command\":\"authorize\",\"params\":{{\"state\":\"csrf_token\"{params}}}}}",
+        )?;
+        let lines = format!(in rt.alloc(); "url \"{url}\"\nanswer ok \"csrf_token\"\n")?;
+        let mut written = Vec::new(rt.alloc());
+        let mut input = script.as_bytes();
+        let result = run_script(rt.alloc(), &mut input, &mut written);
+        assert_eq!(rt; result, Ok(RunStatus::Answered), "at {script}");
+        assert_eq!(rt; written.as_slice(), lines.as_bytes(), "at {script}");
+    }
+    Ok(())
+}
+
+#[test]
+fn no_authorization_endpoint(rt: HostRuntime) -> Result<(), Fail> {
+    let mut input =
+        b"{\"client\":{\"id\":\"aaa\"},\"command\":\"authorize\",\"params\":{\"state\":\"s\"}}".as_slice();
+    let mut written = Vec::new(rt.alloc());
+    let result = run_script(rt.alloc(), &mut input, &mut written);
+    assert_eq!(rt; result, Ok(RunStatus::Fault));
+    assert_eq!(rt;
+        written.as_slice(),
+        b"answer fault \"No authorization endpoint URL specified\"\n".as_slice()
+    );
+    Ok(())
+}
+
+#[test]
+fn bad_parameters_of_other_grants(rt: HostRuntime) -> Result<(), Fail> {
+    let cases = [
+        "\"command\":\"refresh\",\"params\":{}",
+        "\"command\":\"refresh\",\"params\":{\"refresh_token\":\"r\",\"scopes\":[1]}",
+        "\"command\":\"refresh\",\"params\":{\"refresh_token\":\"r\",\"scopes\":null}",
+        "\"command\":\"password\",\"params\":{\"username\":\"u\"}",
+        "\"command\":\"password\",\"params\":{\"username\":null,\"password\":\"p\"}",
+        "\"command\":\"client_credentials\",\"params\":{\"extra\":1}",
+        "\"command\":\"authorize\",\"params\":{}",
+        "\"command\":\"introspection\",\"params\":{\"token\":\"t\"}",
+    ];
+    for command in cases {
+        let Some((before, after)) = SCRIPT.split_once(COMMAND) else {
+            assert!(rt; false, "no command");
+            return Ok(());
+        };
+        let script = format!(in rt.alloc(); "{before}{command}{after}")?;
+        let mut written = Vec::new(rt.alloc());
+        let mut input = script.as_bytes();
+        let result = run_script(rt.alloc(), &mut input, &mut written);
+        assert_eq!(rt; result, Ok(RunStatus::BadScript), "at {script}");
+        assert_eq!(rt;
+            written.as_slice(),
+            b"bad script\n".as_slice(),
+            "at {script}"
+        );
     }
     Ok(())
 }

@@ -1,3 +1,4 @@
+use Rattle.std.proofs.lemmas.Result.{IfOk-weaker}
 use Rattle.oauth2_run.proofs.command.run_command.Goals as goal
 
 pub returns-in-Code : goal.returns-in-Code
@@ -11,3 +12,6 @@ returns-in-Password c = rw c.in-Password.is c.run_password.ensures
 
 pub returns-in-ClientCredentials : goal.returns-in-ClientCredentials
 returns-in-ClientCredentials c = rw c.in-ClientCredentials.is c.run_client_credentials.ensures
+
+pub returns-in-Authorize : goal.returns-in-Authorize
+returns-in-Authorize c = IfOk-weaker c.run_authorize.result _ _ (λ status adds. λ fed. rw c.in-Authorize.is adds) c.run_authorize.ensures

@@ -1,0 +1,45 @@
+use Rattle.std.proofs.Common.{◌≡◌, ◌++◌, ℕ, List, subst, string_bytes, codes, option_map, unwrap_or, refl}
+use Rattle.std.specs.Prelude.{IfSome}
+use Rattle.std.proofs.lemmas.Result.{IfOk-weaker}
+use Rattle.oauth2.specs.Authorization.{Authorization}
+use Rattle.oauth2.specs.Missing.{IsMissing}
+use Rattle.oauth2_run.specs.Authorize.{AuthorizeParams, new_authorization, authorization, IsUrlShown}
+use Rattle.oauth2_run.specs.Client.{given_or}
+use Rattle.oauth2_run.specs.Views.{authorize_view}
+use Rattle.oauth2_run.proofs.Commands.{given_or-none, missing_told, command_told}
+use Rattle.oauth2_run.proofs.authorize.run_authorize.Goals as goal
+
+-- the request with what the command gives
+abbrev given : AuthorizeParams → Authorization → Authorization
+given p started = record {
+  auth_url = started.auth_url;
+  client_id = started.client_id;
+  state = started.state;
+  response_type = unwrap_or p.response_type started.response_type;
+  pkce_challenge = given_or p.challenge started.pkce_challenge;
+  redirect_url = given_or p.redirect started.redirect_url;
+  scopes = started.scopes ++ p.scopes;
+  extra_params = started.extra_params ++ p.extra;
+}
+
+pub returns-in_ok-asked-in-Ok : goal.returns-in_ok-asked-in-Ok
+returns-in_ok-asked-in-Ok c =
+    let p = authorize_view c.args.params in
+    let asked : c.in_ok-asked-in-Ok.asked ≡ given (authorize_view c.args.params) c.in-Ok.request =
+    rw (c.in_ok-asked-in-Ok.ensures, c.in_ok-scoped-in-Ok.ensures, c.in_ok-typed-in-Ok.ensures, c.with_redirect-redirected.ensures, c.with_challenge-challenged.ensures, c.as_slice.ensures.value) in
+    let there : IfSome c.args.client.now.auth_url (λ u. c.in-Ok.request ≡ new_authorization c.args.client.now u p.state) =
+    subst (λ (t : List ℕ). IfSome c.args.client.now.auth_url (λ u. c.in-Ok.request ≡ new_authorization c.args.client.now u t)) c.new.ensures c.in-Ok.ensures.there in
+    IfOk-weaker c.show_url.result _ _
+    (λ status adds.
+    command_told (codes "authorization") IsUrlShown (λ u. new_authorization c.args.client.now u p.state) (given p) (λ u. authorization c.args.client.now p u)
+    (string_bytes c.args.lines.now) (string_bytes c.show_url.new.lines) status (λ u. rw (given_or-none p.challenge) refl) c.args.client.now.auth_url
+    c.in-Ok.request c.in_ok-asked-in-Ok.asked there c.in-Ok.ensures.missing asked adds)
+    c.show_url.ensures
+
+pub returns-in-Err : goal.returns-in-Err
+returns-in-Err c =
+    IfOk-weaker c.show_missing.result _ _
+    (λ status printed.
+    missing_told (codes "authorization") _ c.args.client.now.auth_url (string_bytes c.args.lines.now) (string_bytes c.show_missing.new.lines) status
+    (IsMissing (codes "authorization") c.in-Err.error) c.in-Err.ensures.there c.in-Err.ensures.missing (printed (codes "authorization")))
+    c.show_missing.ensures
