@@ -6,7 +6,7 @@ use Rattle.serde_json.specs.Data.{Data, string, object, no_members}
 use Rattle.serde_json.specs.Written.{has_float, compact_text}
 use Rattle.oauth2_json.specs.Codes.{token_code, token_code_text}
 use Rattle.oauth2_json.specs.ErrorCodes.{error_code, error_code_text}
-use Rattle.oauth2_json.specs.ErrorResponse.{error_text}
+use Rattle.oauth2_json.specs.ErrorResponse.{error_text, parts_of}
 use Rattle.oauth2_json.specs.declared.read.ParseFault.{ParseFault}
 use Rattle.oauth2_replies.specs.Token.{token_writing}
 use Rattle.oauth2_wire.specs.Display.{fault_text}
@@ -18,7 +18,7 @@ use Rattle.oauth2_run.specs.declared.status.RunStatus.TheVariants as status
 use Rattle.oauth2_run.proofs.NoFloats.{token_data-no_float}
 
 abbrev code_display : ErrorResponse → Option (List ℕ)
-code_display r = error_text (Some (error_code_text (error_code r.error))) r
+code_display r = error_text (Some (error_code_text (error_code r.error))) (parts_of (λ t. t) r)
 
 pub fault_shown : (fault : Fault) (text old new : List ℕ) → ((f : ParseFault) (body : Vec ℕ Global) → fault ≡ Parse f body → ⊥)
     → IfSome (fault_text code_display fault) (λ bs. text ≡ bs) → new ≡ old ++ fault_line text → Prints old new status.Fault (fault_output fault)
