@@ -8,7 +8,7 @@ ghost use Rattle.oauth2_run.specs.Views.{script_view};
 
 use crate::client::client_of;
 use crate::command::run_command;
-use crate::input::read_input;
+use crate::input::{Source, read_input};
 use crate::reading::script_in;
 use crate::replay::ScriptedClient;
 use crate::script::Script;
@@ -70,7 +70,8 @@ pub fn run_script<R: Read, W: Write>(
     // Where the input can't be read, nothing is written.
     ensures unread { result ≡ Err RunFault.Read → writer.new ≡ writer.old }
 {
-    let input = read_input(alloc, reader)?;
+    let mut source = Source::new(&mut *reader);
+    let input = read_input(alloc, &mut source)?;
     let (lines, status) = output_of(alloc, input.as_slice())?;
     if writer.write_all(lines.as_bytes()).is_err() {
         return Err(RunFault::Write);
