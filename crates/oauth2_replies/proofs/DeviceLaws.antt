@@ -1,22 +1,22 @@
 -- A device authorization response reads back.
-use Rattle.std.proofs.Common.{◌≡◌, ℕ, List, [], ◌∷◌, false, Option, Some, None, option_map, Ok, Err, codes, refl, sym, ap, subst, ◌∙◌}
+use Rattle.std.proofs.Common.{◌≡◌, ℕ, List, false, Option, Some, None, option_map, Ok, Err, codes, refl, sym, subst}
 use Rattle.serde_json.specs.Data.{Data, Members, null, boolean, number, unsigned, string, array, object}
 use Rattle.serde_json.specs.Find.{get_member}
 use Rattle.url.specs.Parser.{Parsed, parse_url}
 use Rattle.url.specs.Parts.{Parts}
 use Rattle.oauth2_urls.specs.Addressed.{Addressed}
-use Rattle.oauth2_json.specs.Reading.{Reading, whole, at_member, ErrsAs, fault_of}
+use Rattle.oauth2_json.specs.Reading.{Reading, whole, at_member, ErrsAs}
 use Rattle.oauth2_json.specs.declared.read.ReadError.{ReadError}
 use Rattle.oauth2_json.specs.declared.read.ReadError.TheVariants as errors
 use Rattle.oauth2_json.specs.declared.read.ParseCause.TheVariants as cause
 use Rattle.oauth2_json.specs.Writing.{Writing, write_then}
 use Rattle.oauth2_json.specs.Members.{members_of_object, needed, either_name, others, clashes, beside}
-use Rattle.oauth2_json.specs.Values.{text, url, url_text}
+use Rattle.oauth2_json.specs.Values.{text, url}
 use Rattle.oauth2_json.specs.Puts.{put_all}
 use Rattle.oauth2_json.proofs.Puts.{found, rest}
 use Rattle.oauth2_json.proofs.Objects.{beside_taken, optional-text}
 use Rattle.oauth2_replies.specs.Kept.{AreFieldsKept}
-use Rattle.oauth2_replies.specs.Device.{DeviceAuthorization, device_authorization, device_seen, own_names, own_rows, device_rows, device_row, device_reading, device_writing, IsAddress}
+use Rattle.oauth2_replies.specs.Device.{DeviceAuthorization, device_seen, own_names, own_rows, device_rows, device_row, device_reading, device_writing, IsAddress}
 use Rattle.oauth2_replies.specs.DeviceRows.{AreRows, of_rows}
 use Rattle.oauth2_replies.specs.declared.device_json.Rows.{Rows}
 

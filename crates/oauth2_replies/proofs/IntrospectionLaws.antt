@@ -1,5 +1,5 @@
 -- An introspection response reads back.
-use Rattle.std.proofs.Common.{◌≡◌, ℕ, List, [], ◌∷◌, false, Option, Some, None, option_map, Ok, codes, refl}
+use Rattle.std.proofs.Common.{◌≡◌, ℕ, List, false, Option, Some, None, option_map, Ok, codes, refl}
 use Rattle.serde_json.specs.Data.{Data, Members, boolean, string, array, object}
 use Rattle.serde_json.specs.Find.{get_member}
 use Rattle.oauth2_json.specs.Reading.{Reading}
@@ -10,9 +10,9 @@ use Rattle.oauth2_json.specs.Words.{joined}
 use Rattle.oauth2_json.specs.Puts.{put_all}
 use Rattle.oauth2_json.proofs.Puts.{found, rest}
 use Rattle.oauth2_json.proofs.Objects.{beside_taken, optional-text}
-use Rattle.oauth2_replies.specs.Kept.{IsTypeKept, AreScopesKept, AreFieldsKept}
-use Rattle.oauth2_replies.specs.Introspection.{Introspection, introspection, introspection_seen, own_names, own_rows, introspection_row, introspection_reading, introspection_writing, IsTimeKept, IsSomeTypeKept, IsIntrospectionKept}
-use Rattle.oauth2_replies.specs.IntrospectionRows.{AreRows, of_rows, IsInstant, AreInstants}
+use Rattle.oauth2_replies.specs.Kept.{AreScopesKept}
+use Rattle.oauth2_replies.specs.Introspection.{Introspection, introspection_seen, own_names, own_rows, introspection_row, introspection_reading, introspection_writing, IsTimeKept, IsSomeTypeKept, IsIntrospectionKept}
+use Rattle.oauth2_replies.specs.IntrospectionRows.{AreRows, of_rows, AreInstants}
 use Rattle.oauth2_replies.specs.declared.introspection_json.Rows.{Rows}
 use Rattle.oauth2_replies.proofs.Optionals.{optional-words, optional-texts, optional-time}
 

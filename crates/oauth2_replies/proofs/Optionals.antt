@@ -1,5 +1,5 @@
 -- Optional members, read back.
-use Rattle.std.proofs.Common.{◌≡◌, ◌≢◌, ℕ, ℤ, pos, negsuc, ◌*ℤ◌, neg_ℤ, int_lt, List, [], ◌∷◌, map, Bool, true, false, Vec, Global, Option, Some, None, option_map, Ok, refl, ap, arith}
+use Rattle.std.proofs.Common.{◌≡◌, ◌≢◌, ℕ, ℤ, pos, negsuc, neg_ℤ, int_lt, List, [], ◌∷◌, map, Bool, true, false, Vec, Global, Option, Some, None, option_map, Ok, refl, arith}
 use Rattle.std.proofs.lemmas.List.{map-id}
 use Rattle.serde_json.specs.Data.{string, array}
 use Rattle.serde_json.specs.Find.{of_integer}

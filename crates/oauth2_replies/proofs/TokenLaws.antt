@@ -1,5 +1,5 @@
 -- A token response reads back.
-use Rattle.std.proofs.Common.{◌≡◌, ℕ, List, [], ◌∷◌, map, Option, Some, None, option_map, Ok, codes, false, refl}
+use Rattle.std.proofs.Common.{◌≡◌, ℕ, List, map, Some, option_map, Ok, codes, false, refl}
 use Rattle.std.specs.Char.{to_ascii_lowercase}
 use Rattle.serde_json.specs.Data.{Data, Members, number, unsigned, string, object}
 use Rattle.serde_json.specs.Find.{get_member}
@@ -10,8 +10,8 @@ use Rattle.oauth2_json.specs.Words.{joined}
 use Rattle.oauth2_json.specs.Puts.{put_all}
 use Rattle.oauth2_json.proofs.Puts.{found, rest}
 use Rattle.oauth2_json.proofs.Objects.{beside_taken, optional-text, optional-number}
-use Rattle.oauth2_replies.specs.Kept.{IsTypeKept, AreScopesKept, AreFieldsKept}
-use Rattle.oauth2_replies.specs.Token.{Token, token, token_seen, own_names, own_rows, token_row, token_reading, token_writing, IsTokenKept}
+use Rattle.oauth2_replies.specs.Kept.{AreScopesKept}
+use Rattle.oauth2_replies.specs.Token.{Token, token_seen, own_names, own_rows, token_row, token_reading, token_writing, IsTokenKept}
 use Rattle.oauth2_replies.specs.TokenRows.{AreRows, of_rows}
 use Rattle.oauth2_replies.specs.declared.token_json.Rows.{Rows}
 use Rattle.oauth2_replies.proofs.Optionals.{optional-words}

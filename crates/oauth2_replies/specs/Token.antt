@@ -1,5 +1,5 @@
 -- RFC 6749, 5.1: the members of a token response.
-use Rattle.std.specs.Prelude.{◌≡◌, ℕ, List, [], ◌∷◌, Option, Some, Ok, codes, option_map}
+use Rattle.std.specs.Prelude.{ℕ, List, [], ◌∷◌, Option, Some, Ok, codes, option_map}
 use Rattle.serde_json.specs.Data.{Data, Members, number, unsigned, string, object}
 use Rattle.serde_json.specs.Find.{get_member}
 use Rattle.oauth2_json.specs.Reading.{Reading, read_then, ◌⊛◌}

@@ -1,8 +1,7 @@
-use Rattle.std.proofs.Common.{◌≡◌, List, ℕ, [], ◌∷◌, ◌∙◌, codes, refl, ap}
-use Rattle.serde_json.specs.Data.{Members}
+use Rattle.std.proofs.Common.{[], ◌∷◌, ◌∙◌, codes, refl, ap}
 use Rattle.serde_json.specs.Find.{get_member}
 use Rattle.serde_json.specs.View.{members_view}
-use Rattle.oauth2_json.specs.Members.{without, others}
+use Rattle.oauth2_json.specs.Members.{without}
 use Rattle.oauth2_json.proofs.Objects.{get_member-others}
 use Rattle.oauth2_replies.proofs.device_json.taken.Goals as goal
 
