@@ -4,6 +4,8 @@ use Rattle.oauth2_wire.specs.declared.error.ConfigurationError.{ConfigurationErr
 use Rattle.oauth2_wire.specs.declared.error.ConfigurationError.TheVariants.{MissingUrl, InsecureUrl}
 use Rattle.oauth2_wire.specs.declared.error.RequestTokenError.{RequestTokenError}
 use Rattle.oauth2_wire.specs.declared.error.RequestTokenError.TheVariants.{ServerResponse, Request, Parse, Other, Memory}
+use Rattle.oauth2_wire.specs.declared.error.HttpClientError.{HttpClientError}
+use Rattle.oauth2_wire.specs.declared.error.HttpClientError.TheVariants as client
 
 -- the text of an error of the configuration
 abbrev pub configuration_text : ConfigurationError → Option (List ℕ)
@@ -19,3 +21,11 @@ module _ {RE T : Type 0} where
   fault_text text (Parse _ _) = Some (codes "Failed to parse server response")
   fault_text text (Other given) = Some (codes "Other error: " ++ string_bytes given)
   fault_text text (Memory _) = Some (codes "Out of memory")
+
+module _ {RE : Type 0} where
+  -- the text of an error of a client
+  abbrev pub client_text : HttpClientError RE → Option (List ℕ)
+  client_text (client.Reqwest _) = Some (codes "client error")
+  client_text (client.Http _) = Some (codes "HTTP error")
+  client_text (client.Io _) = Some (codes "I/O error")
+  client_text (client.Other given) = Some (string_bytes given)

@@ -40,8 +40,7 @@ impl EncodedText {
         ensures ok { OnOk result (self.new ≡ self.old ++ codes " " ++ word.now) }
         ensures err { OnErr result (self.new ≡ self.old) }
     {
-        let word = encoded_word(*self.text.allocator(), word)?;
-        self.text.push_str(word.as_str())?;
+        append_word(&mut self.text, word)?;
         Ok(())
     }
 
@@ -54,12 +53,17 @@ impl EncodedText {
     }
 }
 
-// The encoding of a space and a word.
-fn encoded_word(alloc: Global, word: &str) -> Result<String, AllocError>
-    ensures { IfOk result (λ t. string_bytes t ≡ encoded_text (codes " " ++ word.now)) }
+// Appends the encoding of a space and a word, or leaves what there was.
+fn append_word(text: &mut String, word: &str) -> Result<(), AllocError>
+    ensures ok { OnOk result (string_bytes text.new ≡ string_bytes text.old ++ encoded_text (codes " " ++ word.now)) }
+    ensures err { OnErr result (string_bytes text.new ≡ string_bytes text.old) }
 {
-    let mut text = String::new(alloc);
-    append_encoded(&mut text, " ")?;
-    append_encoded(&mut text, word)?;
-    Ok(text)
+    text.push('+')?;
+    match append_encoded(text, word) {
+        Ok(()) => Ok(()),
+        Err(e) => {
+            let _ = text.pop();
+            Err(e)
+        }
+    }
 }

@@ -91,15 +91,59 @@ impl<RE, T> From<RE> for RequestTokenError<RE, T> {
 #[derive(Debug, Drop, Error)]
 pub enum HttpClientError<RE> {
     /// The client library's error.
-    #[error("client error")]
-    Reqwest(#[from] Box<RE>),
+    Reqwest(Box<RE>),
     /// A part of a request or a reply that is none.
-    #[error("HTTP error")]
-    Http(#[from] http::Error),
+    Http(http::Error),
     /// An error of input or output.
-    #[error("I/O error")]
-    Io(#[from] io::Error),
+    Io(io::Error),
     /// Another error, in words.
-    #[error("{0}")]
     Other(String),
+}
+
+impl<RE> fmt::Display for HttpClientError<RE> {
+    ghost use Rattle.oauth2_wire.specs.Display.{client_text};
+
+    ghost output = { client_text };
+
+    fn fmt<W: fmt::Write>(&self, f: &mut fmt::Formatter<W>) -> fmt::Result {
+        match self {
+            HttpClientError::Reqwest(_) => f.write_str("client error"),
+            HttpClientError::Http(_) => f.write_str("HTTP error"),
+            HttpClientError::Io(_) => f.write_str("I/O error"),
+            HttpClientError::Other(text) => f.write_str(text.as_str()),
+        }
+    }
+}
+
+impl<RE> From<Box<RE>> for HttpClientError<RE> {
+    ghost use Rattle.std.specs.Prelude.{◌≡◌};
+    ghost use Rattle.oauth2_wire.specs.declared.error.HttpClientError.TheVariants.{Reqwest};
+
+    ghost from_gives = { λ error given. given ≡ Reqwest error };
+
+    fn from(error: Box<RE>) -> HttpClientError<RE> {
+        HttpClientError::Reqwest(error)
+    }
+}
+
+impl<RE> From<http::Error> for HttpClientError<RE> {
+    ghost use Rattle.std.specs.Prelude.{◌≡◌};
+    ghost use Rattle.oauth2_wire.specs.declared.error.HttpClientError.TheVariants.{Http};
+
+    ghost from_gives = { λ error given. given ≡ Http error };
+
+    fn from(error: http::Error) -> HttpClientError<RE> {
+        HttpClientError::Http(error)
+    }
+}
+
+impl<RE> From<io::Error> for HttpClientError<RE> {
+    ghost use Rattle.std.specs.Prelude.{◌≡◌};
+    ghost use Rattle.oauth2_wire.specs.declared.error.HttpClientError.TheVariants.{Io};
+
+    ghost from_gives = { λ error given. given ≡ Io error };
+
+    fn from(error: io::Error) -> HttpClientError<RE> {
+        HttpClientError::Io(error)
+    }
 }
