@@ -1,5 +1,5 @@
 -- What it means that pairs were appended to a URL's query.
-use Rattle.std.specs.Prelude.{◌≡◌, ℕ, List, [], ◌++◌, unwrap_or, IsUtf8}
+use Rattle.std.specs.Prelude.{◌≡◌, List, [], ◌++◌, unwrap_or}
 use Rattle.form_urlencoded.specs.Form.{parse, IsPrefix}
 use Rattle.url.specs.Parts.{Parts}
 use Rattle.oauth2_wire.specs.Pairs.{Pair}
@@ -14,7 +14,3 @@ pub record ExtendsQuery (old new : Parts) (pairs : List Pair) : Type 0 where
   pub form : query_form new ≡ query_form old ++ pairs
   pub begins : IsPrefix (unwrap_or old.query []) (unwrap_or new.query [])
   pub others : new ≡ record old { query = new.query }
-
--- both texts of a pair are UTF-8
-abbrev pub IsTextPair : Pair → Type 0
-IsTextPair pair = IsUtf8 pair.0 × IsUtf8 pair.1

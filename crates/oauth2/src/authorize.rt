@@ -12,7 +12,7 @@ ghost use Rattle.oauth2.specs.Query.{ExtendsQuery};
 
 use crate::client::Client;
 use crate::endpoint::{EndpointMaybeSet, EndpointSet, EndpointState};
-use crate::query::append_query_pair;
+use crate::query::QueryPairs;
 use oauth2_types::{ClientId, CsrfToken, PkceCodeChallenge, ResponseType, Scope};
 use oauth2_urls::AuthUrl;
 use oauth2_wire::{ConfigurationError, ParamText, RedirectRef};
@@ -133,48 +133,73 @@ impl<'a> AuthorizationRequest<'a> {
         ensures state { IfOk result (λ r. r.1 ≡ self.entry.state) }
         ensures refusal { IfErr result IsOutOfRoom }
     {
-        let mut url = self.auth_url.url().clone()?;
-        append_query_pair(&mut url, "response_type", self.response_type.as_str())?;
-        append_query_pair(&mut url, "client_id", self.client_id.as_str())?;
-        append_query_pair(&mut url, "state", self.state.secret().as_str())?;
-        append_challenge(&mut url, &self.pkce_challenge)?;
-        append_redirect(&mut url, &self.redirect_url)?;
-        append_scopes(alloc, &mut url, &self.scopes)?;
-        append_params(&mut url, &self.extra_params)?;
+        let url = self.extended_url(alloc)?;
         Ok((url, self.state))
     }
+
+    // The endpoint's URL, with the request's pairs after its own.
+    fn extended_url(&self, alloc: Global) -> Result<Url, ParseError>
+        ensures ok { IfOk result (λ url. ExtendsQuery self.now.auth_url.url url (query_pairs self.now)) }
+        ensures refusal { IfErr result IsOutOfRoom }
+    {
+        let scope = joined(alloc, &self.scopes)?;
+        let mut pairs = QueryPairs::new(alloc);
+        pairs.push("response_type", self.response_type.as_str())?;
+        pairs.push("client_id", self.client_id.as_str())?;
+        pairs.push("state", self.state.secret().as_str())?;
+        push_challenge(&mut pairs, &self.pkce_challenge)?;
+        push_redirect(&mut pairs, &self.redirect_url)?;
+        push_scope(&mut pairs, scope.as_str())?;
+        push_params(&mut pairs, &self.extra_params)?;
+        let mut url = self.auth_url.url().clone()?;
+        pairs.append_to(&mut url)?;
+        Ok(url)
+    }
 }
 
-fn append_challenge(url: &mut Url, challenge: &Option<PkceCodeChallenge>) -> Result<(), ParseError>
-    ensures ok { OnOk result (ExtendsQuery url.old url.new (challenge_pairs challenge.now)) }
-    ensures refusal { IfErr result IsOutOfRoom }
+fn push_challenge<'a>(
+    pairs: &mut QueryPairs<'a>,
+    challenge: &'a Option<PkceCodeChallenge>,
+) -> Result<(), AllocError>
+    ensures { OnOk result (pairs.new ≡ pairs.old ++ challenge_pairs challenge.now) }
 {
     if let Some(challenge) = challenge {
-        append_query_pair(url, "code_challenge", challenge.as_str())?;
-        append_query_pair(url, "code_challenge_method", challenge.method().as_str())?;
+        pairs.push("code_challenge", challenge.as_str())?;
+        pairs.push("code_challenge_method", challenge.method().as_str())?;
     }
     Ok(())
 }
 
-fn append_redirect(url: &mut Url, redirect: &Option<RedirectRef<'_>>) -> Result<(), ParseError>
-    ensures ok { let text = option_map given_text (option_map redirect_of redirect.now) in
-        OnOk result (ExtendsQuery url.old url.new (optional_pair (codes "redirect_uri") text)) }
-    ensures refusal { IfErr result IsOutOfRoom }
+fn push_redirect<'a>(
+    pairs: &mut QueryPairs<'a>,
+    redirect: &'a Option<RedirectRef<'a>>,
+) -> Result<(), AllocError>
+    ensures { let text = option_map given_text (option_map redirect_of redirect.now) in
+        OnOk result (pairs.new ≡ pairs.old ++ optional_pair (codes "redirect_uri") text) }
 {
     if let Some(redirect) = redirect {
-        append_query_pair(url, "redirect_uri", redirect.redirect_url().as_str())?;
+        pairs.push("redirect_uri", redirect.redirect_url().as_str())?;
     }
     Ok(())
 }
 
-fn append_scopes(alloc: Global, url: &mut Url, scopes: &[Scope]) -> Result<(), ParseError>
-    ensures ok { let text = join_by (λ s. s) (codes " ") scopes.now in
-        OnOk result (ExtendsQuery url.old url.new (scope_pairs text)) }
-    ensures refusal { IfErr result IsOutOfRoom }
+fn push_scope<'a>(pairs: &mut QueryPairs<'a>, scope: &'a str) -> Result<(), AllocError>
+    ensures { OnOk result (pairs.new ≡ pairs.old ++ scope_pairs scope.now) }
 {
-    let text = joined(alloc, scopes)?;
-    if !text.is_empty() {
-        append_query_pair(url, "scope", text.as_str())?;
+    if !scope.is_empty() {
+        pairs.push("scope", scope)?;
+    }
+    Ok(())
+}
+
+fn push_params<'a>(
+    pairs: &mut QueryPairs<'a>,
+    params: &'a [(ParamText<'a>, ParamText<'a>)],
+) -> Result<(), AllocError>
+    ensures { OnOk result (pairs.new ≡ pairs.old ++ map param_pair params.now) }
+{
+    for (name, value) in params {
+        pairs.push(name.as_str(), value.as_str())?;
     }
     Ok(())
 }
@@ -188,27 +213,17 @@ fn joined(alloc: Global, scopes: &[Scope]) -> Result<String, AllocError>
         return Ok(text);
     };
     text.push_str(first.as_str())?;
-    push_scopes(&mut text, rest)?;
+    append_spaced(&mut text, rest)?;
     Ok(text)
 }
 
 // Appends the scopes with a space before each.
-fn push_scopes(text: &mut String, scopes: &[Scope]) -> Result<(), AllocError>
+fn append_spaced(text: &mut String, scopes: &[Scope]) -> Result<(), AllocError>
     ensures { OnOk result (string_bytes text.new ≡ string_bytes text.old ++ flat_map (λ s. codes " " ++ s) scopes.now) }
 {
     for scope in scopes {
         text.push(' ')?;
         text.push_str(scope.as_str())?;
-    }
-    Ok(())
-}
-
-fn append_params(url: &mut Url, params: &[(ParamText<'_>, ParamText<'_>)]) -> Result<(), ParseError>
-    ensures ok { OnOk result (ExtendsQuery url.old url.new (map param_pair params.now)) }
-    ensures refusal { IfErr result IsOutOfRoom }
-{
-    for (name, value) in params {
-        append_query_pair(url, name.as_str(), value.as_str())?;
     }
     Ok(())
 }

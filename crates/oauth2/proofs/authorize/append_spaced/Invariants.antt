@@ -1,7 +1,7 @@
 use Rattle.std.proofs.Common.{◌≡◌, ◌++◌, take}
 use Rattle.std.specs.Prelude.{string_bytes, codes}
 use Rattle.std.specs.List.{flat_map}
-use Rattle.oauth2.proofs.authorize.push_scopes.Given as goal
+use Rattle.oauth2.proofs.authorize.append_spaced.Given as goal
 
 abbrev pub invariant-loop-scope : goal.invariant-loop-scope
 invariant-loop-scope l =
