@@ -5,16 +5,18 @@ use Rattle.serde_json.specs.Find.{get_member}
 use Rattle.url.specs.Parser.{Parsed, parse_url}
 use Rattle.url.specs.Parts.{Parts}
 use Rattle.oauth2_urls.specs.Addressed.{Addressed}
-use Rattle.oauth2_json.specs.Reading.{Reading, whole, at_member}
+use Rattle.oauth2_json.specs.Reading.{Reading, whole, at_member, ErrsAs}
+use Rattle.oauth2_json.specs.declared.read.ReadError.{ReadError}
+use Rattle.oauth2_json.specs.declared.read.ReadError.TheVariants as errors
 use Rattle.oauth2_json.specs.declared.read.ParseCause.TheVariants as cause
 use Rattle.oauth2_json.specs.Writing.{Writing, write_then}
 use Rattle.oauth2_json.specs.Members.{members_of_object, needed, either_name, others, clashes, beside}
-use Rattle.oauth2_json.specs.Values.{url}
+use Rattle.oauth2_json.specs.Values.{text, url}
 use Rattle.oauth2_json.specs.Puts.{put_all}
 use Rattle.oauth2_json.proofs.Puts.{found, rest}
 use Rattle.oauth2_json.proofs.Objects.{beside_taken, optional-text}
 use Rattle.oauth2_replies.specs.Kept.{AreFieldsKept}
-use Rattle.oauth2_replies.specs.Device.{DeviceAuthorization, device_seen, own_names, own_rows, device_row, device_reading, device_writing, IsAddress}
+use Rattle.oauth2_replies.specs.Device.{DeviceAuthorization, device_seen, own_names, own_rows, device_rows, device_row, device_reading, device_writing, IsAddress}
 use Rattle.oauth2_replies.specs.DeviceRows.{AreRows, of_rows}
 use Rattle.oauth2_replies.specs.declared.device_json.Rows.{Rows}
 
@@ -53,6 +55,22 @@ address_read name (Some d) (Some e) a h = cc
 address_back : (name : List ℕ) (a : Addressed) → IsAddress a → either_name url name (Some (string a.text)) None ≡ Ok a
 unfolding IsAddress
 address_back name a h = subst (λ p. text_and_url name a.text p ≡ Ok a) (sym h) refl
+
+-- ---- the first rows at fault
+
+pub fault_device_code : {E : Type 0} (er : Data → Reading E) (d u v o c e i : Option Data) (rest : Members) (error : ReadError) → ErrsAs error (needed text (codes "device_code") d) → ErrsAs error (device_rows er d u v o c e i rest)
+fault_device_code er d u v o c e i rest errors.Memory h = tt
+fault_device_code er d u v o c e i rest (errors.Fault f) h = rw h refl
+
+pub fault_user_code : {E : Type 0} (er : Data → Reading E) (d u v o c e i : Option Data) (rest : Members) (code : List ℕ) (error : ReadError) → needed text (codes "device_code") d ≡ Ok code
+    → ErrsAs error (needed text (codes "user_code") u) → ErrsAs error (device_rows er d u v o c e i rest)
+fault_user_code er d u v o c e i rest code errors.Memory is h = tt
+fault_user_code er d u v o c e i rest code (errors.Fault f) is h = rw (is, h) refl
+
+pub fault_address : {E : Type 0} (er : Data → Reading E) (d u v o c e i : Option Data) (rest : Members) (code user : List ℕ) (error : ReadError) → needed text (codes "device_code") d ≡ Ok code → needed text (codes "user_code") u ≡ Ok user
+    → ErrsAs error (either_name url (codes "verification_uri") v o) → ErrsAs error (device_rows er d u v o c e i rest)
+fault_address er d u v o c e i rest code user errors.Memory is is2 h = tt
+fault_address er d u v o c e i rest code user (errors.Fault f) is is2 h = rw (is, is2, h) refl
 
 -- ---- the whole response
 

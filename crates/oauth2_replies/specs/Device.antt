@@ -42,25 +42,19 @@ own_names =
     ∷ codes "interval"
     ∷ []
 
--- the table, over what stands under each name and the object of the other members: first the codes and
--- where a user enters them, which may stand under another name
-abbrev pub code_rows : Option Data → Option Data → Option Data → Option Data → Reading (List ℕ × List ℕ × Addressed)
-code_rows d u v o =
-    Ok (λ code user address. (code, user, address))
-    ⊛ needed text (codes "device_code") d
-    ⊛ needed text (codes "user_code") u
-    ⊛ either_name url (codes "verification_uri") v o
-
--- then the others; the interval is 5 seconds where none is told
+-- the table, over what stands under each name and the object of the other members; the URL may stand
+-- under another name, and the interval is 5 seconds where none is told
 abbrev pub device_rows : {E : Type 0} → (Data → Reading E)
     → Option Data → Option Data → Option Data → Option Data → Option Data → Option Data → Option Data → Members → Reading (DeviceAuthorization E)
 device_rows extra_fields d u v o c e i rest =
-    read_then (code_rows d u v o) (λ known.
-    Ok (device_authorization known.0 known.1 known.2)
+    Ok device_authorization
+    ⊛ needed text (codes "device_code") d
+    ⊛ needed text (codes "user_code") u
+    ⊛ either_name url (codes "verification_uri") v o
     ⊛ optional text (codes "verification_uri_complete") c
     ⊛ needed whole_number (codes "expires_in") e
     ⊛ defaulted whole_number (codes "interval") 5 i
-    ⊛ extra_fields (object rest))
+    ⊛ extra_fields (object rest)
 
 abbrev pub device_row : {E : Type 0} → (Data → Reading E) → Members → Reading (DeviceAuthorization E)
 device_row extra_fields ms =

@@ -7,12 +7,12 @@ ghost use Rattle.oauth2_json.specs.Reading.{ReadsAs};
 ghost use Rattle.oauth2_json.specs.Writing.{WritesAs};
 ghost use Rattle.oauth2_json.specs.Puts.{put_all};
 ghost use Rattle.oauth2_replies.specs.Kept.{AreFieldsKept};
-ghost use Rattle.oauth2_replies.specs.Device.{DeviceAuthorization, device_seen, device_reading, device_writing, code_rows, own_rows, IsAddress};
+ghost use Rattle.oauth2_replies.specs.Device.{DeviceAuthorization, device_seen, device_reading, device_writing, own_rows, IsAddress};
 ghost use Rattle.oauth2_replies.specs.DeviceRows.{AreRows, of_rows};
 
 use crate::device::{DeviceAuthorizationResponse, ExtraDeviceAuthorizationFields};
 use oauth2_json::{FromJson, ReadError, ToJson, WriteError, members};
-use oauth2_types::{DeviceCode, UserCode, VerificationUriComplete};
+use oauth2_types::VerificationUriComplete;
 use oauth2_urls::EndUserVerificationUrl;
 use serde_json::{Map, Value};
 use std::alloc::{AllocError, Global};
@@ -70,48 +70,22 @@ fn taken(mut members: Map<String, Value>) -> Rows
     }
 }
 
-// The codes, and where a user enters them.
-#[tactic(auto, using(crate::proofs::DeviceLaws::address_read))]
-fn codes_in(
-    alloc: Global,
-    device_code: Option<Value>,
-    user_code: Option<Value>,
-    verification_uri: Option<Value>,
-    verification_url: Option<Value>,
-) -> Result<(DeviceCode, UserCode, EndUserVerificationUrl), ReadError>
-    ensures reads { ReadsAs (λ known. known) result
-        (code_rows (option_map view device_code) (option_map view user_code)
-        (option_map view verification_uri) (option_map view verification_url)) }
-    ensures address { IfOk result (λ known. IsAddress known.2) }
-{
-    let device_code = members::needed(alloc, "device_code", device_code)?;
-    let user_code = members::needed(alloc, "user_code", user_code)?;
-    let uri = members::either_name(
-        alloc,
-        "verification_uri",
-        verification_uri,
-        verification_url,
-    )?;
-    Ok((device_code, user_code, uri))
-}
-
+#[tactic(auto, using(crate::proofs::DeviceLaws::address_read, crate::proofs::DeviceLaws::fault_device_code))]
 fn from_rows<EF: ExtraDeviceAuthorizationFields + Drop>(
     alloc: Global,
     rows: Rows,
 ) -> Result<DeviceAuthorizationResponse<EF>, ReadError>
     ensures { ReadsAs (device_seen EF.meaning) result (of_rows EF.reading rows) }
 {
-    let (device_code, user_code, verification_uri) = codes_in(
-        alloc,
-        rows.device_code,
-        rows.user_code,
-        rows.verification_uri,
-        rows.verification_url,
-    )?;
     Ok(DeviceAuthorizationResponse {
-        device_code,
-        user_code,
-        verification_uri,
+        device_code: members::needed(alloc, "device_code", rows.device_code)?,
+        user_code: members::needed(alloc, "user_code", rows.user_code)?,
+        verification_uri: members::either_name(
+            alloc,
+            "verification_uri",
+            rows.verification_uri,
+            rows.verification_url,
+        )?,
         verification_uri_complete: members::optional(
             alloc,
             "verification_uri_complete",
