@@ -8,11 +8,11 @@ ghost use Rattle.oauth2_wire.specs.Expected.{optional_pair};
 ghost use Rattle.oauth2_wire.specs.Texts.{param_bytes, param_pair, redirect_of, given_text};
 ghost use Rattle.oauth2.specs.Authorization.{IsAuthorization, challenge_pairs, scope_pairs, query_pairs};
 ghost use Rattle.oauth2.specs.Missing.{IsMissing};
-ghost use Rattle.oauth2.specs.Query.{ExtendsQuery};
+ghost use Rattle.oauth2.specs.Query.{ExtendsForm, ExtendsQuery};
 
 use crate::client::Client;
 use crate::endpoint::{EndpointMaybeSet, EndpointSet, EndpointState};
-use crate::query::QueryPairs;
+use crate::query::{form_of, push, push_any, with_form};
 use oauth2_types::{ClientId, CsrfToken, PkceCodeChallenge, ResponseType, Scope};
 use oauth2_urls::AuthUrl;
 use oauth2_wire::{ConfigurationError, ParamText, RedirectRef};
@@ -143,75 +143,75 @@ impl<'a> AuthorizationRequest<'a> {
         ensures refusal { IfErr result IsOutOfRoom }
     {
         let scope = joined(alloc, &self.scopes)?;
-        let mut pairs = QueryPairs::new(alloc);
-        pairs.push("response_type", self.response_type.as_str())?;
-        pairs.push("client_id", self.client_id.as_str())?;
-        pairs.push("state", self.state.secret().as_str())?;
-        push_challenge(&mut pairs, &self.pkce_challenge)?;
-        push_redirect(&mut pairs, &self.redirect_url)?;
-        push_scope(&mut pairs, scope.as_str())?;
-        push_params(&mut pairs, &self.extra_params)?;
-        let mut url = self.auth_url.url().clone()?;
-        pairs.append_to(&mut url)?;
-        Ok(url)
+        let url = self.auth_url.url();
+        let mut form = form_of(alloc, url)?;
+        push(&mut form, "response_type", self.response_type.as_str())?;
+        push(&mut form, "client_id", self.client_id.as_str())?;
+        push(&mut form, "state", self.state.secret().as_str())?;
+        push_challenge(&mut form, &self.pkce_challenge)?;
+        push_redirect(&mut form, &self.redirect_url)?;
+        push_scope(&mut form, scope.as_str())?;
+        push_params(&mut form, &self.extra_params)?;
+        let extended = with_form(url, form.as_slice())?;
+        Ok(extended)
     }
 }
 
-fn push_challenge<'a>(
-    pairs: &mut QueryPairs<'a>,
-    challenge: &'a Option<PkceCodeChallenge>,
+fn push_challenge(
+    form: &mut Vec<u8>,
+    challenge: &Option<PkceCodeChallenge>,
 ) -> Result<(), AllocError>
-    ensures { OnOk result (pairs.new ≡ pairs.old ++ challenge_pairs challenge.now) }
+    ensures { OnOk result (ExtendsForm form.old.items form.new.items (challenge_pairs challenge.now)) }
 {
     if let Some(challenge) = challenge {
-        pairs.push("code_challenge", challenge.as_str())?;
-        pairs.push("code_challenge_method", challenge.method().as_str())?;
+        push(form, "code_challenge", challenge.as_str())?;
+        push(form, "code_challenge_method", challenge.method().as_str())?;
     }
     Ok(())
 }
 
-fn push_redirect<'a>(
-    pairs: &mut QueryPairs<'a>,
-    redirect: &'a Option<RedirectRef<'a>>,
-) -> Result<(), AllocError>
+fn push_redirect(form: &mut Vec<u8>, redirect: &Option<RedirectRef<'_>>) -> Result<(), AllocError>
     ensures { let text = option_map given_text (option_map redirect_of redirect.now) in
-        OnOk result (pairs.new ≡ pairs.old ++ optional_pair (codes "redirect_uri") text) }
+        OnOk result (ExtendsForm form.old.items form.new.items (optional_pair (codes "redirect_uri") text)) }
 {
     if let Some(redirect) = redirect {
-        pairs.push("redirect_uri", redirect.redirect_url().as_str())?;
+        push(form, "redirect_uri", redirect.redirect_url().as_str())?;
     }
     Ok(())
 }
 
-fn push_scope<'a>(pairs: &mut QueryPairs<'a>, scope: &'a str) -> Result<(), AllocError>
-    ensures { OnOk result (pairs.new ≡ pairs.old ++ scope_pairs scope.now) }
+fn push_scope(form: &mut Vec<u8>, scope: &str) -> Result<(), AllocError>
+    ensures { OnOk result (ExtendsForm form.old.items form.new.items (scope_pairs scope.now)) }
 {
     if !scope.is_empty() {
-        pairs.push("scope", scope)?;
+        push(form, "scope", scope)?;
     }
     Ok(())
 }
 
-fn push_params<'a>(
-    pairs: &mut QueryPairs<'a>,
-    params: &'a [(ParamText<'a>, ParamText<'a>)],
+fn push_params(
+    form: &mut Vec<u8>,
+    params: &[(ParamText<'_>, ParamText<'_>)],
 ) -> Result<(), AllocError>
-    ensures { OnOk result (pairs.new ≡ pairs.old ++ map param_pair params.now) }
+    ensures { OnOk result (ExtendsForm form.old.items form.new.items (map param_pair params.now)) }
 {
     for (name, value) in params {
-        pairs.push(name.as_str(), value.as_str())?;
+        push_any(form, name.as_str(), value.as_str())?;
     }
     Ok(())
 }
+
+/// How many bytes a text of scopes has room for before it grows.
+const SCOPE_ROOM: usize = 64;
 
 // The scopes as one text, with a space between each two.
 fn joined(alloc: Global, scopes: &[Scope]) -> Result<String, AllocError>
     ensures { IfOk result (λ text. string_bytes text ≡ join_by (λ s. s) (codes " ") scopes.now) }
 {
-    let mut text = String::new(alloc);
     let Some((first, rest)) = scopes.split_first() else {
-        return Ok(text);
+        return Ok(String::new(alloc));
     };
+    let mut text = String::with_capacity(alloc, SCOPE_ROOM)?;
     text.push_str(first.as_str())?;
     append_spaced(&mut text, rest)?;
     Ok(text)

@@ -1,57 +1,67 @@
-//! Pairs that are gathered for the query of a URL.
+//! The query of a URL, as the text of a form to which pairs are appended.
 
-ghost use Rattle.std.specs.Prelude.{◌≡◌, [], ◌∷◌, ◌++◌, OnOk, IfErr};
+ghost use Rattle.std.specs.Prelude.{◌≡◌, ◌∷◌, [], ◌++◌, List, IfErr, IfOk, OnOk, unwrap_or};
+ghost use Rattle.form_urlencoded.specs.Form.{byte_serialize, separator};
+ghost use Rattle.url.specs.Parts.{IsValid};
 ghost use Rattle.url.specs.Parser.{IsOutOfRoom};
-ghost use Rattle.oauth2.specs.Query.{ExtendsQuery};
+ghost use Rattle.oauth2_wire.specs.Pairs.{Pair};
+ghost use Rattle.oauth2.specs.Query.{ExtendsForm, ExtendsQuery};
 
+use oauth2_wire::{append_encoded, append_pair};
+use percent_encoding::ascii_str;
 use std::alloc::{AllocError, Global};
-use std::marker::Model;
 use url::{ParseError, Url};
 
-// Names and their values, in order. Contracts see the pairs.
-#[derive(Drop)]
-pub(crate) struct QueryPairs<'a> {
-    pairs: Vec<(&'a str, &'a str)>,
+/// How many bytes of pairs a form has room for before it grows.
+const ROOM: usize = 256;
+
+/// The text of a URL's query.
+pub(crate) fn form_of(alloc: Global, url: &Url) -> Result<Vec<u8>, AllocError>
+    ensures text { IfOk result (λ form. form.items ≡ unwrap_or url.now.query []) }
+    ensures valid { IsValid url.now }
+{
+    let query = url.query().unwrap_or("");
+    let mut form = Vec::with_capacity(alloc, query.len().saturating_add(ROOM))?;
+    form.extend_from_slice(query.as_bytes())?;
+    Ok(form)
 }
 
-impl<'a> Model for QueryPairs<'a> {
-    ghost use Rattle.std.specs.Prelude.{List, All, map};
-    ghost use Rattle.std.specs.Coded.{coded_list, coded×, coded_ℕ};
-    ghost use Rattle.form_urlencoded.specs.Form.{pair_text};
-    ghost use Rattle.oauth2_wire.specs.Pairs.{Pair};
-    ghost use Rattle.oauth2_wire.specs.Written.{IsBytePair};
-
-    ghost Value = { List Pair };
-
-    ghost coded = { coded_list (coded× (coded_list coded_ℕ) (coded_list coded_ℕ)) };
-
-    ghost view = { λ q. map pair_text q.pairs.items };
-
-    ghost invariant = { λ q. All IsBytePair (map pair_text q.pairs.items) };
+/// Appends a pair to a form, whose name the form writes as it is.
+pub(crate) fn push(form: &mut Vec<u8>, name: &str, value: &str) -> Result<(), AllocError>
+    requires { byte_serialize name.now ≡ name.now }
+    ensures { OnOk result (ExtendsForm form.old.items form.new.items ((name.now, value.now) ∷ [])) }
+{
+    append_separator(form)?;
+    form.extend_from_slice(name.as_bytes())?;
+    form.push(b'=')?;
+    append_encoded(form, value)?;
+    Ok(())
 }
 
-impl<'a> QueryPairs<'a> {
-    pub(crate) fn new(alloc: Global) -> QueryPairs<'a>
-        ensures { result ≡ [] }
-    {
-        QueryPairs {
-            pairs: Vec::new(alloc),
-        }
+fn append_separator(form: &mut Vec<u8>) -> Result<(), AllocError>
+    ensures { OnOk result (form.new.items ≡ form.old.items ++ separator form.old.items) }
+{
+    if !form.is_empty() {
+        form.push(b'&')?;
     }
+    Ok(())
+}
 
-    // Adds a pair at the end.
-    pub(crate) fn push(&mut self, name: &'a str, value: &'a str) -> Result<(), AllocError>
-        ensures { OnOk result (self.new ≡ self.old ++ (name.now, value.now) ∷ []) }
-    {
-        self.pairs.push((name, value))?;
-        Ok(())
-    }
+/// Appends a pair to a form.
+pub(crate) fn push_any(form: &mut Vec<u8>, name: &str, value: &str) -> Result<(), AllocError>
+    ensures { OnOk result (ExtendsForm form.old.items form.new.items ((name.now, value.now) ∷ [])) }
+{
+    append_pair(form, name, value)
+}
 
-    // Appends the pairs to the query of a URL, and keeps every other part.
-    pub(crate) fn append_to(&self, url: &mut Url) -> Result<(), ParseError>
-        ensures ok { OnOk result (ExtendsQuery url.old url.new self.now) }
-        ensures refusal { IfErr result IsOutOfRoom }
-    {
-        url.append_query_pairs(self.pairs.as_slice())
-    }
+/// The URL with a query to whose form pairs were appended.
+pub(crate) fn with_form(url: &Url, form: &[u8]) -> Result<Url, ParseError>
+    requires valid { IsValid url.now }
+    requires form { (pairs : List Pair) × ExtendsForm (unwrap_or url.now.query []) form.now pairs }
+    ensures ok { IfOk result (λ new. (pairs : List Pair) → ExtendsForm (unwrap_or url.now.query []) form.now pairs → ExtendsQuery url.now new pairs) }
+    ensures refusal { IfErr result IsOutOfRoom }
+{
+    let mut new = url.clone()?;
+    new.set_query(Some(ascii_str(form)))?;
+    Ok(new)
 }

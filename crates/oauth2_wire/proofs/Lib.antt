@@ -3,3 +3,4 @@ pub mod WrittenLemmas
 pub mod ByNameLemmas
 pub mod ParamsLemmas
 pub mod OneShotLemmas
+pub mod EncodeLemmas

@@ -1,28 +1,28 @@
 //! A text that is kept as a form encodes it.
-ghost use Rattle.std.specs.Prelude.{◌≡◌, ◌++◌, All, codes, IfOk, OnOk, OnErr, string_bytes};
+ghost use Rattle.std.specs.Prelude.{◌≡◌, ◌++◌, All, codes, IfOk, OnOk, OnErr};
 ghost use Rattle.percent_encoding.proofs.PercentLemmas.{IsByte};
 ghost use Rattle.form_urlencoded.specs.Form.{byte_serialize as encoded_text};
 
-use crate::basic::append_encoded;
+use crate::encode::append_encoded;
 use std::alloc::{AllocError, Global};
 use std::marker::Model;
 
 /// A text, kept as a form encodes it. Contracts see the text.
 #[derive(Debug, Drop)]
 pub(crate) struct EncodedText {
-    text: String,
+    text: Vec<u8>,
 }
 
 impl Model for EncodedText {
-    ghost use Rattle.std.specs.Prelude.{ℕ, List, string_bytes};
+    ghost use Rattle.std.specs.Prelude.{ℕ, List};
     ghost use Rattle.form_urlencoded.specs.Form.{decode};
     ghost use Rattle.oauth2_wire.specs.Written.{IsEncodedText};
 
     ghost Value = { List ℕ };
 
-    ghost view = { λ t. decode (string_bytes t.text) };
+    ghost view = { λ t. decode t.text.items };
 
-    ghost invariant = { λ t. IsEncodedText (string_bytes t.text) };
+    ghost invariant = { λ t. IsEncodedText t.text.items };
 }
 
 impl EncodedText {
@@ -30,7 +30,7 @@ impl EncodedText {
     pub(crate) fn new(alloc: Global, s: &str) -> Result<EncodedText, AllocError>
         ensures { IfOk result (λ t. t ≡ s.now) }
     {
-        let mut text = String::new(alloc);
+        let mut text = Vec::new(alloc);
         append_encoded(&mut text, s)?;
         Ok(EncodedText { text })
     }
@@ -45,24 +45,25 @@ impl EncodedText {
     }
 
     /// The encoding.
-    pub(crate) fn as_encoded(&self) -> &str
+    pub(crate) fn as_encoded(&self) -> &[u8]
         ensures text { result.now ≡ encoded_text self.now }
         ensures bytes { All IsByte self.now }
     {
-        self.text.as_str()
+        self.text.as_slice()
     }
 }
 
 // Appends the encoding of a space and a word, or leaves what there was.
-fn append_word(text: &mut String, word: &str) -> Result<(), AllocError>
-    ensures ok { OnOk result (string_bytes text.new ≡ string_bytes text.old ++ encoded_text (codes " " ++ word.now)) }
-    ensures err { OnErr result (string_bytes text.new ≡ string_bytes text.old) }
+fn append_word(text: &mut Vec<u8>, word: &str) -> Result<(), AllocError>
+    ensures ok { OnOk result (text.new.items ≡ text.old.items ++ encoded_text (codes " " ++ word.now)) }
+    ensures err { OnErr result (text.new.items ≡ text.old.items) }
 {
-    text.push('+')?;
+    let end = text.len();
+    text.push(b'+')?;
     match append_encoded(text, word) {
         Ok(()) => Ok(()),
         Err(e) => {
-            let _ = text.pop();
+            text.truncate(end);
             Err(e)
         }
     }

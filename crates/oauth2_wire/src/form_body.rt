@@ -1,24 +1,23 @@
 //! The body of a form, as the list of its pairs.
-ghost use Rattle.std.specs.Prelude.{◌≡◌, ℕ, List, [], ◌∷◌, ◌++◌, map, All, IfOk, OnOk, OnErr, string_bytes};
+ghost use Rattle.std.specs.Prelude.{◌≡◌, ℕ, List, [], ◌∷◌, ◌++◌, map, All, IfOk, OnOk, OnErr};
 ghost use Rattle.percent_encoding.proofs.PercentLemmas.{IsByte};
 ghost use Rattle.form_urlencoded.specs.Form.{append_pair as with_pair, byte_serialize as encoded_text, extend_pairs, pair_text};
 ghost use Rattle.oauth2_wire.specs.Pairs.{form};
 ghost use Rattle.oauth2_wire.specs.Written.{IsWritten, JoinsForms};
 
+use crate::encode::{append_name, append_pair};
 use crate::encoded_text::EncodedText;
-use form_urlencoded::Serializer;
 use std::alloc::{AllocError, Global};
 use std::marker::Model;
-use std::mem;
 
 /// A form that is being written. Contracts see the pairs that it decodes to.
 #[derive(Debug, Drop)]
 pub(crate) struct FormBody {
-    text: String,
+    text: Vec<u8>,
 }
 
 impl Model for FormBody {
-    ghost use Rattle.std.specs.Prelude.{List, string_bytes};
+    ghost use Rattle.std.specs.Prelude.{List};
     ghost use Rattle.std.specs.Coded.{coded_list, coded×, coded_ℕ};
     ghost use Rattle.form_urlencoded.specs.Form.{parse};
     ghost use Rattle.oauth2_wire.specs.Pairs.{Pair};
@@ -28,9 +27,9 @@ impl Model for FormBody {
 
     ghost coded = { coded_list (coded× (coded_list coded_ℕ) (coded_list coded_ℕ)) };
 
-    ghost view = { λ b. parse (string_bytes b.text) };
+    ghost view = { λ b. parse b.text.items };
 
-    ghost invariant = { λ b. IsWritten (string_bytes b.text) };
+    ghost invariant = { λ b. IsWritten b.text.items };
 }
 
 impl FormBody {
@@ -39,7 +38,7 @@ impl FormBody {
         ensures { result ≡ [] }
     {
         FormBody {
-            text: String::new(alloc),
+            text: Vec::new(alloc),
         }
     }
 
@@ -80,7 +79,7 @@ impl FormBody {
         ensures { IfOk result (λ body. body ≡ self ++ other.now) }
     {
         let FormBody { text } = self;
-        let text = join_forms(text, other.text.as_str())?;
+        let text = join_forms(text, other.text.as_slice())?;
         Ok(FormBody { text })
     }
 
@@ -90,50 +89,33 @@ impl FormBody {
         ensures form { form result.items ≡ self }
     {
         let FormBody { text } = self;
-        text.into_bytes()
-    }
-}
-
-// Appends a pair to a form's text, or leaves it as it was.
-fn append_pair(text: &mut String, name: &str, value: &str) -> Result<(), AllocError>
-    ensures ok { OnOk result (string_bytes text.new ≡ with_pair (string_bytes text.old) name.now value.now) }
-    ensures err { OnErr result (string_bytes text.new ≡ string_bytes text.old) }
-{
-    let alloc = *text.allocator();
-    let mut form = Serializer::new(mem::replace(text, String::new(alloc)));
-    let pushed = form.append_pair(name, value);
-    *text = form.finish();
-    match pushed {
-        Ok(()) => Ok(()),
-        Err(e) => Err(e),
+        text
     }
 }
 
 // The form's text with a name, encoded, and a value, as it stands.
-fn append_encoded_pair(text: String, name: &str, encoded: &str) -> Result<String, AllocError>
-    ensures { IfOk result (λ new. (value : List ℕ) → encoded.now ≡ encoded_text value → string_bytes new ≡ with_pair (string_bytes text) name.now value) }
+fn append_encoded_pair(text: Vec<u8>, name: &str, encoded: &[u8]) -> Result<Vec<u8>, AllocError>
+    ensures { IfOk result (λ new. (value : List ℕ) → encoded.now ≡ encoded_text value → new.items ≡ with_pair text.items name.now value) }
 {
-    let mut form = Serializer::new(text);
-    form.append_key_only(name)?;
-    let mut new = form.finish();
-    new.push('=')?;
-    new.push_str(encoded)?;
+    let mut new = text;
+    append_name(&mut new, name)?;
+    new.extend_from_slice(encoded)?;
     Ok(new)
 }
 
 // The texts of two forms as one.
-fn join_forms(text: String, other: &str) -> Result<String, AllocError>
-    ensures { IfOk result (λ new. IsWritten (string_bytes text) → IsWritten other.now → JoinsForms (string_bytes text) other.now (string_bytes new)) }
+fn join_forms(text: Vec<u8>, other: &[u8]) -> Result<Vec<u8>, AllocError>
+    ensures { IfOk result (λ new. IsWritten text.items → IsWritten other.now → JoinsForms text.items other.now new.items) }
 {
     let mut new = text;
     if other.is_empty() {
         return Ok(new);
     }
     if new.is_empty() {
-        new.push_str(other)?;
+        new.extend_from_slice(other)?;
         return Ok(new);
     }
-    new.push('&')?;
-    new.push_str(other)?;
+    new.push(b'&')?;
+    new.extend_from_slice(other)?;
     Ok(new)
 }

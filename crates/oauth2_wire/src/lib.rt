@@ -5,6 +5,7 @@
 mod basic;
 mod client;
 mod content_type;
+mod encode;
 mod encoded_text;
 mod error;
 mod form_body;
@@ -17,6 +18,7 @@ mod view;
 
 pub use basic::basic_header;
 pub use client::{FnClient, HttpResponse, SyncHttpClient};
+pub use encode::{append_encoded, append_pair};
 pub use error::{BasicRequestTokenError, ConfigurationError, HttpClientError, RequestTokenError};
 pub use once::{send_once, send_once_status_only};
 pub use param_buffer::ParamBuffer;

@@ -1,6 +1,17 @@
-use Rattle.std.proofs.Common.{append_assoc}
+use Rattle.std.proofs.Common.{refl, ◌∷◌, []}
+use Rattle.form_urlencoded.proofs.OnLiterals.{form_urlencoded_on_literals}
+use Rattle.oauth2.proofs.QueryLaws.{ExtendsForm_more}
 use Rattle.oauth2.proofs.authorize.push_challenge.Goals as goal
 
 pub returns-in_ok-push-2 : goal.returns-in_ok-push-2
 returns-in_ok-push-2 c =
-    rw (c.in-Some.is, c.in_ok-push-2.ensures, c.in_ok-push.ensures, c.as_str.ensures, c.as_str-in-Some.ensures.value, c.deref.ensures, c.method.ensures) (append_assoc c.args.pairs.now _ _)
+    let both = ExtendsForm_more c.args.form.now.items c.push.new.form.items c.push-in-Some.new.form.items _ _ c.in_ok-push.ensures c.in_ok-push-2.ensures in
+    rw (c.in-Some.is) (rw (c.as_str.ensures, c.as_str-in-Some.ensures.value, c.deref.ensures, c.method.ensures) at both)
+
+pub push-requires : goal.push-requires
+unfolding form_urlencoded_on_literals
+push-requires c = refl
+
+pub push-requires-in-Some : goal.push-requires-in-Some
+unfolding form_urlencoded_on_literals
+push-requires-in-Some c = refl

@@ -4,7 +4,7 @@ use Rattle.oauth2_wire.proofs.WrittenLemmas.{parse_nothing, IsWritten_nothing}
 use Rattle.oauth2_wire.proofs.form_body.FormBody.new.Goals as goal
 
 pub invariant_of-result : goal.invariant_of-result
-invariant_of-result c = IsWritten_nothing _ c.new.ensures.bytes
+invariant_of-result c = IsWritten_nothing _ c.new.ensures.items
 
 pub returns : goal.returns
-returns c = ap parse c.new.ensures.bytes ∙ parse_nothing
+returns c = ap parse c.new.ensures.items ∙ parse_nothing

@@ -1,4 +1,4 @@
-use Rattle.std.proofs.Common.{◌++◌, ◌∷◌, [], ap, ◌∙◌, arith, string_bytes}
+use Rattle.std.proofs.Common.{◌++◌, ◌∷◌, [], ap, ◌∙◌, arith}
 use Rattle.std.proofs.lemmas.List.Elements.{All-from_get_or}
 use Rattle.percent_encoding.proofs.PercentLemmas.{IsByte}
 use Rattle.oauth2_wire.proofs.WrittenLemmas.{parse-append_pair, IsWritten-append_pair}
@@ -7,10 +7,10 @@ use Rattle.oauth2_wire.proofs.form_body.FormBody.push_encoded.Goals as goal
 pub invariant_of-result : goal.invariant_of-result
 invariant_of-result c =
     let bytes = All-from_get_or IsByte c.args.name.now 0 (λ i _. omega (arith, c.type_inv.name i)) in
-    IsWritten-append_pair (string_bytes c.self.inside.text) (string_bytes c.in_ok-text.text) (c.args.name.now, c.args.value.now) c.self.invariant (bytes, c.as_encoded.ensures.bytes) (c.in_ok-text.ensures c.args.value.now c.as_encoded.ensures.text)
+    IsWritten-append_pair c.self.inside.text.items c.in_ok-text.text.items (c.args.name.now, c.args.value.now) c.self.invariant (bytes, c.as_encoded.ensures.bytes) (c.in_ok-text.ensures c.args.value.now c.as_encoded.ensures.text)
 
 pub returns : goal.returns
 returns c =
     let bytes = All-from_get_or IsByte c.args.name.now 0 (λ i _. omega (arith, c.type_inv.name i)) in
-    parse-append_pair (string_bytes c.self.inside.text) (string_bytes c.in_ok-text.text) (c.args.name.now, c.args.value.now) c.self.invariant (bytes, c.as_encoded.ensures.bytes) (c.in_ok-text.ensures c.args.value.now c.as_encoded.ensures.text)
+    parse-append_pair c.self.inside.text.items c.in_ok-text.text.items (c.args.name.now, c.args.value.now) c.self.invariant (bytes, c.as_encoded.ensures.bytes) (c.in_ok-text.ensures c.args.value.now c.as_encoded.ensures.text)
     ∙ ap (λ x. x ++ (c.args.name.now, c.args.value.now) ∷ []) c.self.view_is
