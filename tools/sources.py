@@ -2,8 +2,7 @@
 import os
 import re
 
-ROOT = os.path.dirname(os.path.dirname(os.path.abspath(__file__)))
-LIBRARY = os.path.join(ROOT, 'crates')
+from repository import CRATES
 
 # A comment, a string or a character; a lifetime has no second quote and stays.
 BLANK = re.compile(r'''//[^\n]*|/\*.*?\*/|b?"(?:\\.|[^"\\])*"|b?'(?:\\[^']*|[^'\\\s])\'''', re.S)
@@ -115,12 +114,12 @@ def module_file(folder, name):
 
 def public_names(crate='oauth2'):
     """The public names at a crate's root, and below it those of its public modules, as `module::name`."""
-    folder = os.path.join(LIBRARY, crate, 'src')
+    folder = os.path.join(CRATES, crate, 'src')
     names = set()
     for name, path in exports(read(os.path.join(folder, 'lib.rt'))).items():
         names.add(name)
         of = path.split('::')[0] if path else crate
-        beside = os.path.join(LIBRARY, of, 'src') if os.path.isdir(os.path.join(LIBRARY, of)) else folder
+        beside = os.path.join(CRATES, of, 'src') if os.path.isdir(os.path.join(CRATES, of)) else folder
         module = module_file(beside, name) if path is None or path.count('::') == 1 else None
         if module:
             names.update('%s::%s' % (name, inner) for inner in exports(read(module)))
