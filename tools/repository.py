@@ -27,6 +27,14 @@ def below():
     return {name: all_below(name) for name in uses}
 
 
+def link_or_copy(source, target):
+    """A second name for a file that is only read, or a copy where that can't be."""
+    try:
+        os.link(source, target)
+    except OSError:
+        shutil.copy2(source, target)
+
+
 def copy(crate, keeps):
     """A temporary folder with a copy of a crate, with its kept work or without, and of those that it stands on, with their libraries."""
     room = tempfile.TemporaryDirectory(prefix='lifecrib-')
@@ -36,7 +44,9 @@ def copy(crate, keeps):
         for part in PARTS + kept:
             source = os.path.join(CRATES, name, part)
             if os.path.isdir(source):
-                shutil.copytree(source, os.path.join(room.name, 'crates', name, part), symlinks=True)
+                # a library is only read: a build of it would begin with a new folder
+                by = link_or_copy if part == 'out/rlib' else shutil.copy2
+                shutil.copytree(source, os.path.join(room.name, 'crates', name, part), symlinks=True, copy_function=by)
     with open(os.path.join(room.name, 'crates.txt'), 'w') as f:
         f.write(''.join(rows[name] + '\n' for name in names))
     return room
