@@ -117,8 +117,11 @@ def public_names(crate='oauth2'):
     folder = os.path.join(CRATES, crate, 'src')
     names = set()
     for name, path in exports(read(os.path.join(folder, 'lib.rt'))).items():
-        names.add(name)
         of = path.split('::')[0] if path else crate
+        if name == '*':
+            names |= public_names(of)
+            continue
+        names.add(name)
         beside = os.path.join(CRATES, of, 'src') if os.path.isdir(os.path.join(CRATES, of)) else folder
         module = module_file(beside, name) if path is None or path.count('::') == 1 else None
         if module:
