@@ -5,7 +5,7 @@ use Rattle.std.specs.Option.{option_map}
 use Rattle.std.specs.Duration.{max_nanos}
 use Rattle.std.proofs.lemmas.List.{map-append, length-take, take-take, take-append-le}
 use Rattle.std.proofs.lemmas.Option.{slice_get_within}
-use Rattle.std.proofs.lemmas.Int.{ints}
+use Rattle.std.proofs.lemmas.Int.{by_lt_z, ints}
 use Rattle.std.proofs.lemmas.Nat.{le-div}
 use Rattle.oauth2_poll.specs.declared.device_poll.PollAnswer.{PollAnswer}
 use Rattle.oauth2_poll.specs.Step.{slow_down, TimeoutFits}
@@ -76,6 +76,9 @@ in_last (Some t) (Some b) (x ∷ y ∷ z ∷ w ∷ back) rest h = absurd cc
 first_is : (r : Option ℤ) (x : Event) → option_map Reading r ≡ Some x → (t : ℤ) × (r ≡ Some t) × (x ≡ Reading t)
 first_is None x h = absurd cc
 first_is (Some t) x h = (t, refl, cc)
+
+after_first : (x y : Event) (xs ys : List Event) → x ≡ y → xs ≡ ys → x ∷ xs ≡ y ∷ ys
+after_first x y xs ys first rest = rw (first, rest) refl
 
 -- the last request of a list, if it has one
 pub record LastRequest (xs : List Event) : Type 0 where
@@ -224,7 +227,7 @@ module _ (p : PollInput) where
               moment = l.moment;
               read = subst (λ (k : ℕ). slice_get p.readings k ≡ Some l.moment) (sym same) l.read;
               in_time = subst (λ (k : ℕ). ¬ (IsLate p k)) (sym same) on_time;
-              split = rw (f.2, past.split, l.back_is) refl;
+              split = after_first x (Reading f.0) before _ f.2 (past.split ∙ ap (λ (ys : List Event). past.front ++ ys) l.back_is);
             }
       ]
 
@@ -280,7 +283,8 @@ module _ (p : PollInput) where
       let passed = elapsed n r.front r.did trace (Asked ∷ after) r.start r.moment honest whole in
       let in_time : ¬ ((r.start +ℤ pos p.timeout) <ℤ r.moment) =
       λ late. r.in_time (record { start = r.start; moment = r.moment; first = r.first; here = r.read; after = late }) in
-      let within : sleeps_to p n ≤ p.timeout = omega (arith, ints, passed, in_time) in
+      let within : sleeps_to p n ≤ p.timeout =
+      by_lt_z (r.start +ℤ pos p.timeout) r.moment (λ late. absurd (in_time late)) (λ on_time. omega (arith, ints, passed, on_time)) in
       let small = short_timeout fits in
       let w = waited p n (omega (arith, within, small)) in
       rw (less, slow) (omega (arith, w, within))

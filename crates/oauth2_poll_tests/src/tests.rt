@@ -1,12 +1,11 @@
 use jiff::Timestamp;
-use oauth2_poll::{
-    DevicePoll, PollAnswer, PollEnd, PollEvent, PollReady, PollSettings, PollStep,
-};
+use oauth2_poll::{DevicePoll, PollAnswer, PollEnd, PollEvent, PollReady, PollSettings, PollStep};
 use std::process::Abort;
 use std::test::Fail;
 use std::time::Duration;
 
 const LONGEST: u64 = 18_446_744_073_709_551_615;
+
 const TOO_LONG: u64 = 9_223_372_036_854_775_808;
 
 // A run as a row of the table below: times in seconds, interval 1 and cap 10.
@@ -66,12 +65,15 @@ fn slept(seconds: u64) -> PollEvent {
 }
 
 const ASK: PollEvent = PollEvent::Request;
+
 const PENDING: PollEvent = PollEvent::Answer(PollAnswer::Pending);
+
 const SLOW_DOWN: PollEvent = PollEvent::Answer(PollAnswer::SlowDown);
+
 const DECIDING: PollEvent = PollEvent::Answer(PollAnswer::Deciding);
 
 #[test]
-fn a_late_reading_ends_it(rt: HostRuntime) {
+fn a_late_reading_ends_it(rt: HostRuntime) -> Result<(), Fail> {
     let row = Row {
         timeout: 2,
         max_polls: 5,
@@ -91,10 +93,11 @@ fn a_late_reading_ends_it(rt: HostRuntime) {
         read(3)?,
     ];
     assert!(rt; runs(&rt, &row, &trace, PollEnd::Expired)?);
+    Ok(())
 }
 
 #[test]
-fn slow_downs_count_in_the_waits(rt: HostRuntime) {
+fn slow_downs_count_in_the_waits(rt: HostRuntime) -> Result<(), Fail> {
     let row = Row {
         timeout: 10,
         max_polls: 9,
@@ -114,10 +117,13 @@ fn slow_downs_count_in_the_waits(rt: HostRuntime) {
         read(17)?,
     ];
     assert!(rt; runs(&rt, &row, &trace, PollEnd::Expired)?);
+    Ok(())
 }
 
 #[test]
-fn a_decision_goes_before_the_limit_and_a_late_reading_before_both(rt: HostRuntime) {
+fn a_decision_goes_before_the_limit_and_a_late_reading_before_both(
+    rt: HostRuntime,
+) -> Result<(), Fail> {
     let decided = Row {
         timeout: 2,
         max_polls: 1,
@@ -133,15 +139,20 @@ fn a_decision_goes_before_the_limit_and_a_late_reading_before_both(rt: HostRunti
         answers: &[],
     };
     assert!(rt; runs(&rt, &late, &[read(0)?, read(3)?], PollEnd::Expired)?);
+    Ok(())
 }
 
 #[test]
-fn the_last_request_is_not_slept_after(rt: HostRuntime) {
+fn the_last_request_is_not_slept_after(rt: HostRuntime) -> Result<(), Fail> {
     let row = Row {
         timeout: 2,
         max_polls: 3,
         readings: &[0, 0, 0, 0],
-        answers: &[PollAnswer::Pending, PollAnswer::Pending, PollAnswer::Pending],
+        answers: &[
+            PollAnswer::Pending,
+            PollAnswer::Pending,
+            PollAnswer::Pending,
+        ],
     };
     let trace = [
         read(0)?,
@@ -158,17 +169,25 @@ fn the_last_request_is_not_slept_after(rt: HostRuntime) {
         PENDING,
     ];
     assert!(rt; runs(&rt, &row, &trace, PollEnd::Limit)?);
+    Ok(())
 }
 
 #[test]
-fn a_list_runs_out(rt: HostRuntime) {
+fn a_list_runs_out(rt: HostRuntime) -> Result<(), Fail> {
     let unanswered = Row {
         timeout: 2,
         max_polls: 3,
         readings: &[0, 1],
         answers: &[],
     };
-    assert!(rt; runs(&rt, &unanswered, &[read(0)?, read(1)?, ASK], PollEnd::OutOfInput)?);
+    assert!(rt;
+        runs(
+            &rt,
+            &unanswered,
+            &[read(0)?, read(1)?, ASK],
+            PollEnd::OutOfInput
+        )?
+    );
     let answered = Row {
         timeout: 2,
         max_polls: 3,
@@ -191,10 +210,11 @@ fn a_list_runs_out(rt: HostRuntime) {
         answers: &[],
     };
     assert!(rt; runs(&rt, &started, &[read(0)?], PollEnd::OutOfInput)?);
+    Ok(())
 }
 
 #[test]
-fn a_timeout_is_too_long_or_passes_the_last_timestamp(rt: HostRuntime) {
+fn a_timeout_is_too_long_or_passes_the_last_timestamp(rt: HostRuntime) -> Result<(), Fail> {
     let too_long = Row {
         timeout: TOO_LONG,
         max_polls: 3,
@@ -209,6 +229,7 @@ fn a_timeout_is_too_long_or_passes_the_last_timestamp(rt: HostRuntime) {
         answers: &[],
     };
     assert!(rt; runs(&rt, &out_of_range, &[read(0)?], PollEnd::DeadlineOutOfRange)?);
+    Ok(())
 }
 
 /// Whether the poll sleeps so long after these answers in turn.
@@ -219,9 +240,11 @@ fn sleeps(
     answers: &[PollAnswer],
     wanted: &[Duration],
 ) -> Result<bool, Fail> {
-    let Some(mut poll) =
-        DevicePoll::new(moment(0)?, Duration::from_secs(1), settings(interval, cap, 100))
-    else {
+    let Some(mut poll) = DevicePoll::new(
+        moment(0)?,
+        Duration::from_secs(1),
+        settings(interval, cap, 100),
+    ) else {
         return Ok(false);
     };
     let mut slept = Vec::new(rt.alloc());
@@ -242,28 +265,62 @@ fn secs(seconds: u64) -> Duration {
 }
 
 #[test]
-fn sleeps_are_paced(rt: HostRuntime) {
+fn sleeps_are_paced(rt: HostRuntime) -> Result<(), Fail> {
     let failed = PollAnswer::Failed;
     let slow = PollAnswer::SlowDown;
     let cap = secs(10);
     assert!(rt; sleeps(&rt, secs(1), cap, &[slow, failed], &[secs(6), secs(10)])?);
     assert!(rt; sleeps(&rt, secs(30), cap, &[failed], &[secs(30)])?);
     assert!(rt; sleeps(&rt, secs(0), cap, &[failed], &[secs(0)])?);
-    assert!(rt; sleeps(&rt, secs(1), cap, &[failed, slow, failed], &[secs(2), secs(7), secs(10)])?);
+    assert!(rt;
+        sleeps(
+            &rt,
+            secs(1),
+            cap,
+            &[failed, slow, failed],
+            &[secs(2), secs(7), secs(10)]
+        )?
+    );
     assert!(rt; sleeps(&rt, secs(30), cap, &[slow, failed], &[secs(35), secs(35)])?);
-    assert!(rt; sleeps(&rt, secs(1), Duration::from_millis(500), &[failed], &[secs(1)])?);
+    assert!(rt;
+        sleeps(
+            &rt,
+            secs(1),
+            Duration::from_millis(500),
+            &[failed],
+            &[secs(1)]
+        )?
+    );
+    Ok(())
 }
 
 #[test]
-fn back_off_stops_at_the_cap(rt: HostRuntime) {
+fn back_off_stops_at_the_cap(rt: HostRuntime) -> Result<(), Fail> {
     let failed = PollAnswer::Failed;
-    let answers = [failed, failed, failed, failed, failed, PollAnswer::SlowDown, failed];
-    let wanted = [secs(2), secs(4), secs(8), secs(10), secs(10), secs(15), secs(15)];
+    let answers = [
+        failed,
+        failed,
+        failed,
+        failed,
+        failed,
+        PollAnswer::SlowDown,
+        failed,
+    ];
+    let wanted = [
+        secs(2),
+        secs(4),
+        secs(8),
+        secs(10),
+        secs(10),
+        secs(15),
+        secs(15),
+    ];
     assert!(rt; sleeps(&rt, secs(1), secs(10), &answers, &wanted)?);
+    Ok(())
 }
 
 #[test]
-fn sleeps_stop_at_the_greatest_duration(rt: HostRuntime) {
+fn sleeps_stop_at_the_greatest_duration(rt: HostRuntime) -> Result<(), Fail> {
     let failed = PollAnswer::Failed;
     let slow = PollAnswer::SlowDown;
     let longest = secs(LONGEST);
@@ -272,16 +329,26 @@ fn sleeps_stop_at_the_greatest_duration(rt: HostRuntime) {
     assert!(rt; sleeps(&rt, longest, secs(10), &[failed, slow, failed], &wanted)?);
     let doubled = secs(LONGEST - 1);
     let answers = [failed, failed];
-    assert!(rt; sleeps(&rt, secs(TOO_LONG - 1), Duration::MAX, &answers, &[doubled, doubled])?);
+    assert!(rt;
+        sleeps(
+            &rt,
+            secs(TOO_LONG - 1),
+            Duration::MAX,
+            &answers,
+            &[doubled, doubled]
+        )?
+    );
+    Ok(())
 }
 
 #[test]
-fn at_the_deadline_it_still_asks(rt: HostRuntime) {
+fn at_the_deadline_it_still_asks(rt: HostRuntime) -> Result<(), Fail> {
     let limits = settings(secs(1), secs(10), 3);
     let Some(poll) = DevicePoll::new(moment(0)?, secs(2), limits) else {
-        return Err(Fail);
+        return Err(Fail::new("no deadline"));
     };
     assert!(rt; poll.ready(moment(2)?) == PollReady::Ask);
     assert!(rt; poll.ready(Timestamp::new(2, 1)?) == PollReady::Expired);
     assert!(rt; poll.polls_left() == 3);
+    Ok(())
 }

@@ -23,7 +23,7 @@ returns-in_default-new c =
     let fits : TimeoutFits (as_nanos c.args.timeout) = search rules in
     let first = moment_at c.args.readings.now 0 c.in-Some.start (sym c.in-Some.ensures) in
     rw (pushed_one event_of _ _ _ c.in_ok-push.ensures.items, c.requires.empty)
-    (run_out_of_range _ c.in-Some.start.nanosecond fits first (λ r. rw c.in_default-new.is at (c.new.ensures.variant.1 r)))
+    (run_out_of_range _ c.in-Some.start.nanosecond fits first (λ r. (let x = rw c.in_default-new.is at (c.new.ensures.variant.1 r) in cc)))
 
 pub rounds-init : goal.rounds-init
 rounds-init c =
