@@ -1,0 +1,12 @@
+pub mod Lists
+pub mod Open
+pub mod Extend
+pub mod Endings
+pub mod Plans
+pub mod Steps
+pub mod Runs
+pub mod Inputs
+pub mod Intervals
+pub mod Sleeps
+pub mod Requests
+pub mod OneEnding

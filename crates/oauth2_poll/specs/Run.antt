@@ -1,0 +1,45 @@
+-- What a run over lists of moments and answers gives.
+use Rattle.std.specs.Prelude.{◌≡◌, List, map, if◌then◌else◌}
+use Rattle.std.specs.declared.time.Duration.{Duration}
+use Rattle.std.specs.Duration.{as_nanos}
+use Rattle.jiff.specs.Types.{Timestamp}
+use Rattle.oauth2_poll.specs.declared.device_poll.PollAnswer.{PollAnswer}
+use Rattle.oauth2_poll.specs.declared.device_poll.PollSettings.{PollSettings}
+use Rattle.oauth2_poll.specs.declared.run.PollEvent.{PollEvent}
+use Rattle.oauth2_poll.specs.declared.run.PollEvent.TheVariants as event
+use Rattle.oauth2_poll.specs.declared.run.PollEnd.{PollEnd}
+use Rattle.oauth2_poll.specs.declared.run.PollEnd.TheVariants as end
+use Rattle.oauth2_poll.specs.Trace.{PollInput, Event, Reading, Asked, Answered, Slept, Ending, TooLong, OutOfRange, Late, Decided, Limited, IsEnding, planned, until_missing, is_whole}
+
+-- an event by its numbers
+abbrev pub event_of : PollEvent → Event
+event_of (event.Reading t) = Reading t.nanosecond
+event_of event.Request = Asked
+event_of (event.Answer a) = Answered a
+event_of (event.Sleep d) = Slept (as_nanos d)
+
+-- a run's input by its numbers
+abbrev pub run_input : Duration → PollSettings → List Timestamp → List PollAnswer → PollInput
+run_input timeout settings readings answers =
+    record {
+      timeout = as_nanos timeout;
+      interval = as_nanos settings.interval;
+      cap = as_nanos settings.cap;
+      max_polls = settings.max_polls;
+      readings = map (λ t. t.nanosecond) readings;
+      answers = answers;
+    }
+
+abbrev pub end_of : Ending → PollEnd
+end_of TooLong = end.TimeoutTooLong
+end_of OutOfRange = end.DeadlineOutOfRange
+end_of (Late n) = end.Expired
+end_of (Decided n) = end.Done
+end_of (Limited n) = end.Limit
+
+-- the trace is what the poll does as far as there is input for it, and the end is its own where there is enough
+pub record IsRun (p : PollInput) (trace : List Event) (last : PollEnd) : Type 0 where
+  pub ending : Ending
+  pub is_ending : IsEnding p ending
+  pub events : trace ≡ until_missing (planned p ending)
+  pub end : last ≡ (if is_whole (planned p ending) then end_of ending else end.OutOfInput)

@@ -1,0 +1,134 @@
+-- RFC 8628, 3.4 and 3.5: in which round a poll ends, and the list of what it did until then, from
+-- the moments that its clock showed and the answers that came. Rounds are numbered from one;
+-- reading 0 is that of the start, reading i that of round i, and answer i that of round i.
+use Rattle.std.specs.Prelude.{◌≡◌, ◌≢◌, ℕ, zero, suc, ◌-◌, ◌<◌, ◌≤◌, Bool, is_some, ℤ, pos, ◌+ℤ◌, ◌<ℤ◌, List, [], ◌∷◌, ◌++◌, take, slice_get, Option, Some, None}
+use Rattle.std.specs.List.{fold, list_all}
+use Rattle.std.specs.Option.{option_map}
+use Rattle.jiff.specs.Words.{IsTimestampNanos}
+use Rattle.oauth2_poll.specs.declared.device_poll.PollAnswer.{PollAnswer}
+use Rattle.oauth2_poll.specs.declared.device_poll.PollAnswer.TheVariants.{Deciding}
+use Rattle.oauth2_poll.specs.Step.{TimeoutFits, next_interval}
+
+-- what a poll goes by: the timeout (`expires_in`) and the interval of RFC 8628, 3.2, the cap of the
+-- back-off, the limit of requests, and what was read and answered; lengths in nanoseconds, moments
+-- in nanoseconds since 1970
+pub record PollInput : Type 0 where
+  pub timeout : ℕ
+  pub interval : ℕ
+  pub cap : ℕ
+  pub max_polls : ℕ
+  pub readings : List ℤ
+  pub answers : List PollAnswer
+
+-- what a poll does: reads the clock, asks the token endpoint, has an answer, sleeps
+pub data Event : Type 0 where
+  Reading : ℤ → Event
+  Asked : Event
+  Answered : PollAnswer → Event
+  Slept : ℕ → Event
+
+-- the answer of round i, if it came
+abbrev pub answer_of : List PollAnswer → ℕ → Option PollAnswer
+answer_of answers zero = None
+answer_of answers (suc i) = slice_get answers i
+
+-- the start plus the timeout is a timestamp
+abbrev pub DeadlineInRange : PollInput → Type 0
+DeadlineInRange p = (start : ℤ) → slice_get p.readings 0 ≡ Some start → IsTimestampNanos (start +ℤ pos p.timeout)
+
+-- the reading of round i is strictly after the deadline
+pub record IsLate (p : PollInput) (i : ℕ) : Type 0 where
+  pub start : ℤ
+  pub moment : ℤ
+  pub first : slice_get p.readings 0 ≡ Some start
+  pub here : slice_get p.readings i ≡ Some moment
+  pub after : (start +ℤ pos p.timeout) <ℤ moment
+
+-- the answer of round i is neither a failure nor a request for patience
+abbrev pub Decides : PollInput → ℕ → Type 0
+Decides p i = answer_of p.answers i ≡ Some Deciding
+
+-- the poll goes on after round i: it isn't late, decided or at its limit
+pub record GoesOn (p : PollInput) (i : ℕ) : Type 0 where
+  pub in_time : ¬ (IsLate p i)
+  pub open_answer : ¬ (Decides p i)
+  pub below : i ≢ p.max_polls
+
+-- round n is reached: no earlier one ends the poll
+pub record IsReached (p : PollInput) (n : ℕ) : Type 0 where
+  pub fits : TimeoutFits p.timeout
+  pub in_range : DeadlineInRange p
+  pub from_one : 1 ≤ n
+  pub earlier : (i : ℕ) → 1 ≤ i → i < n → GoesOn p i
+
+-- how a poll ends, where it has rounds with the number of the last
+pub data Ending : Type 0 where
+  TooLong : Ending
+  OutOfRange : Ending
+  Late : ℕ → Ending
+  Decided : ℕ → Ending
+  Limited : ℕ → Ending
+
+-- the end is in the least round in which the poll is late, decided or at its limit; where several
+-- hold of that round, late comes before decided and decided before the limit
+abbrev pub IsEnding : PollInput → Ending → Type 0
+IsEnding p TooLong = ¬ (TimeoutFits p.timeout)
+IsEnding p OutOfRange = TimeoutFits p.timeout × ((start : ℤ) × (slice_get p.readings 0 ≡ Some start) × ¬ (IsTimestampNanos (start +ℤ pos p.timeout)))
+IsEnding p (Late n) = IsReached p n × IsLate p n
+IsEnding p (Decided n) = IsReached p n × (¬ (IsLate p n)) × Decides p n
+IsEnding p (Limited n) = IsReached p n × (¬ (IsLate p n)) × (¬ (Decides p n)) × (n ≡ p.max_polls)
+
+-- the interval after round i: each answer takes it one step further
+abbrev pub interval_after : PollInput → ℕ → ℕ
+interval_after p i = fold (next_interval p.cap) p.interval (take i p.answers)
+
+-- the reading and the answer of round i as events, if they are there
+abbrev pub reading_at : PollInput → ℕ → Option Event
+reading_at p i = option_map Reading (slice_get p.readings i)
+
+abbrev pub answer_at : PollInput → ℕ → Option Event
+answer_at p i = option_map Answered (answer_of p.answers i)
+
+-- what the poll does in a round that isn't the last; an event that has no input is missing
+abbrev pub round : PollInput → ℕ → List (Option Event)
+round p i = reading_at p i ∷ Some Asked ∷ answer_at p i ∷ Some (Slept (interval_after p i)) ∷ []
+
+-- rounds 1 to n
+abbrev pub rounds : PollInput → ℕ → List (Option Event)
+rounds p zero = []
+rounds p (suc n) = rounds p n ++ round p (suc n)
+
+-- all that a poll with this end does: the last round has no sleep, and if its reading is late
+-- neither request nor answer
+abbrev pub planned : PollInput → Ending → List (Option Event)
+planned p TooLong = []
+planned p OutOfRange = reading_at p 0 ∷ []
+planned p (Late n) = reading_at p 0 ∷ (rounds p (n - 1) ++ reading_at p n ∷ [])
+planned p (Decided n) = reading_at p 0 ∷ (rounds p (n - 1) ++ reading_at p n ∷ Some Asked ∷ answer_at p n ∷ [])
+planned p (Limited n) = reading_at p 0 ∷ (rounds p (n - 1) ++ reading_at p n ∷ Some Asked ∷ answer_at p n ∷ [])
+
+-- what comes before the first event that is missing
+abbrev pub until_missing : {A : Type 0} → List (Option A) → List A
+until_missing [] = []
+until_missing (None ∷ xs) = []
+until_missing (Some x ∷ xs) = x ∷ until_missing xs
+
+-- nothing is missing
+abbrev pub is_whole : {A : Type 0} → List (Option A) → Bool
+is_whole {A} xs = list_all is_some xs
+
+-- the moments read in a list of events
+abbrev pub readings_in : List Event → List ℤ
+readings_in [] = []
+readings_in (Reading t ∷ events) = t ∷ readings_in events
+readings_in (Asked ∷ events) = readings_in events
+readings_in (Answered a ∷ events) = readings_in events
+readings_in (Slept d ∷ events) = readings_in events
+
+-- the answers that came in it
+abbrev pub answers_in : List Event → List PollAnswer
+answers_in [] = []
+answers_in (Reading t ∷ events) = answers_in events
+answers_in (Asked ∷ events) = answers_in events
+answers_in (Answered a ∷ events) = a ∷ answers_in events
+answers_in (Slept d ∷ events) = answers_in events

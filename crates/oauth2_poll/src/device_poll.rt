@@ -1,0 +1,184 @@
+//! A poll between two answers: its interval, its deadline and how many requests it still has.
+ghost use Rattle.std.specs.Prelude.{
+  ◌≡◌,
+  ◌↔◌,
+  ◌<◌,
+  ◌<ℤ◌,
+  ◌+ℤ◌,
+  pos,
+  min,
+  max,
+  IsTrue,
+  IsSome,
+  IfSome,
+};
+ghost use Rattle.std.specs.Duration.{as_nanos};
+ghost use Rattle.jiff.specs.Words.{IsTimestampNanos};
+ghost use Rattle.oauth2_poll.specs.Step as step;
+ghost use Rattle.oauth2_poll.specs.Step.{TimeoutFits, answered, action_of, action_after};
+
+use jiff::Timestamp;
+use std::marker::Model;
+use std::time::Duration;
+
+/// What a poll is started with: the `interval` of the device authorization response, the cap of
+/// the back-off after a failed call, and how many requests are made at most.
+#[derive(Clone, Copy, Debug)]
+pub struct PollSettings {
+    pub interval: Duration,
+    pub cap: Duration,
+    pub max_polls: u64,
+}
+
+/// Whether a poll may still ask.
+#[derive(Clone, Copy, Debug, PartialEq, Eq)]
+pub enum PollReady {
+    Ask,
+    Expired,
+}
+
+/// What an answer means to the poll: the call failed, `authorization_pending`, `slow_down`, or
+/// anything else, which is the result (RFC 8628, 3.5).
+#[derive(Clone, Copy, Debug, PartialEq, Eq)]
+pub enum PollAnswer {
+    Failed,
+    Pending,
+    SlowDown,
+    Deciding,
+}
+
+/// What is to be done after an answer.
+#[derive(Clone, Copy, Debug, PartialEq, Eq)]
+pub enum PollStep {
+    Sleep(Duration),
+    Limit,
+    Done,
+}
+
+/// A poll of the token endpoint for the answer to a device authorization.
+#[derive(Drop)]
+pub struct DevicePoll {
+    interval: Duration,
+    cap: Duration,
+    deadline: Timestamp,
+    polls_left: u64,
+}
+
+impl Model for DevicePoll {
+    ghost use Rattle.std.specs.Duration.{as_nanos};
+    ghost use Rattle.oauth2_poll.specs.State.{PollState};
+
+    ghost Value = { PollState };
+
+    ghost view = { λ p. record {
+      interval = as_nanos p.interval;
+      cap = as_nanos p.cap;
+      deadline = p.deadline.nanosecond;
+      polls_left = p.polls_left;
+    } };
+}
+
+impl DevicePoll {
+    /// Whether a timeout's whole seconds are at most 2^63 - 1.
+    pub fn timeout_fits(timeout: &Duration) -> bool
+        ensures { IsTrue result ↔ TimeoutFits (as_nanos timeout.now) }
+    {
+        timeout.as_secs() <= 9_223_372_036_854_775_807
+    }
+
+    /// A poll that may ask until `timeout` after `start`, the `expires_in` of RFC 8628, 3.2; `None`
+    /// where there is no such timestamp.
+    pub fn new(start: Timestamp, timeout: Duration, settings: PollSettings) -> Option<DevicePoll>
+        requires { TimeoutFits (as_nanos timeout) }
+        ensures variant { IsSome result
+            ↔ IsTimestampNanos (start.nanosecond +ℤ pos (as_nanos timeout)) }
+        ensures value { IfSome result (λ poll. poll ≡ record {
+          interval = as_nanos settings.interval;
+          cap = as_nanos settings.cap;
+          deadline = start.nanosecond +ℤ pos (as_nanos timeout);
+          polls_left = settings.max_polls;
+        }) }
+    {
+        let deadline = start.checked_add(timeout).ok()?;
+        Some(DevicePoll {
+            interval: settings.interval,
+            cap: settings.cap,
+            deadline,
+            polls_left: settings.max_polls,
+        })
+    }
+
+    /// `Expired` after the deadline; at the deadline itself the poll still asks.
+    pub fn ready(&self, now: Timestamp) -> PollReady
+        ensures { (result ≡ PollReady.Expired) ↔ (self.now.deadline <ℤ now.nanosecond) }
+    {
+        if self.deadline.as_nanosecond() < now.as_nanosecond() {
+            PollReady::Expired
+        } else {
+            PollReady::Ask
+        }
+    }
+
+    /// How many answers the poll still takes.
+    pub fn polls_left(&self) -> u64
+        ensures { result ≡ self.now.polls_left }
+    {
+        self.polls_left
+    }
+
+    /// Takes the answer to a request, and says what to do next.
+    pub fn answer(&mut self, answer: PollAnswer) -> PollStep
+        requires { 0 < self.old.polls_left }
+        ensures state { self.new ≡ answered self.old answer }
+        ensures step { action_of result ≡ action_after self.old answer }
+    {
+        self.interval = next_interval(self.cap, self.interval, answer);
+        self.polls_left -= 1;
+        if matches!(&answer, PollAnswer::Deciding) {
+            PollStep::Done
+        } else if self.polls_left == 0 {
+            PollStep::Limit
+        } else {
+            PollStep::Sleep(self.interval)
+        }
+    }
+}
+
+// The interval after an answer.
+fn next_interval(cap: Duration, interval: Duration, answer: PollAnswer) -> Duration
+    ensures { as_nanos result ≡ step.next_interval (as_nanos cap) (as_nanos interval) answer }
+{
+    match answer {
+        PollAnswer::Failed => backed_off(cap, interval),
+        PollAnswer::SlowDown => interval.saturating_add(Duration::from_secs(5)),
+        PollAnswer::Pending | PollAnswer::Deciding => interval,
+    }
+}
+
+// The interval after a failed call: twice the interval up to the cap, and never a shorter one.
+fn backed_off(cap: Duration, interval: Duration) -> Duration
+    ensures { as_nanos result ≡ step.backed_off (as_nanos cap) (as_nanos interval) }
+{
+    let doubled = interval.checked_mul(2).unwrap_or(interval);
+    longer(interval, shorter(doubled, cap))
+}
+
+fn shorter(left: Duration, right: Duration) -> Duration
+    ensures { as_nanos result ≡ min (as_nanos left) (as_nanos right) }
+{
+    if left.as_nanos() < right.as_nanos() {
+        left
+    } else {
+        right
+    }
+}
+
+fn longer(left: Duration, right: Duration) -> Duration
+    ensures { as_nanos result ≡ max (as_nanos left) (as_nanos right) }
+{
+    if left.as_nanos() < right.as_nanos() {
+        right
+    } else {
+        left
+    }
+}

@@ -1,0 +1,9 @@
+//! The device poll for its users: a caller whose contract bounds its requests, and worked rows.
+#![tactic(auto)]
+
+mod callers;
+
+pub use callers::poll_within;
+
+#[cfg(test)]
+mod tests;
