@@ -4,6 +4,7 @@ pub mod Values
 pub mod Members
 pub mod Puts
 pub mod ErrorResponse
+pub mod ErrorTexts
 pub mod Words
 pub mod Codes
 pub mod ErrorCodes

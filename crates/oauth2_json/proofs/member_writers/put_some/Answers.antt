@@ -1,7 +1,7 @@
 use Rattle.std.proofs.lemmas.Result.{on_ok_weaker}
 use Rattle.serde_json.specs.View.{view, members_view}
 use Rattle.oauth2_json.proofs.Order.{put-order}
-use Rattle.oauth2_json.proofs.members.put_some.Goals as goal
+use Rattle.oauth2_json.proofs.member_writers.put_some.Goals as goal
 
 pub returns-in-Some-clause-ordered : goal.returns-in-Some-clause-ordered
 returns-in-Some-clause-ordered c =
