@@ -11,3 +11,4 @@ pub mod ErrorCodes
 pub mod Body
 pub mod Challenge
 pub mod Helpers
+pub mod private

@@ -6,7 +6,8 @@ ghost use Rattle.serde_json.specs.View.{view};
 ghost use Rattle.oauth2_json.specs.Reading.{ReadsAs, at_member};
 ghost use Rattle.oauth2_json.specs.Members.{optional};
 ghost use Rattle.oauth2_json.specs.Values.{each, spaced};
-ghost use Rattle.oauth2_json.specs.Words.{pieces, joined, lead};
+ghost use Rattle.oauth2_json.specs.Words.{pieces, joined};
+ghost use Rattle.oauth2_json.specs.private.Words.{lead};
 
 use crate::member_readers;
 use crate::read::{FromJson, ReadError};
