@@ -1,12 +1,7 @@
 -- Lists of texts.
-use Rattle.std.proofs.Common.{◌≡◌, ℕ, List, [], ◌∷◌, ◌++◌, map, String, Global, string_bytes, Option, Some, None, option_map, Ok, Err, refl, ap, sym, ◌∙◌, append_assoc}
-use Rattle.serde_json.specs.Data.{Data, Items, string, array, item}
+use Rattle.std.proofs.Common.{◌≡◌, ℕ, List, [], ◌∷◌, map, String, Global, string_bytes, Option, Some, None, option_map, Ok, refl}
+use Rattle.serde_json.specs.Data.{string, array}
 use Rattle.serde_json.specs.View.{items_of}
-use Rattle.oauth2_json.specs.Reading.{Reading, ErrsAs, ◌⊛◌}
-use Rattle.oauth2_json.specs.Values.{text}
-use Rattle.oauth2_json.specs.declared.read.ReadError.{ReadError}
-use Rattle.oauth2_json.specs.declared.read.ReadError.TheVariants as errors
-use Rattle.oauth2_json.proofs.Words.{in_front}
 use Rattle.oauth2_json.specs.Values.{texts, each_text, text_items}
 use Rattle.oauth2_json.specs.Members.{optional}
 

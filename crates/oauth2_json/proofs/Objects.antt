@@ -13,7 +13,7 @@ use Rattle.serde_json.specs.Written.{members_have_float}
 use Rattle.serde_json.specs.View.{view, members_view}
 use Rattle.serde_json.specs.declared.value.Value.{Value}
 use Rattle.serde_json.proofs.Views.{Entry, view-lookup, get_member-put, get_member-put_other}
-use Rattle.oauth2_json.specs.Members.{without, others, put_some, optional, optional_writing, clashes, beside}
+use Rattle.oauth2_json.specs.Members.{without, others, put_some, optional, clashes, beside}
 use Rattle.oauth2_json.specs.Values.{text, whole_number}
 use Rattle.oauth2_json.specs.Writing.{Writing, WritesAs, write_then, name_clash, float}
 use Rattle.oauth2_json.specs.declared.write.WriteError.{WriteError}

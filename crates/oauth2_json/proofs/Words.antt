@@ -11,7 +11,8 @@ use Rattle.oauth2_json.specs.Members.{optional, some_of}
 use Rattle.oauth2_json.specs.Helpers.{nullable, words_data}
 use Rattle.oauth2_json.specs.declared.read.ReadError.{ReadError}
 use Rattle.oauth2_json.specs.declared.read.ReadError.TheVariants as errors
-use Rattle.oauth2_json.specs.Words.{onto_first, pieces, joined, has_no_space, are_words, each_after_space, lead}
+use Rattle.oauth2_json.specs.Words.{onto_first, pieces, joined, has_no_space, are_words}
+use Rattle.oauth2_json.specs.private.Words.{each_after_space, lead}
 
 no_space : (x : List ℕ) → ((i : ℕ) → i < length x → get_or x i 0 ≢ 32) → has_no_space x ≡ true
 no_space [] h = refl

@@ -4,9 +4,11 @@ pub mod Values
 pub mod Members
 pub mod Puts
 pub mod ErrorResponse
+pub mod ErrorTexts
 pub mod Words
 pub mod Codes
 pub mod ErrorCodes
 pub mod Body
 pub mod Challenge
 pub mod Helpers
+pub mod private

@@ -8,9 +8,9 @@ ghost use Rattle.oauth2_json.specs.Values.{lowered, spaced, text, texts};
 ghost use Rattle.oauth2_json.specs.Words.{are_words};
 
 use crate::lowered::Lowered;
-use crate::members;
 use crate::read::{FromJson, ReadError};
 use crate::spaced::words_text;
+use crate::{member_readers, members};
 use serde_json::Value;
 use std::alloc::{AllocError, Global};
 use std::convert::AsStr;
@@ -22,7 +22,7 @@ pub fn deserialize_untagged_enum_case_insensitive<T: FromJson>(
 ) -> Result<T, ReadError>
     ensures { ReadsAs T.meaning result (at_member [] (lowered T.reading (view value))) }
 {
-    let Lowered(read) = members::under_name::<Lowered<T>>(alloc, "", value)?;
+    let Lowered(read) = member_readers::under_name::<Lowered<T>>(alloc, "", value)?;
     Ok(read)
 }
 

@@ -6,7 +6,7 @@ ghost use Rattle.oauth2_json.specs.Reading.{ReadsAs};
 ghost use Rattle.oauth2_json.specs.Members.{optional};
 ghost use Rattle.oauth2_json.specs.Values.{instant, instant_at, second_of, second_data, IsWholeSeconds};
 
-use crate::members;
+use crate::member_readers;
 use crate::read::{FromJson, ParseCause, ReadError};
 use jiff::Timestamp;
 use serde_json::Value;
@@ -57,7 +57,7 @@ pub fn optional_time(
     ensures { ReadsAs (option_map (λ t. t.nanosecond)) result
         (optional instant name.now (option_map view found)) }
 {
-    match members::optional::<Instant>(alloc, name, found)? {
+    match member_readers::optional::<Instant>(alloc, name, found)? {
         Some(Instant(at)) => Ok(Some(at)),
         None => Ok(None),
     }

@@ -11,12 +11,15 @@ mod floats;
 pub mod helpers;
 mod instants;
 mod lowered;
+mod member_readers;
+mod member_writers;
 pub mod members;
 mod numbers;
 mod read;
 mod revocation_error;
 mod secrets;
 mod spaced;
+mod text_error;
 mod text_lists;
 mod texts;
 mod token_type;
@@ -33,6 +36,7 @@ pub use error_response::{
 pub use error_traits::{ErrorResponse, ErrorResponseType};
 pub use read::{FromJson, ParseCause, ParseFault, ReadError};
 pub use revocation_error::{RevocationErrorResponseType, revocation_error_laws};
+pub use text_error::{TextErrorResponseType, text_error_laws};
 pub use token_type::{BasicTokenType, TokenType, token_type_laws};
 pub use write::{ToJson, WriteError};
 

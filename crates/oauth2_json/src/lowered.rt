@@ -6,7 +6,7 @@ ghost use Rattle.oauth2_json.specs.Reading.{ReadsAs};
 ghost use Rattle.oauth2_json.specs.Members.{needed, present};
 ghost use Rattle.oauth2_json.specs.Values.{lowered};
 
-use crate::members;
+use crate::member_readers;
 use crate::read::{FromJson, ReadError};
 use serde_json::Value;
 use std::alloc::Global;
@@ -37,7 +37,7 @@ pub fn needed_lowered<T: FromJson>(
 ) -> Result<T, ReadError>
     ensures { ReadsAs T.meaning result (needed (lowered T.reading) name.now (option_map view found)) }
 {
-    let Lowered(read) = members::needed::<Lowered<T>>(alloc, name, found)?;
+    let Lowered(read) = member_readers::needed::<Lowered<T>>(alloc, name, found)?;
     Ok(read)
 }
 
@@ -50,7 +50,7 @@ pub fn present_lowered<T: FromJson>(
     ensures { ReadsAs (option_map T.meaning) result
         (present (lowered T.reading) name.now (option_map view found)) }
 {
-    match members::present::<Lowered<T>>(alloc, name, found)? {
+    match member_readers::present::<Lowered<T>>(alloc, name, found)? {
         Some(Lowered(read)) => Ok(Some(read)),
         None => Ok(None),
     }

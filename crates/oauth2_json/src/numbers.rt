@@ -7,7 +7,7 @@ ghost use Rattle.oauth2_json.specs.Reading.{ReadsAs};
 ghost use Rattle.oauth2_json.specs.Members.{needed, optional, defaulted};
 ghost use Rattle.oauth2_json.specs.Values.{flag, whole_number};
 
-use crate::members;
+use crate::member_readers;
 use crate::read::{FromJson, ParseCause, ReadError};
 use serde_json::Value;
 use std::alloc::Global;
@@ -62,7 +62,7 @@ impl FromJson for WholeNumber {
 pub fn needed_flag(alloc: Global, name: &str, found: Option<Value>) -> Result<bool, ReadError>
     ensures { ReadsAs (λ b. b) result (needed flag name.now (option_map view found)) }
 {
-    let Flag(b) = members::needed::<Flag>(alloc, name, found)?;
+    let Flag(b) = member_readers::needed::<Flag>(alloc, name, found)?;
     Ok(b)
 }
 
@@ -70,7 +70,7 @@ pub fn needed_flag(alloc: Global, name: &str, found: Option<Value>) -> Result<bo
 pub fn needed_number(alloc: Global, name: &str, found: Option<Value>) -> Result<u64, ReadError>
     ensures { ReadsAs (λ n. n) result (needed whole_number name.now (option_map view found)) }
 {
-    let WholeNumber(n) = members::needed::<WholeNumber>(alloc, name, found)?;
+    let WholeNumber(n) = member_readers::needed::<WholeNumber>(alloc, name, found)?;
     Ok(n)
 }
 
@@ -82,7 +82,7 @@ pub fn optional_number(
 ) -> Result<Option<u64>, ReadError>
     ensures { ReadsAs (λ n. n) result (optional whole_number name.now (option_map view found)) }
 {
-    match members::optional::<WholeNumber>(alloc, name, found)? {
+    match member_readers::optional::<WholeNumber>(alloc, name, found)? {
         Some(WholeNumber(n)) => Ok(Some(n)),
         None => Ok(None),
     }
@@ -92,7 +92,7 @@ pub fn optional_number(
 pub fn number_or(alloc: Global, name: &str, n: u64, found: Option<Value>) -> Result<u64, ReadError>
     ensures { ReadsAs (λ n. n) result (defaulted whole_number name.now n (option_map view found)) }
 {
-    match members::optional::<WholeNumber>(alloc, name, found)? {
+    match member_readers::optional::<WholeNumber>(alloc, name, found)? {
         Some(WholeNumber(n)) => Ok(n),
         None => Ok(n),
     }

@@ -1,9 +1,12 @@
 //! Reading: what a type reads a JSON value to, and why it reads to nothing.
 
-ghost use Rattle.oauth2_json.specs.Reading.{FaultsAs, IsFault, UnderAs, whole};
+ghost use Rattle.std.specs.Prelude.{◌≡◌, Some};
+ghost use Rattle.oauth2_json.specs.ErrorTexts.{cause_text, parse_fault_text, read_error_text};
+ghost use Rattle.oauth2_json.specs.Reading.{FaultsAs, IsFault, UnderAs, fault_of, whole};
 
 use serde_json::Value;
 use std::alloc::{AllocError, AllocFailed, Global};
+use std::fmt;
 
 /// Why a value reads to nothing.
 #[derive(Clone, Copy, Debug, PartialEq, Eq, Drop)]
@@ -42,8 +45,57 @@ pub enum ReadError {
     Memory,
 }
 
+impl ParseCause {
+    fn text(self) -> &'static str
+        ensures { result.now ≡ cause_text self }
+    {
+        match self {
+            ParseCause::NotJson => "not one whole JSON value",
+            ParseCause::NotObject => "not an object",
+            ParseCause::Missing => "missing",
+            ParseCause::WrongType => "of the wrong type",
+            ParseCause::NotWhole => "not a whole number",
+            ParseCause::OutOfRange => "out of range",
+            ParseCause::BadUrl => "not a URL",
+            ParseCause::BothNames => "under both of its names",
+            ParseCause::Refused => "of another shape",
+        }
+    }
+}
+
+impl fmt::Display for ParseCause {
+    ghost output = { λ cause. Some (cause_text cause) };
+
+    fn fmt<W: fmt::Write>(&self, f: &mut fmt::Formatter<W>) -> fmt::Result {
+        f.write_str(self.text())
+    }
+}
+
+impl fmt::Display for ParseFault {
+    ghost output = { λ fault. Some (parse_fault_text (fault_of fault)) };
+
+    fn fmt<W: fmt::Write>(&self, f: &mut fmt::Formatter<W>) -> fmt::Result {
+        if self.member.as_str().is_empty() {
+            return write!(f, "{}", self.cause);
+        }
+        write!(f, "{}: {}", self.member, self.cause)
+    }
+}
+
+impl fmt::Display for ReadError {
+    ghost output = { λ error. Some (read_error_text error) };
+
+    fn fmt<W: fmt::Write>(&self, f: &mut fmt::Formatter<W>) -> fmt::Result {
+        match self {
+            ReadError::Fault(fault) => write!(f, "{fault}"),
+            ReadError::Memory => f.write_str("out of memory"),
+        }
+    }
+}
+
+impl std::error::Error for ReadError {}
+
 impl From<AllocError> for ReadError {
-    ghost use Rattle.std.specs.Prelude.{◌≡◌};
     ghost use Rattle.oauth2_json.specs.declared.read.ReadError.TheVariants.{Memory};
 
     ghost from_gives = { λ _ e. e ≡ Memory };
@@ -54,7 +106,6 @@ impl From<AllocError> for ReadError {
 }
 
 impl<T: Drop> From<AllocFailed<T>> for ReadError {
-    ghost use Rattle.std.specs.Prelude.{◌≡◌};
     ghost use Rattle.oauth2_json.specs.declared.read.ReadError.TheVariants.{Memory};
 
     ghost from_gives = { λ _ e. e ≡ Memory };

@@ -6,9 +6,10 @@ ghost use Rattle.serde_json.specs.View.{view};
 ghost use Rattle.oauth2_json.specs.Reading.{ReadsAs, at_member};
 ghost use Rattle.oauth2_json.specs.Members.{optional};
 ghost use Rattle.oauth2_json.specs.Values.{each, spaced};
-ghost use Rattle.oauth2_json.specs.Words.{pieces, joined, lead};
+ghost use Rattle.oauth2_json.specs.Words.{pieces, joined};
+ghost use Rattle.oauth2_json.specs.private.Words.{lead};
 
-use crate::members;
+use crate::member_readers;
 use crate::read::{FromJson, ReadError};
 use serde_json::Value;
 use std::alloc::{AllocError, Global};
@@ -17,7 +18,7 @@ use std::convert::AsStr;
 fn piece<T: FromJson>(alloc: Global, text: &str) -> Result<T, ReadError>
     ensures { ReadsAs T.meaning result (at_member [] (T.reading (string text.now))) }
 {
-    members::under_name(alloc, "", Value::try_from_str(alloc, text)?)
+    member_readers::under_name(alloc, "", Value::try_from_str(alloc, text)?)
 }
 
 /// Each piece of the text between spaces, as `T` reads it.
@@ -83,7 +84,7 @@ pub fn optional_words<T: FromJson + Drop>(
     ensures { ReadsAs (option_map (λ v. map T.meaning v.items)) result
         (optional (spaced T.reading) name.now (option_map view found)) }
 {
-    match members::optional::<Spaced<T>>(alloc, name, found)? {
+    match member_readers::optional::<Spaced<T>>(alloc, name, found)? {
         Some(Spaced(words)) => Ok(Some(words)),
         None => Ok(None),
     }

@@ -7,7 +7,7 @@ ghost use Rattle.oauth2_json.specs.Reading.{ReadsAs};
 ghost use Rattle.oauth2_json.specs.Members.{optional};
 ghost use Rattle.oauth2_json.specs.Values.{texts, each_text, text_items};
 
-use crate::members;
+use crate::member_readers;
 use crate::read::{FromJson, ParseCause, ReadError};
 use serde_json::Value;
 use std::alloc::{AllocError, Global};
@@ -69,7 +69,7 @@ pub fn optional_texts(
     ensures { ReadsAs (option_map (λ v. map string_bytes v.items)) result
         (optional texts name.now (option_map view found)) }
 {
-    match members::optional::<Texts>(alloc, name, found)? {
+    match member_readers::optional::<Texts>(alloc, name, found)? {
         Some(Texts(list)) => Ok(Some(list)),
         None => Ok(None),
     }

@@ -1,7 +1,11 @@
 //! Writing: what a value is written as, and why it is not.
 
+ghost use Rattle.std.specs.Prelude.{◌≡◌, Some};
+ghost use Rattle.oauth2_json.specs.ErrorTexts.{write_error_text};
+
 use serde_json::Value;
 use std::alloc::{AllocError, AllocFailed, Global};
+use std::fmt;
 
 /// Why nothing was written: an extra member bears a name of the type's own, or holds a float.
 #[derive(Clone, Copy, Debug, PartialEq, Eq, Drop)]
@@ -11,8 +15,23 @@ pub enum WriteError {
     Float,
 }
 
+impl fmt::Display for WriteError {
+    ghost output = { λ error. Some (write_error_text error) };
+
+    fn fmt<W: fmt::Write>(&self, f: &mut fmt::Formatter<W>) -> fmt::Result {
+        match self {
+            WriteError::Memory => f.write_str("out of memory"),
+            WriteError::NameClash => {
+                f.write_str("an extra member bears a name of the type's own")
+            }
+            WriteError::Float => f.write_str("an extra member holds a float"),
+        }
+    }
+}
+
+impl std::error::Error for WriteError {}
+
 impl From<AllocError> for WriteError {
-    ghost use Rattle.std.specs.Prelude.{◌≡◌};
     ghost use Rattle.oauth2_json.specs.declared.write.WriteError.TheVariants.{Memory};
 
     ghost from_gives = { λ _ e. e ≡ Memory };
@@ -23,7 +42,6 @@ impl From<AllocError> for WriteError {
 }
 
 impl<T: Drop> From<AllocFailed<T>> for WriteError {
-    ghost use Rattle.std.specs.Prelude.{◌≡◌};
     ghost use Rattle.oauth2_json.specs.declared.write.WriteError.TheVariants.{Memory};
 
     ghost from_gives = { λ _ e. e ≡ Memory };

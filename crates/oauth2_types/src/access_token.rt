@@ -1,6 +1,7 @@
 //! Access tokens (RFC 6749, section 1.4).
 
 ghost use Rattle.std.specs.Prelude.{◌≡◌, ℕ, List, string_bytes, codes, Some};
+ghost use Rattle.std.specs.Fmt.{DisplaysOnOk, WritesStyledOnOk};
 
 use crate::secret::Secret;
 use crate::try_clone::TryClone;
@@ -55,7 +56,13 @@ impl TryClone for AccessToken {
 impl fmt::Debug for AccessToken {
     ghost debug_output = { λ _. Some (codes "AccessToken([redacted])") };
 
-    fn fmt<W: fmt::Write>(&self, f: &mut fmt::Formatter<W>) -> fmt::Result {
+    fn fmt<W: fmt::Write>(&self, f: &mut fmt::Formatter<W>) -> fmt::Result
+        ensures writes { DisplaysOnOk W.write_str_gives f.old result
+            (Some (codes "AccessToken([redacted])")) f.new }
+        // Whatever options the formatter has, as under `{:#?}`.
+        ensures styled { WritesStyledOnOk W.write_str_gives f.old result
+            (codes "AccessToken([redacted])") f.new }
+    {
         f.write_str("AccessToken([redacted])")
     }
 }

@@ -1,6 +1,7 @@
 //! Client secrets (RFC 6749, section 2.3.1).
 
 ghost use Rattle.std.specs.Prelude.{◌≡◌, ℕ, List, string_bytes, codes, Some};
+ghost use Rattle.std.specs.Fmt.{DisplaysOnOk, WritesStyledOnOk};
 
 use crate::secret::Secret;
 use crate::try_clone::TryClone;
@@ -55,7 +56,13 @@ impl TryClone for ClientSecret {
 impl fmt::Debug for ClientSecret {
     ghost debug_output = { λ _. Some (codes "ClientSecret([redacted])") };
 
-    fn fmt<W: fmt::Write>(&self, f: &mut fmt::Formatter<W>) -> fmt::Result {
+    fn fmt<W: fmt::Write>(&self, f: &mut fmt::Formatter<W>) -> fmt::Result
+        ensures writes { DisplaysOnOk W.write_str_gives f.old result
+            (Some (codes "ClientSecret([redacted])")) f.new }
+        // Whatever options the formatter has, as under `{:#?}`.
+        ensures styled { WritesStyledOnOk W.write_str_gives f.old result
+            (codes "ClientSecret([redacted])") f.new }
+    {
         f.write_str("ClientSecret([redacted])")
     }
 }

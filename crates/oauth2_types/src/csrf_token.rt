@@ -1,6 +1,7 @@
 //! The state of an authorization request (RFC 6749, section 4.1.1).
 
 ghost use Rattle.std.specs.Prelude.{◌≡◌, ℕ, IfOk, List, OnErr, Some, codes, string_bytes};
+ghost use Rattle.std.specs.Fmt.{DisplaysOnOk, WritesStyledOnOk};
 ghost use Rattle.oauth2_types.specs.Pkce.{DrewAtMost, IsRandomText};
 
 use crate::random_text::random_text;
@@ -79,7 +80,13 @@ impl TryClone for CsrfToken {
 impl fmt::Debug for CsrfToken {
     ghost debug_output = { λ _. Some (codes "CsrfToken([redacted])") };
 
-    fn fmt<W: fmt::Write>(&self, f: &mut fmt::Formatter<W>) -> fmt::Result {
+    fn fmt<W: fmt::Write>(&self, f: &mut fmt::Formatter<W>) -> fmt::Result
+        ensures writes { DisplaysOnOk W.write_str_gives f.old result
+            (Some (codes "CsrfToken([redacted])")) f.new }
+        // Whatever options the formatter has, as under `{:#?}`.
+        ensures styled { WritesStyledOnOk W.write_str_gives f.old result
+            (codes "CsrfToken([redacted])") f.new }
+    {
         f.write_str("CsrfToken([redacted])")
     }
 }

@@ -1,6 +1,7 @@
 //! Device codes (RFC 8628, section 3.2).
 
 ghost use Rattle.std.specs.Prelude.{◌≡◌, ℕ, List, string_bytes, codes, Some};
+ghost use Rattle.std.specs.Fmt.{DisplaysOnOk, WritesStyledOnOk};
 
 use crate::secret::Secret;
 use crate::try_clone::TryClone;
@@ -55,7 +56,13 @@ impl TryClone for DeviceCode {
 impl fmt::Debug for DeviceCode {
     ghost debug_output = { λ _. Some (codes "DeviceCode([redacted])") };
 
-    fn fmt<W: fmt::Write>(&self, f: &mut fmt::Formatter<W>) -> fmt::Result {
+    fn fmt<W: fmt::Write>(&self, f: &mut fmt::Formatter<W>) -> fmt::Result
+        ensures writes { DisplaysOnOk W.write_str_gives f.old result
+            (Some (codes "DeviceCode([redacted])")) f.new }
+        // Whatever options the formatter has, as under `{:#?}`.
+        ensures styled { WritesStyledOnOk W.write_str_gives f.old result
+            (codes "DeviceCode([redacted])") f.new }
+    {
         f.write_str("DeviceCode([redacted])")
     }
 }

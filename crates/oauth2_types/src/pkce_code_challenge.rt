@@ -1,7 +1,9 @@
 //! Code challenges (RFC 7636, section 4.2).
 
-ghost use Rattle.std.specs.Prelude.{◌≡◌, ◌≤◌, IfOk, OnErr, string_bytes};
-ghost use Rattle.oauth2_types.specs.Pkce.{Accepts, DrewAtMost, HasValidLength, IsRandomText, challenge_debug, plain_challenge, sha256_challenge};
+ghost use Rattle.std.specs.Prelude.{◌≡◌, ◌≤◌, IfOk, OnErr, Some, codes, string_bytes};
+ghost use Rattle.std.specs.Fmt.{DisplaysOnOk, WritesStyledOnOk, formatter_spec, spec_alternate};
+ghost use Rattle.oauth2_types.specs.Pkce.{Accepts, DrewAtMost, HasValidLength, IsRandomText, plain_challenge, sha256_challenge};
+ghost use Rattle.oauth2_types.specs.Pkce.{challenge_debug, plain_debug, plain_debug_text};
 
 use crate::pkce_code_challenge_method::PkceCodeChallengeMethod;
 use crate::pkce_code_verifier::PkceCodeVerifier;
@@ -153,37 +155,43 @@ impl TryClone for PkceCodeChallenge {
     }
 }
 
-/// What stands for the challenge where it is the verifier.
-#[derive(Drop)]
-struct Redacted;
-
-impl fmt::Debug for Redacted {
-    fn fmt<W: fmt::Write>(&self, f: &mut fmt::Formatter<W>) -> fmt::Result {
-        f.write_str("[redacted]")
+/// The debug text of a challenge that is its verifier.
+fn debug_plain<W: fmt::Write>(f: &mut fmt::Formatter<W>) -> fmt::Result
+    ensures writes { DisplaysOnOk W.write_str_gives f.old result (Some plain_debug) f.new }
+    ensures styled { WritesStyledOnOk W.write_str_gives f.old result
+        (plain_debug_text (spec_alternate (formatter_spec f.old))) f.new }
+{
+    if f.alternate() {
+        return f.write_str(
+            "PkceCodeChallenge {\n\
+             \x20   code_challenge: [redacted],\n\
+             \x20   code_challenge_method: PkceCodeChallengeMethod(\n        \"plain\",\n    ),\n}",
+        );
     }
+    f.write_str(
+        "PkceCodeChallenge { code_challenge: [redacted], code_challenge_method: PkceCodeChallengeMethod(\"plain\") }",
+    )
 }
 
 impl fmt::Debug for PkceCodeChallenge {
     ghost debug_output = { challenge_debug };
 
     #[tactic(auto, unfolding(crate::specs::Pkce::challenge_debug))]
-    fn fmt<W: fmt::Write>(&self, f: &mut fmt::Formatter<W>) -> fmt::Result {
-        let is_plain = self.code_challenge_method.as_str() == "plain";
+    fn fmt<W: fmt::Write>(&self, f: &mut fmt::Formatter<W>) -> fmt::Result
+        ensures writes { DisplaysOnOk W.write_str_gives f.old result (challenge_debug self.now) f.new }
+        // Whatever options the formatter has, as under `{:#?}`.
+        ensures redacted { self.now.method ≡ codes "plain" → WritesStyledOnOk W.write_str_gives f.old result
+            (plain_debug_text (spec_alternate (formatter_spec f.old))) f.new }
+    {
+        if self.code_challenge_method.as_str() == "plain" {
+            return debug_plain(f);
+        }
         if f.alternate() {
-            let mut fields = f.debug_struct("PkceCodeChallenge");
-            if is_plain {
-                fields.field("code_challenge", &Redacted);
-            } else {
-                fields.field("code_challenge", self.code_challenge.text());
-            }
-            return fields
+            return f
+                .debug_struct("PkceCodeChallenge")
+                .field("code_challenge", self.code_challenge.text())
                 .field("code_challenge_method", self.method())
                 .finish();
-        }
-        if is_plain {
-            return f.write_str(
-                "PkceCodeChallenge { code_challenge: [redacted], code_challenge_method: PkceCodeChallengeMethod(\"plain\") }",
-            );
         }
         write!(
             f,

@@ -1,6 +1,7 @@
 //! Code verifiers (RFC 7636, section 4.1).
 
 ghost use Rattle.std.specs.Prelude.{◌≡◌, ℕ, List, string_bytes, codes, Some, IsTrue, ◌↔◌};
+ghost use Rattle.std.specs.Fmt.{DisplaysOnOk, WritesStyledOnOk};
 ghost use Rattle.oauth2_types.specs.Pkce.{HasValidLength};
 
 use crate::secret::Secret;
@@ -52,7 +53,13 @@ impl PkceCodeVerifier {
 impl fmt::Debug for PkceCodeVerifier {
     ghost debug_output = { λ _. Some (codes "PkceCodeVerifier([redacted])") };
 
-    fn fmt<W: fmt::Write>(&self, f: &mut fmt::Formatter<W>) -> fmt::Result {
+    fn fmt<W: fmt::Write>(&self, f: &mut fmt::Formatter<W>) -> fmt::Result
+        ensures writes { DisplaysOnOk W.write_str_gives f.old result
+            (Some (codes "PkceCodeVerifier([redacted])")) f.new }
+        // Whatever options the formatter has, as under `{:#?}`.
+        ensures styled { WritesStyledOnOk W.write_str_gives f.old result
+            (codes "PkceCodeVerifier([redacted])") f.new }
+    {
         f.write_str("PkceCodeVerifier([redacted])")
     }
 }

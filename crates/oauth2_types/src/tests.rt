@@ -148,7 +148,8 @@ fn plain_challenge(rt: HostRuntime) -> Result<(), Fail> {
     is_text(
         &rt,
         pretty.as_str(),
-        "PkceCodeChallenge {\n    code_challenge: [redacted],\n    code_challenge_method: PkceCodeChallengeMethod(\n        \"plain\",\n    ),\n}",
+        "PkceCodeChallenge {\n    code_challenge: [redacted],\n\
+             \x20   code_challenge_method: PkceCodeChallengeMethod(\n        \"plain\",\n    ),\n}",
     );
     Ok(())
 }

@@ -1,6 +1,7 @@
 //! User codes (RFC 8628, section 3.2).
 
 ghost use Rattle.std.specs.Prelude.{◌≡◌, ℕ, List, string_bytes, codes, Some};
+ghost use Rattle.std.specs.Fmt.{DisplaysOnOk, WritesStyledOnOk};
 
 use crate::secret::Secret;
 use crate::try_clone::TryClone;
@@ -55,7 +56,13 @@ impl TryClone for UserCode {
 impl fmt::Debug for UserCode {
     ghost debug_output = { λ _. Some (codes "UserCode([redacted])") };
 
-    fn fmt<W: fmt::Write>(&self, f: &mut fmt::Formatter<W>) -> fmt::Result {
+    fn fmt<W: fmt::Write>(&self, f: &mut fmt::Formatter<W>) -> fmt::Result
+        ensures writes { DisplaysOnOk W.write_str_gives f.old result
+            (Some (codes "UserCode([redacted])")) f.new }
+        // Whatever options the formatter has, as under `{:#?}`.
+        ensures styled { WritesStyledOnOk W.write_str_gives f.old result
+            (codes "UserCode([redacted])") f.new }
+    {
         f.write_str("UserCode([redacted])")
     }
 }

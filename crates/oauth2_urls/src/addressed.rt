@@ -1,6 +1,6 @@
 //! What every URL type is: a text as it was given, beside its parsed URL.
 
-ghost use Rattle.std.specs.Prelude.{◌≡◌, ℕ, List, Some, string_bytes, IfOk, refl};
+ghost use Rattle.std.specs.Prelude.{◌≡◌, Some, string_bytes, IfOk, refl};
 ghost use Rattle.std.specs.Cmp.{on_equiv, on_per, on_po, on_total, partial_equiv_from_equiv};
 ghost use Rattle.std.specs.Cmp.Lexicographic.{slice_cmp, nat_list_eq_equiv, nat_list_cmp_total, texts_ties, texts_po};
 ghost use Rattle.std.specs.Cmp.Rules.{hashing};
@@ -9,7 +9,7 @@ ghost use Rattle.std.specs.Fmt.{DisplaysOnOk, debug_str, debug_variant};
 ghost use Rattle.std.specs.Hash as fed;
 ghost use Rattle.std.specs.Ordering.{nat_cmp};
 ghost use Rattle.std.specs.Str.{bytes_eq};
-ghost use Rattle.oauth2_urls.specs.Addressed.{Addresses, addressed};
+ghost use Rattle.oauth2_urls.specs.Addressed.{Addresses, written_url};
 
 use std::alloc::{AllocError, Global};
 use std::cmp::Ordering;
@@ -42,7 +42,7 @@ impl AddressedUrl {
     }
 
     pub(crate) fn from_url(alloc: Global, url: Url) -> Result<AddressedUrl, AllocError>
-        ensures { IfOk result (λ a. a ≡ addressed url) }
+        ensures { IfOk result (λ a. a ≡ written_url url) }
     {
         let text = String::from_str(alloc, url.as_str())?;
         Ok(AddressedUrl { text, url })

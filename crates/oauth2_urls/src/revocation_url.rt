@@ -1,8 +1,8 @@
 //! The URL of the revocation endpoint.
 
-ghost use Rattle.std.specs.Prelude.{◌≡◌, ℕ, List, Some, IfOk, codes, string_bytes};
+ghost use Rattle.std.specs.Prelude.{◌≡◌, Some, IfOk, codes, string_bytes};
 ghost use Rattle.std.specs.Fmt.{debug_str, debug_variant};
-ghost use Rattle.oauth2_urls.specs.Addressed.{Addressed, Addresses, addressed};
+ghost use Rattle.oauth2_urls.specs.Addressed.{Addressed, Addresses, written_url};
 
 use crate::addressed::AddressedUrl;
 use oauth2_types::TryClone;
@@ -34,7 +34,7 @@ impl RevocationUrl {
 
     /// The URL beside the text that it is written as.
     pub fn from_url(alloc: Global, url: Url) -> Result<RevocationUrl, AllocError>
-        ensures { IfOk result (λ u. u ≡ addressed url) }
+        ensures { IfOk result (λ u. u ≡ written_url url) }
     {
         Ok(RevocationUrl(AddressedUrl::from_url(alloc, url)?))
     }
