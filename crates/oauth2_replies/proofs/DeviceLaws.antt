@@ -17,7 +17,7 @@ use Rattle.oauth2_json.proofs.Puts.{found, rest}
 use Rattle.oauth2_json.proofs.Objects.{beside_taken, optional-text}
 use Rattle.oauth2_replies.specs.Kept.{AreFieldsKept}
 use Rattle.oauth2_replies.specs.Device.{DeviceAuthorization, device_seen, own_names, own_rows, device_rows, device_row, device_reading, device_writing, IsAddress}
-use Rattle.oauth2_replies.specs.DeviceRows.{AreRows, of_rows}
+use Rattle.oauth2_replies.specs.private.DeviceRows.{AreRows, of_rows}
 use Rattle.oauth2_replies.specs.declared.device_json.Rows.{Rows}
 
 pub rows_are : {E : Type 0} (er : Data → Reading E) (d : Data) (ms : Members) (rows : Rows) → members_of_object d ≡ Ok ms → AreRows ms rows → of_rows er rows ≡ device_reading er d
@@ -55,22 +55,6 @@ address_read name (Some d) (Some e) a h = cc
 address_back : (name : List ℕ) (a : Addressed) → IsAddress a → either_name url name (Some (string a.text)) None ≡ Ok a
 unfolding IsAddress
 address_back name a h = subst (λ p. text_and_url name a.text p ≡ Ok a) (sym h) refl
-
--- ---- the first rows at fault
-
-pub fault_device_code : {E : Type 0} (er : Data → Reading E) (d u v o c e i : Option Data) (rest : Members) (error : ReadError) → ErrsAs error (needed text (codes "device_code") d) → ErrsAs error (device_rows er d u v o c e i rest)
-fault_device_code er d u v o c e i rest errors.Memory h = tt
-fault_device_code er d u v o c e i rest (errors.Fault f) h = rw h refl
-
-pub fault_user_code : {E : Type 0} (er : Data → Reading E) (d u v o c e i : Option Data) (rest : Members) (code : List ℕ) (error : ReadError) → needed text (codes "device_code") d ≡ Ok code
-    → ErrsAs error (needed text (codes "user_code") u) → ErrsAs error (device_rows er d u v o c e i rest)
-fault_user_code er d u v o c e i rest code errors.Memory is h = tt
-fault_user_code er d u v o c e i rest code (errors.Fault f) is h = rw (is, h) refl
-
-pub fault_address : {E : Type 0} (er : Data → Reading E) (d u v o c e i : Option Data) (rest : Members) (code user : List ℕ) (error : ReadError) → needed text (codes "device_code") d ≡ Ok code → needed text (codes "user_code") u ≡ Ok user
-    → ErrsAs error (either_name url (codes "verification_uri") v o) → ErrsAs error (device_rows er d u v o c e i rest)
-fault_address er d u v o c e i rest code user errors.Memory is is2 h = tt
-fault_address er d u v o c e i rest code user (errors.Fault f) is is2 h = rw (is, is2, h) refl
 
 -- ---- the whole response
 

@@ -10,11 +10,11 @@ use Rattle.oauth2_json.specs.Words.{joined}
 use Rattle.oauth2_json.specs.Puts.{put_all}
 use Rattle.oauth2_json.proofs.Puts.{found, rest}
 use Rattle.oauth2_json.proofs.Objects.{beside_taken, optional-text, optional-number}
+use Rattle.oauth2_json.proofs.Optionals.{optional-words}
 use Rattle.oauth2_replies.specs.Kept.{AreScopesKept}
 use Rattle.oauth2_replies.specs.Token.{Token, token_seen, own_names, own_rows, token_row, token_reading, token_writing, IsTokenKept}
-use Rattle.oauth2_replies.specs.TokenRows.{AreRows, of_rows}
+use Rattle.oauth2_replies.specs.private.TokenRows.{AreRows, of_rows}
 use Rattle.oauth2_replies.specs.declared.token_json.Rows.{Rows}
-use Rattle.oauth2_replies.proofs.Optionals.{optional-words}
 
 pub rows_are : {E T : Type 0} (er : Data → Reading E) (tr : Data → Reading T) (d : Data) (ms : Members) (rows : Rows) → members_of_object d ≡ Ok ms → AreRows ms rows → of_rows er tr rows ≡ token_reading er tr d
 rows_are er tr d ms rows h are = rw (h, are.access_token, are.token_type, are.expires_in, are.refresh_token, are.scope, are.rest) refl

@@ -1,14 +1,16 @@
 //! Device authorization responses as JSON objects.
 
-ghost use Rattle.std.specs.Prelude.{◌≡◌, Ok, IfOk, option_map};
+ghost use Rattle.std.specs.Prelude.{◌≡◌, Ok, IfOk, codes, option_map};
 ghost use Rattle.serde_json.specs.Data.{string};
 ghost use Rattle.serde_json.specs.View.{view, members_view};
 ghost use Rattle.oauth2_json.specs.Reading.{ReadsAs};
+ghost use Rattle.oauth2_json.specs.Members.{either_name};
+ghost use Rattle.oauth2_json.specs.Values.{url};
 ghost use Rattle.oauth2_json.specs.Writing.{WritesAs};
 ghost use Rattle.oauth2_json.specs.Puts.{put_all};
 ghost use Rattle.oauth2_replies.specs.Kept.{AreFieldsKept};
 ghost use Rattle.oauth2_replies.specs.Device.{DeviceAuthorization, device_seen, device_reading, device_writing, own_rows, IsAddress};
-ghost use Rattle.oauth2_replies.specs.DeviceRows.{AreRows, of_rows};
+ghost use Rattle.oauth2_replies.specs.private.DeviceRows.{AreRows, of_rows};
 
 use crate::device::{DeviceAuthorizationResponse, ExtraDeviceAuthorizationFields};
 use oauth2_json::{FromJson, ReadError, ToJson, WriteError, members};
@@ -70,7 +72,20 @@ fn taken(mut members: Map<String, Value>) -> Rows
     }
 }
 
-#[tactic(auto, using(crate::proofs::DeviceLaws::address_read, crate::proofs::DeviceLaws::fault_device_code))]
+/// The URL where the user types in the code, under either of its names.
+#[tactic(auto, using(crate::proofs::DeviceLaws::address_read))]
+fn verification_uri(
+    alloc: Global,
+    found: Option<Value>,
+    other: Option<Value>,
+) -> Result<EndUserVerificationUrl, ReadError>
+    ensures read { ReadsAs (λ uri. uri) result
+        (either_name url (codes "verification_uri") (option_map view found) (option_map view other)) }
+    ensures address { IfOk result IsAddress }
+{
+    members::either_name(alloc, "verification_uri", found, other)
+}
+
 fn from_rows<EF: ExtraDeviceAuthorizationFields + Drop>(
     alloc: Global,
     rows: Rows,
@@ -80,12 +95,7 @@ fn from_rows<EF: ExtraDeviceAuthorizationFields + Drop>(
     Ok(DeviceAuthorizationResponse {
         device_code: members::needed(alloc, "device_code", rows.device_code)?,
         user_code: members::needed(alloc, "user_code", rows.user_code)?,
-        verification_uri: members::either_name(
-            alloc,
-            "verification_uri",
-            rows.verification_uri,
-            rows.verification_url,
-        )?,
+        verification_uri: verification_uri(alloc, rows.verification_uri, rows.verification_url)?,
         verification_uri_complete: members::optional(
             alloc,
             "verification_uri_complete",

@@ -7,7 +7,7 @@ ghost use Rattle.oauth2_json.specs.Reading.{ReadsAs};
 ghost use Rattle.oauth2_json.specs.Writing.{WritesAs};
 ghost use Rattle.oauth2_json.specs.Puts.{put_all};
 ghost use Rattle.oauth2_replies.specs.Introspection.{Introspection, introspection_seen, introspection_reading, introspection_writing, own_rows, IsIntrospectionKept};
-ghost use Rattle.oauth2_replies.specs.IntrospectionRows.{AreRows, of_rows, AreInstants};
+ghost use Rattle.oauth2_replies.specs.private.IntrospectionRows.{AreRows, of_rows, AreInstants};
 
 use crate::introspection::StandardTokenIntrospectionResponse;
 use crate::scopes;

@@ -7,7 +7,7 @@ ghost use Rattle.oauth2_json.specs.Reading.{ReadsAs};
 ghost use Rattle.oauth2_json.specs.Writing.{WritesAs};
 ghost use Rattle.oauth2_json.specs.Puts.{put_all};
 ghost use Rattle.oauth2_replies.specs.Token.{Token, token_seen, token_reading, token_writing, own_rows, IsTokenKept};
-ghost use Rattle.oauth2_replies.specs.TokenRows.{AreRows, of_rows};
+ghost use Rattle.oauth2_replies.specs.private.TokenRows.{AreRows, of_rows};
 
 use crate::scopes;
 use crate::token::{ExtraTokenFields, StandardTokenResponse};

@@ -1,6 +1,6 @@
--- For private clauses: what stands under each name of an introspection response, and the other
+-- What stands under each name of an introspection response, and the other
 -- members; and that its times are instants.
-use Rattle.std.specs.Prelude.{◌≡◌, ℤ, true, Option, Some, None, codes, option_map}
+use Rattle.std.specs.Prelude.{◌≡◌, ℤ, true, Option, IfSome, codes, option_map}
 use Rattle.serde_json.specs.Data.{Data, Members}
 use Rattle.serde_json.specs.Find.{get_member}
 use Rattle.serde_json.specs.View.{view, members_view}
@@ -42,10 +42,9 @@ of_rows extra_fields token_type rows =
     (option_map view rows.jti)
     (members_view rows.rest.entries)
 
--- whether `jiff` has the instant, where there is one
+-- `jiff` has each instant that is told
 abbrev pub IsInstant : Option ℤ → Type 0
-IsInstant None = Unit {0}
-IsInstant (Some n) = is_instant n ≡ true
+IsInstant o = IfSome o (λ n. is_instant n ≡ true)
 
 pub record AreInstants {E T : Type 0} (r : Introspection E T) : Type 0 where
   pub exp : IsInstant r.exp

@@ -1,4 +1,4 @@
--- For private clauses: what stands under each name of a token response, and the other members.
+-- What stands under each name of a token response, and the other members.
 use Rattle.std.specs.Prelude.{◌≡◌, codes, option_map}
 use Rattle.serde_json.specs.Data.{Data, Members}
 use Rattle.serde_json.specs.Find.{get_member}

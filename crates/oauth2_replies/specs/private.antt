@@ -1,0 +1,3 @@
+pub mod TokenRows
+pub mod IntrospectionRows
+pub mod DeviceRows
