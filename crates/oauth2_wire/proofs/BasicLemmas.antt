@@ -4,8 +4,7 @@ use Rattle.std.specs.List.{position_or_len}
 use Rattle.std.specs.declared.result.Result.TheVariants.{Ok}
 use Rattle.std.proofs.lemmas.Bool.{lt-ltb}
 use Rattle.std.proofs.lemmas.Bool.Decides.{nat_tests}
-use Rattle.std.proofs.lemmas.List.Elements.{All-nil, All-cons, All-head, All-tail, All-append, All-weaker}
-use Rattle.percent_encoding.proofs.PercentLemmas.{IsByte}
+use Rattle.std.proofs.lemmas.List.Elements.{All-nil, All-cons, All-head, All-tail, All-append, All-weaker, All-replicate}
 use Rattle.form_urlencoded.specs.Form.{byte_serialize}
 use Rattle.form_urlencoded.proofs.FormLemmas.{IsSerializedByte, All-byte_serialize, decode-byte_serialize, split_once_before_at, split_once_after_at}
 use Rattle.base64.specs.Engines.{standard}
@@ -16,7 +15,7 @@ use Rattle.base64.proofs.Tables.{are_tables_alphabet, is_alphabet_symbol}
 use Rattle.std.specs.Prelude.{slice_index, replicate}
 use Rattle.http_header.specs.Token.{is_value_byte}
 use Rattle.http_header.specs.FieldValue.{IsFieldValue}
-use Rattle.oauth2_wire.specs.Pairs.{Pair}
+use Rattle.oauth2_wire.specs.Pairs.{IsByte, Pair}
 use Rattle.oauth2_wire.specs.Basic.{pair_of_text, pair_of_decoded, basic, basic_text, basic_value}
 
 small_from_serialized : (b : ℕ) → IsSerializedByte b → IsByte b
@@ -112,10 +111,6 @@ All-encode_symbols P t (a ∷ b ∷ c ∷ rest) symbol bytes =
     All-append P (slice_index t (a / 4) ∷ slice_index t (a % 4 * 16 + b / 16) ∷ slice_index t (b % 16 * 4 + c / 64) ∷ []) (slice_index t (c % 64) ∷ encode_symbols t rest)
     (all_three P (slice_index t (a / 4)) (slice_index t (a % 4 * 16 + b / 16)) (slice_index t (b % 16 * 4 + c / 64)) (symbol (a / 4) (omega arith)) (symbol (a % 4 * 16 + b / 16) (omega arith)) (symbol (b % 16 * 4 + c / 64) (omega arith)))
     later
-
-All-replicate : (P : ℕ → Type 0) (n b : ℕ) → P b → All P (replicate n b)
-All-replicate P zero b here = All-nil P
-All-replicate P (suc n) b here = All-cons P b (replicate n b) here (All-replicate P n b here)
 
 -- what the crate `base64` writes for bytes is visible ASCII
 All-encode_of : (m : List ℕ) → All IsByte m → All IsValueByte (encode_of standard m)

@@ -1,8 +1,9 @@
 -- A prepared request that is sent once is a whole request.
 use Rattle.std.proofs.Common.{◌≡◌, Ok, Err, ap, refl, inl, inr}
 use Rattle.std.specs.Prelude.{Result, IfOk}
-use Rattle.oauth2_wire.specs.Reply.{HttpResponse, Answer, Shows}
-use Rattle.oauth2_wire.specs.OneShot.{HttpRequest, IsCallOf, SendsOnce, OneShot}
+use Rattle.oauth2_wire.specs.Reply.{HttpResponse, Answer, ShowsAnswer}
+use Rattle.oauth2_wire.specs.OneShot.{HttpRequest, SendsOnce, OneShot}
+use Rattle.oauth2_wire.specs.private.Call.{IsCallOf}
 use Rattle.oauth2_wire.specs.declared.request.RequestFault.{RequestFault}
 use Rattle.oauth2_wire.specs.declared.request.RequestFault.TheVariants as fault
 use Rattle.oauth2_wire.specs.declared.error.RequestTokenError.{RequestTokenError}
@@ -17,7 +18,7 @@ module _ {D A T E RE C : Type 0} (meaning : D → A) (error_meaning : T → E) (
 module _ {D A T E RE C : Type 0} (meaning : D → A) (error_meaning : T → E) (step : C → HttpRequest → Result HttpResponse RE → C → Type 0) (says : HttpResponse → Answer A E) (before after : C) where
   -- the reply of the one call, and what it says
   pub SendsOnce-replied : (prepared : Result HttpRequest RequestFault) (reply : HttpResponse) (result : Result D (RequestTokenError RE T))
-      → IsCallOf {T = T} step before prepared (Ok reply) after → Shows meaning error_meaning (says reply) result → SendsOnce meaning error_meaning step says before prepared result after
+      → IsCallOf {T = T} step before prepared (Ok reply) after → ShowsAnswer meaning error_meaning (says reply) result → SendsOnce meaning error_meaning step says before prepared result after
   SendsOnce-replied (Ok request) reply result called shown = (Ok reply, called, shown)
   SendsOnce-replied (Err kind) reply result called shown = absurd called
 

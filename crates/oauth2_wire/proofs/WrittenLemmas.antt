@@ -3,14 +3,11 @@ use Rattle.std.proofs.Common.{◌≡◌, ℕ, ◌<◌, List, [], ◌∷◌, ◌+
 use Rattle.std.proofs.lemmas.Bool.{cond-true, lt-ltb}
 use Rattle.std.proofs.lemmas.List.Sums.{fold-append}
 use Rattle.std.proofs.lemmas.List.Elements.{All-nil, All-cons, All-append}
-use Rattle.percent_encoding.proofs.PercentLemmas.{IsByte}
 use Rattle.form_urlencoded.specs.Form.{parse, decode, byte_serialize, serialize_pair, separator, append_pair, extend_pairs}
 use Rattle.form_urlencoded.proofs.FormLemmas.{round_trip, decode-byte_serialize, byte_serialize-append}
-use Rattle.oauth2_wire.specs.Pairs.{Pair}
-use Rattle.oauth2_wire.specs.Written.{IsBytePair, IsWritten, IsEncodedText, JoinsForms}
-
-pub parse_nothing : parse [] ≡ []
-parse_nothing = round_trip [] (All-nil IsBytePair)
+use Rattle.oauth2_wire.specs.Pairs.{Pair, IsByte, IsBytePair}
+use Rattle.oauth2_wire.specs.private.Written.{IsWritten, IsEncodedText, JoinsForms}
+use Rattle.oauth2_wire.proofs.FormLaws.{parse-nil, parse-joined}
 
 -- ---- what a text of written pairs decodes to
 
@@ -34,15 +31,11 @@ one_more text new pair written e =
 more_bytes : (text : List ℕ) (pair : Pair) → IsWritten text → IsBytePair pair → All IsBytePair (parse text ++ pair ∷ [])
 more_bytes text pair written bytes = All-append IsBytePair (parse text) (pair ∷ []) written.bytes (All-cons IsBytePair pair [] bytes (All-nil IsBytePair))
 
-pub parse-append_pair : (text new : List ℕ) (pair : Pair) → IsWritten text → IsBytePair pair → new ≡ append_pair text pair.0 pair.1 → parse new ≡ parse text ++ pair ∷ []
-parse-append_pair text new pair written bytes e =
-    parse-written new (parse text ++ pair ∷ []) (one_more text new pair written e) (more_bytes text pair written bytes)
-
 pub IsWritten-append_pair : (text new : List ℕ) (pair : Pair) → IsWritten text → IsBytePair pair → new ≡ append_pair text pair.0 pair.1 → IsWritten new
 IsWritten-append_pair text new pair written bytes e =
     IsWritten-from_pairs new (parse text ++ pair ∷ []) (one_more text new pair written e) (more_bytes text pair written bytes)
 
--- ---- all the pairs of another form
+-- ---- the pairs of another form
 
 nonempty : (pair : Pair) → 0 < length (serialize_pair pair)
 nonempty pair = simp length-append (omega arith)
@@ -67,8 +60,8 @@ extend_pairs-joined text pair pairs long =
     ap (λ x. extend_pairs x pairs) step ∙ extend_pairs-after (text ++ 38 ∷ []) (serialize_pair pair) pairs (nonempty pair)
     ∙ append_assoc text (38 ∷ []) (extend_pairs (serialize_pair pair) pairs)
 
-all_of_both : (a b : List ℕ) → IsWritten a → IsWritten b → All IsBytePair (parse a ++ parse b)
-all_of_both a b wa wb = All-append IsBytePair (parse a) (parse b) wa.bytes wb.bytes
+bytes_of_both : (a b : List ℕ) → IsWritten a → IsWritten b → All IsBytePair (parse a ++ parse b)
+bytes_of_both a b wa wb = All-append IsBytePair (parse a) (parse b) wa.bytes wb.bytes
 
 -- the text of two forms
 spelled_both : (a : List ℕ) (pairs more : List Pair) → a ≡ extend_pairs [] pairs → extend_pairs a more ≡ extend_pairs [] (pairs ++ more)
@@ -82,11 +75,8 @@ both_spelled : (a b new : List ℕ) → IsWritten a → IsWritten b → 0 < leng
 both_spelled a b new wa wb long longer e =
     e ∙ joined_pairs a b (parse b) long longer wb.spelled ∙ spelled_both a (parse a) (parse b) wa.spelled
 
-pub parse_both : (a b new : List ℕ) → IsWritten a → IsWritten b → 0 < length a → 0 < length b → new ≡ a ++ 38 ∷ b → parse new ≡ parse a ++ parse b
-parse_both a b new wa wb long longer e = parse-written new (parse a ++ parse b) (both_spelled a b new wa wb long longer e) (all_of_both a b wa wb)
-
-pub IsWritten_both : (a b new : List ℕ) → IsWritten a → IsWritten b → 0 < length a → 0 < length b → new ≡ a ++ 38 ∷ b → IsWritten new
-IsWritten_both a b new wa wb long longer e = IsWritten-from_pairs new (parse a ++ parse b) (both_spelled a b new wa wb long longer e) (all_of_both a b wa wb)
+IsWritten_both : (a b new : List ℕ) → IsWritten a → IsWritten b → 0 < length a → 0 < length b → new ≡ a ++ 38 ∷ b → IsWritten new
+IsWritten_both a b new wa wb long longer e = IsWritten-from_pairs new (parse a ++ parse b) (both_spelled a b new wa wb long longer e) (bytes_of_both a b wa wb)
 
 -- ---- encoded texts
 
@@ -118,12 +108,12 @@ empty_list (x ∷ xs) e = absurd (omega arith)
 
 pub JoinsForms_right_empty : (a b : List ℕ) → IsWritten a → length b ≡ 0 → JoinsForms a b a
 JoinsForms_right_empty a b wa none =
-    record { written = wa; pairs = sym (ap (λ x. parse a ++ x) (ap parse (empty_list b none) ∙ parse_nothing) ∙ append-nil (parse a)) }
+    record { written = wa; pairs = sym (ap (λ x. parse a ++ x) (ap parse (empty_list b none) ∙ parse-nil) ∙ append-nil (parse a)) }
 
 pub JoinsForms_left_empty : (a b new : List ℕ) → IsWritten b → length a ≡ 0 → new ≡ a ++ b → JoinsForms a b new
 JoinsForms_left_empty a b new wb none e =
-    let same : new ≡ b = e ∙ ap (λ x. x ++ b) (empty_list a none) in
-    record { written = subst IsWritten (sym same) wb; pairs = ap parse same ∙ sym (ap (λ x. x ++ parse b) (ap parse (empty_list a none) ∙ parse_nothing)) }
+    let alone : new ≡ b = e ∙ ap (λ x. x ++ b) (empty_list a none) in
+    record { written = subst IsWritten (sym alone) wb; pairs = ap parse alone ∙ sym (ap (λ x. x ++ parse b) (ap parse (empty_list a none) ∙ parse-nil)) }
 
 pub JoinsForms_both : (a b new : List ℕ) → IsWritten a → IsWritten b → 0 < length a → 0 < length b → new ≡ a ++ 38 ∷ b → JoinsForms a b new
-JoinsForms_both a b new wa wb long longer e = record { written = IsWritten_both a b new wa wb long longer e; pairs = parse_both a b new wa wb long longer e }
+JoinsForms_both a b new wa wb long longer e = record { written = IsWritten_both a b new wa wb long longer e; pairs = ap parse e ∙ parse-joined a b }

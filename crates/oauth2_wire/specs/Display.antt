@@ -4,6 +4,10 @@ use Rattle.oauth2_wire.specs.declared.error.ConfigurationError.{ConfigurationErr
 use Rattle.oauth2_wire.specs.declared.error.ConfigurationError.TheVariants.{MissingUrl, InsecureUrl}
 use Rattle.oauth2_wire.specs.declared.error.RequestTokenError.{RequestTokenError}
 use Rattle.oauth2_wire.specs.declared.error.RequestTokenError.TheVariants.{ServerResponse, Request, Parse, Other, Memory}
+use Rattle.oauth2_wire.specs.declared.request.RequestFault.{RequestFault}
+use Rattle.oauth2_wire.specs.declared.request.RequestFault.TheVariants as fault
+use Rattle.oauth2_wire.specs.declared.view.ViewError.{ViewError}
+use Rattle.oauth2_wire.specs.declared.view.ViewError.TheVariants as view
 use Rattle.oauth2_wire.specs.declared.error.HttpClientError.{HttpClientError}
 use Rattle.oauth2_wire.specs.declared.error.HttpClientError.TheVariants as client
 
@@ -11,6 +15,16 @@ use Rattle.oauth2_wire.specs.declared.error.HttpClientError.TheVariants as clien
 abbrev pub configuration_text : ConfigurationError → Option (List ℕ)
 configuration_text (MissingUrl name) = Some (codes "No " ++ name.now ++ codes " endpoint URL specified")
 configuration_text (InsecureUrl name) = Some (codes "Scheme for " ++ name.now ++ codes " endpoint URL must be HTTPS")
+
+-- the text of why a request could not be built
+abbrev pub request_fault_text : RequestFault → Option (List ℕ)
+request_fault_text fault.NotHttp = Some (codes "endpoint URL is not an HTTP target")
+request_fault_text fault.Memory = Some (codes "Out of memory")
+
+-- the text of why a request has no view
+abbrev pub view_error_text : ViewError → Option (List ℕ)
+view_error_text view.BadBasic = Some (codes "Authorization header holds no identifier and secret")
+view_error_text view.Memory = Some (codes "Out of memory")
 
 module _ {RE T : Type 0} where
   -- the text of an error of a request, where that of the server's error is `text`

@@ -64,19 +64,11 @@ abbrev pub authorization_header : Option Pair → Entries FieldValue
 authorization_header None = []
 authorization_header (Some pair) = one_header (codes "authorization") (basic_value pair.0 pair.1)
 
--- the header of a value that is there
-abbrev pub optional_authorization : Option FieldValue → Entries FieldValue
-optional_authorization None = []
-optional_authorization (Some value) = (codes "authorization", value ∷ []) ∷ []
-
 -- the two headers that every request has, and then this one
 abbrev pub headers_before : Entries FieldValue → Entries FieldValue
 headers_before authorization =
     one_header (codes "accept") (codes "application/json")
     ++ one_header (codes "content-type") (codes "application/x-www-form-urlencoded") ++ authorization
-
-abbrev pub headers_with : Option FieldValue → Entries FieldValue
-headers_with authorization = headers_before (optional_authorization authorization)
 
 -- every header of the request, in order
 abbrev pub expected_headers : Configuration → Entries FieldValue

@@ -2,7 +2,7 @@
 use Rattle.std.specs.Prelude.{◌≡◌, ℕ, ◌⊎◌, false, List, Vec, Result, Ok, Err, string_bytes, codes}
 use Rattle.std.specs.declared.alloc.Global.{Global}
 use Rattle.http.specs.declared.request.Request.{Request}
-use Rattle.oauth2_wire.specs.Reply.{HttpResponse, Answer, Shows}
+use Rattle.oauth2_wire.specs.Reply.{HttpResponse, Answer, ShowsAnswer}
 use Rattle.oauth2_wire.specs.declared.request.RequestFault.{RequestFault}
 use Rattle.oauth2_wire.specs.declared.request.RequestFault.TheVariants as fault
 use Rattle.oauth2_wire.specs.declared.error.RequestTokenError.{RequestTokenError}
@@ -19,7 +19,7 @@ not_http_text = codes "failed to prepare request: endpoint URL is not an HTTP ta
 module _ {D A T E RE : Type 0} where
   -- the result is the client's error, or what its reply says
   abbrev pub AnswersTo : (D → A) → (T → E) → (HttpResponse → Answer A E) → Result HttpResponse RE → Result D (RequestTokenError RE T) → Type 0
-  AnswersTo meaning error_meaning says (Ok reply) result = Shows meaning error_meaning (says reply) result
+  AnswersTo meaning error_meaning says (Ok reply) result = ShowsAnswer meaning error_meaning (says reply) result
   AnswersTo meaning error_meaning says (Err error) result = result ≡ Err (token.Request error)
 
   module _ {C : Type 0} where
@@ -31,32 +31,24 @@ module _ {D A T E RE : Type 0} where
 
 module _ {T RE : Type 0} where
   -- the error of a request that was not sent
-  abbrev pub RefusesAs : RequestFault → RequestTokenError RE T → Type 0
-  RefusesAs fault.NotHttp (token.Other text) = string_bytes text ≡ not_http_text
-  RefusesAs kind (token.Memory sent) = sent ≡ false
-  RefusesAs kind error = ⊥
+  abbrev pub IsUnsentError : RequestFault → RequestTokenError RE T → Type 0
+  IsUnsentError fault.NotHttp (token.Other text) = string_bytes text ≡ not_http_text
+  IsUnsentError kind (token.Memory sent) = sent ≡ false
+  IsUnsentError kind error = ⊥
 
-  abbrev pub Refuses : {D : Type 0} → RequestFault → Result D (RequestTokenError RE T) → Type 0
-  Refuses kind (Ok value) = ⊥
-  Refuses kind (Err error) = RefusesAs kind error
-
-module _ {T RE C : Type 0} where
-  -- the reply of the one step that a prepared request makes, or why there is none
-  abbrev pub IsCallOf : (C → HttpRequest → Result HttpResponse RE → C → Type 0) → C → Result HttpRequest RequestFault → Result HttpResponse (RequestTokenError RE T) → C → Type 0
-  IsCallOf step before (Ok request) (Ok reply) after = step before request (Ok reply) after
-  IsCallOf step before (Ok request) (Err error) after = (cause : RE) × step before request (Err cause) after × (error ≡ token.Request cause)
-  IsCallOf step before (Err kind) (Ok reply) after = ⊥
-  IsCallOf step before (Err kind) (Err error) after = RefusesAs kind error × (after ≡ before)
+  abbrev pub AnswersUnsent : {D : Type 0} → RequestFault → Result D (RequestTokenError RE T) → Type 0
+  AnswersUnsent kind (Ok value) = ⊥
+  AnswersUnsent kind (Err error) = IsUnsentError kind error
 
 module _ {D A T E RE C : Type 0} where
   -- a prepared request is sent once, and a fault of its preparation is answered without a call
   abbrev pub SendsOnce : (D → A) → (T → E) → (C → HttpRequest → Result HttpResponse RE → C → Type 0) → (HttpResponse → Answer A E) → C → Result HttpRequest RequestFault → Result D (RequestTokenError RE T) → C → Type 0
   SendsOnce meaning error_meaning step says before (Ok request) result after =
       CallsOnce meaning error_meaning step says before request result after
-  SendsOnce meaning error_meaning step says before (Err kind) result after = Refuses kind result × (after ≡ before)
+  SendsOnce meaning error_meaning step says before (Err kind) result after = AnswersUnsent kind result × (after ≡ before)
 
   -- a whole request: one call, or none and a fault; `NotHttp` holds where the endpoint is no HTTP target
   abbrev pub OneShot : (D → A) → (T → E) → (C → HttpRequest → Result HttpResponse RE → C → Type 0) → (HttpResponse → Answer A E) → (HttpRequest → Type 0) → Type 0 → C → Result D (RequestTokenError RE T) → C → Type 0
   OneShot meaning error_meaning step says IsRequest NotHttp before result after =
       ((request : HttpRequest) × IsRequest request × CallsOnce meaning error_meaning step says before request result after)
-      ⊎ (((Refuses fault.NotHttp result × NotHttp) ⊎ Refuses fault.Memory result) × (after ≡ before))
+      ⊎ (((AnswersUnsent fault.NotHttp result × NotHttp) ⊎ AnswersUnsent fault.Memory result) × (after ≡ before))

@@ -84,10 +84,6 @@ module _ {A T E RE : Type 0} where
   ShowsFault error_meaning answer (Request error) = ⊥
 
   -- the result is that answer, seen by the two meanings
-  abbrev pub Shows : {D : Type 0} → (D → A) → (T → E) → Answer A E → Result D (RequestTokenError RE T) → Type 0
-  Shows meaning error_meaning answer (Ok value) = answer ≡ accepted (meaning value)
-  Shows meaning error_meaning answer (Err fault) = ShowsFault error_meaning answer fault
-
--- the same of an answer that no success gives
-abbrev pub ShowsFailure : {T E RE : Type 0} → (T → E) → Answer ⊥ E → RequestTokenError RE T → Type 0
-ShowsFailure error_meaning answer fault = ShowsFault error_meaning answer fault
+  abbrev pub ShowsAnswer : {D : Type 0} → (D → A) → (T → E) → Answer A E → Result D (RequestTokenError RE T) → Type 0
+  ShowsAnswer meaning error_meaning answer (Ok value) = answer ≡ accepted (meaning value)
+  ShowsAnswer meaning error_meaning answer (Err fault) = ShowsFault error_meaning answer fault

@@ -1,9 +1,9 @@
 //! A text that is kept as a form encodes it.
 ghost use Rattle.std.specs.Prelude.{◌≡◌, ◌++◌, All, codes, IfOk, OnOk, OnErr};
-ghost use Rattle.percent_encoding.proofs.PercentLemmas.{IsByte};
+ghost use Rattle.oauth2_wire.specs.Pairs.{IsByte};
 ghost use Rattle.form_urlencoded.specs.Form.{byte_serialize as encoded_text};
 
-use crate::encode::append_encoded;
+use crate::form_encoding::append_encoded_text;
 use std::alloc::{AllocError, Global};
 use std::marker::Model;
 
@@ -16,7 +16,7 @@ pub(crate) struct EncodedText {
 impl Model for EncodedText {
     ghost use Rattle.std.specs.Prelude.{ℕ, List};
     ghost use Rattle.form_urlencoded.specs.Form.{decode};
-    ghost use Rattle.oauth2_wire.specs.Written.{IsEncodedText};
+    ghost use Rattle.oauth2_wire.specs.private.Written.{IsEncodedText};
 
     ghost Value = { List ℕ };
 
@@ -31,7 +31,7 @@ impl EncodedText {
         ensures { IfOk result (λ t. t ≡ s.now) }
     {
         let mut text = Vec::new(alloc);
-        append_encoded(&mut text, s)?;
+        append_encoded_text(&mut text, s)?;
         Ok(EncodedText { text })
     }
 
@@ -60,11 +60,9 @@ fn append_word(text: &mut Vec<u8>, word: &str) -> Result<(), AllocError>
 {
     let end = text.len();
     text.push(b'+')?;
-    match append_encoded(text, word) {
-        Ok(()) => Ok(()),
-        Err(e) => {
-            text.truncate(end);
-            Err(e)
-        }
+    if let Err(refused) = append_encoded_text(text, word) {
+        text.truncate(end);
+        return Err(refused);
     }
+    Ok(())
 }

@@ -1,5 +1,6 @@
 //! Why a request could not be made, was not sent, or got no answer.
 use oauth2_json::{BasicErrorResponseType, ParseFault, StandardErrorResponse};
+use std::alloc::AllocError;
 use std::{fmt, io};
 use thiserror::Error;
 
@@ -73,6 +74,25 @@ impl<RE, T: fmt::Display> fmt::Display for RequestTokenError<RE, T> {
             }
             RequestTokenError::Memory { sent: _ } => f.write_str("Out of memory"),
         }
+    }
+}
+
+impl<RE, T> std::error::Error for RequestTokenError<RE, T>
+where
+    RE: fmt::Debug + Drop,
+    T: fmt::Debug + fmt::Display + Drop,
+{}
+
+impl<RE, T> RequestTokenError<RE, T> {
+    ghost use Rattle.std.specs.Prelude.{◌≡◌, false};
+    ghost use Rattle.oauth2_wire.specs.declared.error.RequestTokenError.TheVariants.{Memory};
+
+    /// Want of memory before any request was sent, for a `?` on what only takes memory, as
+    /// `.map_err(RequestTokenError::refused)?`.
+    pub fn refused(_error: AllocError) -> RequestTokenError<RE, T>
+        ensures { result ≡ Memory false }
+    {
+        RequestTokenError::Memory { sent: false }
     }
 }
 

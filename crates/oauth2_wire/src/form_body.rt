@@ -1,12 +1,11 @@
 //! The body of a form, as the list of its pairs.
 ghost use Rattle.std.specs.Prelude.{◌≡◌, ℕ, List, [], ◌∷◌, ◌++◌, map, All, IfOk, OnOk, OnErr};
-ghost use Rattle.percent_encoding.proofs.PercentLemmas.{IsByte};
 ghost use Rattle.form_urlencoded.specs.Form.{append_pair as with_pair, byte_serialize as encoded_text, extend_pairs, pair_text};
-ghost use Rattle.oauth2_wire.specs.Pairs.{form};
-ghost use Rattle.oauth2_wire.specs.Written.{IsWritten, JoinsForms};
+ghost use Rattle.oauth2_wire.specs.Pairs.{form, IsByte};
+ghost use Rattle.oauth2_wire.specs.private.Written.{IsWritten, JoinsForms};
 
-use crate::encode::{append_name, append_pair};
 use crate::encoded_text::EncodedText;
+use crate::form_encoding::{append_name, append_pair};
 use std::alloc::{AllocError, Global};
 use std::marker::Model;
 
@@ -21,7 +20,7 @@ impl Model for FormBody {
     ghost use Rattle.std.specs.Coded.{coded_list, coded×, coded_ℕ};
     ghost use Rattle.form_urlencoded.specs.Form.{parse};
     ghost use Rattle.oauth2_wire.specs.Pairs.{Pair};
-    ghost use Rattle.oauth2_wire.specs.Written.{IsWritten};
+    ghost use Rattle.oauth2_wire.specs.private.Written.{IsWritten};
 
     ghost Value = { List Pair };
 
@@ -70,7 +69,7 @@ impl FormBody {
         ensures { IfOk result (λ body. body ≡ self ++ (name.now, value.now) ∷ []) }
     {
         let FormBody { text } = self;
-        let text = append_encoded_pair(text, name, value.as_encoded())?;
+        let text = append_name_and_encoded_value(text, name, value.as_encoded())?;
         Ok(FormBody { text })
     }
 
@@ -94,7 +93,11 @@ impl FormBody {
 }
 
 // The form's text with a name, encoded, and a value, as it stands.
-fn append_encoded_pair(text: Vec<u8>, name: &str, encoded: &[u8]) -> Result<Vec<u8>, AllocError>
+fn append_name_and_encoded_value(
+    text: Vec<u8>,
+    name: &str,
+    encoded: &[u8],
+) -> Result<Vec<u8>, AllocError>
     ensures { IfOk result (λ new. (value : List ℕ) → encoded.now ≡ encoded_text value → new.items ≡ with_pair text.items name.now value) }
 {
     let mut new = text;

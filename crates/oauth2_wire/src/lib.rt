@@ -3,12 +3,12 @@
 #![tactic(auto)]
 
 mod basic;
-mod client;
 mod content_type;
-mod encode;
 mod encoded_text;
 mod error;
 mod form_body;
+mod form_encoding;
+mod http_client;
 mod once;
 mod param_buffer;
 mod reply;
@@ -17,9 +17,9 @@ mod texts;
 mod view;
 
 pub use basic::basic_header;
-pub use client::{FnClient, HttpResponse, SyncHttpClient};
-pub use encode::{append_encoded, append_pair};
 pub use error::{BasicRequestTokenError, ConfigurationError, HttpClientError, RequestTokenError};
+pub use form_encoding::{append_encoded_text, append_pair};
+pub use http_client::{FnClient, HttpResponse, SyncHttpClient};
 pub use once::{send_once, send_once_status_only};
 pub use param_buffer::ParamBuffer;
 pub use reply::{endpoint_response, endpoint_response_status_only};

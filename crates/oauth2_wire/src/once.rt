@@ -1,9 +1,10 @@
 //! One request and its answer.
 ghost use Rattle.oauth2_wire.specs.Reply.{reply_of, answer_of, status_answer_of};
-ghost use Rattle.oauth2_wire.specs.OneShot.{IsCallOf, SendsOnce, RefusesAs};
+ghost use Rattle.oauth2_wire.specs.OneShot.{SendsOnce, IsUnsentError};
+ghost use Rattle.oauth2_wire.specs.private.Call.{IsCallOf};
 
-use crate::client::{HttpResponse, SyncHttpClient};
 use crate::error::RequestTokenError;
+use crate::http_client::{HttpResponse, SyncHttpClient};
 use crate::reply::{endpoint_response, endpoint_response_status_only};
 use crate::request::{HttpRequest, RequestFault};
 use oauth2_json::FromJson;
@@ -62,7 +63,7 @@ fn call<C: SyncHttpClient, TE>(
 
 // The error of a request that was not sent.
 fn unsent<RE, TE>(alloc: Global, fault: RequestFault) -> RequestTokenError<RE, TE>
-    ensures { RefusesAs fault result }
+    ensures { IsUnsentError fault result }
 {
     match fault {
         RequestFault::NotHttp => not_http(alloc),
@@ -71,7 +72,7 @@ fn unsent<RE, TE>(alloc: Global, fault: RequestFault) -> RequestTokenError<RE, T
 }
 
 fn not_http<RE, TE>(alloc: Global) -> RequestTokenError<RE, TE>
-    ensures { RefusesAs RequestFault.NotHttp result }
+    ensures { IsUnsentError RequestFault.NotHttp result }
 {
     match String::from_str(
         alloc,

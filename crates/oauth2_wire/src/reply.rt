@@ -1,11 +1,12 @@
 //! What a reply says (RFC 6749, sections 5.1 and 5.2).
 ghost use Rattle.std.specs.Prelude.{◌≡◌, ◌==◌};
 ghost use Rattle.oauth2_wire.specs.ContentType.{unexpected_type_text};
-ghost use Rattle.oauth2_wire.specs.Reply.{reply_of, answer_of, status_answer_of, success_answer, failure_answer, body_answer, Shows, ShowsFailure, other};
+ghost use Rattle.oauth2_wire.specs.Reply.{reply_of, answer_of, status_answer_of, success_answer, failure_answer, body_answer, ShowsAnswer, other};
+ghost use Rattle.oauth2_wire.specs.private.Failure.{ShowsFailure};
 
-use crate::client::HttpResponse;
 use crate::content_type::{is_json_type, unexpected_type_text};
 use crate::error::RequestTokenError;
+use crate::http_client::HttpResponse;
 use http_header::CONTENT_TYPE;
 use oauth2_json::{FromJson, ReadError, read_body};
 use std::alloc::{AllocError, Global};
@@ -15,7 +16,7 @@ pub fn endpoint_response<RE, TE: FromJson, DO: FromJson>(
     alloc: Global,
     reply: HttpResponse,
 ) -> Result<DO, RequestTokenError<RE, TE>>
-    ensures { Shows DO.meaning TE.meaning (answer_of DO.reading TE.reading (reply_of reply)) result }
+    ensures { ShowsAnswer DO.meaning TE.meaning (answer_of DO.reading TE.reading (reply_of reply)) result }
 {
     if !is_success(&reply) {
         return Err(read_failure(alloc, reply.into_body()));
@@ -28,7 +29,7 @@ pub fn endpoint_response_status_only<RE, TE: FromJson>(
     alloc: Global,
     reply: HttpResponse,
 ) -> Result<(), RequestTokenError<RE, TE>>
-    ensures { Shows (λ done. done) TE.meaning (status_answer_of TE.reading (reply_of reply)) result }
+    ensures { ShowsAnswer (λ done. done) TE.meaning (status_answer_of TE.reading (reply_of reply)) result }
 {
     if is_success(&reply) {
         Ok(())
@@ -49,7 +50,7 @@ fn read_success<RE, TE: FromJson, DO: FromJson>(
     alloc: Global,
     reply: HttpResponse,
 ) -> Result<DO, RequestTokenError<RE, TE>>
-    ensures { Shows DO.meaning TE.meaning (success_answer DO.reading (reply_of reply).content_type (reply_of reply).body) result }
+    ensures { ShowsAnswer DO.meaning TE.meaning (success_answer DO.reading (reply_of reply).content_type (reply_of reply).body) result }
 {
     match reply.headers().get(CONTENT_TYPE) {
         Some(value) => if is_json_type(value.as_bytes()) {
@@ -66,7 +67,7 @@ fn read_answer<RE, TE: FromJson, DO: FromJson>(
     alloc: Global,
     body: Vec<u8>,
 ) -> Result<DO, RequestTokenError<RE, TE>>
-    ensures { Shows DO.meaning TE.meaning (body_answer DO.reading body.items) result }
+    ensures { ShowsAnswer DO.meaning TE.meaning (body_answer DO.reading body.items) result }
 {
     if body.is_empty() {
         return Err(other(alloc, "server returned empty response body"));

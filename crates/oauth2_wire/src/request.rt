@@ -5,7 +5,8 @@ ghost use Rattle.http_header.specs.HeaderMap.{insert, value_count};
 ghost use Rattle.http_uri.specs.Uri.{Spells, SpellsNone};
 ghost use Rattle.url.specs.Parts.{serialize};
 ghost use Rattle.oauth2_wire.specs.Texts.{param_pair, given_text};
-ghost use Rattle.oauth2_wire.specs.Expected.{Configuration, joined_scope, expected_pairs, basic_credentials, authorization_header, headers_with, optional_authorization, optional_pair, body_credentials};
+ghost use Rattle.oauth2_wire.specs.Expected.{Configuration, joined_scope, expected_pairs, basic_credentials, authorization_header, optional_pair, body_credentials};
+ghost use Rattle.oauth2_wire.specs.private.Headers.{headers_with, optional_authorization};
 ghost use Rattle.oauth2_wire.specs.Params.{Params};
 ghost use Rattle.oauth2_wire.specs.Basic.{basic};
 ghost use Rattle.oauth2_wire.specs.Request.{view_of, IsRequestOf};
@@ -24,6 +25,7 @@ use http_uri::{Uri, UriError};
 use oauth2_types::{ClientId, ClientSecret, Scope, TryClone};
 use oauth2_urls::RedirectUrl;
 use std::alloc::{AllocError, Global};
+use std::fmt;
 use url::Url;
 
 /// The request that a client is handed.
@@ -58,6 +60,21 @@ pub enum RequestFault {
     /// Memory ran out.
     Memory,
 }
+
+impl fmt::Display for RequestFault {
+    ghost use Rattle.oauth2_wire.specs.Display.{request_fault_text};
+
+    ghost output = { request_fault_text };
+
+    fn fmt<W: fmt::Write>(&self, f: &mut fmt::Formatter<W>) -> fmt::Result {
+        match self {
+            RequestFault::NotHttp => f.write_str("endpoint URL is not an HTTP target"),
+            RequestFault::Memory => f.write_str("Out of memory"),
+        }
+    }
+}
+
+impl std::error::Error for RequestFault {}
 
 impl From<AllocError> for RequestFault {
     ghost use Rattle.std.specs.Prelude.{◌≡◌};

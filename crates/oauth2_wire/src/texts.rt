@@ -50,6 +50,22 @@ pub enum RedirectRef<'a> {
     Owned(RedirectUrl),
 }
 
+impl<'a> From<&'a RedirectUrl> for RedirectRef<'a> {
+    ghost from_gives = { λ url redirect. redirect_of redirect ≡ url.now };
+
+    fn from(url: &'a RedirectUrl) -> RedirectRef<'a> {
+        RedirectRef::Borrowed(url)
+    }
+}
+
+impl<'a> From<RedirectUrl> for RedirectRef<'a> {
+    ghost from_gives = { λ url redirect. redirect_of redirect ≡ url };
+
+    fn from(url: RedirectUrl) -> RedirectRef<'a> {
+        RedirectRef::Owned(url)
+    }
+}
+
 impl RedirectRef<'_> {
     /// The redirect URL.
     pub fn redirect_url(&self) -> &RedirectUrl

@@ -13,9 +13,10 @@ use base64::engine::general_purpose::STANDARD;
 use form_urlencoded::{decode, raw_pairs};
 use http_header::AUTHORIZATION;
 use std::alloc::{AllocError, Global};
+use std::fmt;
 
 /// A request as a server reads it, by decoding alone.
-#[derive(Drop)]
+#[derive(Debug, PartialEq, Eq, Drop)]
 pub struct ServerView {
     /// The method.
     pub method: String,
@@ -35,6 +36,23 @@ pub enum ViewError {
     /// Memory ran out.
     Memory,
 }
+
+impl fmt::Display for ViewError {
+    ghost use Rattle.oauth2_wire.specs.Display.{view_error_text};
+
+    ghost output = { view_error_text };
+
+    fn fmt<W: fmt::Write>(&self, f: &mut fmt::Formatter<W>) -> fmt::Result {
+        match self {
+            ViewError::BadBasic => {
+                f.write_str("Authorization header holds no identifier and secret")
+            }
+            ViewError::Memory => f.write_str("Out of memory"),
+        }
+    }
+}
+
+impl std::error::Error for ViewError {}
 
 impl From<AllocError> for ViewError {
     ghost use Rattle.std.specs.Prelude.{◌≡◌};

@@ -1,6 +1,6 @@
 use Rattle.std.proofs.Common.{◌≡◌, Err, sym, ◌∙◌, ap, subst, arith, rules}
 use Rattle.std.proofs.lemmas.List.Elements.{All-from_get_or}
-use Rattle.percent_encoding.proofs.PercentLemmas.{IsByte}
+use Rattle.oauth2_wire.specs.Pairs.{IsByte}
 use Rattle.http_header.specs.FieldValue.{plain_value, IsFieldValue}
 use Rattle.oauth2_wire.specs.Basic.{basic_value}
 use Rattle.oauth2_wire.proofs.BasicLemmas.{basic-basic_value, basic_value_injective, IsFieldValue-basic_value}

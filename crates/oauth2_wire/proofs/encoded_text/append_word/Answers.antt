@@ -3,9 +3,10 @@ use Rattle.form_urlencoded.specs.Form.{byte_serialize}
 use Rattle.form_urlencoded.proofs.FormLemmas.{byte_serialize-cons}
 use Rattle.oauth2_wire.proofs.encoded_text.append_word.Goals as goal
 
-pub returns-in-Ok-clause-ok : goal.returns-in-Ok-clause-ok
-returns-in-Ok-clause-ok c =
+pub returns-clause-ok : goal.returns-clause-ok
+returns-clause-ok c =
     let marked : c.push.new.self.items ≡ c.args.text.now.items ++ 43 ∷ [] = search rules in
-    c.in-Ok.ensures.ok ∙ ap (λ x. x ++ byte_serialize c.args.word.now) marked
+    let written : c.append_encoded_text.new.out.items ≡ c.push.new.self.items ++ byte_serialize c.args.word.now = search rules in
+    written ∙ ap (λ x. x ++ byte_serialize c.args.word.now) marked
     ∙ append_assoc c.args.text.now.items (43 ∷ []) (byte_serialize c.args.word.now)
     ∙ ap (λ x. c.args.text.now.items ++ x) (sym (byte_serialize-cons 32 c.args.word.now))

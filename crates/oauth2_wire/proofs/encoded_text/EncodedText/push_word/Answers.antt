@@ -1,6 +1,6 @@
 use Rattle.std.proofs.Common.{◌++◌, ◌∷◌, [], ap, sym, ◌∙◌, arith, append_assoc}
 use Rattle.std.proofs.lemmas.List.Elements.{All-from_get_or, All-cons}
-use Rattle.percent_encoding.proofs.PercentLemmas.{IsByte}
+use Rattle.oauth2_wire.specs.Pairs.{IsByte}
 use Rattle.oauth2_wire.proofs.WrittenLemmas.{IsEncodedText-more, decode-more}
 use Rattle.oauth2_wire.proofs.encoded_text.EncodedText.push_word.Goals as goal
 

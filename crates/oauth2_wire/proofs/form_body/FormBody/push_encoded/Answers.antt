@@ -1,7 +1,9 @@
 use Rattle.std.proofs.Common.{◌++◌, ◌∷◌, [], ap, ◌∙◌, arith}
 use Rattle.std.proofs.lemmas.List.Elements.{All-from_get_or}
-use Rattle.percent_encoding.proofs.PercentLemmas.{IsByte}
-use Rattle.oauth2_wire.proofs.WrittenLemmas.{parse-append_pair, IsWritten-append_pair}
+use Rattle.oauth2_wire.specs.Pairs.{IsByte}
+use Rattle.form_urlencoded.specs.Form.{parse}
+use Rattle.oauth2_wire.proofs.FormLaws.{parse-append_pair}
+use Rattle.oauth2_wire.proofs.WrittenLemmas.{IsWritten-append_pair}
 use Rattle.oauth2_wire.proofs.form_body.FormBody.push_encoded.Goals as goal
 
 pub invariant_of-result : goal.invariant_of-result
@@ -12,5 +14,5 @@ invariant_of-result c =
 pub returns : goal.returns
 returns c =
     let bytes = All-from_get_or IsByte c.args.name.now 0 (λ i _. omega (arith, c.type_inv.name i)) in
-    parse-append_pair c.self.inside.text.items c.in_ok-text.text.items (c.args.name.now, c.args.value.now) c.self.invariant (bytes, c.as_encoded.ensures.bytes) (c.in_ok-text.ensures c.args.value.now c.as_encoded.ensures.text)
+    ap parse (c.in_ok-text.ensures c.args.value.now c.as_encoded.ensures.text) ∙ parse-append_pair c.self.inside.text.items (c.args.name.now, c.args.value.now) (bytes, c.as_encoded.ensures.bytes)
     ∙ ap (λ x. x ++ (c.args.name.now, c.args.value.now) ∷ []) c.self.view_is

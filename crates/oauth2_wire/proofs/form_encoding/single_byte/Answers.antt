@@ -1,15 +1,15 @@
 use Rattle.std.proofs.Common.{◌≡◌, ℕ, ◌<◌, map, get_or, refl, ap, ◌∙◌, arith}
 use Rattle.std.proofs.lemmas.List.FromFn.{get_or-map-range_with_len}
 use Rattle.std.specs.List.{range_with_len}
-use Rattle.oauth2_wire.specs.Encoded.{single_byte}
-use Rattle.oauth2_wire.specs.declared.encode.TheConstants.{ENCODED}
-use Rattle.oauth2_wire.proofs.encode.encoded_byte.Goals as goal
+use Rattle.oauth2_wire.specs.private.EncodingTable.{single_byte}
+use Rattle.oauth2_wire.specs.declared.form_encoding.TheConstants.{SINGLE_BYTES}
+use Rattle.oauth2_wire.proofs.form_encoding.single_byte.Goals as goal
 
 -- the table has the single byte of each byte
-table_is : ENCODED ≡ map single_byte (range_with_len 0 256)
+table_is : SINGLE_BYTES ≡ map single_byte (range_with_len 0 256)
 table_is = refl
 
-entry : (b : ℕ) → b < 256 → get_or ENCODED b 0 ≡ single_byte b
+entry : (b : ℕ) → b < 256 → get_or SINGLE_BYTES b 0 ≡ single_byte b
 entry b h = ap (λ t. get_or t b 0) table_is ∙ get_or-map-range_with_len single_byte 0 256 b b 0 h (omega arith)
 
 pub returns : goal.returns

@@ -7,6 +7,10 @@ use std::marker::{Model, PhantomData};
 pub type HttpResponse = Response<Vec<u8>>;
 
 /// A client that sends one request and waits for its reply.
+///
+/// A client that may always be called leaves `is_ready` as it is, and no caller of that client writes
+/// a word of it. A caller that is generic over the client writes `requires { C.is_ready client.old }`,
+/// and hands on `ensures { C.is_ready client.new }` where its own callers call again.
 pub trait SyncHttpClient {
     ghost use Rattle.std.specs.Prelude.{ℕ, Vec, Result, ⊤};
     ghost use Rattle.std.specs.declared.alloc.Global.{Global};
@@ -14,7 +18,7 @@ pub trait SyncHttpClient {
     ghost use Rattle.http.specs.declared.response.Response.{Response};
 
     /// Why a request got no reply.
-    type Error;
+    type Error: Drop;
 
     // The client may be called in this state, on every request.
     ghost is_ready: { Self → Type 0 } = { λ _. ⊤ };
@@ -68,7 +72,7 @@ where
     }
 }
 
-impl<F, E> SyncHttpClient for FnClient<F, E>
+impl<F, E: Drop> SyncHttpClient for FnClient<F, E>
 where
     F: FnMut(HttpRequest) -> Result<HttpResponse, E>,
 {
