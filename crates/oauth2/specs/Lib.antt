@@ -1,13 +1,5 @@
 pub mod Settings
-pub mod Base
-pub mod Code
-pub mod Refresh
-pub mod Password
-pub mod ClientCredentials
-pub mod Missing
-pub mod Once
-pub mod Query
-pub mod Authorization
+pub mod NewRequest
 pub use Rattle.oauth2_types.specs.Digest
 pub use Rattle.oauth2_types.specs.Pkce
 pub use Rattle.oauth2_urls.specs.Addressed
@@ -45,3 +37,11 @@ pub use Rattle.oauth2_wire.specs.Reply
 pub use Rattle.oauth2_wire.specs.OneShot
 pub use Rattle.oauth2_wire.specs.Display
 pub use Rattle.oauth2_wire.specs.ConfigurationError
+pub use Rattle.oauth2_requests.specs.Base
+pub use Rattle.oauth2_requests.specs.Code
+pub use Rattle.oauth2_requests.specs.Refresh
+pub use Rattle.oauth2_requests.specs.Password
+pub use Rattle.oauth2_requests.specs.ClientCredentials
+pub use Rattle.oauth2_requests.specs.Once
+pub use Rattle.oauth2_requests.specs.Query
+pub use Rattle.oauth2_requests.specs.Authorization

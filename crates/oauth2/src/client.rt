@@ -18,7 +18,9 @@ use std::marker::{Model, PhantomData};
 /// The configuration of a client, whose type says which endpoints have a URL.
 ///
 /// The first five parameters name an error response, a token response, an introspection response,
-/// a revocable token and the error response of a revocation; a client holds no value of them.
+/// a revocable token and the error response of a revocation; a client holds no value of them. The
+/// other five are the states of the endpoints, which `impl` blocks call `A` (authorization), `D`
+/// (device authorization), `I` (introspection), `R` (revocation) and `T` (token).
 /// Contracts see a client of any type as its `Settings`.
 #[derive(Drop)]
 pub struct Client<
@@ -90,6 +92,7 @@ impl Parts {
     }
 }
 
+// An impl of `Model` has to name the parameters as the struct does.
 impl<
     TE,
     TR,
@@ -179,35 +182,13 @@ impl<TE, TR, TIR, RT, TRE> Client<TE, TR, TIR, RT, TRE> {
     }
 }
 
-impl<
-    TE,
-    TR,
-    TIR,
-    RT,
-    TRE,
-    HasAuthUrl,
-    HasDeviceAuthUrl,
-    HasIntrospectionUrl,
-    HasRevocationUrl,
-    HasTokenUrl,
-> Client<
-    TE,
-    TR,
-    TIR,
-    RT,
-    TRE,
-    HasAuthUrl,
-    HasDeviceAuthUrl,
-    HasIntrospectionUrl,
-    HasRevocationUrl,
-    HasTokenUrl,
->
+impl<TE, TR, TIR, RT, TRE, A, D, I, R, T> Client<TE, TR, TIR, RT, TRE, A, D, I, R, T>
 where
-    HasAuthUrl: EndpointState,
-    HasDeviceAuthUrl: EndpointState,
-    HasIntrospectionUrl: EndpointState,
-    HasRevocationUrl: EndpointState,
-    HasTokenUrl: EndpointState,
+    A: EndpointState,
+    D: EndpointState,
+    I: EndpointState,
+    R: EndpointState,
+    T: EndpointState,
 {
     /// Sets how the client shows its identifier and secret.
     pub fn set_auth_type(mut self, auth_type: AuthType) -> Self
@@ -265,18 +246,7 @@ where
     pub fn set_auth_uri(
         self,
         auth_url: AuthUrl,
-    ) -> Client<
-        TE,
-        TR,
-        TIR,
-        RT,
-        TRE,
-        EndpointSet,
-        HasDeviceAuthUrl,
-        HasIntrospectionUrl,
-        HasRevocationUrl,
-        HasTokenUrl,
-    >
+    ) -> Client<TE, TR, TIR, RT, TRE, EndpointSet, D, I, R, T>
         ensures { result ≡ record self { auth_url = Some auth_url } }
     {
         Client {
@@ -292,18 +262,7 @@ where
     pub fn set_auth_uri_option(
         self,
         auth_url: Option<AuthUrl>,
-    ) -> Client<
-        TE,
-        TR,
-        TIR,
-        RT,
-        TRE,
-        EndpointMaybeSet,
-        HasDeviceAuthUrl,
-        HasIntrospectionUrl,
-        HasRevocationUrl,
-        HasTokenUrl,
-    >
+    ) -> Client<TE, TR, TIR, RT, TRE, EndpointMaybeSet, D, I, R, T>
         ensures { result ≡ record self { auth_url = auth_url } }
     {
         Client {
@@ -319,18 +278,7 @@ where
     pub fn set_device_authorization_url(
         self,
         device_authorization_url: DeviceAuthorizationUrl,
-    ) -> Client<
-        TE,
-        TR,
-        TIR,
-        RT,
-        TRE,
-        HasAuthUrl,
-        EndpointSet,
-        HasIntrospectionUrl,
-        HasRevocationUrl,
-        HasTokenUrl,
-    >
+    ) -> Client<TE, TR, TIR, RT, TRE, A, EndpointSet, I, R, T>
         ensures { result ≡ record self { device_authorization_url = Some device_authorization_url } }
     {
         Client {
@@ -346,18 +294,7 @@ where
     pub fn set_device_authorization_url_option(
         self,
         device_authorization_url: Option<DeviceAuthorizationUrl>,
-    ) -> Client<
-        TE,
-        TR,
-        TIR,
-        RT,
-        TRE,
-        HasAuthUrl,
-        EndpointMaybeSet,
-        HasIntrospectionUrl,
-        HasRevocationUrl,
-        HasTokenUrl,
-    >
+    ) -> Client<TE, TR, TIR, RT, TRE, A, EndpointMaybeSet, I, R, T>
         ensures { result ≡ record self { device_authorization_url = device_authorization_url } }
     {
         Client {
@@ -373,18 +310,7 @@ where
     pub fn set_introspection_url(
         self,
         introspection_url: IntrospectionUrl,
-    ) -> Client<
-        TE,
-        TR,
-        TIR,
-        RT,
-        TRE,
-        HasAuthUrl,
-        HasDeviceAuthUrl,
-        EndpointSet,
-        HasRevocationUrl,
-        HasTokenUrl,
-    >
+    ) -> Client<TE, TR, TIR, RT, TRE, A, D, EndpointSet, R, T>
         ensures { result ≡ record self { introspection_url = Some introspection_url } }
     {
         Client {
@@ -400,18 +326,7 @@ where
     pub fn set_introspection_url_option(
         self,
         introspection_url: Option<IntrospectionUrl>,
-    ) -> Client<
-        TE,
-        TR,
-        TIR,
-        RT,
-        TRE,
-        HasAuthUrl,
-        HasDeviceAuthUrl,
-        EndpointMaybeSet,
-        HasRevocationUrl,
-        HasTokenUrl,
-    >
+    ) -> Client<TE, TR, TIR, RT, TRE, A, D, EndpointMaybeSet, R, T>
         ensures { result ≡ record self { introspection_url = introspection_url } }
     {
         Client {
@@ -427,18 +342,7 @@ where
     pub fn set_revocation_url(
         self,
         revocation_url: RevocationUrl,
-    ) -> Client<
-        TE,
-        TR,
-        TIR,
-        RT,
-        TRE,
-        HasAuthUrl,
-        HasDeviceAuthUrl,
-        HasIntrospectionUrl,
-        EndpointSet,
-        HasTokenUrl,
-    >
+    ) -> Client<TE, TR, TIR, RT, TRE, A, D, I, EndpointSet, T>
         ensures { result ≡ record self { revocation_url = Some revocation_url } }
     {
         Client {
@@ -454,18 +358,7 @@ where
     pub fn set_revocation_url_option(
         self,
         revocation_url: Option<RevocationUrl>,
-    ) -> Client<
-        TE,
-        TR,
-        TIR,
-        RT,
-        TRE,
-        HasAuthUrl,
-        HasDeviceAuthUrl,
-        HasIntrospectionUrl,
-        EndpointMaybeSet,
-        HasTokenUrl,
-    >
+    ) -> Client<TE, TR, TIR, RT, TRE, A, D, I, EndpointMaybeSet, T>
         ensures { result ≡ record self { revocation_url = revocation_url } }
     {
         Client {
@@ -481,18 +374,7 @@ where
     pub fn set_token_uri(
         self,
         token_url: TokenUrl,
-    ) -> Client<
-        TE,
-        TR,
-        TIR,
-        RT,
-        TRE,
-        HasAuthUrl,
-        HasDeviceAuthUrl,
-        HasIntrospectionUrl,
-        HasRevocationUrl,
-        EndpointSet,
-    >
+    ) -> Client<TE, TR, TIR, RT, TRE, A, D, I, R, EndpointSet>
         ensures { result ≡ record self { token_url = Some token_url } }
     {
         Client {
@@ -508,18 +390,7 @@ where
     pub fn set_token_uri_option(
         self,
         token_url: Option<TokenUrl>,
-    ) -> Client<
-        TE,
-        TR,
-        TIR,
-        RT,
-        TRE,
-        HasAuthUrl,
-        HasDeviceAuthUrl,
-        HasIntrospectionUrl,
-        HasRevocationUrl,
-        EndpointMaybeSet,
-    >
+    ) -> Client<TE, TR, TIR, RT, TRE, A, D, I, R, EndpointMaybeSet>
         ensures { result ≡ record self { token_url = token_url } }
     {
         Client {
@@ -532,33 +403,12 @@ where
     }
 }
 
-impl<
-    TE,
-    TR,
-    TIR,
-    RT,
-    TRE,
-    HasDeviceAuthUrl,
-    HasIntrospectionUrl,
-    HasRevocationUrl,
-    HasTokenUrl,
-> Client<
-    TE,
-    TR,
-    TIR,
-    RT,
-    TRE,
-    EndpointSet,
-    HasDeviceAuthUrl,
-    HasIntrospectionUrl,
-    HasRevocationUrl,
-    HasTokenUrl,
->
+impl<TE, TR, TIR, RT, TRE, D, I, R, T> Client<TE, TR, TIR, RT, TRE, EndpointSet, D, I, R, T>
 where
-    HasDeviceAuthUrl: EndpointState,
-    HasIntrospectionUrl: EndpointState,
-    HasRevocationUrl: EndpointState,
-    HasTokenUrl: EndpointState,
+    D: EndpointState,
+    I: EndpointState,
+    R: EndpointState,
+    T: EndpointState,
 {
     /// The URL of the authorization endpoint (RFC 6749, section 3.1).
     pub fn auth_uri(&self) -> &AuthUrl
@@ -568,33 +418,12 @@ where
     }
 }
 
-impl<
-    TE,
-    TR,
-    TIR,
-    RT,
-    TRE,
-    HasDeviceAuthUrl,
-    HasIntrospectionUrl,
-    HasRevocationUrl,
-    HasTokenUrl,
-> Client<
-    TE,
-    TR,
-    TIR,
-    RT,
-    TRE,
-    EndpointMaybeSet,
-    HasDeviceAuthUrl,
-    HasIntrospectionUrl,
-    HasRevocationUrl,
-    HasTokenUrl,
->
+impl<TE, TR, TIR, RT, TRE, D, I, R, T> Client<TE, TR, TIR, RT, TRE, EndpointMaybeSet, D, I, R, T>
 where
-    HasDeviceAuthUrl: EndpointState,
-    HasIntrospectionUrl: EndpointState,
-    HasRevocationUrl: EndpointState,
-    HasTokenUrl: EndpointState,
+    D: EndpointState,
+    I: EndpointState,
+    R: EndpointState,
+    T: EndpointState,
 {
     /// The URL of the authorization endpoint (RFC 6749, section 3.1), if it has one.
     pub fn auth_uri(&self) -> Option<&AuthUrl>
@@ -604,23 +433,12 @@ where
     }
 }
 
-impl<TE, TR, TIR, RT, TRE, HasAuthUrl, HasIntrospectionUrl, HasRevocationUrl, HasTokenUrl> Client<
-    TE,
-    TR,
-    TIR,
-    RT,
-    TRE,
-    HasAuthUrl,
-    EndpointSet,
-    HasIntrospectionUrl,
-    HasRevocationUrl,
-    HasTokenUrl,
->
+impl<TE, TR, TIR, RT, TRE, A, I, R, T> Client<TE, TR, TIR, RT, TRE, A, EndpointSet, I, R, T>
 where
-    HasAuthUrl: EndpointState,
-    HasIntrospectionUrl: EndpointState,
-    HasRevocationUrl: EndpointState,
-    HasTokenUrl: EndpointState,
+    A: EndpointState,
+    I: EndpointState,
+    R: EndpointState,
+    T: EndpointState,
 {
     /// The URL of the device authorization endpoint (RFC 8628, section 3.1).
     pub fn device_authorization_url(&self) -> &DeviceAuthorizationUrl
@@ -630,23 +448,12 @@ where
     }
 }
 
-impl<TE, TR, TIR, RT, TRE, HasAuthUrl, HasIntrospectionUrl, HasRevocationUrl, HasTokenUrl> Client<
-    TE,
-    TR,
-    TIR,
-    RT,
-    TRE,
-    HasAuthUrl,
-    EndpointMaybeSet,
-    HasIntrospectionUrl,
-    HasRevocationUrl,
-    HasTokenUrl,
->
+impl<TE, TR, TIR, RT, TRE, A, I, R, T> Client<TE, TR, TIR, RT, TRE, A, EndpointMaybeSet, I, R, T>
 where
-    HasAuthUrl: EndpointState,
-    HasIntrospectionUrl: EndpointState,
-    HasRevocationUrl: EndpointState,
-    HasTokenUrl: EndpointState,
+    A: EndpointState,
+    I: EndpointState,
+    R: EndpointState,
+    T: EndpointState,
 {
     /// The URL of the device authorization endpoint (RFC 8628, section 3.1), if it has one.
     pub fn device_authorization_url(&self) -> Option<&DeviceAuthorizationUrl>
@@ -656,23 +463,12 @@ where
     }
 }
 
-impl<TE, TR, TIR, RT, TRE, HasAuthUrl, HasDeviceAuthUrl, HasRevocationUrl, HasTokenUrl> Client<
-    TE,
-    TR,
-    TIR,
-    RT,
-    TRE,
-    HasAuthUrl,
-    HasDeviceAuthUrl,
-    EndpointSet,
-    HasRevocationUrl,
-    HasTokenUrl,
->
+impl<TE, TR, TIR, RT, TRE, A, D, R, T> Client<TE, TR, TIR, RT, TRE, A, D, EndpointSet, R, T>
 where
-    HasAuthUrl: EndpointState,
-    HasDeviceAuthUrl: EndpointState,
-    HasRevocationUrl: EndpointState,
-    HasTokenUrl: EndpointState,
+    A: EndpointState,
+    D: EndpointState,
+    R: EndpointState,
+    T: EndpointState,
 {
     /// The URL of the introspection endpoint (RFC 7662, section 2).
     pub fn introspection_url(&self) -> &IntrospectionUrl
@@ -682,23 +478,12 @@ where
     }
 }
 
-impl<TE, TR, TIR, RT, TRE, HasAuthUrl, HasDeviceAuthUrl, HasRevocationUrl, HasTokenUrl> Client<
-    TE,
-    TR,
-    TIR,
-    RT,
-    TRE,
-    HasAuthUrl,
-    HasDeviceAuthUrl,
-    EndpointMaybeSet,
-    HasRevocationUrl,
-    HasTokenUrl,
->
+impl<TE, TR, TIR, RT, TRE, A, D, R, T> Client<TE, TR, TIR, RT, TRE, A, D, EndpointMaybeSet, R, T>
 where
-    HasAuthUrl: EndpointState,
-    HasDeviceAuthUrl: EndpointState,
-    HasRevocationUrl: EndpointState,
-    HasTokenUrl: EndpointState,
+    A: EndpointState,
+    D: EndpointState,
+    R: EndpointState,
+    T: EndpointState,
 {
     /// The URL of the introspection endpoint (RFC 7662, section 2), if it has one.
     pub fn introspection_url(&self) -> Option<&IntrospectionUrl>
@@ -708,23 +493,12 @@ where
     }
 }
 
-impl<TE, TR, TIR, RT, TRE, HasAuthUrl, HasDeviceAuthUrl, HasIntrospectionUrl, HasTokenUrl> Client<
-    TE,
-    TR,
-    TIR,
-    RT,
-    TRE,
-    HasAuthUrl,
-    HasDeviceAuthUrl,
-    HasIntrospectionUrl,
-    EndpointSet,
-    HasTokenUrl,
->
+impl<TE, TR, TIR, RT, TRE, A, D, I, T> Client<TE, TR, TIR, RT, TRE, A, D, I, EndpointSet, T>
 where
-    HasAuthUrl: EndpointState,
-    HasDeviceAuthUrl: EndpointState,
-    HasIntrospectionUrl: EndpointState,
-    HasTokenUrl: EndpointState,
+    A: EndpointState,
+    D: EndpointState,
+    I: EndpointState,
+    T: EndpointState,
 {
     /// The URL of the revocation endpoint (RFC 7009, section 2).
     pub fn revocation_url(&self) -> &RevocationUrl
@@ -734,23 +508,12 @@ where
     }
 }
 
-impl<TE, TR, TIR, RT, TRE, HasAuthUrl, HasDeviceAuthUrl, HasIntrospectionUrl, HasTokenUrl> Client<
-    TE,
-    TR,
-    TIR,
-    RT,
-    TRE,
-    HasAuthUrl,
-    HasDeviceAuthUrl,
-    HasIntrospectionUrl,
-    EndpointMaybeSet,
-    HasTokenUrl,
->
+impl<TE, TR, TIR, RT, TRE, A, D, I, T> Client<TE, TR, TIR, RT, TRE, A, D, I, EndpointMaybeSet, T>
 where
-    HasAuthUrl: EndpointState,
-    HasDeviceAuthUrl: EndpointState,
-    HasIntrospectionUrl: EndpointState,
-    HasTokenUrl: EndpointState,
+    A: EndpointState,
+    D: EndpointState,
+    I: EndpointState,
+    T: EndpointState,
 {
     /// The URL of the revocation endpoint (RFC 7009, section 2), if it has one.
     pub fn revocation_url(&self) -> Option<&RevocationUrl>
@@ -760,33 +523,12 @@ where
     }
 }
 
-impl<
-    TE,
-    TR,
-    TIR,
-    RT,
-    TRE,
-    HasAuthUrl,
-    HasDeviceAuthUrl,
-    HasIntrospectionUrl,
-    HasRevocationUrl,
-> Client<
-    TE,
-    TR,
-    TIR,
-    RT,
-    TRE,
-    HasAuthUrl,
-    HasDeviceAuthUrl,
-    HasIntrospectionUrl,
-    HasRevocationUrl,
-    EndpointSet,
->
+impl<TE, TR, TIR, RT, TRE, A, D, I, R> Client<TE, TR, TIR, RT, TRE, A, D, I, R, EndpointSet>
 where
-    HasAuthUrl: EndpointState,
-    HasDeviceAuthUrl: EndpointState,
-    HasIntrospectionUrl: EndpointState,
-    HasRevocationUrl: EndpointState,
+    A: EndpointState,
+    D: EndpointState,
+    I: EndpointState,
+    R: EndpointState,
 {
     /// The URL of the token endpoint (RFC 6749, section 3.2).
     pub fn token_uri(&self) -> &TokenUrl
@@ -796,33 +538,12 @@ where
     }
 }
 
-impl<
-    TE,
-    TR,
-    TIR,
-    RT,
-    TRE,
-    HasAuthUrl,
-    HasDeviceAuthUrl,
-    HasIntrospectionUrl,
-    HasRevocationUrl,
-> Client<
-    TE,
-    TR,
-    TIR,
-    RT,
-    TRE,
-    HasAuthUrl,
-    HasDeviceAuthUrl,
-    HasIntrospectionUrl,
-    HasRevocationUrl,
-    EndpointMaybeSet,
->
+impl<TE, TR, TIR, RT, TRE, A, D, I, R> Client<TE, TR, TIR, RT, TRE, A, D, I, R, EndpointMaybeSet>
 where
-    HasAuthUrl: EndpointState,
-    HasDeviceAuthUrl: EndpointState,
-    HasIntrospectionUrl: EndpointState,
-    HasRevocationUrl: EndpointState,
+    A: EndpointState,
+    D: EndpointState,
+    I: EndpointState,
+    R: EndpointState,
 {
     /// The URL of the token endpoint (RFC 6749, section 3.2), if it has one.
     pub fn token_uri(&self) -> Option<&TokenUrl>
@@ -832,36 +553,13 @@ where
     }
 }
 
-impl<
-    TE,
-    TR,
-    TIR,
-    RT,
-    TRE,
-    HasAuthUrl,
-    HasDeviceAuthUrl,
-    HasIntrospectionUrl,
-    HasRevocationUrl,
-    HasTokenUrl,
-> TryClone
-    for Client<
-        TE,
-        TR,
-        TIR,
-        RT,
-        TRE,
-        HasAuthUrl,
-        HasDeviceAuthUrl,
-        HasIntrospectionUrl,
-        HasRevocationUrl,
-        HasTokenUrl,
-    >
+impl<TE, TR, TIR, RT, TRE, A, D, I, R, T> TryClone for Client<TE, TR, TIR, RT, TRE, A, D, I, R, T>
 where
-    HasAuthUrl: EndpointState,
-    HasDeviceAuthUrl: EndpointState,
-    HasIntrospectionUrl: EndpointState,
-    HasRevocationUrl: EndpointState,
-    HasTokenUrl: EndpointState,
+    A: EndpointState,
+    D: EndpointState,
+    I: EndpointState,
+    R: EndpointState,
+    T: EndpointState,
 {
     ghost use Rattle.oauth2.specs.Settings.{Settings};
 
@@ -877,36 +575,13 @@ where
     }
 }
 
-impl<
-    TE,
-    TR,
-    TIR,
-    RT,
-    TRE,
-    HasAuthUrl,
-    HasDeviceAuthUrl,
-    HasIntrospectionUrl,
-    HasRevocationUrl,
-    HasTokenUrl,
-> fmt::Debug
-    for Client<
-        TE,
-        TR,
-        TIR,
-        RT,
-        TRE,
-        HasAuthUrl,
-        HasDeviceAuthUrl,
-        HasIntrospectionUrl,
-        HasRevocationUrl,
-        HasTokenUrl,
-    >
+impl<TE, TR, TIR, RT, TRE, A, D, I, R, T> fmt::Debug for Client<TE, TR, TIR, RT, TRE, A, D, I, R, T>
 where
-    HasAuthUrl: EndpointState,
-    HasDeviceAuthUrl: EndpointState,
-    HasIntrospectionUrl: EndpointState,
-    HasRevocationUrl: EndpointState,
-    HasTokenUrl: EndpointState,
+    A: EndpointState,
+    D: EndpointState,
+    I: EndpointState,
+    R: EndpointState,
+    T: EndpointState,
 {
     fn fmt<W: fmt::Write>(&self, f: &mut fmt::Formatter<W>) -> fmt::Result {
         f.debug_tuple("Client").field(&self.parts).finish()

@@ -4,22 +4,13 @@
 //! `Basic` in `basic` and the functions for JSON members in `helpers`.
 #![tactic(auto)]
 
-mod authorize;
-mod base_request;
+mod authorization_endpoint;
 pub mod basic;
 mod client;
-mod client_credentials;
-mod code;
 mod endpoint;
-mod exchange;
-mod password;
-mod query;
-mod refresh;
+mod token_endpoint;
 
-pub use authorize::AuthorizationRequest;
 pub use client::Client;
-pub use client_credentials::ClientCredentialsTokenRequest;
-pub use code::CodeTokenRequest;
 pub use endpoint::{EndpointMaybeSet, EndpointNotSet, EndpointSet, EndpointState};
 pub use oauth2_json::{
     DeviceCodeErrorResponse, DeviceCodeErrorResponseType, ErrorResponse, ErrorResponseType,
@@ -33,6 +24,10 @@ pub use oauth2_replies::{
     StandardDeviceAuthorizationResponse, StandardRevocableToken,
     StandardTokenIntrospectionResponse, StandardTokenResponse, TokenIntrospectionResponse,
     TokenResponse,
+};
+pub use oauth2_requests::{
+    AuthorizationRequest, ClientCredentialsTokenRequest, CodeTokenRequest, PasswordTokenRequest,
+    RefreshTokenRequest,
 };
 pub use oauth2_types::{
     AccessToken, AuthorizationCode, ClientId, ClientSecret, CsrfToken, DeviceCode,
@@ -51,8 +46,6 @@ pub use oauth2_wire::{
     endpoint_response, endpoint_response_status_only, send_once, send_once_status_only,
     server_view,
 };
-pub use password::PasswordTokenRequest;
-pub use refresh::RefreshTokenRequest;
 
 /// The types of HTTP clients.
 pub use http;

@@ -1,7 +1,0 @@
-use Rattle.std.proofs.Common.{refl}
-use Rattle.form_urlencoded.proofs.OnLiterals.{form_urlencoded_on_literals}
-use Rattle.oauth2.proofs.authorize.push_scope.Goals as goal
-
-pub push-requires : goal.push-requires
-unfolding form_urlencoded_on_literals
-push-requires c = refl

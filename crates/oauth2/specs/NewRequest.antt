@@ -1,0 +1,70 @@
+-- The requests that a client starts, as they are before anything is added.
+use Rattle.std.specs.Prelude.{◌≡◌, ℕ, List, [], codes, None}
+use Rattle.oauth2_urls.specs.Addressed.{Addressed}
+use Rattle.oauth2_requests.specs.Authorization.{Authorization}
+use Rattle.oauth2_requests.specs.Base.{Base}
+use Rattle.oauth2_requests.specs.ClientCredentials.{ClientCredentialsRequest}
+use Rattle.oauth2_requests.specs.Code.{CodeRequest}
+use Rattle.oauth2_requests.specs.Password.{PasswordRequest}
+use Rattle.oauth2_requests.specs.Refresh.{RefreshRequest}
+use Rattle.oauth2.specs.Settings.{Settings}
+
+-- a request of this client that asks for no scope yet
+abbrev pub base_of : Settings → Base
+base_of client = record {
+  auth_type = client.auth_type;
+  client_id = client.client_id;
+  client_secret = client.client_secret;
+  scope = None;
+  extra_params = [];
+}
+
+-- an authorization request at this endpoint, whose state is one that the function may answer
+-- (RFC 6749, section 4.1.1)
+abbrev pub IsAuthorization : (List ℕ → Type 0) → Settings → Addressed → Authorization → Type 0
+IsAuthorization IsState client url r =
+    IsState r.state
+    × (r ≡ record {
+      auth_url = url;
+      client_id = client.client_id;
+      state = r.state;
+      response_type = codes "code";
+      pkce_challenge = None;
+      redirect_url = client.redirect_url;
+      scopes = [];
+      extra_params = [];
+    })
+
+-- the exchange of a code (RFC 6749, section 4.1.3)
+abbrev pub new_code_request : Settings → Addressed → List ℕ → CodeRequest
+new_code_request client url code = record {
+  base = base_of client;
+  token_url = url;
+  code = code;
+  pkce_verifier = None;
+  redirect_url = client.redirect_url;
+}
+
+-- the exchange of a refresh token (RFC 6749, section 6)
+abbrev pub new_refresh_request : Settings → Addressed → List ℕ → RefreshRequest
+new_refresh_request client url refresh_token = record {
+  base = base_of client;
+  token_url = url;
+  refresh_token = refresh_token;
+}
+
+-- the exchange of a resource owner's name and password (RFC 6749, section 4.3.2)
+abbrev pub new_password_request : Settings → Addressed → List ℕ → List ℕ → PasswordRequest
+new_password_request client url username password = record {
+  base = base_of client;
+  token_url = url;
+  username = username;
+  password = password;
+}
+
+-- the client's own token (RFC 6749, section 4.4.2)
+abbrev pub new_client_credentials_request : Settings → Addressed → ClientCredentialsRequest
+new_client_credentials_request client url = record {
+  base = base_of client;
+  token_url = url;
+}

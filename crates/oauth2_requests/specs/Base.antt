@@ -1,0 +1,27 @@
+-- What contracts see of every request to an endpoint.
+use Rattle.std.specs.Prelude.{ℕ, List, Option, option_map}
+use Rattle.oauth2_urls.specs.Addressed.{Addressed}
+use Rattle.oauth2_wire.specs.declared.request.AuthType.{AuthType}
+use Rattle.oauth2_wire.specs.Pairs.{Pair}
+use Rattle.oauth2_wire.specs.Expected.{Configuration}
+use Rattle.oauth2_wire.specs.Texts.{given_text}
+
+-- who asks, the text of the scopes, if there are any, and the extra parameters
+pub record Base : Type 0 where
+  pub auth_type : AuthType
+  pub client_id : List ℕ
+  pub client_secret : Option (List ℕ)
+  pub scope : Option (List ℕ)
+  pub extra_params : List Pair
+
+-- the configuration of a request that has these pairs of its own, and this redirect
+abbrev pub configuration_of : Base → List Pair → Option Addressed → Configuration
+configuration_of base own_pairs redirect_url = record {
+  auth_type = base.auth_type;
+  client_id = base.client_id;
+  client_secret = base.client_secret;
+  own_pairs = own_pairs;
+  scope = base.scope;
+  redirect_uri = option_map given_text redirect_url;
+  extra_pairs = base.extra_params;
+}

@@ -1,0 +1,9 @@
+pub mod Base
+pub mod Code
+pub mod Refresh
+pub mod Password
+pub mod ClientCredentials
+pub mod Once
+pub mod Query
+pub mod Authorization
+pub mod private

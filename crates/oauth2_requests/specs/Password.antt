@@ -1,0 +1,23 @@
+-- The exchange of a resource owner's password (RFC 6749, section 4.3.2).
+use Rattle.std.specs.Prelude.{ℕ, List, [], ◌∷◌, codes, None}
+use Rattle.oauth2_urls.specs.Addressed.{Addressed}
+use Rattle.oauth2_wire.specs.Pairs.{Pair}
+use Rattle.oauth2_wire.specs.Expected.{Configuration}
+use Rattle.oauth2_requests.specs.Base.{Base, configuration_of}
+
+pub record PasswordRequest : Type 0 where
+  pub base : Base
+  pub token_url : Addressed
+  pub username : List ℕ
+  pub password : List ℕ
+
+-- the grant, the user and the password
+abbrev pub password_pairs : List ℕ → List ℕ → List Pair
+password_pairs username password =
+    (codes "grant_type", codes "password")
+    ∷ (codes "username", username)
+    ∷ (codes "password", password)
+    ∷ []
+
+abbrev pub password_configuration : PasswordRequest → Configuration
+password_configuration r = configuration_of r.base (password_pairs r.username r.password) None

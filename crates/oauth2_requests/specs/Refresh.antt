@@ -1,0 +1,19 @@
+-- The exchange of a refresh token (RFC 6749, section 6).
+use Rattle.std.specs.Prelude.{ℕ, List, [], ◌∷◌, codes, None}
+use Rattle.oauth2_urls.specs.Addressed.{Addressed}
+use Rattle.oauth2_wire.specs.Pairs.{Pair}
+use Rattle.oauth2_wire.specs.Expected.{Configuration}
+use Rattle.oauth2_requests.specs.Base.{Base, configuration_of}
+
+pub record RefreshRequest : Type 0 where
+  pub base : Base
+  pub token_url : Addressed
+  pub refresh_token : List ℕ
+
+-- the grant and its token
+abbrev pub refresh_pairs : List ℕ → List Pair
+refresh_pairs refresh_token =
+    (codes "grant_type", codes "refresh_token") ∷ (codes "refresh_token", refresh_token) ∷ []
+
+abbrev pub refresh_configuration : RefreshRequest → Configuration
+refresh_configuration r = configuration_of r.base (refresh_pairs r.refresh_token) None

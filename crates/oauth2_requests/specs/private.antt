@@ -1,0 +1,2 @@
+-- What private clauses alone cite.
+pub mod Form

@@ -1,0 +1,283 @@
+//! The request for an authorization URL (RFC 6749, section 4.1.1).
+
+ghost use Rattle.std.specs.Prelude.{◌≡◌, ◌++◌, ◌∷◌, [], Some, None, IfOk, IfErr, OnOk, List, ℕ, codes, map, option_copied, option_map, string_bytes};
+ghost use Rattle.std.specs.Iterator.{Drains, IsFinite};
+ghost use Rattle.std.specs.List.{join_by, flat_map};
+ghost use Rattle.url.specs.Parser.{IsOutOfRoom};
+ghost use Rattle.oauth2_wire.specs.Expected.{optional_pair};
+ghost use Rattle.oauth2_wire.specs.Texts.{param_bytes, param_pair, redirect_of, given_text};
+ghost use Rattle.oauth2_requests.specs.Authorization.{challenge_pairs, scope_pairs, required_pairs, optional_pairs, query_pairs};
+ghost use Rattle.oauth2_requests.specs.Query.{ExtendsQuery};
+ghost use Rattle.oauth2_requests.specs.private.Form.{ExtendsForm};
+
+use crate::query::{form_of, push, push_any, with_form};
+use oauth2_types::{ClientId, CsrfToken, PkceCodeChallenge, ResponseType, Scope};
+use oauth2_urls::{AuthUrl, RedirectUrl};
+use oauth2_wire::{ParamText, RedirectRef};
+use std::alloc::{AllocError, Global};
+use std::marker::Model;
+use url::{ParseError, Url};
+
+/// A request for an authorization URL.
+#[derive(Debug, Drop)]
+pub struct AuthorizationRequest<'a> {
+    auth_url: &'a AuthUrl,
+    client_id: &'a ClientId,
+    state: CsrfToken,
+    response_type: ParamText<'a>,
+    pkce_challenge: Option<PkceCodeChallenge>,
+    redirect_url: Option<RedirectRef<'a>>,
+    scopes: Vec<Scope>,
+    extra_params: Vec<(ParamText<'a>, ParamText<'a>)>,
+}
+
+impl<'a> Model for AuthorizationRequest<'a> {
+    ghost use Rattle.std.specs.Prelude.{map, option_map};
+    ghost use Rattle.oauth2_wire.specs.Texts.{param_bytes, param_pair, redirect_of};
+    ghost use Rattle.oauth2_requests.specs.Authorization.{Authorization};
+
+    ghost Value = { Authorization };
+
+    ghost view = { λ r. record {
+      auth_url = r.auth_url.now;
+      client_id = r.client_id.now;
+      state = r.state;
+      response_type = param_bytes r.response_type;
+      pkce_challenge = r.pkce_challenge;
+      redirect_url = option_map redirect_of r.redirect_url;
+      scopes = r.scopes.items;
+      extra_params = map param_pair r.extra_params.items;
+    } };
+}
+
+impl<'a> AuthorizationRequest<'a> {
+    /// A request for a code, with this state. `oauth2::Client` makes it; a caller with endpoints of
+    /// its own can too.
+    pub fn new(
+        alloc: Global,
+        auth_url: &'a AuthUrl,
+        client_id: &'a ClientId,
+        redirect_url: Option<&'a RedirectUrl>,
+        state: CsrfToken,
+    ) -> Self
+        ensures { result ≡ record {
+          auth_url = auth_url.now;
+          client_id = client_id.now;
+          state = state;
+          response_type = codes "code";
+          pkce_challenge = None;
+          redirect_url = option_copied redirect_url.entry;
+          scopes = [];
+          extra_params = [];
+        } }
+    {
+        AuthorizationRequest {
+            auth_url,
+            client_id,
+            state,
+            response_type: ParamText::Borrowed("code"),
+            pkce_challenge: None,
+            redirect_url: redirect_url.map(RedirectRef::Borrowed),
+            scopes: Vec::new(alloc),
+            extra_params: Vec::new(alloc),
+        }
+    }
+
+    /// Adds a scope.
+    pub fn add_scope(mut self, scope: Scope) -> Result<Self, AllocError>
+        ensures { IfOk result (λ r. r ≡ record self.entry { scopes = self.entry.scopes ++ scope ∷ [] }) }
+    {
+        self.scopes.push(scope)?;
+        Ok(self)
+    }
+
+    /// Adds scopes, in order, from an iterator that ends.
+    pub fn add_scopes<I: IntoIterator<Item = Scope>>(
+        mut self,
+        scopes: I,
+    ) -> Result<Self, AllocError>
+        requires { (it : I.IntoIter) → I.into_iter_gives scopes it
+            → I.IntoIter.can_next it × IsFinite (I.IntoIter.remaining it) }
+        ensures { IfOk result (λ r. (it : I.IntoIter) × (added : List (List ℕ))
+            × I.into_iter_gives scopes it × Drains I.IntoIter.next_gives it added
+            × (r ≡ record self.entry { scopes = self.entry.scopes ++ added })) }
+    {
+        self.scopes.extend(scopes)?;
+        Ok(self)
+    }
+
+    /// Adds a parameter. It may bear a name that the request itself sends, and both are then sent.
+    pub fn add_extra_param(
+        mut self,
+        name: ParamText<'a>,
+        value: ParamText<'a>,
+    ) -> Result<Self, AllocError>
+        ensures { IfOk result (λ r. r ≡ record self.entry {
+          extra_params = self.entry.extra_params ++ (param_bytes name.entry, param_bytes value.entry) ∷ [];
+        }) }
+    {
+        self.extra_params.push((name, value))?;
+        Ok(self)
+    }
+
+    /// Asks for a token in place of a code: the implicit flow (RFC 6749, section 4.2.1).
+    pub fn use_implicit_flow(mut self) -> Self
+        ensures { result ≡ record self.entry { response_type = codes "token" } }
+    {
+        self.response_type = ParamText::Borrowed("token");
+        self
+    }
+
+    /// Sets the response type, which is `code` unless set.
+    pub fn set_response_type(
+        mut self,
+        alloc: Global,
+        response_type: &ResponseType,
+    ) -> Result<Self, AllocError>
+        ensures { IfOk result (λ r. r ≡ record self.entry { response_type = response_type.now }) }
+    {
+        self.response_type = ParamText::Owned(String::from_str(alloc, response_type.as_str())?);
+        Ok(self)
+    }
+
+    /// Sets the code challenge (RFC 7636, section 4.3).
+    pub fn set_pkce_challenge(mut self, pkce_code_challenge: PkceCodeChallenge) -> Self
+        ensures { result ≡ record self.entry { pkce_challenge = Some pkce_code_challenge } }
+    {
+        self.pkce_challenge = Some(pkce_code_challenge);
+        self
+    }
+
+    /// Sets the redirect, which is the client's unless set.
+    pub fn set_redirect_uri(mut self, redirect_url: RedirectRef<'a>) -> Self
+        ensures { result ≡ record self.entry { redirect_url = Some (redirect_of redirect_url.entry) } }
+    {
+        self.redirect_url = Some(redirect_url);
+        self
+    }
+
+    /// The URL to send a user to, and the state. It refuses only for want of memory, or where the
+    /// URL would be longer than a URL may be.
+    pub fn url(self, alloc: Global) -> Result<(Url, CsrfToken), ParseError>
+        ensures ok { IfOk result (λ r. ExtendsQuery self.entry.auth_url.url r.0 (query_pairs self.entry)) }
+        ensures state { IfOk result (λ r. r.1 ≡ self.entry.state) }
+        ensures refusal { IfErr result IsOutOfRoom }
+    {
+        let url = self.extended_url(alloc)?;
+        Ok((url, self.state))
+    }
+
+    // The endpoint's URL, with the request's pairs after its own.
+    fn extended_url(&self, alloc: Global) -> Result<Url, ParseError>
+        ensures ok { IfOk result (λ url. ExtendsQuery self.now.auth_url.url url (query_pairs self.now)) }
+        ensures refusal { IfErr result IsOutOfRoom }
+    {
+        let url = self.auth_url.url();
+        let mut form = form_of(alloc, url)?;
+        self.push_required(&mut form)?;
+        self.push_optional(alloc, &mut form)?;
+        let extended = with_form(url, form.as_slice())?;
+        Ok(extended)
+    }
+
+    // Appends the pairs that each request sends.
+    fn push_required(&self, form: &mut Vec<u8>) -> Result<(), AllocError>
+        ensures { OnOk result (ExtendsForm form.old.items form.new.items (required_pairs self.now)) }
+    {
+        push(form, "response_type", self.response_type.as_str())?;
+        push(form, "client_id", self.client_id.as_str())?;
+        push(form, "state", self.state.secret().as_str())?;
+        Ok(())
+    }
+
+    // Appends the pairs that a request sends only where they were set.
+    fn push_optional(&self, alloc: Global, form: &mut Vec<u8>) -> Result<(), AllocError>
+        ensures { OnOk result (ExtendsForm form.old.items form.new.items (optional_pairs self.now)) }
+    {
+        push_challenge(form, &self.pkce_challenge)?;
+        push_redirect(form, &self.redirect_url)?;
+        push_scopes(alloc, form, &self.scopes)?;
+        push_extra_params(form, &self.extra_params)?;
+        Ok(())
+    }
+}
+
+fn push_challenge(
+    form: &mut Vec<u8>,
+    challenge: &Option<PkceCodeChallenge>,
+) -> Result<(), AllocError>
+    ensures { OnOk result (ExtendsForm form.old.items form.new.items (challenge_pairs challenge.now)) }
+{
+    if let Some(challenge) = challenge {
+        push(form, "code_challenge", challenge.as_str())?;
+        push(form, "code_challenge_method", challenge.method().as_str())?;
+    }
+    Ok(())
+}
+
+fn push_redirect(form: &mut Vec<u8>, redirect: &Option<RedirectRef<'_>>) -> Result<(), AllocError>
+    ensures { let text = option_map given_text (option_map redirect_of redirect.now) in
+        OnOk result (ExtendsForm form.old.items form.new.items (optional_pair (codes "redirect_uri") text)) }
+{
+    if let Some(redirect) = redirect {
+        push(form, "redirect_uri", redirect.redirect_url().as_str())?;
+    }
+    Ok(())
+}
+
+fn push_scopes(alloc: Global, form: &mut Vec<u8>, scopes: &[Scope]) -> Result<(), AllocError>
+    ensures { let scope = join_by (λ s. s) (codes " ") scopes.now in
+        OnOk result (ExtendsForm form.old.items form.new.items (scope_pairs scope)) }
+{
+    let scope = scope_text(alloc, scopes)?;
+    push_scope(form, scope.as_str())?;
+    Ok(())
+}
+
+fn push_scope(form: &mut Vec<u8>, scope: &str) -> Result<(), AllocError>
+    ensures { OnOk result (ExtendsForm form.old.items form.new.items (scope_pairs scope.now)) }
+{
+    if !scope.is_empty() {
+        push(form, "scope", scope)?;
+    }
+    Ok(())
+}
+
+fn push_extra_params(
+    form: &mut Vec<u8>,
+    extra_params: &[(ParamText<'_>, ParamText<'_>)],
+) -> Result<(), AllocError>
+    ensures { OnOk result (ExtendsForm form.old.items form.new.items (map param_pair extra_params.now)) }
+{
+    for (name, value) in extra_params {
+        push_any(form, name.as_str(), value.as_str())?;
+    }
+    Ok(())
+}
+
+/// How many bytes a text of scopes has room for before it grows.
+const SCOPE_ROOM: usize = 64;
+
+// The scopes as one text, with a space between each two.
+fn scope_text(alloc: Global, scopes: &[Scope]) -> Result<String, AllocError>
+    ensures { IfOk result (λ text. string_bytes text ≡ join_by (λ s. s) (codes " ") scopes.now) }
+{
+    let Some((first, rest)) = scopes.split_first() else {
+        return Ok(String::new(alloc));
+    };
+    let mut text = String::with_capacity(alloc, SCOPE_ROOM)?;
+    text.push_str(first.as_str())?;
+    append_spaced(&mut text, rest)?;
+    Ok(text)
+}
+
+// Appends the scopes with a space before each.
+fn append_spaced(text: &mut String, scopes: &[Scope]) -> Result<(), AllocError>
+    ensures { OnOk result (string_bytes text.new ≡ string_bytes text.old ++ flat_map (λ s. codes " " ++ s) scopes.now) }
+{
+    for scope in scopes {
+        text.push(' ')?;
+        text.push_str(scope.as_str())?;
+    }
+    Ok(())
+}

@@ -1,0 +1,132 @@
+//! What every request to an endpoint holds.
+
+ghost use Rattle.std.specs.Prelude.{◌≡◌, ◌++◌, ◌∷◌, [], Some, None, IfOk, OnOk, List, ℕ, Err, map, option_copied};
+ghost use Rattle.std.specs.Iterator.{Drains, IsFinite};
+ghost use Rattle.form_urlencoded.specs.Form.{pair_text};
+ghost use Rattle.http_uri.specs.Uri.{SpellsNone};
+ghost use Rattle.url.specs.Parts.{serialize};
+ghost use Rattle.oauth2_wire.specs.Params.{with_scope, with_scopes};
+ghost use Rattle.oauth2_wire.specs.Request.{IsRequestOf, view_of};
+ghost use Rattle.oauth2_wire.specs.Texts.{param_bytes};
+ghost use Rattle.oauth2_requests.specs.Base.{configuration_of};
+
+use oauth2_types::{ClientId, ClientSecret, Scope};
+use oauth2_urls::RedirectUrl;
+use oauth2_wire::{
+    AuthType, HttpRequest, ParamBuffer, ParamText, RequestFault, endpoint_request_encoded,
+};
+use std::alloc::{AllocError, Global};
+use std::marker::Model;
+use url::Url;
+
+/// What each request to an endpoint holds: who asks, and the scopes and the extra parameters that
+/// were added. Contracts see it as a `Base`.
+#[derive(Debug, Drop)]
+pub struct BaseRequest<'a> {
+    auth_type: &'a AuthType,
+    client_id: &'a ClientId,
+    client_secret: Option<&'a ClientSecret>,
+    params: ParamBuffer,
+}
+
+impl<'a> Model for BaseRequest<'a> {
+    ghost use Rattle.std.specs.Prelude.{option_copied};
+    ghost use Rattle.oauth2_requests.specs.Base.{Base};
+
+    ghost Value = { Base };
+
+    ghost view = { λ r. record {
+      auth_type = r.auth_type.now;
+      client_id = r.client_id.now;
+      client_secret = option_copied r.client_secret;
+      scope = r.params.scope;
+      extra_params = r.params.pairs;
+    } };
+}
+
+impl<'a> BaseRequest<'a> {
+    /// Who asks, with no scope and no extra parameter yet. `oauth2::Client` makes it; a caller with
+    /// endpoints of its own can too.
+    pub fn new(
+        alloc: Global,
+        auth_type: &'a AuthType,
+        client_id: &'a ClientId,
+        client_secret: Option<&'a ClientSecret>,
+    ) -> Self
+        ensures { result ≡ record {
+          auth_type = auth_type.now;
+          client_id = client_id.now;
+          client_secret = option_copied client_secret.entry;
+          scope = None;
+          extra_params = [];
+        } }
+    {
+        BaseRequest {
+            auth_type,
+            client_id,
+            client_secret,
+            params: ParamBuffer::new(alloc),
+        }
+    }
+
+    pub(crate) fn add_scope(&mut self, scope: Scope) -> Result<(), AllocError>
+        ensures { OnOk result (self.new ≡ record self.old { scope = Some (with_scope self.old.scope scope) }) }
+    {
+        self.params.add_scope(scope.as_str())?;
+        Ok(())
+    }
+
+    pub(crate) fn add_scopes<I: IntoIterator<Item = Scope>>(
+        &mut self,
+        scopes: I,
+    ) -> Result<(), AllocError>
+        requires { (it : I.IntoIter) → I.into_iter_gives scopes it
+            → I.IntoIter.can_next it × IsFinite (I.IntoIter.remaining it) }
+        ensures { OnOk result ((it : I.IntoIter) × (added : List (List ℕ))
+            × I.into_iter_gives scopes it × Drains I.IntoIter.next_gives it added
+            × (self.new ≡ record self.old { scope = with_scopes self.old.scope added })) }
+    {
+        for scope in scopes {
+            self.add_scope(scope)?;
+        }
+        Ok(())
+    }
+
+    pub(crate) fn add_extra_param(
+        &mut self,
+        name: ParamText<'_>,
+        value: ParamText<'_>,
+    ) -> Result<(), AllocError>
+        ensures { OnOk result (self.new ≡ record self.old {
+          extra_params = self.old.extra_params ++ (param_bytes name.entry, param_bytes value.entry) ∷ [];
+        }) }
+    {
+        self.params.add_extra(name.as_str(), value.as_str())?;
+        Ok(())
+    }
+
+    // The POST to an endpoint, with the request's own pairs and its redirect.
+    pub(crate) fn prepare(
+        &self,
+        alloc: Global,
+        url: &Url,
+        redirect_url: Option<&RedirectUrl>,
+        own_pairs: &[(&str, &str)],
+    ) -> Result<HttpRequest, RequestFault>
+        ensures ok { IfOk result (λ r. IsRequestOf
+            (configuration_of self.now (map pair_text own_pairs.now) (option_copied redirect_url.entry))
+            (serialize url.now) (view_of r)) }
+        ensures not_http { result ≡ Err RequestFault.NotHttp → SpellsNone (serialize url.now) }
+    {
+        endpoint_request_encoded(
+            alloc,
+            self.auth_type,
+            self.client_id,
+            self.client_secret,
+            &self.params,
+            redirect_url,
+            url,
+            own_pairs,
+        )
+    }
+}
