@@ -26,7 +26,6 @@ pub use Rattle.oauth2_replies.specs.Revocable
 pub use Rattle.oauth2_wire.specs.Pairs
 pub use Rattle.oauth2_wire.specs.Basic
 pub use Rattle.oauth2_wire.specs.Texts
-pub use Rattle.oauth2_wire.specs.Written
 pub use Rattle.oauth2_wire.specs.Params
 pub use Rattle.oauth2_wire.specs.Expected
 pub use Rattle.oauth2_wire.specs.Request

@@ -21,10 +21,10 @@ use Rattle.url.proofs.SetLemmas.{passes_from_kept}
 use Rattle.url.proofs.SetterLemmas.{pairs_kept}
 use Rattle.url.proofs.ValidLemmas.{option_unchanged}
 use Rattle.oauth2_wire.specs.Pairs.{Pair}
-use Rattle.oauth2_wire.specs.Written.{IsBytePair}
+use Rattle.oauth2_wire.specs.Pairs.{IsBytePair}
 use Rattle.oauth2_requests.specs.Query.{ExtendsQuery}
 use Rattle.oauth2_requests.specs.private.Form.{ExtendsForm}
-use Rattle.oauth2_requests.proofs.FormLaws.{parse-extend_pairs, prefix_extend_pairs}
+use Rattle.oauth2_wire.proofs.FormLaws.{parse-extend_pairs, prefix_extend_pairs}
 
 -- ---- forms
 

@@ -8,7 +8,7 @@ ghost use Rattle.oauth2_wire.specs.Pairs.{Pair};
 ghost use Rattle.oauth2_requests.specs.Query.{ExtendsQuery};
 ghost use Rattle.oauth2_requests.specs.private.Form.{ExtendsForm};
 
-use oauth2_wire::{append_encoded, append_pair};
+use oauth2_wire::{append_encoded_text, append_pair};
 use percent_encoding::ascii_str;
 use std::alloc::{AllocError, Global};
 use url::{ParseError, Url};
@@ -35,7 +35,7 @@ pub(crate) fn push(form: &mut Vec<u8>, name: &str, value: &str) -> Result<(), Al
     append_separator(form)?;
     form.extend_from_slice(name.as_bytes())?;
     form.push(b'=')?;
-    append_encoded(form, value)?;
+    append_encoded_text(form, value)?;
     Ok(())
 }
 
