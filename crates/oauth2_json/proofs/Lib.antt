@@ -5,5 +5,6 @@ pub mod Lists
 pub mod WholeValue
 pub mod Words
 pub mod Seconds
+pub mod Optionals
 pub mod ErrorMembers
 pub mod Codes

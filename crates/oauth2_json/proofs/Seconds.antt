@@ -15,7 +15,7 @@ whole_seconds_stay (negsuc n) = omega (arith, signed_arith)
 pub second_of-whole : (n : ℤ) → IsWholeSeconds n → second_of n *ℤ pos 1_000_000_000 ≡ n
 second_of-whole n w = ap (λ m. second_of m *ℤ pos 1_000_000_000) w.1 ∙ ap (λ z. z *ℤ pos 1_000_000_000) (whole_seconds_stay w.0) ∙ sym w.1
 
-integer : (z : ℤ) → instant_of (of_integer z) ≡ instant_at z
+pub integer : (z : ℤ) → instant_of (of_integer z) ≡ instant_at z
 integer (pos n) = refl
 integer (negsuc n) = refl
 

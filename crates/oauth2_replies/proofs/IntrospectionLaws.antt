@@ -1,33 +1,46 @@
 -- An introspection response reads back.
-use Rattle.std.proofs.Common.{◌≡◌, ℕ, List, false, Option, Some, None, option_map, Ok, codes, refl}
+use Rattle.std.proofs.Common.{◌≡◌, ℕ, List, false, Option, Some, None, IfSome, option_map, Ok, codes, refl, [], ◌∷◌}
 use Rattle.serde_json.specs.Data.{Data, Members, boolean, string, array, object}
 use Rattle.serde_json.specs.Find.{get_member}
 use Rattle.oauth2_json.specs.Reading.{Reading}
 use Rattle.oauth2_json.specs.Writing.{Writing, write_then}
 use Rattle.oauth2_json.specs.Members.{members_of_object, present, others, clashes, beside, optional_writing}
-use Rattle.oauth2_json.specs.Values.{lowered, text_items, second_data}
+use Rattle.oauth2_json.specs.Values.{lowered, text_items, second_data, IsWholeSeconds}
 use Rattle.oauth2_json.specs.Words.{joined}
 use Rattle.oauth2_json.specs.Puts.{put_all}
 use Rattle.oauth2_json.proofs.Puts.{found, rest}
-use Rattle.oauth2_json.proofs.Objects.{beside_taken, optional-text}
-use Rattle.oauth2_replies.specs.Kept.{AreScopesKept}
-use Rattle.oauth2_replies.specs.Introspection.{Introspection, introspection_seen, own_names, own_rows, introspection_row, introspection_reading, introspection_writing, IsTimeKept, IsSomeTypeKept, IsIntrospectionKept}
-use Rattle.oauth2_replies.specs.IntrospectionRows.{AreRows, of_rows, AreInstants}
-use Rattle.oauth2_replies.specs.declared.introspection_json.Rows.{Rows}
-use Rattle.oauth2_replies.proofs.Optionals.{optional-words, optional-texts, optional-time}
+use Rattle.oauth2_json.proofs.Objects.{get_member-others, beside_taken, optional-text}
+use Rattle.oauth2_json.proofs.Lists.{optional-texts}
+use Rattle.oauth2_json.proofs.Optionals.{optional-words, optional-instant}
+use Rattle.oauth2_replies.specs.Kept.{IsTypeKept, AreScopesKept}
+use Rattle.oauth2_replies.specs.Introspection.{Introspection, introspection_seen, own_names, own_rows, introspection_row, introspection_reading, introspection_writing, IsIntrospectionKept}
+use Rattle.oauth2_replies.specs.private.IntrospectionRows.{in_turn, AreInstants}
 
-pub rows_are : {E T : Type 0} (er : Data → Reading E) (tr : Data → Reading T) (d : Data) (ms : Members) (rows : Rows) → members_of_object d ≡ Ok ms → AreRows ms rows → of_rows er tr rows ≡ introspection_reading er tr d
-rows_are er tr d ms rows h are = rw (h, are.active, are.scope, are.client_id, are.username, are.token_type, are.exp, are.iat, are.nbf, are.sub, are.aud, are.iss, are.jti, are.rest) refl
+pub read_in_turn : {E T : Type 0} (er : Data → Reading E) (tr : Data → Reading T) (d : Data) (ms : Members) → members_of_object d ≡ Ok ms → in_turn er tr ms ≡ introspection_reading er tr d
+read_in_turn er tr d ms h = rw (
+  h,
+  get_member-others (codes "scope") (codes "active" ∷ []) ms refl,
+  get_member-others (codes "client_id") (codes "active" ∷ codes "scope" ∷ []) ms refl,
+  get_member-others (codes "username") (codes "active" ∷ codes "scope" ∷ codes "client_id" ∷ []) ms refl,
+  get_member-others (codes "token_type") (codes "active" ∷ codes "scope" ∷ codes "client_id" ∷ codes "username" ∷ []) ms refl,
+  get_member-others (codes "exp") (codes "active" ∷ codes "scope" ∷ codes "client_id" ∷ codes "username" ∷ codes "token_type" ∷ []) ms refl,
+  get_member-others (codes "iat") (codes "active" ∷ codes "scope" ∷ codes "client_id" ∷ codes "username" ∷ codes "token_type" ∷ codes "exp" ∷ []) ms refl,
+  get_member-others (codes "nbf") (codes "active" ∷ codes "scope" ∷ codes "client_id" ∷ codes "username" ∷ codes "token_type" ∷ codes "exp" ∷ codes "iat" ∷ []) ms refl,
+  get_member-others (codes "sub") (codes "active" ∷ codes "scope" ∷ codes "client_id" ∷ codes "username" ∷ codes "token_type" ∷ codes "exp" ∷ codes "iat" ∷ codes "nbf" ∷ []) ms refl,
+  get_member-others (codes "aud") (codes "active" ∷ codes "scope" ∷ codes "client_id" ∷ codes "username" ∷ codes "token_type" ∷ codes "exp" ∷ codes "iat" ∷ codes "nbf" ∷ codes "sub" ∷ []) ms refl,
+  get_member-others (codes "iss") (codes "active" ∷ codes "scope" ∷ codes "client_id" ∷ codes "username" ∷ codes "token_type" ∷ codes "exp" ∷ codes "iat" ∷ codes "nbf" ∷ codes "sub" ∷ codes "aud" ∷ []) ms refl,
+  get_member-others (codes "jti") (codes "active" ∷ codes "scope" ∷ codes "client_id" ∷ codes "username" ∷ codes "token_type" ∷ codes "exp" ∷ codes "iat" ∷ codes "nbf" ∷ codes "sub" ∷ codes "aud" ∷ codes "iss" ∷ []) ms refl,
+) refl
 
 -- a token type that may be absent, written and read
-type_back : {T M : Type 0} (tr : Data → Reading M) (tm : T → M) (tw : T → Writing) (name : List ℕ) (o : Option T) → IsSomeTypeKept tr tm tw o
+type_back : {T M : Type 0} (tr : Data → Reading M) (tm : T → M) (tw : T → Writing) (name : List ℕ) (o : Option T) → IfSome o (IsTypeKept tr tm tw)
     → (v : Option Data) × (optional_writing tw o ≡ Ok v) × (present (lowered tr) name v ≡ Ok (option_map tm o))
 type_back tr tm tw name None k = (None, refl, refl)
 type_back tr tm tw name (Some t) k = (Some (string k.type_text), (rw k.written refl), rw (k.lowered, k.back) refl)
 
 -- what was put beside the extra members is found again
 pub introspection_again : {E T : Type 0} (er : Data → Reading E) (tr : Data → Reading T) (tv : Option Data) (r : Introspection E T) (ms : Members)
-    → clashes own_names ms ≡ false → present (lowered tr) (codes "token_type") tv ≡ Ok r.token_type → AreScopesKept r.scopes → AreInstants r → IsTimeKept r.exp → IsTimeKept r.iat → IsTimeKept r.nbf → er (object ms) ≡ Ok r.extra_fields
+    → clashes own_names ms ≡ false → present (lowered tr) (codes "token_type") tv ≡ Ok r.token_type → AreScopesKept r.scopes → AreInstants r → IfSome r.exp IsWholeSeconds → IfSome r.iat IsWholeSeconds → IfSome r.nbf IsWholeSeconds → er (object ms) ≡ Ok r.extra_fields
     → introspection_row er tr (put_all (own_rows tv r) ms) ≡ Ok r
 introspection_again er tr tv r ms free type_kept scopes in_range exp iat nbf again =
     let rs = own_rows tv r in
@@ -62,9 +75,9 @@ introspection_again er tr tv r ms free type_kept scopes in_range exp iat nbf aga
       optional-words (codes "scope") r.scopes scopes,
       optional-text (codes "client_id") r.client_id,
       optional-text (codes "username") r.username,
-      optional-time (codes "exp") r.exp in_range.exp exp,
-      optional-time (codes "iat") r.iat in_range.iat iat,
-      optional-time (codes "nbf") r.nbf in_range.nbf nbf,
+      optional-instant (codes "exp") r.exp in_range.exp exp,
+      optional-instant (codes "iat") r.iat in_range.iat iat,
+      optional-instant (codes "nbf") r.nbf in_range.nbf nbf,
       optional-text (codes "sub") r.sub,
       optional-texts (codes "aud") r.aud,
       optional-text (codes "iss") r.iss,

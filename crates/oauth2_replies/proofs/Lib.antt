@@ -1,4 +1,3 @@
-pub mod Optionals
 pub mod TokenLaws
 pub mod IntrospectionLaws
 pub mod DeviceLaws

@@ -1,11 +1,11 @@
 -- RFC 7662, 2.2: the members of an introspection response.
-use Rattle.std.specs.Prelude.{◌≡◌, ℕ, ℤ, pos, ◌*ℤ◌, List, [], ◌∷◌, Bool, Option, Some, None, Ok, codes, option_map}
+use Rattle.std.specs.Prelude.{ℕ, ℤ, List, [], ◌∷◌, Bool, Option, Some, IfSome, Ok, codes, option_map}
 use Rattle.serde_json.specs.Data.{Data, Members, boolean, string, array, object}
 use Rattle.serde_json.specs.Find.{get_member}
 use Rattle.oauth2_json.specs.Reading.{Reading, read_then, ◌⊛◌}
 use Rattle.oauth2_json.specs.Writing.{Writing, write_then}
 use Rattle.oauth2_json.specs.Members.{members_of_object, needed, optional, present, others, beside, optional_writing}
-use Rattle.oauth2_json.specs.Values.{text, flag, instant, lowered, spaced, texts, text_items, second_of, second_data}
+use Rattle.oauth2_json.specs.Values.{text, flag, instant, lowered, spaced, texts, text_items, second_data, IsWholeSeconds}
 use Rattle.oauth2_json.specs.Words.{joined}
 use Rattle.oauth2_json.specs.Puts.{Row, put_all}
 use Rattle.oauth2_replies.specs.Kept.{IsTypeKept, AreFieldsKept, AreScopesKept}
@@ -118,20 +118,11 @@ introspection_writing extra_fields token_type r =
     write_then (beside own_names x) (λ ms.
     Ok (object (put_all (own_rows t r) ms)))))
 
--- no time at all, or whole seconds
-abbrev pub IsTimeKept : Option ℤ → Type 0
-IsTimeKept None = Unit {0}
-IsTimeKept (Some n) = second_of n *ℤ pos 1_000_000_000 ≡ n
-
-abbrev pub IsSomeTypeKept : {T M : Type 0} → (Data → Reading M) → (T → M) → (T → Writing) → Option T → Type 0
-IsSomeTypeKept reading meaning writing None = Unit {0}
-IsSomeTypeKept reading meaning writing (Some t) = IsTypeKept reading meaning writing t
-
--- what reads back as itself once it is written
+-- what reads back as itself once it is written: no time is told but in whole seconds
 pub record IsIntrospectionKept {E T F M : Type 0} (er : Data → Reading F) (em : E → F) (ew : E → Writing) (tr : Data → Reading M) (tm : T → M) (tw : T → Writing) (r : Introspection E T) : Type 0 where
-  pub token_type : IsSomeTypeKept tr tm tw r.token_type
+  pub token_type : IfSome r.token_type (IsTypeKept tr tm tw)
   pub scopes : AreScopesKept r.scopes
-  pub exp : IsTimeKept r.exp
-  pub iat : IsTimeKept r.iat
-  pub nbf : IsTimeKept r.nbf
+  pub exp : IfSome r.exp IsWholeSeconds
+  pub iat : IfSome r.iat IsWholeSeconds
+  pub nbf : IfSome r.nbf IsWholeSeconds
   pub extra_fields : AreFieldsKept er em ew r.extra_fields

@@ -1,5 +1,5 @@
 -- What reads back as itself once it is written.
-use Rattle.std.specs.Prelude.{◌≡◌, ℕ, List, map, true, Option, Some, None, Ok}
+use Rattle.std.specs.Prelude.{◌≡◌, ℕ, List, map, true, Option, IfSome, Ok}
 use Rattle.std.specs.Char.{to_ascii_lowercase}
 use Rattle.serde_json.specs.Data.{Data, Members, string, object}
 use Rattle.oauth2_json.specs.Reading.{Reading, read_then}
@@ -22,8 +22,7 @@ pub record AreFieldsKept {E F : Type 0} (reading : Data → Reading F) (meaning 
 
 -- no scopes at all, or at least one and no space in any
 abbrev pub AreScopesKept : Option (List (List ℕ)) → Type 0
-AreScopesKept None = Unit {0}
-AreScopesKept (Some scopes) = are_words scopes ≡ true
+AreScopesKept scopes = IfSome scopes (λ list. are_words list ≡ true)
 
 -- any object, of which nothing is kept
 abbrev pub any_object : Data → Reading (Unit {0})

@@ -1,9 +1,7 @@
 pub mod Kept
 pub mod Token
-pub mod TokenRows
 pub mod Introspection
-pub mod IntrospectionRows
 pub mod Device
-pub mod DeviceRows
 pub mod Revocable
+pub mod private
 pub mod Colorful

@@ -11,7 +11,7 @@ use serde_json::Value;
 use std::alloc::{AllocError, Global};
 
 /// The value of scopes that may be absent.
-#[tactic(auto, using(crate::proofs::Optionals::words_alone))]
+#[tactic(auto, using(oauth2_json::proofs::Optionals::words_alone))]
 pub(crate) fn scopes_value(
     alloc: Global,
     scopes: &Option<Vec<Scope>>,
