@@ -36,13 +36,13 @@ impl<EF: ExtraDeviceAuthorizationFields + Drop> FromJson for DeviceAuthorization
 }
 
 /// The URL where the user types in the code, under either of its names.
-#[tactic(auto, unfolding(crate::specs::Device::address_reading))]
 fn verification_uri(
     alloc: Global,
     found: Option<Value>,
     other: Option<Value>,
 ) -> Result<EndUserVerificationUrl, ReadError>
-    ensures read { ReadsAs (λ uri. uri) result (address_reading (option_map view found) (option_map view other)) }
+    ensures read { ReadsAs (λ uri. uri) result
+        (address_reading (option_map view found) (option_map view other)) }
     ensures address { IfOk result IsAddress }
 {
     members::either_name(alloc, "verification_uri", found, other)

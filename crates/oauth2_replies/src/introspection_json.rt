@@ -40,7 +40,8 @@ fn from_members<EF: ExtraTokenFields + Drop, TT: TokenType + Drop>(
     alloc: Global,
     mut members: Map<String, Value>,
 ) -> Result<StandardTokenIntrospectionResponse<EF, TT>, ReadError>
-    ensures { ReadsAs (introspection_seen EF.meaning TT.meaning) result (in_turn EF.reading TT.reading (members_view members.entries)) }
+    ensures { ReadsAs (introspection_seen EF.meaning TT.meaning) result
+        (in_turn EF.reading TT.reading (members_view members.entries)) }
 {
     Ok(StandardTokenIntrospectionResponse {
         active: members::needed_flag(alloc, "active", members::take(&mut members, "active"))?,

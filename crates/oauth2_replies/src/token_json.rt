@@ -34,7 +34,8 @@ fn from_members<EF: ExtraTokenFields + Drop, TT: TokenType + Drop>(
     alloc: Global,
     mut members: Map<String, Value>,
 ) -> Result<StandardTokenResponse<EF, TT>, ReadError>
-    ensures { ReadsAs (token_seen EF.meaning TT.meaning) result (in_turn EF.reading TT.reading (members_view members.entries)) }
+    ensures { ReadsAs (token_seen EF.meaning TT.meaning) result
+        (in_turn EF.reading TT.reading (members_view members.entries)) }
 {
     Ok(StandardTokenResponse {
         access_token: members::needed(
