@@ -1,27 +1,34 @@
 -- A device authorization response reads back.
-use Rattle.std.proofs.Common.{◌≡◌, ℕ, List, false, Option, Some, None, option_map, Ok, Err, codes, refl, sym, subst}
+use Rattle.std.proofs.Common.{◌≡◌, ℕ, List, false, Option, Some, None, option_map, Result, Ok, Err, IfOk, codes, refl, sym, subst, [], ◌∷◌}
 use Rattle.serde_json.specs.Data.{Data, Members, null, boolean, number, unsigned, string, array, object}
 use Rattle.serde_json.specs.Find.{get_member}
 use Rattle.url.specs.Parser.{Parsed, parse_url}
 use Rattle.url.specs.Parts.{Parts}
 use Rattle.oauth2_urls.specs.Addressed.{Addressed}
-use Rattle.oauth2_json.specs.Reading.{Reading, whole, at_member, ErrsAs}
+use Rattle.oauth2_json.specs.Reading.{Reading, whole, at_member, ReadsAs}
 use Rattle.oauth2_json.specs.declared.read.ReadError.{ReadError}
-use Rattle.oauth2_json.specs.declared.read.ReadError.TheVariants as errors
 use Rattle.oauth2_json.specs.declared.read.ParseCause.TheVariants as cause
 use Rattle.oauth2_json.specs.Writing.{Writing, write_then}
 use Rattle.oauth2_json.specs.Members.{members_of_object, needed, either_name, others, clashes, beside}
 use Rattle.oauth2_json.specs.Values.{text, url}
 use Rattle.oauth2_json.specs.Puts.{put_all}
 use Rattle.oauth2_json.proofs.Puts.{found, rest}
-use Rattle.oauth2_json.proofs.Objects.{beside_taken, optional-text}
+use Rattle.oauth2_json.proofs.Objects.{get_member-others, beside_taken, optional-text}
 use Rattle.oauth2_replies.specs.Kept.{AreFieldsKept}
-use Rattle.oauth2_replies.specs.Device.{DeviceAuthorization, device_seen, own_names, own_rows, device_rows, device_row, device_reading, device_writing, IsAddress}
-use Rattle.oauth2_replies.specs.private.DeviceRows.{AreRows, of_rows}
-use Rattle.oauth2_replies.specs.declared.device_json.Rows.{Rows}
+use Rattle.oauth2_replies.specs.Device.{DeviceAuthorization, device_seen, own_names, own_rows, address_reading, device_row, device_reading, device_writing}
+use Rattle.oauth2_replies.specs.private.Address.{IsAddress}
+use Rattle.oauth2_replies.specs.private.DeviceRows.{in_turn}
 
-pub rows_are : {E : Type 0} (er : Data → Reading E) (d : Data) (ms : Members) (rows : Rows) → members_of_object d ≡ Ok ms → AreRows ms rows → of_rows er rows ≡ device_reading er d
-rows_are er d ms rows h are = rw (h, are.device_code, are.user_code, are.verification_uri, are.verification_url, are.verification_uri_complete, are.expires_in, are.interval, are.rest) refl
+pub read_in_turn : {E : Type 0} (er : Data → Reading E) (d : Data) (ms : Members) → members_of_object d ≡ Ok ms → in_turn er ms ≡ device_reading er d
+read_in_turn er d ms h = rw (
+  h,
+  get_member-others (codes "user_code") (codes "device_code" ∷ []) ms refl,
+  get_member-others (codes "verification_uri") (codes "device_code" ∷ codes "user_code" ∷ []) ms refl,
+  get_member-others (codes "verification_url") (codes "device_code" ∷ codes "user_code" ∷ codes "verification_uri" ∷ []) ms refl,
+  get_member-others (codes "verification_uri_complete") (codes "device_code" ∷ codes "user_code" ∷ codes "verification_uri" ∷ codes "verification_url" ∷ []) ms refl,
+  get_member-others (codes "expires_in") (codes "device_code" ∷ codes "user_code" ∷ codes "verification_uri" ∷ codes "verification_url" ∷ codes "verification_uri_complete" ∷ []) ms refl,
+  get_member-others (codes "interval") (codes "device_code" ∷ codes "user_code" ∷ codes "verification_uri" ∷ codes "verification_url" ∷ codes "verification_uri_complete" ∷ codes "expires_in" ∷ []) ms refl,
+) refl
 
 -- ---- the URL
 
@@ -46,15 +53,19 @@ address_needed name (Some (array ds)) a h = cc
 address_needed name (Some (object ms)) a h = cc
 
 -- a URL that was read is that of its text
-pub address_read : (name : List ℕ) (v o : Option Data) (a : Addressed) → either_name url name v o ≡ Ok a → IsAddress a
+address_read : (name : List ℕ) (v o : Option Data) (a : Addressed) → either_name url name v o ≡ Ok a → IsAddress a
 address_read name None o a h = address_needed name o a h
 address_read name (Some d) None a h = address_needed name (Some d) a h
 address_read name (Some d) (Some e) a h = cc
 
+pub addresses : (v o : Option Data) (r : Result Addressed ReadError) → ReadsAs (λ a. a) r (either_name url (codes "verification_uri") v o) → IfOk r IsAddress
+addresses v o (Ok a) h = address_read (codes "verification_uri") v o a h
+addresses v o (Err e) h = tt
+
 -- and it is read again from the text
-address_back : (name : List ℕ) (a : Addressed) → IsAddress a → either_name url name (Some (string a.text)) None ≡ Ok a
-unfolding IsAddress
-address_back name a h = subst (λ p. text_and_url name a.text p ≡ Ok a) (sym h) refl
+address_back : (a : Addressed) → IsAddress a → address_reading (Some (string a.text)) None ≡ Ok a
+unfolding IsAddress address_reading
+address_back a h = subst (λ p. text_and_url (codes "verification_uri") a.text p ≡ Ok a) (sym h) refl
 
 -- ---- the whole response
 
@@ -81,7 +92,7 @@ device_again er r ms free address again =
       in_expires_in,
       in_interval,
       in_rest,
-      address_back (codes "verification_uri") r.verification_uri address,
+      address_back r.verification_uri address,
       optional-text (codes "verification_uri_complete") r.verification_uri_complete,
       again,
     ) refl

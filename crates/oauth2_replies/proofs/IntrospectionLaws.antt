@@ -1,5 +1,5 @@
 -- An introspection response reads back.
-use Rattle.std.proofs.Common.{◌≡◌, ℕ, List, false, Option, Some, None, IfSome, option_map, Ok, codes, refl}
+use Rattle.std.proofs.Common.{◌≡◌, ℕ, List, false, Option, Some, None, IfSome, option_map, Ok, codes, refl, [], ◌∷◌}
 use Rattle.serde_json.specs.Data.{Data, Members, boolean, string, array, object}
 use Rattle.serde_json.specs.Find.{get_member}
 use Rattle.oauth2_json.specs.Reading.{Reading}
@@ -9,16 +9,28 @@ use Rattle.oauth2_json.specs.Values.{lowered, text_items, second_data, IsWholeSe
 use Rattle.oauth2_json.specs.Words.{joined}
 use Rattle.oauth2_json.specs.Puts.{put_all}
 use Rattle.oauth2_json.proofs.Puts.{found, rest}
-use Rattle.oauth2_json.proofs.Objects.{beside_taken, optional-text}
+use Rattle.oauth2_json.proofs.Objects.{get_member-others, beside_taken, optional-text}
 use Rattle.oauth2_json.proofs.Lists.{optional-texts}
 use Rattle.oauth2_json.proofs.Optionals.{optional-words, optional-instant}
 use Rattle.oauth2_replies.specs.Kept.{IsTypeKept, AreScopesKept}
 use Rattle.oauth2_replies.specs.Introspection.{Introspection, introspection_seen, own_names, own_rows, introspection_row, introspection_reading, introspection_writing, IsIntrospectionKept}
-use Rattle.oauth2_replies.specs.private.IntrospectionRows.{AreRows, of_rows, AreInstants}
-use Rattle.oauth2_replies.specs.declared.introspection_json.Rows.{Rows}
+use Rattle.oauth2_replies.specs.private.IntrospectionRows.{in_turn, AreInstants}
 
-pub rows_are : {E T : Type 0} (er : Data → Reading E) (tr : Data → Reading T) (d : Data) (ms : Members) (rows : Rows) → members_of_object d ≡ Ok ms → AreRows ms rows → of_rows er tr rows ≡ introspection_reading er tr d
-rows_are er tr d ms rows h are = rw (h, are.active, are.scope, are.client_id, are.username, are.token_type, are.exp, are.iat, are.nbf, are.sub, are.aud, are.iss, are.jti, are.rest) refl
+pub read_in_turn : {E T : Type 0} (er : Data → Reading E) (tr : Data → Reading T) (d : Data) (ms : Members) → members_of_object d ≡ Ok ms → in_turn er tr ms ≡ introspection_reading er tr d
+read_in_turn er tr d ms h = rw (
+  h,
+  get_member-others (codes "scope") (codes "active" ∷ []) ms refl,
+  get_member-others (codes "client_id") (codes "active" ∷ codes "scope" ∷ []) ms refl,
+  get_member-others (codes "username") (codes "active" ∷ codes "scope" ∷ codes "client_id" ∷ []) ms refl,
+  get_member-others (codes "token_type") (codes "active" ∷ codes "scope" ∷ codes "client_id" ∷ codes "username" ∷ []) ms refl,
+  get_member-others (codes "exp") (codes "active" ∷ codes "scope" ∷ codes "client_id" ∷ codes "username" ∷ codes "token_type" ∷ []) ms refl,
+  get_member-others (codes "iat") (codes "active" ∷ codes "scope" ∷ codes "client_id" ∷ codes "username" ∷ codes "token_type" ∷ codes "exp" ∷ []) ms refl,
+  get_member-others (codes "nbf") (codes "active" ∷ codes "scope" ∷ codes "client_id" ∷ codes "username" ∷ codes "token_type" ∷ codes "exp" ∷ codes "iat" ∷ []) ms refl,
+  get_member-others (codes "sub") (codes "active" ∷ codes "scope" ∷ codes "client_id" ∷ codes "username" ∷ codes "token_type" ∷ codes "exp" ∷ codes "iat" ∷ codes "nbf" ∷ []) ms refl,
+  get_member-others (codes "aud") (codes "active" ∷ codes "scope" ∷ codes "client_id" ∷ codes "username" ∷ codes "token_type" ∷ codes "exp" ∷ codes "iat" ∷ codes "nbf" ∷ codes "sub" ∷ []) ms refl,
+  get_member-others (codes "iss") (codes "active" ∷ codes "scope" ∷ codes "client_id" ∷ codes "username" ∷ codes "token_type" ∷ codes "exp" ∷ codes "iat" ∷ codes "nbf" ∷ codes "sub" ∷ codes "aud" ∷ []) ms refl,
+  get_member-others (codes "jti") (codes "active" ∷ codes "scope" ∷ codes "client_id" ∷ codes "username" ∷ codes "token_type" ∷ codes "exp" ∷ codes "iat" ∷ codes "nbf" ∷ codes "sub" ∷ codes "aud" ∷ codes "iss" ∷ []) ms refl,
+) refl
 
 -- a token type that may be absent, written and read
 type_back : {T M : Type 0} (tr : Data → Reading M) (tm : T → M) (tw : T → Writing) (name : List ℕ) (o : Option T) → IfSome o (IsTypeKept tr tm tw)

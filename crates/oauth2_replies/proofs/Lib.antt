@@ -1,3 +1,4 @@
 pub mod TokenLaws
 pub mod IntrospectionLaws
 pub mod DeviceLaws
+pub mod ExtraLaws

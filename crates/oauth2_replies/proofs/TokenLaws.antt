@@ -1,5 +1,5 @@
 -- A token response reads back.
-use Rattle.std.proofs.Common.{◌≡◌, ℕ, List, map, Some, option_map, Ok, codes, false, refl}
+use Rattle.std.proofs.Common.{◌≡◌, ℕ, List, map, Some, option_map, Ok, codes, false, refl, [], ◌∷◌}
 use Rattle.std.specs.Char.{to_ascii_lowercase}
 use Rattle.serde_json.specs.Data.{Data, Members, number, unsigned, string, object}
 use Rattle.serde_json.specs.Find.{get_member}
@@ -9,15 +9,20 @@ use Rattle.oauth2_json.specs.Members.{members_of_object, others, clashes, beside
 use Rattle.oauth2_json.specs.Words.{joined}
 use Rattle.oauth2_json.specs.Puts.{put_all}
 use Rattle.oauth2_json.proofs.Puts.{found, rest}
-use Rattle.oauth2_json.proofs.Objects.{beside_taken, optional-text, optional-number}
+use Rattle.oauth2_json.proofs.Objects.{get_member-others, beside_taken, optional-text, optional-number}
 use Rattle.oauth2_json.proofs.Optionals.{optional-words}
 use Rattle.oauth2_replies.specs.Kept.{AreScopesKept}
 use Rattle.oauth2_replies.specs.Token.{Token, token_seen, own_names, own_rows, token_row, token_reading, token_writing, IsTokenKept}
-use Rattle.oauth2_replies.specs.private.TokenRows.{AreRows, of_rows}
-use Rattle.oauth2_replies.specs.declared.token_json.Rows.{Rows}
+use Rattle.oauth2_replies.specs.private.TokenRows.{in_turn}
 
-pub rows_are : {E T : Type 0} (er : Data → Reading E) (tr : Data → Reading T) (d : Data) (ms : Members) (rows : Rows) → members_of_object d ≡ Ok ms → AreRows ms rows → of_rows er tr rows ≡ token_reading er tr d
-rows_are er tr d ms rows h are = rw (h, are.access_token, are.token_type, are.expires_in, are.refresh_token, are.scope, are.rest) refl
+pub read_in_turn : {E T : Type 0} (er : Data → Reading E) (tr : Data → Reading T) (d : Data) (ms : Members) → members_of_object d ≡ Ok ms → in_turn er tr ms ≡ token_reading er tr d
+read_in_turn er tr d ms h = rw (
+  h,
+  get_member-others (codes "token_type") (codes "access_token" ∷ []) ms refl,
+  get_member-others (codes "expires_in") (codes "access_token" ∷ codes "token_type" ∷ []) ms refl,
+  get_member-others (codes "refresh_token") (codes "access_token" ∷ codes "token_type" ∷ codes "expires_in" ∷ []) ms refl,
+  get_member-others (codes "scope") (codes "access_token" ∷ codes "token_type" ∷ codes "expires_in" ∷ codes "refresh_token" ∷ []) ms refl,
+) refl
 
 -- what was put beside the extra members is found again
 pub token_again : {E T : Type 0} (er : Data → Reading E) (tr : Data → Reading T) (tv : List ℕ) (r : Token E T) (ms : Members)

@@ -1,8 +1,7 @@
 -- RFC 8628, 3.2: the members of a device authorization response.
-use Rattle.std.specs.Prelude.{◌≡◌, ℕ, List, [], ◌∷◌, Option, Some, None, Ok, codes, option_map}
+use Rattle.std.specs.Prelude.{ℕ, List, [], ◌∷◌, Option, Some, None, Ok, codes, option_map}
 use Rattle.serde_json.specs.Data.{Data, Members, number, unsigned, string, object}
 use Rattle.serde_json.specs.Find.{get_member}
-use Rattle.url.specs.Parser.{parse_url}
 use Rattle.oauth2_urls.specs.Addressed.{Addressed}
 use Rattle.oauth2_json.specs.Reading.{Reading, read_then, ◌⊛◌}
 use Rattle.oauth2_json.specs.Writing.{Writing, write_then}
@@ -27,10 +26,6 @@ device_authorization d u v c e i x = record { device_code = d; user_code = u; ve
 abbrev pub device_seen : {E F : Type 0} → (E → F) → DeviceAuthorization E → DeviceAuthorization F
 device_seen f r = device_authorization r.device_code r.user_code r.verification_uri r.verification_uri_complete r.expires_in r.interval (f r.extra_fields)
 
--- the text is the URL's
-unfoldable pub IsAddress : Addressed → Type 0
-IsAddress a = parse_url None a.text ≡ Ok a.url
-
 abbrev pub own_names : List (List ℕ)
 own_names =
     codes "device_code"
@@ -42,15 +37,19 @@ own_names =
     ∷ codes "interval"
     ∷ []
 
--- the table, over what stands under each name and the object of the other members; the URL may stand
--- under another name, and the interval is 5 seconds where none is told
+-- where the user types in the code: the URL may stand under another name
+unfoldable pub address_reading : Option Data → Option Data → Reading Addressed
+address_reading v o = either_name url (codes "verification_uri") v o
+
+-- the table, over what stands under each name and the object of the other members; the interval is 5
+-- seconds where none is told
 abbrev pub device_rows : {E : Type 0} → (Data → Reading E)
     → Option Data → Option Data → Option Data → Option Data → Option Data → Option Data → Option Data → Members → Reading (DeviceAuthorization E)
 device_rows extra_fields d u v o c e i rest =
     Ok device_authorization
     ⊛ needed text (codes "device_code") d
     ⊛ needed text (codes "user_code") u
-    ⊛ either_name url (codes "verification_uri") v o
+    ⊛ address_reading v o
     ⊛ optional text (codes "verification_uri_complete") c
     ⊛ needed whole_number (codes "expires_in") e
     ⊛ defaulted whole_number (codes "interval") 5 i

@@ -1,7 +1,8 @@
 -- What reads back as itself once it is written.
-use Rattle.std.specs.Prelude.{◌≡◌, ℕ, List, map, true, Option, IfSome, Ok}
+use Rattle.std.specs.Prelude.{◌≡◌, ℕ, List, map, Bool, true, Option, IfSome, is_some, Ok}
 use Rattle.std.specs.Char.{to_ascii_lowercase}
-use Rattle.serde_json.specs.Data.{Data, Members, string, object}
+use Rattle.serde_json.specs.Data.{Data, Members, no_members, null, boolean, number, string, array, object}
+use Rattle.serde_json.specs.Find.{as_object}
 use Rattle.oauth2_json.specs.Reading.{Reading, read_then}
 use Rattle.oauth2_json.specs.Members.{members_of_object}
 use Rattle.oauth2_json.specs.Writing.{Writing}
@@ -27,3 +28,15 @@ AreScopesKept scopes = IfSome scopes (λ list. are_words list ≡ true)
 -- any object, of which nothing is kept
 abbrev pub any_object : Data → Reading (Unit {0})
 any_object d = read_then (members_of_object d) (λ ms. Ok tt)
+
+abbrev pub is_object : Data → Bool
+is_object d = is_some (as_object d)
+
+-- the members of an object
+abbrev pub members_in : Data → Members
+members_in null = no_members
+members_in (boolean b) = no_members
+members_in (number n) = no_members
+members_in (string s) = no_members
+members_in (array ds) = no_members
+members_in (object ms) = ms

@@ -3,5 +3,6 @@ pub mod Token
 pub mod Introspection
 pub mod Device
 pub mod Revocable
+pub mod Extra
 pub mod private
 pub mod Colorful

@@ -1,3 +1,4 @@
 pub mod TokenRows
 pub mod IntrospectionRows
 pub mod DeviceRows
+pub mod Address

@@ -42,7 +42,8 @@ pub struct DeviceAuthorizationResponse<EF> {
 }
 
 impl<EF> Model for DeviceAuthorizationResponse<EF> {
-    ghost use Rattle.oauth2_replies.specs.Device.{DeviceAuthorization, device_authorization, IsAddress};
+    ghost use Rattle.oauth2_replies.specs.Device.{DeviceAuthorization, device_authorization};
+    ghost use Rattle.oauth2_replies.specs.private.Address.{IsAddress};
 
     ghost Value = { DeviceAuthorization EF };
 

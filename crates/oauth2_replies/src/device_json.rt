@@ -1,16 +1,15 @@
 //! Device authorization responses as JSON objects.
 
-ghost use Rattle.std.specs.Prelude.{◌≡◌, Ok, IfOk, codes, option_map};
+ghost use Rattle.std.specs.Prelude.{◌≡◌, Ok, IfOk, option_map};
 ghost use Rattle.serde_json.specs.Data.{string};
 ghost use Rattle.serde_json.specs.View.{view, members_view};
 ghost use Rattle.oauth2_json.specs.Reading.{ReadsAs};
-ghost use Rattle.oauth2_json.specs.Members.{either_name};
-ghost use Rattle.oauth2_json.specs.Values.{url};
 ghost use Rattle.oauth2_json.specs.Writing.{WritesAs};
 ghost use Rattle.oauth2_json.specs.Puts.{put_all};
 ghost use Rattle.oauth2_replies.specs.Kept.{AreFieldsKept};
-ghost use Rattle.oauth2_replies.specs.Device.{DeviceAuthorization, device_seen, device_reading, device_writing, own_rows, IsAddress};
-ghost use Rattle.oauth2_replies.specs.private.DeviceRows.{AreRows, of_rows};
+ghost use Rattle.oauth2_replies.specs.Device.{DeviceAuthorization, device_seen, device_reading, device_writing, own_rows, address_reading};
+ghost use Rattle.oauth2_replies.specs.private.Address.{IsAddress};
+ghost use Rattle.oauth2_replies.specs.private.DeviceRows.{in_turn};
 
 use crate::device::{DeviceAuthorizationResponse, ExtraDeviceAuthorizationFields};
 use oauth2_json::{FromJson, ReadError, ToJson, WriteError, members};
@@ -32,78 +31,59 @@ impl<EF: ExtraDeviceAuthorizationFields + Drop> FromJson for DeviceAuthorization
         value: Value,
     ) -> Result<DeviceAuthorizationResponse<EF>, ReadError> {
         let members = members::of_object(alloc, value)?;
-        let rows = taken(members);
-        from_rows(alloc, rows)
-    }
-}
-
-/// What stands under each own name, and the other members.
-#[derive(Drop)]
-struct Rows {
-    device_code: Option<Value>,
-    user_code: Option<Value>,
-    verification_uri: Option<Value>,
-    verification_url: Option<Value>,
-    verification_uri_complete: Option<Value>,
-    expires_in: Option<Value>,
-    interval: Option<Value>,
-    rest: Map<String, Value>,
-}
-
-fn taken(mut members: Map<String, Value>) -> Rows
-    ensures { AreRows (members_view members.entries) result }
-{
-    let device_code = members::take(&mut members, "device_code");
-    let user_code = members::take(&mut members, "user_code");
-    let verification_uri = members::take(&mut members, "verification_uri");
-    let verification_url = members::take(&mut members, "verification_url");
-    let verification_uri_complete = members::take(&mut members, "verification_uri_complete");
-    let expires_in = members::take(&mut members, "expires_in");
-    let interval = members::take(&mut members, "interval");
-    Rows {
-        device_code,
-        user_code,
-        verification_uri,
-        verification_url,
-        verification_uri_complete,
-        expires_in,
-        interval,
-        rest: members,
+        from_members(alloc, members)
     }
 }
 
 /// The URL where the user types in the code, under either of its names.
-#[tactic(auto, using(crate::proofs::DeviceLaws::address_read))]
 fn verification_uri(
     alloc: Global,
     found: Option<Value>,
     other: Option<Value>,
 ) -> Result<EndUserVerificationUrl, ReadError>
     ensures read { ReadsAs (λ uri. uri) result
-        (either_name url (codes "verification_uri") (option_map view found) (option_map view other)) }
+        (address_reading (option_map view found) (option_map view other)) }
     ensures address { IfOk result IsAddress }
 {
     members::either_name(alloc, "verification_uri", found, other)
 }
 
-fn from_rows<EF: ExtraDeviceAuthorizationFields + Drop>(
+/// Each own member, taken out in turn, and what is left of the others.
+fn from_members<EF: ExtraDeviceAuthorizationFields + Drop>(
     alloc: Global,
-    rows: Rows,
+    mut members: Map<String, Value>,
 ) -> Result<DeviceAuthorizationResponse<EF>, ReadError>
-    ensures { ReadsAs (device_seen EF.meaning) result (of_rows EF.reading rows) }
+    ensures { ReadsAs (device_seen EF.meaning) result (in_turn EF.reading (members_view members.entries)) }
 {
     Ok(DeviceAuthorizationResponse {
-        device_code: members::needed(alloc, "device_code", rows.device_code)?,
-        user_code: members::needed(alloc, "user_code", rows.user_code)?,
-        verification_uri: verification_uri(alloc, rows.verification_uri, rows.verification_url)?,
+        device_code: members::needed(
+            alloc,
+            "device_code",
+            members::take(&mut members, "device_code"),
+        )?,
+        user_code: members::needed(alloc, "user_code", members::take(&mut members, "user_code"))?,
+        verification_uri: verification_uri(
+            alloc,
+            members::take(&mut members, "verification_uri"),
+            members::take(&mut members, "verification_url"),
+        )?,
         verification_uri_complete: members::optional(
             alloc,
             "verification_uri_complete",
-            rows.verification_uri_complete,
+            members::take(&mut members, "verification_uri_complete"),
         )?,
-        expires_in: members::needed_number(alloc, "expires_in", rows.expires_in)?,
-        interval: members::number_or(alloc, "interval", 5, rows.interval)?,
-        extra_fields: EF::from_json(alloc, Value::Object(rows.rest))?,
+        expires_in: members::needed_number(
+            alloc,
+            "expires_in",
+            members::take(&mut members, "expires_in"),
+        )?,
+        interval: members::number_or(
+            alloc,
+            "interval",
+            5,
+            members::take(&mut members, "interval"),
+        )?,
+        extra_fields: EF::from_json(alloc, Value::Object(members))?,
     })
 }
 

@@ -7,7 +7,7 @@ ghost use Rattle.oauth2_json.specs.Reading.{ReadsAs};
 ghost use Rattle.oauth2_json.specs.Writing.{WritesAs};
 ghost use Rattle.oauth2_json.specs.Puts.{put_all};
 ghost use Rattle.oauth2_replies.specs.Introspection.{Introspection, introspection_seen, introspection_reading, introspection_writing, own_rows, IsIntrospectionKept};
-ghost use Rattle.oauth2_replies.specs.private.IntrospectionRows.{AreRows, of_rows, AreInstants};
+ghost use Rattle.oauth2_replies.specs.private.IntrospectionRows.{in_turn, AreInstants};
 
 use crate::introspection::StandardTokenIntrospectionResponse;
 use crate::scopes;
@@ -31,81 +31,36 @@ impl<EF: ExtraTokenFields + Drop, TT: TokenType + Drop> FromJson
         value: Value,
     ) -> Result<StandardTokenIntrospectionResponse<EF, TT>, ReadError> {
         let members = members::of_object(alloc, value)?;
-        let rows = taken(members);
-        from_rows(alloc, rows)
+        from_members(alloc, members)
     }
 }
 
-/// What stands under each own name, and the other members.
-#[derive(Drop)]
-struct Rows {
-    active: Option<Value>,
-    scope: Option<Value>,
-    client_id: Option<Value>,
-    username: Option<Value>,
-    token_type: Option<Value>,
-    exp: Option<Value>,
-    iat: Option<Value>,
-    nbf: Option<Value>,
-    sub: Option<Value>,
-    aud: Option<Value>,
-    iss: Option<Value>,
-    jti: Option<Value>,
-    rest: Map<String, Value>,
-}
-
-fn taken(mut members: Map<String, Value>) -> Rows
-    ensures { AreRows (members_view members.entries) result }
-{
-    let active = members::take(&mut members, "active");
-    let scope = members::take(&mut members, "scope");
-    let client_id = members::take(&mut members, "client_id");
-    let username = members::take(&mut members, "username");
-    let token_type = members::take(&mut members, "token_type");
-    let exp = members::take(&mut members, "exp");
-    let iat = members::take(&mut members, "iat");
-    let nbf = members::take(&mut members, "nbf");
-    let sub = members::take(&mut members, "sub");
-    let aud = members::take(&mut members, "aud");
-    let iss = members::take(&mut members, "iss");
-    let jti = members::take(&mut members, "jti");
-    Rows {
-        active,
-        scope,
-        client_id,
-        username,
-        token_type,
-        exp,
-        iat,
-        nbf,
-        sub,
-        aud,
-        iss,
-        jti,
-        rest: members,
-    }
-}
-
-fn from_rows<EF: ExtraTokenFields + Drop, TT: TokenType + Drop>(
+/// Each own member, taken out in turn, and what is left of the others.
+fn from_members<EF: ExtraTokenFields + Drop, TT: TokenType + Drop>(
     alloc: Global,
-    rows: Rows,
+    mut members: Map<String, Value>,
 ) -> Result<StandardTokenIntrospectionResponse<EF, TT>, ReadError>
-    ensures { ReadsAs (introspection_seen EF.meaning TT.meaning) result (of_rows EF.reading TT.reading rows) }
+    ensures { ReadsAs (introspection_seen EF.meaning TT.meaning) result
+        (in_turn EF.reading TT.reading (members_view members.entries)) }
 {
     Ok(StandardTokenIntrospectionResponse {
-        active: members::needed_flag(alloc, "active", rows.active)?,
-        scopes: members::optional_words(alloc, "scope", rows.scope)?,
-        client_id: members::optional(alloc, "client_id", rows.client_id)?,
-        username: members::optional(alloc, "username", rows.username)?,
-        token_type: members::present_lowered(alloc, "token_type", rows.token_type)?,
-        exp: members::optional_time(alloc, "exp", rows.exp)?,
-        iat: members::optional_time(alloc, "iat", rows.iat)?,
-        nbf: members::optional_time(alloc, "nbf", rows.nbf)?,
-        sub: members::optional(alloc, "sub", rows.sub)?,
-        aud: members::optional_texts(alloc, "aud", rows.aud)?,
-        iss: members::optional(alloc, "iss", rows.iss)?,
-        jti: members::optional(alloc, "jti", rows.jti)?,
-        extra_fields: EF::from_json(alloc, Value::Object(rows.rest))?,
+        active: members::needed_flag(alloc, "active", members::take(&mut members, "active"))?,
+        scopes: members::optional_words(alloc, "scope", members::take(&mut members, "scope"))?,
+        client_id: members::optional(alloc, "client_id", members::take(&mut members, "client_id"))?,
+        username: members::optional(alloc, "username", members::take(&mut members, "username"))?,
+        token_type: members::present_lowered(
+            alloc,
+            "token_type",
+            members::take(&mut members, "token_type"),
+        )?,
+        exp: members::optional_time(alloc, "exp", members::take(&mut members, "exp"))?,
+        iat: members::optional_time(alloc, "iat", members::take(&mut members, "iat"))?,
+        nbf: members::optional_time(alloc, "nbf", members::take(&mut members, "nbf"))?,
+        sub: members::optional(alloc, "sub", members::take(&mut members, "sub"))?,
+        aud: members::optional_texts(alloc, "aud", members::take(&mut members, "aud"))?,
+        iss: members::optional(alloc, "iss", members::take(&mut members, "iss"))?,
+        jti: members::optional(alloc, "jti", members::take(&mut members, "jti"))?,
+        extra_fields: EF::from_json(alloc, Value::Object(members))?,
     })
 }
 

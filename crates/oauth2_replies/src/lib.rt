@@ -4,6 +4,7 @@
 
 mod device;
 mod device_json;
+mod extra_fields;
 mod introspection;
 mod introspection_json;
 mod revocation;
@@ -15,6 +16,7 @@ pub use device::{
     DeviceAuthorizationResponse, EmptyExtraDeviceAuthorizationFields,
     ExtraDeviceAuthorizationFields, StandardDeviceAuthorizationResponse,
 };
+pub use extra_fields::ExtraFields;
 pub use introspection::{
     BasicTokenIntrospectionResponse, StandardTokenIntrospectionResponse, TokenIntrospectionResponse,
 };

@@ -7,7 +7,7 @@ ghost use Rattle.oauth2_json.specs.Reading.{ReadsAs};
 ghost use Rattle.oauth2_json.specs.Writing.{WritesAs};
 ghost use Rattle.oauth2_json.specs.Puts.{put_all};
 ghost use Rattle.oauth2_replies.specs.Token.{Token, token_seen, token_reading, token_writing, own_rows, IsTokenKept};
-ghost use Rattle.oauth2_replies.specs.private.TokenRows.{AreRows, of_rows};
+ghost use Rattle.oauth2_replies.specs.private.TokenRows.{in_turn};
 
 use crate::scopes;
 use crate::token::{ExtraTokenFields, StandardTokenResponse};
@@ -25,53 +25,41 @@ impl<EF: ExtraTokenFields + Drop, TT: TokenType + Drop> FromJson for StandardTok
 
     fn from_json(alloc: Global, value: Value) -> Result<StandardTokenResponse<EF, TT>, ReadError> {
         let members = members::of_object(alloc, value)?;
-        let rows = taken(members);
-        from_rows(alloc, rows)
+        from_members(alloc, members)
     }
 }
 
-/// What stands under each own name, and the other members.
-#[derive(Drop)]
-struct Rows {
-    access_token: Option<Value>,
-    token_type: Option<Value>,
-    expires_in: Option<Value>,
-    refresh_token: Option<Value>,
-    scope: Option<Value>,
-    rest: Map<String, Value>,
-}
-
-fn taken(mut members: Map<String, Value>) -> Rows
-    ensures { AreRows (members_view members.entries) result }
-{
-    let access_token = members::take(&mut members, "access_token");
-    let token_type = members::take(&mut members, "token_type");
-    let expires_in = members::take(&mut members, "expires_in");
-    let refresh_token = members::take(&mut members, "refresh_token");
-    let scope = members::take(&mut members, "scope");
-    Rows {
-        access_token,
-        token_type,
-        expires_in,
-        refresh_token,
-        scope,
-        rest: members,
-    }
-}
-
-fn from_rows<EF: ExtraTokenFields + Drop, TT: TokenType + Drop>(
+/// Each own member, taken out in turn, and what is left of the others.
+fn from_members<EF: ExtraTokenFields + Drop, TT: TokenType + Drop>(
     alloc: Global,
-    rows: Rows,
+    mut members: Map<String, Value>,
 ) -> Result<StandardTokenResponse<EF, TT>, ReadError>
-    ensures { ReadsAs (token_seen EF.meaning TT.meaning) result (of_rows EF.reading TT.reading rows) }
+    ensures { ReadsAs (token_seen EF.meaning TT.meaning) result
+        (in_turn EF.reading TT.reading (members_view members.entries)) }
 {
     Ok(StandardTokenResponse {
-        access_token: members::needed(alloc, "access_token", rows.access_token)?,
-        token_type: members::needed_lowered(alloc, "token_type", rows.token_type)?,
-        expires_in: members::optional_number(alloc, "expires_in", rows.expires_in)?,
-        refresh_token: members::optional(alloc, "refresh_token", rows.refresh_token)?,
-        scopes: members::optional_words(alloc, "scope", rows.scope)?,
-        extra_fields: EF::from_json(alloc, Value::Object(rows.rest))?,
+        access_token: members::needed(
+            alloc,
+            "access_token",
+            members::take(&mut members, "access_token"),
+        )?,
+        token_type: members::needed_lowered(
+            alloc,
+            "token_type",
+            members::take(&mut members, "token_type"),
+        )?,
+        expires_in: members::optional_number(
+            alloc,
+            "expires_in",
+            members::take(&mut members, "expires_in"),
+        )?,
+        refresh_token: members::optional(
+            alloc,
+            "refresh_token",
+            members::take(&mut members, "refresh_token"),
+        )?,
+        scopes: members::optional_words(alloc, "scope", members::take(&mut members, "scope"))?,
+        extra_fields: EF::from_json(alloc, Value::Object(members))?,
     })
 }
 

@@ -2,11 +2,11 @@ use Rattle.std.proofs.Common.{subst}
 use Rattle.serde_json.specs.View.{view, members_view}
 use Rattle.oauth2_json.specs.Reading.{ReadsAs}
 use Rattle.oauth2_replies.specs.Introspection.{introspection_seen}
-use Rattle.oauth2_replies.proofs.IntrospectionLaws.{rows_are}
+use Rattle.oauth2_replies.proofs.IntrospectionLaws.{read_in_turn}
 use Rattle.oauth2_replies.proofs.introspection_json.StandardTokenIntrospectionResponseFromJson.from_json.Goals as goal
 
 pub returns : goal.returns
 returns g c =
     let E = g.EF.FromJson in
     let T = g.TT.FromJson in
-    subst (λ w. ReadsAs (introspection_seen E.meaning T.meaning) c.from_rows.result w) (rows_are E.reading T.reading (view c.args.value) (members_view c.in_ok-members.members.entries) c.taken-rows.result c.in_ok-members.ensures c.taken-rows.ensures) c.from_rows.ensures
+    subst (λ w. ReadsAs (introspection_seen E.meaning T.meaning) c.from_members.result w) (read_in_turn E.reading T.reading (view c.args.value) (members_view c.in_ok-members.members.entries) c.in_ok-members.ensures) c.from_members.ensures

@@ -1,0 +1,8 @@
+-- Extra fields: the members that are left.
+use Rattle.serde_json.specs.Data.{Members}
+use Rattle.serde_json.specs.View.{view}
+use Rattle.oauth2_replies.specs.Kept.{members_in}
+use Rattle.oauth2_replies.specs.declared.extra_fields.ExtraFields.{ExtraFields}
+
+abbrev pub extra_members : ExtraFields → Members
+extra_members fields = members_in (view fields.value)
