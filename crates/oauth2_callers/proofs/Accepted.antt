@@ -5,7 +5,7 @@ use Rattle.oauth2_wire.specs.Reply.{HttpResponse, Answer, accepted}
 use Rattle.oauth2_wire.specs.OneShot.{HttpRequest, OneShot}
 use Rattle.oauth2_wire.specs.Request.{RequestView, IsRequestOf}
 use Rattle.oauth2_wire.specs.declared.error.RequestTokenError.{RequestTokenError}
-use Rattle.oauth2.specs.Password.{PasswordRequest, password_configuration}
+use Rattle.oauth2_wire.specs.Expected.{Configuration}
 
 module _ {D A T E RE C : Type 0} (meaning : D → A) (error_meaning : T → E) (step : C → HttpRequest → Result HttpResponse RE → C → Type 0) (says : HttpResponse → Answer A E) (IsRequest : HttpRequest → Type 0) (NotHttp : Type 0) (before after : C) where
   pub IfOk-from_OneShot : (Wanted : HttpRequest → Type 0) → ((r : HttpRequest) → IsRequest r → Wanted r) → (result : Result D (RequestTokenError RE T)) → OneShot meaning error_meaning step says IsRequest NotHttp before result after
@@ -17,5 +17,5 @@ module _ {D A T E RE C : Type 0} (meaning : D → A) (error_meaning : T → E) (
   IfOk-from_OneShot Wanted weaker (Err error) sent = tt
 
 -- the request of an equal configuration
-pub IsRequestOf-equal : (a b : PasswordRequest) (url : List ℕ) (v : RequestView) → a ≡ b → IsRequestOf (password_configuration a) url v → IsRequestOf (password_configuration b) url v
-IsRequestOf-equal a b url v same is = subst (λ r. IsRequestOf (password_configuration r) url v) same is
+pub IsRequestOf-equal : {R : Type 0} (configuration : R → Configuration) (a b : R) (url : List ℕ) (v : RequestView) → a ≡ b → IsRequestOf (configuration a) url v → IsRequestOf (configuration b) url v
+IsRequestOf-equal configuration a b url v a_is_b is = subst (λ r. IsRequestOf (configuration r) url v) a_is_b is

@@ -1,8 +1,9 @@
 //! Authorization URLs.
 
-ghost use Rattle.std.specs.Prelude.{◌≡◌, ◌↔◌, ◌++◌, ◌∷◌, [], codes, Some, None, IfOk, IsSome, IsTrue};
+ghost use Rattle.std.specs.Prelude.{◌≡◌, ◌↔◌, ◌++◌, ◌∷◌, [], codes, Some, None, IfOk, IfErr, IsSome, IsTrue};
+ghost use Rattle.url.specs.Parser.{IsOutOfRoom};
 ghost use Rattle.oauth2_urls.specs.Addressed.{Addressed};
-ghost use Rattle.oauth2.specs.Query.{ExtendsQuery};
+ghost use Rattle.oauth2_requests.specs.Query.{ExtendsQuery};
 ghost use Rattle.oauth2_callers.specs.Login.{login_pairs};
 
 use crate::client::{CodeClient, PlainClient};
@@ -19,6 +20,7 @@ pub fn login_url(
     ensures state { IfOk result (λ r. r.1 ≡ state) }
     ensures url { IfOk result (λ r. (endpoint : Addressed) × (client.now.auth_url ≡ Some endpoint)
         × ExtendsQuery endpoint.url r.0 (login_pairs client.now state)) }
+    ensures refusal { IfErr result IsOutOfRoom }
 {
     client.authorize_url(alloc, move || state).url(alloc)
 }
@@ -44,7 +46,8 @@ pub fn challenged_login(
     nonce: &str,
 ) -> Result<Url, ParseError>
     requires { client.now.redirect_url ≡ None }
-    ensures { IfOk result (λ url. (endpoint : Addressed) × (client.now.auth_url ≡ Some endpoint)
+    ensures refusal { IfErr result IsOutOfRoom }
+    ensures url { IfOk result (λ url. (endpoint : Addressed) × (client.now.auth_url ≡ Some endpoint)
         × ExtendsQuery endpoint.url url (login_pairs client.now state
         ++ (codes "code_challenge", challenge.text) ∷ (codes "code_challenge_method", challenge.method)
         ∷ (codes "nonce", nonce.now) ∷ [])) }

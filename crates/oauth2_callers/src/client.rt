@@ -1,6 +1,6 @@
 //! Clients that are made, read and copied.
 
-ghost use Rattle.std.specs.Prelude.{◌≡◌, Some, None, IfOk, option_copied};
+ghost use Rattle.std.specs.Prelude.{◌≡◌, Some, None, IfOk};
 ghost use Rattle.oauth2_wire.specs.declared.request.AuthType.TheVariants.{RequestBody, BasicAuth};
 
 use oauth2::basic::BasicClient;

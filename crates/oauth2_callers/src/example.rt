@@ -1,16 +1,20 @@
 //! The use that the README shows.
 
-ghost use Rattle.std.specs.Prelude.{◌≡◌, Some, Ok, IfOk, option_map, string_bytes};
+ghost use Rattle.std.specs.Prelude.{◌≡◌, Some, None, Ok, Err, IfOk, IfErr, string_bytes};
 ghost use Rattle.url.specs.Parts.{serialize};
-ghost use Rattle.oauth2_urls.specs.Addressed.{Addressed};
+ghost use Rattle.oauth2_urls.specs.Addressed.{Addressed, Addresses};
 ghost use Rattle.oauth2_wire.specs.OneShot.{HttpRequest};
 ghost use Rattle.oauth2_wire.specs.Reply.{HttpResponse, accepted, answer_of, reply_of};
+ghost use Rattle.oauth2_wire.specs.Request.{IsRequestOf, view_of};
+ghost use Rattle.oauth2_requests.specs.Base.{configuration_of};
+ghost use Rattle.oauth2_requests.specs.Code.{code_pairs};
+ghost use Rattle.oauth2.specs.NewRequest.{base_of};
 
-use oauth2::basic::{BasicClient, BasicRequestTokenError, BasicTokenResponse};
+use oauth2::basic::{BasicClient, BasicErrorResponse, BasicRequestTokenError, BasicTokenResponse};
 use oauth2::url::ParseError;
 use oauth2::{
-    AuthorizationCode, ClientId, ClientSecret, EndpointNotSet, EndpointSet, SyncHttpClient,
-    TokenUrl,
+    AuthorizationCode, ClientId, ClientSecret, EndpointNotSet, EndpointSet, FromJson,
+    SyncHttpClient, TokenUrl,
 };
 use std::alloc::Global;
 
@@ -32,7 +36,9 @@ pub fn new_client(
 ) -> Result<TokenOnlyClient, ParseError>
     ensures id { IfOk result (λ client. client.client_id ≡ string_bytes id) }
     ensures secret { IfOk result (λ client. client.client_secret ≡ Some (string_bytes secret)) }
-    ensures url { IfOk result (λ client. option_map (λ url. url.text) client.token_url ≡ Some (string_bytes token_url)) }
+    ensures url { IfOk result (λ client. (endpoint : Addressed) × (client.token_url ≡ Some endpoint)
+        × Addresses (string_bytes token_url) (Ok endpoint)) }
+    ensures refusal { IfErr result (λ error. Addresses (string_bytes token_url) (Err error)) }
 {
     let token_url = TokenUrl::new(alloc, token_url)?;
     Ok(
@@ -42,7 +48,8 @@ pub fn new_client(
     )
 }
 
-/// The token for a code.
+/// The token for a code. A token means that the client was called exactly once, with the request
+/// for this code, and is what the reply reads to.
 pub fn token_for_code<C: SyncHttpClient>(
     alloc: Global,
     client: &TokenOnlyClient,
@@ -50,7 +57,14 @@ pub fn token_for_code<C: SyncHttpClient>(
     code: String,
 ) -> Result<BasicTokenResponse, BasicRequestTokenError<C::Error>>
     requires { C.is_ready http_client.old }
-    ensures { C.is_ready http_client.new }
+    ensures token { IfOk result (λ token. (request : HttpRequest)
+        × ((endpoint : Addressed) × (client.now.token_url ≡ Some endpoint)
+        × IsRequestOf (configuration_of (base_of client.now) (code_pairs (string_bytes code) None) client.now.redirect_url)
+        (serialize endpoint.url) (view_of request))
+        × (reply : HttpResponse) × C.step http_client.old request (Ok reply) http_client.new
+        × (answer_of ⟦<BasicTokenResponse as FromJson>⟧.reading ⟦<BasicErrorResponse as FromJson>⟧.reading (reply_of reply)
+        ≡ accepted (⟦<BasicTokenResponse as FromJson>⟧.meaning token))) }
+    ensures ready { C.is_ready http_client.new }
 {
     client
         .exchange_code(alloc, AuthorizationCode::new(code))

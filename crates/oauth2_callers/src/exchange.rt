@@ -1,18 +1,18 @@
 //! Requests at the token endpoint.
 
-ghost use Rattle.std.specs.Prelude.{◌≡◌, ◌↔◌, ◌++◌, ◌∷◌, [], codes, Some, None, Ok, IfOk, IsTrue, option_map, Result};
+ghost use Rattle.std.specs.Prelude.{◌≡◌, ◌↔◌, ◌++◌, ◌∷◌, [], codes, Some, None, Ok, Err, IfOk, IsTrue};
+ghost use Rattle.http_uri.specs.Uri.{SpellsNone};
 ghost use Rattle.url.specs.Parts.{serialize};
 ghost use Rattle.oauth2_urls.specs.Addressed.{Addressed};
-ghost use Rattle.oauth2_wire.specs.Expected.{expected_basic, optional_pair};
 ghost use Rattle.oauth2_wire.specs.OneShot.{HttpRequest};
 ghost use Rattle.oauth2_wire.specs.Pairs.{form};
 ghost use Rattle.oauth2_wire.specs.Params.{with_scopes};
 ghost use Rattle.oauth2_wire.specs.Reply.{HttpResponse, accepted, answer_of, reply_of};
 ghost use Rattle.oauth2_wire.specs.Request.{IsRequestOf, basic_of, view_of};
-ghost use Rattle.oauth2_wire.specs.Texts.{given_text};
-ghost use Rattle.oauth2.specs.Base.{base_of, configuration_of};
-ghost use Rattle.oauth2.specs.Code.{code_pairs};
-ghost use Rattle.oauth2.specs.Password.{password_pairs};
+ghost use Rattle.oauth2_requests.specs.Base.{configuration_of};
+ghost use Rattle.oauth2.specs.NewRequest.{base_of};
+ghost use Rattle.oauth2_requests.specs.Code.{code_pairs};
+ghost use Rattle.oauth2_requests.specs.Password.{password_pairs};
 
 use crate::client::{CodeClient, TokenClient};
 use oauth2::basic::{BasicErrorResponse, BasicTokenResponse};
@@ -37,9 +37,11 @@ pub fn code_request(
     code: AuthorizationCode,
     verifier: PkceCodeVerifier,
 ) -> Result<HttpRequest, RequestFault>
-    ensures { IfOk result (λ r. (endpoint : Addressed) × (client.now.token_url ≡ Some endpoint)
+    ensures ok { IfOk result (λ r. (endpoint : Addressed) × (client.now.token_url ≡ Some endpoint)
         × IsRequestOf (configuration_of (base_of client.now) (code_pairs code (Some verifier)) client.now.redirect_url)
         (serialize endpoint.url) (view_of r)) }
+    ensures not_http { result ≡ Err RequestFault.NotHttp → (endpoint : Addressed)
+        × (client.now.token_url ≡ Some endpoint) × SpellsNone (serialize endpoint.url) }
 {
     client
         .exchange_code(alloc, code)
@@ -60,6 +62,8 @@ pub fn refresh_request(
     ensures form { IfOk result (λ r. form (view_of r).body ≡
         (codes "grant_type", codes "refresh_token") ∷ (codes "refresh_token", token.now)
         ∷ (codes "scope", first ++ codes " " ++ second) ∷ (codes "client_id", client.now.client_id) ∷ []) }
+    ensures not_http { result ≡ Err RequestFault.NotHttp → (endpoint : Addressed)
+        × (client.now.token_url ≡ Some endpoint) × SpellsNone (serialize endpoint.url) }
 {
     client
         .exchange_refresh_token(alloc, token)

@@ -6,7 +6,7 @@ use Rattle.std.proofs.lemmas.Iterator.{items_from_drains}
 use Rattle.std.proofs.lemmas.Iterator.Adapters.{YieldsList-from_vec}
 use Rattle.std.proofs.lemmas.List.{map-id}
 use Rattle.std.proofs.lemmas.Result.{IfOk-weaker}
-use Rattle.oauth2.specs.Base.{Base}
+use Rattle.oauth2_requests.specs.Base.{Base}
 use Rattle.oauth2_wire.specs.Params.{with_scopes}
 use Rattle.oauth2_callers.proofs.exchange.with_all_scopes.Goals as goal
 
