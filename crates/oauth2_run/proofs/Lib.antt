@@ -1,9 +1,6 @@
-pub mod Parts
-pub mod Inputs
-pub mod Fields
-pub mod Refusals
 pub mod ViewLines
 pub mod NoFloats
 pub mod Results
 pub mod Exchanges
 pub mod Commands
+pub mod Scopes

@@ -13,7 +13,8 @@ use Rattle.oauth2_wire.specs.Display.{fault_text}
 use Rattle.oauth2_wire.specs.declared.error.RequestTokenError.TheVariants.{ServerResponse, Request, Parse, Other, Memory}
 use Rattle.oauth2_run.specs.Exchange.{token_data, token_json, error_display}
 use Rattle.oauth2_run.specs.Lines.{fault_line}
-use Rattle.oauth2_run.specs.Results.{Prints, Fault, ErrorResponse, fault_output, TokenSeen, token_meaning, token_text}
+use Rattle.oauth2_run.specs.private.Added.{Prints}
+use Rattle.oauth2_run.specs.private.Results.{Fault, ErrorResponse, fault_output, TokenSeen, token_meaning, token_text}
 use Rattle.oauth2_run.specs.declared.status.RunStatus.TheVariants as status
 use Rattle.oauth2_run.proofs.NoFloats.{token_data-no_float}
 

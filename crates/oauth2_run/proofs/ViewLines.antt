@@ -9,7 +9,8 @@ use Rattle.oauth2_wire.specs.Pairs.{Pair, form}
 use Rattle.oauth2_wire.specs.Basic.{basic}
 use Rattle.oauth2_wire.specs.Request.{RequestView, authorization_of, basic_of}
 use Rattle.oauth2_wire.specs.ServerView.{pair_texts, shown_pair, IsBadBasic}
-use Rattle.oauth2_run.specs.Lines.{pair_line, pair_lines, basic_line, read_lines, view_lines}
+use Rattle.oauth2_run.specs.Lines.{pair_line, pair_lines, basic_line}
+use Rattle.oauth2_run.specs.private.RequestLines.{read_lines, view_lines}
 
 -- one more pair
 pub pair_lines-more : (initial now new : List ℕ) (pairs : List (String Global × String Global)) (i : ℕ) (item : String Global × String Global) → i < length pairs → item ≡ get_or pairs i item

@@ -1,9 +1,6 @@
 -- The command `client_credentials`: the client asks for a token of its own.
-use Rattle.std.specs.Prelude.{ℕ, List, Option, Some, None, codes}
-use Rattle.serde_json.specs.Data.{Data}
-use Rattle.serde_json.specs.Find.{as_str}
+use Rattle.std.specs.Prelude.{List, None}
 use Rattle.oauth2_urls.specs.Addressed.{Addressed}
-use Rattle.oauth2_wire.specs.Pairs.{Pair}
 use Rattle.oauth2_wire.specs.Params.{with_scopes}
 use Rattle.oauth2.specs.Base.{base_of}
 use Rattle.oauth2.specs.ClientCredentials.{ClientCredentialsRequest, client_credentials_configuration}
@@ -11,18 +8,8 @@ use Rattle.oauth2.specs.Settings.{Settings}
 use Rattle.oauth2_run.specs.Client.{WithToken}
 use Rattle.oauth2_run.specs.Exchange.{IsTokenExchange}
 use Rattle.oauth2_run.specs.Out.{Output}
-use Rattle.oauth2_run.specs.Part.{◌>>=◌, listed, pair}
-use Rattle.oauth2_run.specs.Replies.{Reply}
-
-pub record ClientCredentialsParams : Type 0 where
-  pub scopes : List (List ℕ)
-  pub extra : List Pair
-
-unfoldable pub client_credentials_params : Data → Option ClientCredentialsParams
-client_credentials_params d = do
-  scopes ← listed as_str (codes "scopes") d
-  extra ← listed pair (codes "extra") d
-  Some (record { scopes = scopes; extra = extra })
+use Rattle.oauth2_script.specs.ClientCredentialsParams.{ClientCredentialsParams}
+use Rattle.oauth2_script.specs.Replies.{Reply}
 
 abbrev pub client_credentials_request : Settings → ClientCredentialsParams → Addressed → ClientCredentialsRequest
 client_credentials_request client p url = record {

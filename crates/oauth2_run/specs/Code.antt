@@ -1,31 +1,14 @@
 -- The command `code`: a code is exchanged for a token.
-use Rattle.std.specs.Prelude.{ℕ, List, Option, Some, None, codes}
-use Rattle.serde_json.specs.Data.{Data}
-use Rattle.serde_json.specs.Find.{as_str}
+use Rattle.std.specs.Prelude.{List}
 use Rattle.oauth2_urls.specs.Addressed.{Addressed}
-use Rattle.oauth2_wire.specs.Pairs.{Pair}
 use Rattle.oauth2.specs.Base.{base_of}
 use Rattle.oauth2.specs.Code.{CodeRequest, code_configuration}
 use Rattle.oauth2.specs.Settings.{Settings}
 use Rattle.oauth2_run.specs.Client.{WithToken, given_or}
 use Rattle.oauth2_run.specs.Exchange.{IsTokenExchange}
 use Rattle.oauth2_run.specs.Out.{Output}
-use Rattle.oauth2_run.specs.Part.{◌>>=◌, needed, optional, listed, verifier, address, pair}
-use Rattle.oauth2_run.specs.Replies.{Reply}
-
-pub record CodeParams : Type 0 where
-  pub code : List ℕ
-  pub verifier : Option (List ℕ)
-  pub redirect : Option Addressed
-  pub extra : List Pair
-
-unfoldable pub code_params : Data → Option CodeParams
-code_params d = do
-  code ← needed as_str (codes "code") d
-  verifier ← optional verifier (codes "verifier") d
-  redirect ← optional address (codes "redirect") d
-  extra ← listed pair (codes "extra") d
-  Some (record { code = code; verifier = verifier; redirect = redirect; extra = extra })
+use Rattle.oauth2_script.specs.CodeParams.{CodeParams}
+use Rattle.oauth2_script.specs.Replies.{Reply}
 
 abbrev pub code_request : Settings → CodeParams → Addressed → CodeRequest
 code_request client p url = record {

@@ -1,5 +1,5 @@
 -- A request to an endpoint, as a run shows it.
-use Rattle.std.specs.Prelude.{◌≡◌, ℕ, List, ◌++◌, Option, Some, None, Result, Ok, Err, string_bytes, codes}
+use Rattle.std.specs.Prelude.{◌≡◌, ◌⊎◌, ℕ, List, ◌++◌, Option, Some, None, Result, Ok, Err, string_bytes, codes}
 use Rattle.http_uri.specs.declared.uri.Uri.{Uri}
 use Rattle.http_uri.specs.Uri.{Spells, SpellsNone, uri_text}
 use Rattle.serde_json.specs.Data.{Data, string, object, no_members}
@@ -19,8 +19,9 @@ use Rattle.oauth2_wire.specs.Expected.{Configuration}
 use Rattle.oauth2_wire.specs.OneShot.{not_http_text}
 use Rattle.oauth2_wire.specs.Reply.{Answer, accepted, refused, unread, other, ReplyView, answer_of}
 use Rattle.oauth2_run.specs.Lines.{line, quoted, expected_lines}
-use Rattle.oauth2_run.specs.Out.{Output, answered, failed, after}
-use Rattle.oauth2_run.specs.Replies.{Reply, next_reply}
+use Rattle.oauth2_run.specs.Out.{Output, answered, failed, starved, after}
+use Rattle.oauth2_script.specs.Replies.{Reply}
+use Rattle.oauth2_run.specs.Replies.{next_reply}
 use Rattle.oauth2_run.specs.declared.status.RunStatus.TheVariants as status
 
 -- ---- the target of a URL's text, in the forms of RFC 9112, 3.2, where it has one
@@ -68,14 +69,17 @@ module _ {A E : Type 0} (json : A → List ℕ) (text : E → List ℕ) where
   reply_output says None = failed (codes "Request failed")
   reply_output says (Some reply) = answer_output (says reply)
 
-  -- one request and its answer, or none where the URL has no target
-  abbrev pub exchange_output : (ReplyView → Answer A E) → Configuration → Option (List ℕ) → List Reply → Output
-  exchange_output says c None replies = failed (other_text not_http_text)
-  exchange_output says c (Some target) replies = after (expected_lines c target) (reply_output says (next_reply replies))
+  -- of a request to this target: its lines, and what the reply says or that memory ran out behind
+  -- the request; none is made where the URL has no target
+  abbrev pub IsSent : (ReplyView → Answer A E) → Configuration → List Reply → Option (List ℕ) → Output → Type 0
+  IsSent says c replies None o = o ≡ failed (other_text not_http_text)
+  IsSent says c replies (Some target) o =
+      (o ≡ after (expected_lines c target) (reply_output says (next_reply replies))) ⊎ (o ≡ after (expected_lines c target) starved)
 
+  -- a request and its answer, unless memory ran out before the request was made
   abbrev pub IsExchange : (ReplyView → Answer A E) → Configuration → Addressed → List Reply → Output → Type 0
   IsExchange says c endpoint replies o =
-      (target : Option (List ℕ)) × IsTarget (serialize endpoint.url) target × (o ≡ exchange_output says c target replies)
+      (o ≡ starved) ⊎ ((target : Option (List ℕ)) × IsTarget (serialize endpoint.url) target × IsSent says c replies target o)
 
 -- ---- tokens
 

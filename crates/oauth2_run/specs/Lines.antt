@@ -3,14 +3,11 @@ use Rattle.std.specs.Prelude.{ℕ, List, [], ◌++◌, map, Option, Some, None, 
 use Rattle.std.specs.List.{flat_map}
 use Rattle.std.specs.Str.Lossy.{utf8_lossy}
 use Rattle.form_urlencoded.specs.Form.{extend_pairs}
-use Rattle.http_header.specs.FieldValue.{FieldValue}
-use Rattle.http_uri.specs.Uri.{uri_text}
 use Rattle.serde_json.specs.Data.{string}
 use Rattle.serde_json.specs.Written.{compact_text}
-use Rattle.oauth2_wire.specs.Pairs.{Pair, form}
-use Rattle.oauth2_wire.specs.Basic.{basic, basic_value}
+use Rattle.oauth2_wire.specs.Pairs.{Pair}
+use Rattle.oauth2_wire.specs.Basic.{basic_value}
 use Rattle.oauth2_wire.specs.Expected.{Configuration, expected_basic, expected_pairs}
-use Rattle.oauth2_wire.specs.Request.{RequestView, authorization_of}
 use Rattle.oauth2_wire.specs.ServerView.{shown_pair}
 
 -- a text as JSON writes it
@@ -39,24 +36,6 @@ pair_line pair = line (codes "pair " ++ quoted pair.0 ++ codes " " ++ quoted pai
 
 abbrev pub pair_lines : List Pair → List ℕ
 pair_lines pairs = flat_map pair_line pairs
-
--- ---- of a request that the client is handed
-
--- what a server that decodes reads: the credentials of the Authorization value and the pairs; no
--- pairs where that value says no credentials
-abbrev pub read_lines : Option (Option Pair) → List Pair → List ℕ
-read_lines None pairs = basic_line None ++ pair_lines pairs
-read_lines (Some None) pairs = basic_line None
-read_lines (Some (Some pair)) pairs = basic_line (Some pair) ++ pair_lines pairs
-
-abbrev pub view_lines : RequestView → List ℕ
-view_lines v =
-    read_lines (option_map (λ value. option_map shown_pair (basic value.bytes)) (authorization_of v)) (map shown_pair (form v.body))
-
-unfoldable pub request_lines : RequestView → List ℕ
-request_lines v =
-    request_line v.method (uri_text v.target) ++ authorization_line (option_map (λ value. value.bytes) (authorization_of v))
-    ++ body_line v.body ++ view_lines v
 
 -- ---- of the request that a configuration asks for, at this target
 

@@ -1,9 +1,6 @@
 -- The command `password`: the name and the password of a resource owner are exchanged for a token.
-use Rattle.std.specs.Prelude.{ℕ, List, Option, Some, None, codes}
-use Rattle.serde_json.specs.Data.{Data}
-use Rattle.serde_json.specs.Find.{as_str}
+use Rattle.std.specs.Prelude.{List, None}
 use Rattle.oauth2_urls.specs.Addressed.{Addressed}
-use Rattle.oauth2_wire.specs.Pairs.{Pair}
 use Rattle.oauth2_wire.specs.Params.{with_scopes}
 use Rattle.oauth2.specs.Base.{base_of}
 use Rattle.oauth2.specs.Password.{PasswordRequest, password_configuration}
@@ -11,22 +8,8 @@ use Rattle.oauth2.specs.Settings.{Settings}
 use Rattle.oauth2_run.specs.Client.{WithToken}
 use Rattle.oauth2_run.specs.Exchange.{IsTokenExchange}
 use Rattle.oauth2_run.specs.Out.{Output}
-use Rattle.oauth2_run.specs.Part.{◌>>=◌, needed, listed, pair}
-use Rattle.oauth2_run.specs.Replies.{Reply}
-
-pub record PasswordParams : Type 0 where
-  pub username : List ℕ
-  pub password : List ℕ
-  pub scopes : List (List ℕ)
-  pub extra : List Pair
-
-unfoldable pub password_params : Data → Option PasswordParams
-password_params d = do
-  username ← needed as_str (codes "username") d
-  password ← needed as_str (codes "password") d
-  scopes ← listed as_str (codes "scopes") d
-  extra ← listed pair (codes "extra") d
-  Some (record { username = username; password = password; scopes = scopes; extra = extra })
+use Rattle.oauth2_script.specs.PasswordParams.{PasswordParams}
+use Rattle.oauth2_script.specs.Replies.{Reply}
 
 abbrev pub password_request : Settings → PasswordParams → Addressed → PasswordRequest
 password_request client p url = record {

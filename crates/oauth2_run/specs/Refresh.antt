@@ -1,9 +1,6 @@
 -- The command `refresh`: a refresh token is exchanged for a token.
-use Rattle.std.specs.Prelude.{ℕ, List, Option, Some, None, codes}
-use Rattle.serde_json.specs.Data.{Data}
-use Rattle.serde_json.specs.Find.{as_str}
+use Rattle.std.specs.Prelude.{List, None}
 use Rattle.oauth2_urls.specs.Addressed.{Addressed}
-use Rattle.oauth2_wire.specs.Pairs.{Pair}
 use Rattle.oauth2_wire.specs.Params.{with_scopes}
 use Rattle.oauth2.specs.Base.{base_of}
 use Rattle.oauth2.specs.Refresh.{RefreshRequest, refresh_configuration}
@@ -11,20 +8,8 @@ use Rattle.oauth2.specs.Settings.{Settings}
 use Rattle.oauth2_run.specs.Client.{WithToken}
 use Rattle.oauth2_run.specs.Exchange.{IsTokenExchange}
 use Rattle.oauth2_run.specs.Out.{Output}
-use Rattle.oauth2_run.specs.Part.{◌>>=◌, needed, listed, pair}
-use Rattle.oauth2_run.specs.Replies.{Reply}
-
-pub record RefreshParams : Type 0 where
-  pub refresh_token : List ℕ
-  pub scopes : List (List ℕ)
-  pub extra : List Pair
-
-unfoldable pub refresh_params : Data → Option RefreshParams
-refresh_params d = do
-  refresh_token ← needed as_str (codes "refresh_token") d
-  scopes ← listed as_str (codes "scopes") d
-  extra ← listed pair (codes "extra") d
-  Some (record { refresh_token = refresh_token; scopes = scopes; extra = extra })
+use Rattle.oauth2_script.specs.RefreshParams.{RefreshParams}
+use Rattle.oauth2_script.specs.Replies.{Reply}
 
 abbrev pub refresh_request : Settings → RefreshParams → Addressed → RefreshRequest
 refresh_request client p url = record {

@@ -8,9 +8,10 @@ use Rattle.oauth2_run.specs.Password.{IsPasswordOutput}
 use Rattle.oauth2_run.specs.Refresh.{IsRefreshOutput}
 use Rattle.oauth2_run.specs.Lines.{line}
 use Rattle.oauth2_run.specs.Out.{Output}
-use Rattle.oauth2_run.specs.Script.{Script, Command, code, refresh, password, client_credentials, authorize, script_in}
+use Rattle.oauth2_script.specs.Command.{Command, code, refresh, password, client_credentials, authorize}
+use Rattle.oauth2_script.specs.Script.{Script, script_in}
 use Rattle.oauth2_run.specs.Client.{settings_of}
-use Rattle.oauth2_run.specs.Replies.{Reply}
+use Rattle.oauth2_script.specs.Replies.{Reply}
 use Rattle.oauth2_run.specs.declared.status.RunStatus.TheVariants as status
 
 abbrev pub IsCommandOutput : Settings → List Reply → Command → Output → Type 0

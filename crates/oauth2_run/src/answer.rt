@@ -4,18 +4,18 @@ ghost use Rattle.std.specs.Prelude.{◌≡◌, ◌++◌, ℕ, List, string_bytes
 ghost use Rattle.oauth2.specs.Missing.{IsMissing};
 ghost use Rattle.oauth2_run.specs.Exchange.{cause_name, unread_line};
 ghost use Rattle.oauth2_run.specs.Lines.{line};
-ghost use Rattle.oauth2_run.specs.Results.{Prints, token_text, token_output, fault_output};
+ghost use Rattle.oauth2_run.specs.private.Added.{Prints};
+ghost use Rattle.oauth2_run.specs.private.Results.{token_text, token_output, fault_output};
 ghost use Rattle.oauth2_run.specs.Client.{missing};
 
-use crate::client::BasicErrorResponse;
 use crate::lines::{print_answer, print_fault, quoted};
 use crate::replay::NoReply;
 use crate::status::RunStatus;
-use oauth2_json::{ParseCause, ParseFault, WriteError, compact};
-use oauth2_replies::BasicTokenResponse;
-use oauth2_wire::{ConfigurationError, RequestTokenError};
+use oauth2::basic::{BasicErrorResponse, BasicTokenResponse};
+use oauth2::{ConfigurationError, ParseCause, ParseFault, RequestTokenError, WriteError, compact};
 use std::alloc::{AllocError, Global};
 
+/// Why a run has no answer of the server.
 pub type Fault = RequestTokenError<NoReply, BasicErrorResponse>;
 
 fn cause_name(cause: ParseCause) -> &'static str
@@ -83,7 +83,8 @@ fn print_parse_fault(
 
 /// The fault of a request.
 pub fn show_fault(alloc: Global, lines: &mut String, fault: &Fault) -> Result<RunStatus, AllocError>
-    ensures { IfOk result (λ status. Prints (string_bytes lines.old) (string_bytes lines.new) status (fault_output fault.now)) }
+    ensures { IfOk result (λ status. Prints (string_bytes lines.old) (string_bytes lines.new) status
+        (fault_output fault.now)) }
 {
     if let RequestTokenError::Parse(fault, _) = fault {
         print_parse_fault(alloc, lines, fault)?;
@@ -100,7 +101,8 @@ pub fn show_token(
     lines: &mut String,
     end: &Result<BasicTokenResponse, Fault>,
 ) -> Result<RunStatus, AllocError>
-    ensures { IfOk result (λ status. Prints (string_bytes lines.old) (string_bytes lines.new) status (token_output end.now)) }
+    ensures { IfOk result (λ status. Prints (string_bytes lines.old) (string_bytes lines.new) status
+        (token_output end.now)) }
 {
     match end {
         Ok(token) => {

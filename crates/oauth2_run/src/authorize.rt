@@ -3,87 +3,29 @@
 ghost use Rattle.std.specs.Prelude.{◌≡◌, ◌++◌, Some, IfSome, IfNone, IsOkAnd, IsErrAnd, OnOk, IfOk, codes, map, option_map, unwrap_or, string_bytes};
 ghost use Rattle.oauth2_wire.specs.ServerView.{pair_texts};
 ghost use Rattle.oauth2.specs.Missing.{IsMissing};
-ghost use Rattle.oauth2_types.specs.Pkce.{Challenge};
-ghost use Rattle.oauth2_run.specs.Authorize as said;
+ghost use Rattle.oauth2_run.specs.Authorize as spec;
+ghost use Rattle.oauth2_run.specs.private.Authorize as private_spec;
 ghost use Rattle.oauth2_run.specs.Client.{given_or};
-ghost use Rattle.oauth2_run.specs.Out.{Adds};
-ghost use Rattle.oauth2_run.specs.Views.{authorize_view};
+ghost use Rattle.oauth2_run.specs.private.Added.{Adds};
+ghost use Rattle.oauth2_script.specs.Views.{authorize_view};
 
 use crate::answer::show_missing;
 use crate::client::ScriptClient;
 use crate::lines::{print_answer, quoted};
-use crate::part::{Part, listed, needed, optional};
-use crate::script_error::ScriptError;
 use crate::status::RunStatus;
-use oauth2::AuthorizationRequest;
-use oauth2_types::{CsrfToken, PkceCodeChallenge, PkceCodeVerifier, ResponseType, Scope};
-use oauth2_urls::RedirectUrl;
-use oauth2_wire::{ConfigurationError, ParamText, RedirectRef};
-use serde_json::Value;
+use oauth2::{
+    AuthorizationRequest, ConfigurationError, CsrfToken, ParamText, PkceCodeChallenge, RedirectRef,
+    RedirectUrl, ResponseType,
+};
+use oauth2_script::AuthorizeParams;
 use std::alloc::{AllocError, Global};
-
-#[derive(Drop)]
-pub struct AuthorizeParams {
-    pub state: String,
-    pub challenge: Option<PkceCodeChallenge>,
-    pub redirect: Option<RedirectUrl>,
-    pub response_type: Option<String>,
-    pub scopes: Vec<Scope>,
-    pub extra: Vec<(String, String)>,
-}
-
-/// The S256 challenge of a verifier.
-impl Part for PkceCodeChallenge {
-    ghost Meaning = { Challenge };
-
-    ghost meaning = { λ challenge. challenge };
-
-    ghost reading = { said.challenge };
-
-    fn from_value(alloc: Global, value: &Value) -> Result<PkceCodeChallenge, ScriptError> {
-        let verifier = PkceCodeVerifier::new(String::from_value(alloc, value)?);
-        if verifier.has_valid_length() {
-            Ok(PkceCodeChallenge::from_code_verifier_sha256(alloc, &verifier)?)
-        } else {
-            Err(ScriptError::Bad)
-        }
-    }
-}
-
-impl Part for AuthorizeParams {
-    ghost use Rattle.oauth2_run.specs.Views.{authorize_view};
-
-    ghost Meaning = { said.AuthorizeParams };
-
-    ghost meaning = { authorize_view };
-
-    ghost reading = { said.authorize_params };
-
-    #[tactic(auto, unfolding(crate::specs::Authorize::authorize_params))]
-    fn from_value(alloc: Global, value: &Value) -> Result<AuthorizeParams, ScriptError> {
-        let state = needed(alloc, value, "state")?;
-        let scopes = listed(alloc, value, "scopes")?;
-        let extra = listed(alloc, value, "extra")?;
-        let challenge = optional(alloc, value, "verifier")?;
-        let redirect = optional(alloc, value, "redirect")?;
-        let response_type = optional(alloc, value, "response_type")?;
-        Ok(AuthorizeParams {
-            state,
-            challenge,
-            redirect,
-            response_type,
-            scopes,
-            extra,
-        })
-    }
-}
 
 fn start<'a>(
     alloc: Global,
     client: &'a ScriptClient,
     state: CsrfToken,
 ) -> Result<AuthorizationRequest<'a>, ConfigurationError>
-    ensures there { IfSome client.now.auth_url (λ url. IsOkAnd result (λ r. r ≡ said.new_authorization client.now url state)) }
+    ensures there { IfSome client.now.auth_url (λ url. IsOkAnd result (λ r. r ≡ private_spec.new_authorization client.now url state)) }
     ensures missing { IfNone client.now.auth_url (IsErrAnd result (IsMissing (codes "authorization"))) }
 {
     client.authorize_url(alloc, move || state)
@@ -116,29 +58,16 @@ fn with_redirect<'a>(
 fn with_response_type<'a>(
     alloc: Global,
     request: AuthorizationRequest<'a>,
-    response_type: Option<String>,
+    response_type: Option<ResponseType>,
 ) -> Result<AuthorizationRequest<'a>, AllocError>
     ensures { IfOk result (λ r. r ≡ record request.entry {
-      response_type = unwrap_or (option_map string_bytes response_type) request.entry.response_type;
+      response_type = unwrap_or response_type request.entry.response_type;
     }) }
 {
     match response_type {
-        Some(text) => Ok(request.set_response_type(alloc, &ResponseType::new(text))?),
+        Some(response_type) => request.set_response_type(alloc, &response_type),
         None => Ok(request),
     }
-}
-
-fn add_scopes<'a>(
-    request: AuthorizationRequest<'a>,
-    scopes: Vec<Scope>,
-) -> Result<AuthorizationRequest<'a>, AllocError>
-    ensures { IfOk result (λ r. r ≡ record request.entry { scopes = request.entry.scopes ++ scopes.items }) }
-{
-    let mut request = request;
-    for scope in scopes {
-        request = request.add_scope(scope)?;
-    }
-    Ok(request)
 }
 
 fn with_extra<'a>(
@@ -161,7 +90,7 @@ fn with_extra<'a>(
 
 #[tactic(auto, unfolding(crate::specs::Authorize::url_line))]
 fn print_url(alloc: Global, lines: &mut String, url: &str) -> Result<(), AllocError>
-    ensures { OnOk result (string_bytes lines.new ≡ string_bytes lines.old ++ said.url_line url.now) }
+    ensures { OnOk result (string_bytes lines.new ≡ string_bytes lines.old ++ spec.url_line url.now) }
 {
     let url = quoted(alloc, url)?;
     writeln!(lines, "url {url}")
@@ -173,7 +102,7 @@ fn show_url(
     lines: &mut String,
     request: AuthorizationRequest<'_>,
 ) -> Result<RunStatus, AllocError>
-    ensures { IfOk result (λ status. Adds (string_bytes lines.old) (string_bytes lines.new) status (said.IsUrlShown request.entry)) }
+    ensures { IfOk result (λ status. Adds (string_bytes lines.old) (string_bytes lines.new) status (spec.IsUrlShown request.entry)) }
 {
     match request.url(alloc) {
         Ok((url, state)) => {
@@ -194,14 +123,14 @@ pub fn run_authorize(
     lines: &mut String,
 ) -> Result<RunStatus, AllocError>
     ensures { IfOk result (λ status. Adds (string_bytes lines.old) (string_bytes lines.new) status
-        (said.IsAuthorizeOutput client.now (authorize_view params))) }
+        (spec.IsAuthorizeOutput client.now (authorize_view params))) }
 {
-    match start(alloc, client, CsrfToken::new(params.state)) {
+    match start(alloc, client, params.state) {
         Ok(request) => {
             let challenged = with_challenge(request, params.challenge);
             let redirected = with_redirect(challenged, params.redirect);
             let typed = with_response_type(alloc, redirected, params.response_type)?;
-            let scoped = add_scopes(typed, params.scopes)?;
+            let scoped = typed.add_scopes(params.scopes)?;
             let asked = with_extra(scoped, params.extra.as_slice())?;
             show_url(alloc, lines, asked)
         }

@@ -1,30 +1,30 @@
 //! The client of a script.
 
 ghost use Rattle.std.specs.Prelude.{◌≡◌};
-ghost use Rattle.oauth2_run.specs.Client.{settings_of};
-ghost use Rattle.oauth2_run.specs.Views.{client_view};
+ghost use Rattle.oauth2_run.specs.Client.{auth_type_of, settings_of};
+ghost use Rattle.oauth2_script.specs.Views.{client_view};
 
-use crate::script::{ClientPart, Endpoints};
-use oauth2::{Client, EndpointMaybeSet};
-use oauth2_json::{BasicErrorResponseType, StandardErrorResponse};
-use oauth2_replies::{BasicTokenIntrospectionResponse, BasicTokenResponse};
-use oauth2_types::{ClientId, ClientSecret};
-
-pub type BasicErrorResponse = StandardErrorResponse<BasicErrorResponseType>;
+use oauth2::basic::BasicClient;
+use oauth2::{AuthType, EndpointMaybeSet};
+use oauth2_script::{Auth, ClientPart, Endpoints};
 
 /// A client, any of whose endpoints may have a URL.
-pub type ScriptClient = Client<
-    BasicErrorResponse,
-    BasicTokenResponse,
-    BasicTokenIntrospectionResponse,
-    (),
-    (),
+pub type ScriptClient = BasicClient<
     EndpointMaybeSet,
     EndpointMaybeSet,
     EndpointMaybeSet,
     EndpointMaybeSet,
     EndpointMaybeSet,
 >;
+
+fn auth_type_of(auth: Auth) -> AuthType
+    ensures { result ≡ auth_type_of auth }
+{
+    match auth {
+        Auth::Basic => AuthType::BasicAuth,
+        Auth::Body => AuthType::RequestBody,
+    }
+}
 
 /// The client that a script names.
 pub fn client_of(part: ClientPart) -> ScriptClient
@@ -33,7 +33,7 @@ pub fn client_of(part: ClientPart) -> ScriptClient
     let ClientPart {
         id,
         secret,
-        auth_type,
+        auth: shown_by,
         redirect,
         endpoints,
     } = part;
@@ -44,15 +44,15 @@ pub fn client_of(part: ClientPart) -> ScriptClient
         introspection,
         revocation,
     } = endpoints;
-    let mut client = Client::new(ClientId::new(id))
-        .set_auth_type(auth_type)
+    let mut client = BasicClient::new(id)
+        .set_auth_type(auth_type_of(shown_by))
         .set_auth_uri_option(auth)
         .set_token_uri_option(token)
         .set_device_authorization_url_option(device)
         .set_introspection_url_option(introspection)
         .set_revocation_url_option(revocation);
     if let Some(secret) = secret {
-        client = client.set_client_secret(ClientSecret::new(secret));
+        client = client.set_client_secret(secret);
     }
     if let Some(redirect) = redirect {
         client = client.set_redirect_uri(redirect);

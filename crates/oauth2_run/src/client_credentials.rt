@@ -1,50 +1,20 @@
 //! The command `client_credentials`: the client asks for a token of its own.
 
-ghost use Rattle.std.specs.Prelude.{◌≡◌, ◌++◌, false, map, string_bytes, IfOk};
-ghost use Rattle.oauth2_wire.specs.Params.{with_scopes};
-ghost use Rattle.oauth2_wire.specs.ServerView.{pair_texts};
-ghost use Rattle.oauth2.specs.ClientCredentials.{client_credentials_configuration};
-ghost use Rattle.oauth2_run.specs.ClientCredentials as said;
-ghost use Rattle.oauth2_run.specs.Exchange.{IsTokenExchange};
-ghost use Rattle.oauth2_run.specs.Out.{Adds};
-ghost use Rattle.oauth2_run.specs.Replay.{replies_of};
-ghost use Rattle.oauth2_run.specs.Views.{client_credentials_view};
+ghost use Rattle.std.specs.Prelude.{◌≡◌, false, string_bytes, IfOk};
+ghost use Rattle.oauth2_run.specs.ClientCredentials as spec;
+ghost use Rattle.oauth2_run.specs.private.Added.{Adds};
+ghost use Rattle.oauth2_run.specs.private.Replay.{replies_of};
+ghost use Rattle.oauth2_script.specs.Views.{client_credentials_view};
 
-use crate::answer::{show_missing, show_token};
-use crate::client::{BasicErrorResponse, ScriptClient};
-use crate::part::{Part, listed};
+use crate::answer::{Fault, show_missing};
+use crate::client::ScriptClient;
 use crate::replay::ScriptedClient;
-use crate::script_error::ScriptError;
 use crate::status::RunStatus;
-use oauth2::ClientCredentialsTokenRequest;
-use oauth2_replies::BasicTokenResponse;
-use oauth2_types::Scope;
-use oauth2_wire::ParamText;
-use serde_json::Value;
+use crate::token_request::{TokenRequest, exchange, with_extra};
+use oauth2::basic::{BasicErrorResponse, BasicTokenResponse};
+use oauth2::{ClientCredentialsTokenRequest, ParamText};
+use oauth2_script::ClientCredentialsParams;
 use std::alloc::{AllocError, Global};
-
-#[derive(Drop)]
-pub struct ClientCredentialsParams {
-    pub scopes: Vec<Scope>,
-    pub extra: Vec<(String, String)>,
-}
-
-impl Part for ClientCredentialsParams {
-    ghost use Rattle.oauth2_run.specs.Views.{client_credentials_view};
-
-    ghost Meaning = { said.ClientCredentialsParams };
-
-    ghost meaning = { client_credentials_view };
-
-    ghost reading = { said.client_credentials_params };
-
-    #[tactic(auto, unfolding(crate::specs::ClientCredentials::client_credentials_params))]
-    fn from_value(alloc: Global, value: &Value) -> Result<ClientCredentialsParams, ScriptError> {
-        let scopes = listed(alloc, value, "scopes")?;
-        let extra = listed(alloc, value, "extra")?;
-        Ok(ClientCredentialsParams { scopes, extra })
-    }
-}
 
 type ClientCredentialsRequest<'a> = ClientCredentialsTokenRequest<
     'a,
@@ -52,51 +22,37 @@ type ClientCredentialsRequest<'a> = ClientCredentialsTokenRequest<
     BasicTokenResponse,
 >;
 
-fn add_scopes<'a>(
-    request: ClientCredentialsRequest<'a>,
-    scopes: Vec<Scope>,
-) -> Result<ClientCredentialsRequest<'a>, AllocError>
-    ensures { IfOk result (λ r. r ≡ record request.entry {
-      base = record request.entry.base { scope = with_scopes request.entry.base.scope scopes.items };
-    }) }
-{
-    let mut request = request;
-    for scope in scopes {
-        request = request.add_scope(scope)?;
-    }
-    Ok(request)
-}
+impl<'a> TokenRequest<'a> for ClientCredentialsRequest<'a> {
+    ghost use Rattle.std.proofs.Common.{ap};
+    ghost use Rattle.oauth2.specs.Base.{Base};
+    ghost use Rattle.oauth2.specs.ClientCredentials.{client_credentials_configuration};
+    ghost use Rattle.oauth2_run.specs.private.Extra.{with_pairs, with_pairs-none, with_pairs-more};
 
-fn with_extra<'a>(
-    request: ClientCredentialsRequest<'a>,
-    extra: &'a [(String, String)],
-) -> Result<ClientCredentialsRequest<'a>, AllocError>
-    ensures { IfOk result (λ r. r ≡ record request.entry {
-      base = record request.entry.base { extra_params = request.entry.base.extra_params ++ map pair_texts extra.now };
-    }) }
-{
-    let mut request = request;
-    for (name, value) in extra {
-        request = request.add_extra_param(
-            ParamText::Borrowed(name.as_str()),
-            ParamText::Borrowed(value.as_str()),
-        )?;
-    }
-    Ok(request)
-}
+    ghost extended = { λ r added. record r { base = with_pairs r.base added } };
 
-// Sends the request, and shows what came of it.
-fn exchange(
-    alloc: Global,
-    request: ClientCredentialsRequest<'_>,
-    http_client: &mut ScriptedClient,
-) -> Result<RunStatus, AllocError>
-    ensures { IfOk result (λ status. http_client.new.is_starved ≡ false
-        → Adds (string_bytes http_client.old.lines) (string_bytes http_client.new.lines) status
-        (IsTokenExchange (client_credentials_configuration request.entry) request.entry.token_url (replies_of http_client.old))) }
-{
-    let end = request.request(alloc, http_client);
-    show_token(alloc, &mut http_client.lines, &end)
+    ghost configuration = { client_credentials_configuration };
+
+    ghost endpoint = { λ r. r.token_url };
+
+    ghost none = { λ r. ap (λ (b : Base). record r { base = b }) (with_pairs-none r.base) };
+
+    ghost more = { λ r p q. ap (λ (b : Base). record r { base = b }) (with_pairs-more r.base p q) };
+
+    fn with_pair(
+        self,
+        name: &'a str,
+        value: &'a str,
+    ) -> Result<ClientCredentialsRequest<'a>, AllocError> {
+        self.add_extra_param(ParamText::Borrowed(name), ParamText::Borrowed(value))
+    }
+
+    fn send(
+        self,
+        alloc: Global,
+        http_client: &mut ScriptedClient,
+    ) -> Result<BasicTokenResponse, Fault> {
+        self.request(alloc, http_client)
+    }
 }
 
 /// Asks for a token, and shows what came of it.
@@ -108,11 +64,11 @@ pub fn run_client_credentials(
 ) -> Result<RunStatus, AllocError>
     ensures { IfOk result (λ status. http_client.new.is_starved ≡ false
         → Adds (string_bytes http_client.old.lines) (string_bytes http_client.new.lines) status
-        (said.IsClientCredentialsOutput client.now (client_credentials_view params) (replies_of http_client.old))) }
+        (spec.IsClientCredentialsOutput client.now (client_credentials_view params) (replies_of http_client.old))) }
 {
     match client.exchange_client_credentials(alloc) {
         Ok(request) => {
-            let scoped = add_scopes(request, params.scopes)?;
+            let scoped = request.add_scopes(params.scopes)?;
             let asked = with_extra(scoped, params.extra.as_slice())?;
             exchange(alloc, asked, http_client)
         }

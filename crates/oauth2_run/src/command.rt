@@ -1,10 +1,10 @@
 //! The commands of a script.
 
 ghost use Rattle.std.specs.Prelude.{◌≡◌, false, string_bytes, IfOk};
-ghost use Rattle.oauth2_run.specs.Out.{Adds};
-ghost use Rattle.oauth2_run.specs.Replay.{replies_of};
+ghost use Rattle.oauth2_run.specs.private.Added.{Adds};
+ghost use Rattle.oauth2_run.specs.private.Replay.{replies_of};
 ghost use Rattle.oauth2_run.specs.Run.{IsCommandOutput};
-ghost use Rattle.oauth2_run.specs.Views.{command_view};
+ghost use Rattle.oauth2_script.specs.Views.{command_view};
 
 use crate::authorize::run_authorize;
 use crate::client::ScriptClient;
@@ -13,8 +13,8 @@ use crate::code::run_code;
 use crate::password::run_password;
 use crate::refresh::run_refresh;
 use crate::replay::ScriptedClient;
-use crate::script::Command;
 use crate::status::RunStatus;
+use oauth2_script::Command;
 use std::alloc::{AllocError, Global};
 
 /// Runs a command, and gathers its lines.

@@ -3,24 +3,26 @@
 ghost use Rattle.std.specs.Prelude.{◌≡◌, ◌++◌, string_bytes, IfOk, OnOk, map, option_map, option_copied};
 ghost use Rattle.oauth2_wire.specs.Request.{view_of, authorization_of};
 ghost use Rattle.oauth2_wire.specs.ServerView.{pair_texts};
-ghost use Rattle.oauth2_run.specs.Lines as said;
+ghost use Rattle.oauth2_run.specs.Lines as spec;
+ghost use Rattle.oauth2_run.specs.private.RequestLines as private_spec;
 
 use http_header::{AUTHORIZATION, HeaderValue};
-use oauth2_wire::{HttpRequest, ViewError, server_view};
+use oauth2::{HttpRequest, ViewError, server_view};
 use serde_json::Value;
 use std::alloc::{AllocError, Global};
 
 /// A text as JSON writes it.
 #[tactic(auto, unfolding(crate::specs::Lines::quoted))]
 pub fn quoted(alloc: Global, text: &str) -> Result<String, AllocError>
-    ensures { IfOk result (λ s. string_bytes s ≡ said.quoted text.now) }
+    ensures { IfOk result (λ s. string_bytes s ≡ spec.quoted text.now) }
 {
     Value::String(String::from_str(alloc, text)?).to_string(alloc)
 }
 
 #[tactic(auto, unfolding(crate::specs::Lines::request_line))]
 fn print_target(lines: &mut String, method: &str, target: &str) -> Result<(), AllocError>
-    ensures { OnOk result (string_bytes lines.new ≡ string_bytes lines.old ++ said.request_line method.now target.now) }
+    ensures { OnOk result (string_bytes lines.new ≡ string_bytes lines.old
+        ++ spec.request_line method.now target.now) }
 {
     writeln!(lines, "request {method} {target}")
 }
@@ -32,7 +34,7 @@ fn print_authorization(
     value: Option<&HeaderValue>,
 ) -> Result<(), AllocError>
     ensures { OnOk result (string_bytes lines.new ≡ string_bytes lines.old
-        ++ said.authorization_line (option_map (λ v. v.bytes) (option_copied value.entry))) }
+        ++ spec.authorization_line (option_map (λ v. v.bytes) (option_copied value.entry))) }
 {
     match value {
         None => writeln!(lines, "authorization none"),
@@ -45,7 +47,8 @@ fn print_authorization(
 
 #[tactic(auto, unfolding(crate::specs::Lines::body_line))]
 fn print_body(alloc: Global, lines: &mut String, body: &[u8]) -> Result<(), AllocError>
-    ensures { OnOk result (string_bytes lines.new ≡ string_bytes lines.old ++ said.body_line body.now) }
+    ensures { OnOk result (string_bytes lines.new ≡ string_bytes lines.old
+        ++ spec.body_line body.now) }
 {
     let text = String::from_utf8_lossy(alloc, body)?;
     let text = quoted(alloc, text.as_str())?;
@@ -54,14 +57,16 @@ fn print_body(alloc: Global, lines: &mut String, body: &[u8]) -> Result<(), Allo
 
 #[tactic(auto, unfolding(crate::specs::Lines::basic_line))]
 fn print_no_basic(lines: &mut String) -> Result<(), AllocError>
-    ensures { OnOk result (string_bytes lines.new ≡ string_bytes lines.old ++ said.basic_line None) }
+    ensures { OnOk result (string_bytes lines.new ≡ string_bytes lines.old
+        ++ spec.basic_line None) }
 {
     writeln!(lines, "basic none")
 }
 
 #[tactic(auto, unfolding(crate::specs::Lines::basic_line))]
 fn print_basic(alloc: Global, lines: &mut String, id: &str, secret: &str) -> Result<(), AllocError>
-    ensures { OnOk result (string_bytes lines.new ≡ string_bytes lines.old ++ said.basic_line (Some (id.now, secret.now))) }
+    ensures { OnOk result (string_bytes lines.new ≡ string_bytes lines.old
+        ++ spec.basic_line (Some (id.now, secret.now))) }
 {
     let id = quoted(alloc, id)?;
     let secret = quoted(alloc, secret)?;
@@ -70,7 +75,8 @@ fn print_basic(alloc: Global, lines: &mut String, id: &str, secret: &str) -> Res
 
 #[tactic(auto, unfolding(crate::specs::Lines::pair_line))]
 fn print_pair(alloc: Global, lines: &mut String, name: &str, value: &str) -> Result<(), AllocError>
-    ensures { OnOk result (string_bytes lines.new ≡ string_bytes lines.old ++ said.pair_line (name.now, value.now)) }
+    ensures { OnOk result (string_bytes lines.new ≡ string_bytes lines.old
+        ++ spec.pair_line (name.now, value.now)) }
 {
     let name = quoted(alloc, name)?;
     let value = quoted(alloc, value)?;
@@ -82,7 +88,8 @@ fn print_pairs(
     lines: &mut String,
     pairs: &[(String, String)],
 ) -> Result<(), AllocError>
-    ensures { OnOk result (string_bytes lines.new ≡ string_bytes lines.old ++ said.pair_lines (map pair_texts pairs.now)) }
+    ensures { OnOk result (string_bytes lines.new ≡ string_bytes lines.old
+        ++ spec.pair_lines (map pair_texts pairs.now)) }
 {
     for (name, value) in pairs {
         print_pair(alloc, lines, name.as_str(), value.as_str())?;
@@ -95,7 +102,8 @@ fn print_credentials(
     lines: &mut String,
     credentials: &Option<(String, String)>,
 ) -> Result<(), AllocError>
-    ensures { OnOk result (string_bytes lines.new ≡ string_bytes lines.old ++ said.basic_line (option_map pair_texts credentials.now)) }
+    ensures { OnOk result (string_bytes lines.new ≡ string_bytes lines.old
+        ++ spec.basic_line (option_map pair_texts credentials.now)) }
 {
     match credentials {
         None => print_no_basic(lines),
@@ -105,7 +113,8 @@ fn print_credentials(
 
 // What a server that decodes reads of the request.
 fn print_view(alloc: Global, lines: &mut String, request: &HttpRequest) -> Result<(), AllocError>
-    ensures { OnOk result (string_bytes lines.new ≡ string_bytes lines.old ++ said.view_lines (view_of request.now)) }
+    ensures { OnOk result (string_bytes lines.new ≡ string_bytes lines.old
+        ++ private_spec.view_lines (view_of request.now)) }
 {
     match server_view(alloc, request) {
         Ok(view) => {
@@ -122,13 +131,14 @@ fn print_view(alloc: Global, lines: &mut String, request: &HttpRequest) -> Resul
 }
 
 /// The lines of a request that a client is handed.
-#[tactic(auto, unfolding(crate::specs::Lines::request_lines))]
+#[tactic(auto, unfolding(crate::specs::private::RequestLines::request_lines))]
 pub fn print_request(
     alloc: Global,
     lines: &mut String,
     request: &HttpRequest,
 ) -> Result<(), AllocError>
-    ensures { OnOk result (string_bytes lines.new ≡ string_bytes lines.old ++ said.request_lines (view_of request.now)) }
+    ensures { OnOk result (string_bytes lines.new ≡ string_bytes lines.old
+        ++ private_spec.request_lines (view_of request.now)) }
 {
     let target = request.uri().to_string(alloc)?;
     print_target(lines, request.method().as_str(), target.as_str())?;
@@ -140,14 +150,16 @@ pub fn print_request(
 
 #[tactic(auto, unfolding(crate::specs::Lines::answer_line))]
 pub fn print_answer(lines: &mut String, json: &str) -> Result<(), AllocError>
-    ensures { OnOk result (string_bytes lines.new ≡ string_bytes lines.old ++ said.answer_line json.now) }
+    ensures { OnOk result (string_bytes lines.new ≡ string_bytes lines.old
+        ++ spec.answer_line json.now) }
 {
     writeln!(lines, "answer ok {json}")
 }
 
 #[tactic(auto, unfolding(crate::specs::Lines::fault_line))]
 pub fn print_fault(alloc: Global, lines: &mut String, text: &str) -> Result<(), AllocError>
-    ensures { OnOk result (string_bytes lines.new ≡ string_bytes lines.old ++ said.fault_line text.now) }
+    ensures { OnOk result (string_bytes lines.new ≡ string_bytes lines.old
+        ++ spec.fault_line text.now) }
 {
     let text = quoted(alloc, text)?;
     writeln!(lines, "answer fault {text}")

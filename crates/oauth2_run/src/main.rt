@@ -8,22 +8,18 @@ mod client_credentials;
 mod code;
 mod command;
 mod input;
-mod kinds;
 mod lines;
-mod part;
 mod password;
-mod reading;
 mod refresh;
 mod replay;
 mod run;
-mod script;
-mod script_error;
 mod status;
 #[cfg(test)]
 mod tests;
+mod token_request;
 
 use run::run_script;
-use status::{RunFault, RunStatus};
+use status::exit_of;
 use std::io;
 use std::process::ExitCode;
 
@@ -31,12 +27,5 @@ use std::process::ExitCode;
 fn main(rt: HostRuntime) -> ExitCode {
     let mut reader = rt.reader();
     let mut writer = io::writer(&rt);
-    match run_script(rt.alloc(), &mut reader, &mut writer) {
-        Ok(RunStatus::Answered) => ExitCode::from(0),
-        Ok(RunStatus::Fault) => ExitCode::from(1),
-        Ok(RunStatus::BadScript) => ExitCode::from(2),
-        Err(RunFault::Read) => ExitCode::from(3),
-        Err(RunFault::Write) => ExitCode::from(3),
-        Err(RunFault::Memory) => ExitCode::from(3),
-    }
+    exit_of(run_script(rt.alloc(), &mut reader, &mut writer))
 }

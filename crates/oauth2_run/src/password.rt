@@ -1,107 +1,50 @@
 //! The command `password`: the name and the password of a resource owner are exchanged for a token.
 
-ghost use Rattle.std.specs.Prelude.{◌≡◌, ◌++◌, false, map, string_bytes, IfOk};
-ghost use Rattle.oauth2_wire.specs.Params.{with_scopes};
-ghost use Rattle.oauth2_wire.specs.ServerView.{pair_texts};
-ghost use Rattle.oauth2.specs.Password.{password_configuration};
-ghost use Rattle.oauth2_run.specs.Password as said;
-ghost use Rattle.oauth2_run.specs.Exchange.{IsTokenExchange};
-ghost use Rattle.oauth2_run.specs.Out.{Adds};
-ghost use Rattle.oauth2_run.specs.Replay.{replies_of};
-ghost use Rattle.oauth2_run.specs.Views.{password_view};
+ghost use Rattle.std.specs.Prelude.{◌≡◌, false, string_bytes, IfOk};
+ghost use Rattle.oauth2_run.specs.Password as spec;
+ghost use Rattle.oauth2_run.specs.private.Added.{Adds};
+ghost use Rattle.oauth2_run.specs.private.Replay.{replies_of};
+ghost use Rattle.oauth2_script.specs.Views.{password_view};
 
-use crate::answer::{show_missing, show_token};
-use crate::client::{BasicErrorResponse, ScriptClient};
-use crate::part::{Part, listed, needed};
+use crate::answer::{Fault, show_missing};
+use crate::client::ScriptClient;
 use crate::replay::ScriptedClient;
-use crate::script_error::ScriptError;
 use crate::status::RunStatus;
-use oauth2::PasswordTokenRequest;
-use oauth2_replies::BasicTokenResponse;
-use oauth2_types::{ResourceOwnerPassword, ResourceOwnerUsername, Scope};
-use oauth2_wire::ParamText;
-use serde_json::Value;
+use crate::token_request::{TokenRequest, exchange, with_extra};
+use oauth2::basic::{BasicErrorResponse, BasicTokenResponse};
+use oauth2::{ParamText, PasswordTokenRequest};
+use oauth2_script::PasswordParams;
 use std::alloc::{AllocError, Global};
-
-#[derive(Drop)]
-pub struct PasswordParams {
-    pub username: String,
-    pub password: String,
-    pub scopes: Vec<Scope>,
-    pub extra: Vec<(String, String)>,
-}
-
-impl Part for PasswordParams {
-    ghost use Rattle.oauth2_run.specs.Views.{password_view};
-
-    ghost Meaning = { said.PasswordParams };
-
-    ghost meaning = { password_view };
-
-    ghost reading = { said.password_params };
-
-    #[tactic(auto, unfolding(crate::specs::Password::password_params))]
-    fn from_value(alloc: Global, value: &Value) -> Result<PasswordParams, ScriptError> {
-        let username = needed(alloc, value, "username")?;
-        let password = needed(alloc, value, "password")?;
-        let scopes = listed(alloc, value, "scopes")?;
-        let extra = listed(alloc, value, "extra")?;
-        Ok(PasswordParams {
-            username,
-            password,
-            scopes,
-            extra,
-        })
-    }
-}
 
 type PasswordRequest<'a> = PasswordTokenRequest<'a, BasicErrorResponse, BasicTokenResponse>;
 
-fn add_scopes<'a>(
-    request: PasswordRequest<'a>,
-    scopes: Vec<Scope>,
-) -> Result<PasswordRequest<'a>, AllocError>
-    ensures { IfOk result (λ r. r ≡ record request.entry {
-      base = record request.entry.base { scope = with_scopes request.entry.base.scope scopes.items };
-    }) }
-{
-    let mut request = request;
-    for scope in scopes {
-        request = request.add_scope(scope)?;
-    }
-    Ok(request)
-}
+impl<'a> TokenRequest<'a> for PasswordRequest<'a> {
+    ghost use Rattle.std.proofs.Common.{ap};
+    ghost use Rattle.oauth2.specs.Base.{Base};
+    ghost use Rattle.oauth2.specs.Password.{password_configuration};
+    ghost use Rattle.oauth2_run.specs.private.Extra.{with_pairs, with_pairs-none, with_pairs-more};
 
-fn with_extra<'a>(
-    request: PasswordRequest<'a>,
-    extra: &'a [(String, String)],
-) -> Result<PasswordRequest<'a>, AllocError>
-    ensures { IfOk result (λ r. r ≡ record request.entry {
-      base = record request.entry.base { extra_params = request.entry.base.extra_params ++ map pair_texts extra.now };
-    }) }
-{
-    let mut request = request;
-    for (name, value) in extra {
-        request = request.add_extra_param(
-            ParamText::Borrowed(name.as_str()),
-            ParamText::Borrowed(value.as_str()),
-        )?;
-    }
-    Ok(request)
-}
+    ghost extended = { λ r added. record r { base = with_pairs r.base added } };
 
-// Sends the request, and shows what came of it.
-fn exchange(
-    alloc: Global,
-    request: PasswordRequest<'_>,
-    http_client: &mut ScriptedClient,
-) -> Result<RunStatus, AllocError>
-    ensures { IfOk result (λ status. http_client.new.is_starved ≡ false
-        → Adds (string_bytes http_client.old.lines) (string_bytes http_client.new.lines) status
-        (IsTokenExchange (password_configuration request.entry) request.entry.token_url (replies_of http_client.old))) }
-{
-    let end = request.request(alloc, http_client);
-    show_token(alloc, &mut http_client.lines, &end)
+    ghost configuration = { password_configuration };
+
+    ghost endpoint = { λ r. r.token_url };
+
+    ghost none = { λ r. ap (λ (b : Base). record r { base = b }) (with_pairs-none r.base) };
+
+    ghost more = { λ r p q. ap (λ (b : Base). record r { base = b }) (with_pairs-more r.base p q) };
+
+    fn with_pair(self, name: &'a str, value: &'a str) -> Result<PasswordRequest<'a>, AllocError> {
+        self.add_extra_param(ParamText::Borrowed(name), ParamText::Borrowed(value))
+    }
+
+    fn send(
+        self,
+        alloc: Global,
+        http_client: &mut ScriptedClient,
+    ) -> Result<BasicTokenResponse, Fault> {
+        self.request(alloc, http_client)
+    }
 }
 
 /// Asks for a token, and shows what came of it.
@@ -113,13 +56,13 @@ pub fn run_password(
 ) -> Result<RunStatus, AllocError>
     ensures { IfOk result (λ status. http_client.new.is_starved ≡ false
         → Adds (string_bytes http_client.old.lines) (string_bytes http_client.new.lines) status
-        (said.IsPasswordOutput client.now (password_view params) (replies_of http_client.old))) }
+        (spec.IsPasswordOutput client.now (password_view params) (replies_of http_client.old))) }
 {
-    let username = ResourceOwnerUsername::new(params.username);
-    let password = ResourceOwnerPassword::new(params.password);
+    let username = params.username;
+    let password = params.password;
     match client.exchange_password(alloc, &username, &password) {
         Ok(request) => {
-            let scoped = add_scopes(request, params.scopes)?;
+            let scoped = request.add_scopes(params.scopes)?;
             let asked = with_extra(scoped, params.extra.as_slice())?;
             exchange(alloc, asked, http_client)
         }

@@ -2,14 +2,15 @@
 
 ghost use Rattle.std.specs.Prelude.{◌≡◌, IfOk};
 ghost use Rattle.oauth2_wire.specs.Reply.{reply_of};
-ghost use Rattle.oauth2_run.specs.Views.{answer_view};
+ghost use Rattle.oauth2_script.specs.Views.{http_reply_view};
+ghost use Rattle.oauth2_run.specs.Replies.{reply_view};
 
 use crate::lines::print_request;
-use crate::script::{Answer, Reply};
 use http::Response;
 use http::response::Parts;
 use http_header::{CONTENT_TYPE, HeaderMapError};
-use oauth2_wire::{HttpRequest, HttpResponse, SyncHttpClient};
+use oauth2::{HttpRequest, HttpResponse, SyncHttpClient};
+use oauth2_script::{HttpReply, Reply};
 use std::alloc::{AllocError, Global};
 use std::collections::VecDeque;
 
@@ -28,14 +29,14 @@ pub struct ScriptedClient {
     pub is_starved: bool,
 }
 
-fn response_of(alloc: Global, answer: Answer) -> Result<HttpResponse, AllocError>
-    ensures { IfOk result (λ reply. reply_of reply ≡ answer_view answer) }
+fn response_of(alloc: Global, reply: HttpReply) -> Result<HttpResponse, AllocError>
+    ensures { IfOk result (λ response. reply_of response ≡ reply_view (http_reply_view reply)) }
 {
-    let Answer {
+    let HttpReply {
         status,
         content_type,
         body,
-    } = answer;
+    } = reply;
     let mut parts = Parts::new(alloc);
     parts.status = status;
     if let Some(value) = content_type {
@@ -49,7 +50,7 @@ fn response_of(alloc: Global, answer: Answer) -> Result<HttpResponse, AllocError
 }
 
 impl SyncHttpClient for ScriptedClient {
-    ghost use Rattle.oauth2_run.specs.Replay.{ReplaysOrStarves};
+    ghost use Rattle.oauth2_run.specs.private.Replay.{ReplaysOrStarves};
 
     type Error = NoReply;
 
@@ -60,8 +61,8 @@ impl SyncHttpClient for ScriptedClient {
             self.is_starved = true;
         }
         match self.replies.pop_front() {
-            Some(Reply::Answered(answer)) => match response_of(self.alloc, answer) {
-                Ok(reply) => Ok(reply),
+            Some(Reply::Replied(reply)) => match response_of(self.alloc, reply) {
+                Ok(response) => Ok(response),
                 Err(_) => {
                     self.is_starved = true;
                     Err(NoReply)

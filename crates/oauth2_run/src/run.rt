@@ -4,16 +4,14 @@ ghost use Rattle.std.specs.Prelude.{◌≡◌, List, ℕ, Some, string_bytes, If
 ghost use Rattle.std.specs.Io.KnownBytes.{Appends};
 ghost use Rattle.oauth2_run.specs.Out.{Shows};
 ghost use Rattle.oauth2_run.specs.Run.{IsScriptOutput, IsOutputOf};
-ghost use Rattle.oauth2_run.specs.Views.{script_view};
+ghost use Rattle.oauth2_script.specs.Views.{script_view};
 
 use crate::client::client_of;
 use crate::command::run_command;
 use crate::input::{Source, read_input};
-use crate::reading::script_in;
 use crate::replay::ScriptedClient;
-use crate::script::Script;
-use crate::script_error::ScriptError;
 use crate::status::{RunFault, RunStatus};
+use oauth2_script::{Script, ScriptError, script_in};
 use std::alloc::{AllocError, Global};
 use std::io::{Read, Write};
 
@@ -69,6 +67,8 @@ pub fn run_script<R: Read, W: Write>(
         × Shows written status (IsOutputOf input))) }
     // Where the input can't be read, nothing is written.
     ensures unread { result ≡ Err RunFault.Read → writer.new ≡ writer.old }
+    // Nor where memory ran out outside a call of the client.
+    ensures unfed { result ≡ Err RunFault.Memory → writer.new ≡ writer.old }
 {
     let mut source = Source::new(&mut *reader);
     let input = read_input(alloc, &mut source)?;

@@ -1,12 +1,15 @@
-use Rattle.std.proofs.Common.{◌≡◌, ◌++◌, ℕ, List, subst, string_bytes, codes, option_map, unwrap_or, refl}
-use Rattle.std.specs.Prelude.{IfSome}
+use Rattle.std.proofs.Common.{◌≡◌, ◌++◌, ℕ, List, length, string_bytes, codes, unwrap_or, refl, rules, ap, ◌∙◌}
+use Rattle.std.specs.Vec.Iter.{into_iter_len}
 use Rattle.std.proofs.lemmas.Result.{IfOk-weaker}
 use Rattle.oauth2.specs.Authorization.{Authorization}
 use Rattle.oauth2.specs.Missing.{IsMissing}
-use Rattle.oauth2_run.specs.Authorize.{AuthorizeParams, new_authorization, authorization, IsUrlShown}
+use Rattle.oauth2_script.specs.AuthorizeParams.{AuthorizeParams}
+use Rattle.oauth2_run.specs.Authorize.{authorization, IsUrlShown}
+use Rattle.oauth2_run.specs.private.Authorize.{new_authorization}
 use Rattle.oauth2_run.specs.Client.{given_or}
-use Rattle.oauth2_run.specs.Views.{authorize_view}
+use Rattle.oauth2_script.specs.Views.{authorize_view}
 use Rattle.oauth2_run.proofs.Commands.{given_or-none, missing_told, command_told}
+use Rattle.oauth2_run.proofs.Scopes.{every_item}
 use Rattle.oauth2_run.proofs.authorize.run_authorize.Goals as goal
 
 -- the request with what the command gives
@@ -22,18 +25,23 @@ given p started = record {
   extra_params = started.extra_params ++ p.extra;
 }
 
+abbrev scoped_by : Authorization → List (List ℕ) → Authorization
+scoped_by r scopes = record r { scopes = r.scopes ++ scopes }
+
 pub returns-in_ok-asked-in-Ok : goal.returns-in_ok-asked-in-Ok
 returns-in_ok-asked-in-Ok c =
     let p = authorize_view c.args.params in
-    let asked : c.in_ok-asked-in-Ok.asked ≡ given (authorize_view c.args.params) c.in-Ok.request =
-    rw (c.in_ok-asked-in-Ok.ensures, c.in_ok-scoped-in-Ok.ensures, c.in_ok-typed-in-Ok.ensures, c.with_redirect-redirected.ensures, c.with_challenge-challenged.ensures, c.as_slice.ensures.value) in
-    let there : IfSome c.args.client.now.auth_url (λ u. c.in-Ok.request ≡ new_authorization c.args.client.now u p.state) =
-    subst (λ (t : List ℕ). IfSome c.args.client.now.auth_url (λ u. c.in-Ok.request ≡ new_authorization c.args.client.now u t)) c.new.ensures c.in-Ok.ensures.there in
+    let h = c.in_ok-scoped-in-Ok.ensures in
+    let count : into_iter_len h.0 ≡ length c.args.params.scopes.items = h.2.1 ∙ search rules in
+    let scoped : c.in_ok-scoped-in-Ok.scoped ≡ scoped_by c.in_ok-typed-in-Ok.typed c.args.params.scopes.items =
+    h.4 ∙ ap (scoped_by c.in_ok-typed-in-Ok.typed) (every_item h.0 c.args.params.scopes.items h.1 h.2.0 count h.3) in
+    let asked : c.in_ok-asked-in-Ok.asked ≡ given p c.in-Ok.request =
+    rw (c.in_ok-asked-in-Ok.ensures, scoped, c.in_ok-typed-in-Ok.ensures, c.with_redirect-redirected.ensures, c.with_challenge-challenged.ensures, c.as_slice.ensures.value) refl in
     IfOk-weaker c.show_url.result _ _
     (λ status adds.
     command_told (codes "authorization") IsUrlShown (λ u. new_authorization c.args.client.now u p.state) (given p) (λ u. authorization c.args.client.now p u)
     (string_bytes c.args.lines.now) (string_bytes c.show_url.new.lines) status (λ u. rw (given_or-none p.challenge) refl) c.args.client.now.auth_url
-    c.in-Ok.request c.in_ok-asked-in-Ok.asked there c.in-Ok.ensures.missing asked adds)
+    c.in-Ok.request c.in_ok-asked-in-Ok.asked c.in-Ok.ensures.there c.in-Ok.ensures.missing asked adds)
     c.show_url.ensures
 
 pub returns-in-Err : goal.returns-in-Err

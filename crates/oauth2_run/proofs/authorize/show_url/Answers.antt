@@ -1,4 +1,4 @@
-use Rattle.std.proofs.Common.{◌≡◌, ◌++◌, string_bytes, inl, refl, append_assoc}
+use Rattle.std.proofs.Common.{◌≡◌, ◌++◌, string_bytes, refl, append_assoc}
 use Rattle.url.specs.Parts.{serialize}
 use Rattle.oauth2_run.specs.Authorize.{url_line}
 use Rattle.oauth2_run.specs.Lines.{quoted, answer_line}
@@ -16,4 +16,4 @@ returns-in_ok-print_answer-in-Ok c =
     let o : Output = after (url_line (serialize c.in-Ok.url)) (answered (quoted c.args.request.state)) in
     let all : string_bytes c.print_answer.new.lines ≡ string_bytes c.args.lines.now ++ o.lines =
     rw (told, shown) (append_assoc (string_bytes c.args.lines.now) (url_line (serialize c.in-Ok.url)) (answer_line (quoted c.args.request.state))) in
-    (o.lines, all, inl (o, (c.in-Ok.url, c.in-Ok.ensures.ok, refl), refl, refl))
+    (o, (c.in-Ok.url, c.in-Ok.ensures.ok, refl), all, refl)

@@ -1,10 +1,10 @@
-use Rattle.std.proofs.Common.{◌≡◌, None, inl, refl}
+use Rattle.std.proofs.Common.{◌≡◌, None, refl}
 use Rattle.oauth2_run.specs.Run.{IsOutputOf, IsScriptOutput, bad_script}
-use Rattle.oauth2_run.specs.Script.{script_in}
+use Rattle.oauth2_script.specs.Script.{script_in}
 use Rattle.oauth2_run.proofs.run.output_of.Goals as goal
 
 pub returns-in_ok-lines-in-Err-Bad : goal.returns-in_ok-lines-in-Err-Bad
 unfolding IsOutputOf
 returns-in_ok-lines-in-Err-Bad c =
     let none : script_in c.args.input.now ≡ None = rw c.in-Err-Bad.field-0-is at c.in-Err-Bad.ensures in
-    inl (bad_script, rw none refl, c.in_ok-lines-in-Err-Bad.ensures.ok, refl)
+    (bad_script, rw none refl, c.in_ok-lines-in-Err-Bad.ensures.ok, refl)

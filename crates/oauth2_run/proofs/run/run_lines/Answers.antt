@@ -1,6 +1,6 @@
 use Rattle.std.proofs.Common.{◌≡◌, string_bytes}
 use Rattle.oauth2_run.specs.Client.{settings_of}
-use Rattle.oauth2_run.specs.Views.{client_view}
+use Rattle.oauth2_script.specs.Views.{client_view}
 use Rattle.oauth2_run.proofs.Commands.{Shows-from_Adds}
 use Rattle.oauth2_run.proofs.run.run_lines.Goals as goal
 

@@ -1,8 +1,0 @@
-use Rattle.std.proofs.Common.{◌≡◌, ◌++◌, map, take}
-use Rattle.oauth2_wire.specs.ServerView.{pair_texts}
-use Rattle.oauth2_run.proofs.code.with_extra.Given as goal
-
-abbrev pub invariant-loop-name : goal.invariant-loop-name
-invariant-loop-name l = l.request ≡ record l.initial.request {
-  base = record l.initial.request.base { extra_params = l.initial.request.base.extra_params ++ map pair_texts (take l.name-index l.extra) };
-}

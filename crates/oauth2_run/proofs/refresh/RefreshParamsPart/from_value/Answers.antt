@@ -1,7 +1,0 @@
-use Rattle.std.proofs.lemmas.List.{map-id}
-use Rattle.oauth2_run.specs.Refresh.{refresh_params}
-use Rattle.oauth2_run.proofs.refresh.RefreshParamsPart.from_value.Goals as goal
-
-pub returns : goal.returns
-unfolding refresh_params
-returns c = rw (c.in_ok-refresh_token.ensures, c.in_ok-scopes.ensures, c.in_ok-extra.ensures) (simp map-id)

@@ -1,0 +1,8 @@
+-- What only private clauses cite.
+pub mod Added
+pub mod Asked
+pub mod Authorize
+pub mod Extra
+pub mod Replay
+pub mod RequestLines
+pub mod Results

@@ -1,0 +1,14 @@
+-- The extra parameters of a request.
+use Rattle.std.proofs.Common.{◌≡◌, List, [], ◌++◌, ap, append-nil, append_assoc}
+use Rattle.oauth2_wire.specs.Pairs.{Pair}
+use Rattle.oauth2.specs.Base.{Base}
+
+-- with these pairs after those that are there
+abbrev pub with_pairs : Base → List Pair → Base
+with_pairs b added = record b { extra_params = b.extra_params ++ added }
+
+pub with_pairs-none : (b : Base) → with_pairs b [] ≡ b
+with_pairs-none b = ap (λ (pairs : List Pair). record b { extra_params = pairs }) (append-nil b.extra_params)
+
+pub with_pairs-more : (b : Base) (p q : List Pair) → with_pairs (with_pairs b p) q ≡ with_pairs b (p ++ q)
+with_pairs-more b p q = ap (λ (pairs : List Pair). record b { extra_params = pairs }) (append_assoc b.extra_params p q)

@@ -1,0 +1,131 @@
+//! Readers and writers that fail, and a reader without an end.
+
+use crate::input::MOST_READS;
+use crate::run::run_script;
+use crate::status::{RunFault, RunStatus};
+use crate::tests::support::{REQUEST, SCRIPT};
+use std::io;
+use std::io::{Error, ErrorKind, Read, Write};
+use std::test::Fail;
+
+/// Gives the bytes one at a time, and fails at one of its reads.
+#[derive(Drop)]
+struct FailingReader<'a> {
+    left: &'a [u8],
+    reads: u32,
+    fails_at: u32,
+}
+
+impl Read for FailingReader<'_> {
+    fn read(&mut self, buf: &mut [u8]) -> io::Result<usize> {
+        self.reads = self.reads.saturating_add(1);
+        if self.reads == self.fails_at {
+            return Err(Error::from(ErrorKind::Other));
+        }
+        match (self.left, buf) {
+            ([first, rest @ ..], [place, ..]) => {
+                *place = *first;
+                self.left = rest;
+                Ok(1)
+            }
+            _ => Ok(0),
+        }
+    }
+}
+
+/// Gives a space at every call.
+#[derive(Drop)]
+struct EndlessReader {
+    reads: u32,
+}
+
+impl Read for EndlessReader {
+    fn read(&mut self, buf: &mut [u8]) -> io::Result<usize> {
+        self.reads = self.reads.saturating_add(1);
+        match buf {
+            [place, ..] => {
+                *place = b' ';
+                Ok(1)
+            }
+            [] => Ok(0),
+        }
+    }
+}
+
+/// Takes one byte at a call, and fails at one of its writes.
+#[derive(Drop)]
+struct FailingWriter {
+    taken: Vec<u8>,
+    writes: usize,
+    fails_at: usize,
+}
+
+impl Write for FailingWriter {
+    fn write(&mut self, buf: &[u8]) -> io::Result<usize> {
+        self.writes = self.writes.saturating_add(1);
+        if self.writes == self.fails_at {
+            return Err(Error::from(ErrorKind::Other));
+        }
+        match buf {
+            [first, ..] => {
+                self.taken.push(*first)?;
+                Ok(1)
+            }
+            [] => Ok(0),
+        }
+    }
+
+    fn flush(&mut self) -> io::Result<()> {
+        Ok(())
+    }
+}
+
+#[test]
+fn reads_fail(rt: HostRuntime) -> Result<(), Fail> {
+    let mut at = 1u32;
+    for _ in 0..1000u32 {
+        let mut reader = FailingReader {
+            left: SCRIPT.as_bytes(),
+            reads: 0,
+            fails_at: at,
+        };
+        let mut written = Vec::new(rt.alloc());
+        let result = run_script(rt.alloc(), &mut reader, &mut written);
+        if reader.reads < at {
+            assert_eq!(rt; result, Ok(RunStatus::Answered));
+            return Ok(());
+        }
+        assert_eq!(rt; result, Err(RunFault::Read));
+        assert!(rt; written.is_empty());
+        at = at.saturating_add(1);
+    }
+    assert!(rt; false, "no run without a failure");
+    Ok(())
+}
+
+#[test]
+fn writes_fail(rt: HostRuntime) -> Result<(), Fail> {
+    for at in 1..=REQUEST.len() {
+        let mut input = SCRIPT.as_bytes();
+        let mut writer = FailingWriter {
+            taken: Vec::new(rt.alloc()),
+            writes: 0,
+            fails_at: at,
+        };
+        let result = run_script(rt.alloc(), &mut input, &mut writer);
+        assert_eq!(rt; result, Err(RunFault::Write));
+        assert_eq!(rt; writer.writes, at);
+    }
+    Ok(())
+}
+
+#[test]
+fn endless_input(rt: HostRuntime) -> Result<(), Fail> {
+    let mut reader = EndlessReader { reads: 0 };
+    let mut written = Vec::new(rt.alloc());
+    let result = run_script(rt.alloc(), &mut reader, &mut written);
+    assert_eq!(rt; result, Err(RunFault::Read));
+    assert_eq!(rt; reader.reads, MOST_READS);
+    assert!(rt; written.is_empty());
+    Ok(())
+}

@@ -1,0 +1,4 @@
+pub mod Parts
+pub mod Inputs
+pub mod Fields
+pub mod Refusals

@@ -1,0 +1,10 @@
+use Rattle.std.proofs.Common.{◌≡◌, drop, map}
+use Rattle.serde_json.specs.View.{items_view}
+use Rattle.oauth2_script.specs.Part as spec
+use Rattle.oauth2_script.proofs.Parts.{with_front}
+use Rattle.oauth2_script.proofs.part.each.Given as goal
+
+abbrev pub invariant-loop-value : goal.invariant-loop-value
+invariant-loop-value g l =
+    with_front (map g.T.Part.meaning l.parts.items) (spec.each g.T.Part.reading (items_view (drop l.value-index l.values)))
+    ≡ spec.each g.T.Part.reading (items_view l.values)

@@ -1,0 +1,32 @@
+-- The parameters of the command `authorize`.
+use Rattle.std.specs.Prelude.{ℕ, List, Option, Some, codes}
+use Rattle.serde_json.specs.Data.{Data}
+use Rattle.serde_json.specs.Find.{as_str}
+use Rattle.oauth2_types.specs.Pkce.{Challenge}
+use Rattle.oauth2_urls.specs.Addressed.{Addressed}
+use Rattle.oauth2_script.specs.Part.{◌>>=◌, address, listed, needed, optional, pair, challenge}
+
+pub record AuthorizeParams : Type 0 where
+  pub state : List ℕ
+  pub challenge : Option Challenge
+  pub redirect : Option Addressed
+  pub response_type : Option (List ℕ)
+  pub scopes : List (List ℕ)
+  pub extra : List (List ℕ × List ℕ)
+
+unfoldable pub authorize_params : Data → Option AuthorizeParams
+authorize_params d = do
+  state ← needed as_str (codes "state") d
+  scopes ← listed as_str (codes "scopes") d
+  extra ← listed pair (codes "extra") d
+  challenge ← optional challenge (codes "verifier") d
+  redirect ← optional address (codes "redirect") d
+  response_type ← optional as_str (codes "response_type") d
+  Some (record {
+    state = state;
+    challenge = challenge;
+    redirect = redirect;
+    response_type = response_type;
+    scopes = scopes;
+    extra = extra;
+  })

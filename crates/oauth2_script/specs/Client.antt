@@ -1,0 +1,49 @@
+-- The client of a script.
+use Rattle.std.specs.Prelude.{ℕ, List, Option, Some, None, unwrap_or, if◌then◌else◌, codes}
+use Rattle.std.specs.Str.{bytes_eq}
+use Rattle.serde_json.specs.Data.{Data}
+use Rattle.serde_json.specs.Find.{as_str}
+use Rattle.oauth2_urls.specs.Addressed.{Addressed}
+use Rattle.oauth2_script.specs.declared.client_part.Auth.{Auth}
+use Rattle.oauth2_script.specs.declared.client_part.Auth.TheVariants.{Basic, Body}
+use Rattle.oauth2_script.specs.Part.{◌>>=◌, needed, optional, address}
+
+pub record Endpoints : Type 0 where
+  pub auth : Option Addressed
+  pub token : Option Addressed
+  pub device : Option Addressed
+  pub introspection : Option Addressed
+  pub revocation : Option Addressed
+
+pub record Client : Type 0 where
+  pub id : List ℕ
+  pub secret : Option (List ℕ)
+  pub auth : Auth
+  pub redirect : Option Addressed
+  pub endpoints : Endpoints
+
+unfoldable pub auth_of : List ℕ → Option Auth
+auth_of text =
+    if bytes_eq text (codes "basic") then Some Basic
+    else (if bytes_eq text (codes "body") then Some Body else None)
+
+abbrev pub auth : Data → Option Auth
+auth d = as_str d >>= auth_of
+
+unfoldable pub endpoints : Data → Option Endpoints
+endpoints d = do
+  auth ← optional address (codes "auth_url") d
+  token ← optional address (codes "token_url") d
+  device ← optional address (codes "device_url") d
+  introspection ← optional address (codes "introspection_url") d
+  revocation ← optional address (codes "revocation_url") d
+  Some (record { auth = auth; token = token; device = device; introspection = introspection; revocation = revocation })
+
+unfoldable pub client : Data → Option Client
+client d = do
+  id ← needed as_str (codes "id") d
+  secret ← optional as_str (codes "secret") d
+  auth ← optional auth (codes "auth") d
+  redirect ← optional address (codes "redirect") d
+  endpoints ← endpoints d
+  Some (record { id = id; secret = secret; auth = unwrap_or auth Basic; redirect = redirect; endpoints = endpoints })

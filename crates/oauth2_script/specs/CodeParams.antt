@@ -1,0 +1,20 @@
+-- The parameters of the command `code`.
+use Rattle.std.specs.Prelude.{ℕ, List, Option, Some, codes}
+use Rattle.serde_json.specs.Data.{Data}
+use Rattle.serde_json.specs.Find.{as_str}
+use Rattle.oauth2_urls.specs.Addressed.{Addressed}
+use Rattle.oauth2_script.specs.Part.{◌>>=◌, needed, optional, listed, verifier, address, pair}
+
+pub record CodeParams : Type 0 where
+  pub code : List ℕ
+  pub verifier : Option (List ℕ)
+  pub redirect : Option Addressed
+  pub extra : List (List ℕ × List ℕ)
+
+unfoldable pub code_params : Data → Option CodeParams
+code_params d = do
+  code ← needed as_str (codes "code") d
+  verifier ← optional verifier (codes "verifier") d
+  redirect ← optional address (codes "redirect") d
+  extra ← listed pair (codes "extra") d
+  Some (record { code = code; verifier = verifier; redirect = redirect; extra = extra })

@@ -1,0 +1,25 @@
+-- The commands of a script, by their names.
+use Rattle.std.specs.Prelude.{ℕ, List, Option, None, option_map, if◌then◌else◌, codes}
+use Rattle.std.specs.Str.{bytes_eq}
+use Rattle.serde_json.specs.Data.{Data}
+use Rattle.oauth2_script.specs.AuthorizeParams.{AuthorizeParams, authorize_params}
+use Rattle.oauth2_script.specs.ClientCredentialsParams.{ClientCredentialsParams, client_credentials_params}
+use Rattle.oauth2_script.specs.CodeParams.{CodeParams, code_params}
+use Rattle.oauth2_script.specs.PasswordParams.{PasswordParams, password_params}
+use Rattle.oauth2_script.specs.RefreshParams.{RefreshParams, refresh_params}
+
+pub data Command : Type 0 where
+  code : CodeParams → Command
+  refresh : RefreshParams → Command
+  password : PasswordParams → Command
+  client_credentials : ClientCredentialsParams → Command
+  authorize : AuthorizeParams → Command
+
+unfoldable pub command_of : List ℕ → Data → Option Command
+command_of name params =
+    if bytes_eq name (codes "code") then option_map code (code_params params)
+    else (if bytes_eq name (codes "refresh") then option_map refresh (refresh_params params)
+    else (if bytes_eq name (codes "password") then option_map password (password_params params)
+    else (if bytes_eq name (codes "client_credentials") then option_map client_credentials (client_credentials_params params)
+    else (if bytes_eq name (codes "authorize") then option_map authorize (authorize_params params)
+    else None))))

@@ -1,0 +1,12 @@
+pub mod Part
+pub mod Gives
+pub mod Client
+pub mod Replies
+pub mod AuthorizeParams
+pub mod ClientCredentialsParams
+pub mod CodeParams
+pub mod PasswordParams
+pub mod RefreshParams
+pub mod Command
+pub mod Script
+pub mod Views

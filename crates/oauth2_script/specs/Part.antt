@@ -1,0 +1,92 @@
+-- The parts of a script: which JSON value says what. What a value does not say is `None`.
+use Rattle.std.specs.Prelude.{ℕ, List, [], ◌∷◌, ℤ, pos, negsuc, ◌&&◌, Option, Some, None, option_map, option_and_then, Ok, Err, length, nat_le, if◌then◌else◌}
+use Rattle.std.specs.Int.Signed.{le_z}
+use Rattle.std.specs.List.{list_all}
+use Rattle.http_header.specs.Token.{is_value_byte}
+use Rattle.serde_json.specs.Data.{Data, Items, no_items, item}
+use Rattle.serde_json.specs.Find.{get, as_str, as_array, as_number, as_u64, as_i64}
+use Rattle.oauth2_types.specs.Pkce.{Challenge, sha256_challenge}
+use Rattle.oauth2_urls.specs.Addressed.{Addressed}
+use Rattle.url.specs.Parts.{Parts}
+use Rattle.url.specs.Parser.{Parsed, parse_url}
+
+infixl 10 ◌>>=◌
+abbrev pub ◌>>=◌ : {A B : Type 0} → Option A → (A → Option B) → Option B
+None >>= f = None
+(Some x) >>= f = f x
+
+module _ {A : Type 0} (part : Data → Option A) where
+  -- a member that has to be there
+  unfoldable pub needed : List ℕ → Data → Option A
+  needed name d = get name d >>= part
+
+  -- a member that may be absent; null is no absence
+  abbrev pub optional_part : Option Data → Option (Option A)
+  optional_part None = Some None
+  optional_part (Some d) = option_map Some (part d)
+
+  unfoldable pub optional : List ℕ → Data → Option (Option A)
+  optional name d = optional_part (get name d)
+
+  -- each item of a list
+  abbrev pub each : Items → Option (List A)
+  each no_items = Some []
+  each (item d ds) = part d >>= λ x. option_map (λ xs. x ∷ xs) (each ds)
+
+  -- a list, empty where it is absent
+  abbrev pub listed_part : Option Data → Option (List A)
+  listed_part None = Some []
+  listed_part (Some d) = as_array d >>= each
+
+  unfoldable pub listed : List ℕ → Data → Option (List A)
+  listed name d = listed_part (get name d)
+
+-- a name and a value, as a list of two texts
+abbrev pub pair_of : Items → Option (List ℕ × List ℕ)
+pair_of no_items = None
+pair_of (item a no_items) = None
+pair_of (item a (item b no_items)) = as_str a >>= λ name. option_map (λ value. (name, value)) (as_str b)
+pair_of (item a (item b (item c ds))) = None
+
+abbrev pub pair : Data → Option (List ℕ × List ℕ)
+pair d = as_array d >>= pair_of
+
+-- a text that the URL Standard's parser takes
+abbrev pub addressed : List ℕ → Parsed Parts → Option Addressed
+addressed text (Ok url) = Some (record { text = text; url = url })
+addressed text (Err e) = None
+
+abbrev pub address : Data → Option Addressed
+address d = as_str d >>= λ text. addressed text (parse_url None text)
+
+-- a code verifier (RFC 7636, 4.1)
+abbrev pub verifier_of : List ℕ → Option (List ℕ)
+verifier_of text = if nat_le 43 (length text) && nat_le (length text) 128 then Some text else None
+
+abbrev pub verifier : Data → Option (List ℕ)
+verifier d = as_str d >>= verifier_of
+
+-- the challenge of a verifier, by SHA-256 (RFC 7636, 4.2)
+abbrev pub challenge : Data → Option Challenge
+challenge d = option_map sha256_challenge (verifier d)
+
+-- a status code of HTTP
+abbrev pub status_of : ℕ → Option ℕ
+status_of n = if nat_le 100 n && nat_le n 999 then Some n else None
+
+abbrev pub status : Data → Option ℕ
+status d = option_and_then as_u64 (as_number d) >>= status_of
+
+-- the value of a header field (RFC 9110, 5.5)
+abbrev pub field_of : List ℕ → Option (List ℕ)
+field_of text = if list_all is_value_byte text then Some text else None
+
+abbrev pub field : Data → Option (List ℕ)
+field d = as_str d >>= field_of
+
+-- whole seconds since 1970, from -9999-01-02T01:59:59Z to 9999-12-30T22:00:00Z
+abbrev pub second_of : ℤ → Option ℤ
+second_of z = if le_z (negsuc 377705023200) z && le_z z (pos 253402207200) then Some z else None
+
+abbrev pub second : Data → Option ℤ
+second d = option_and_then as_i64 (as_number d) >>= second_of

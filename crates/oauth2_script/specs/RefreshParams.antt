@@ -1,0 +1,17 @@
+-- The parameters of the command `refresh`.
+use Rattle.std.specs.Prelude.{ℕ, List, Option, Some, codes}
+use Rattle.serde_json.specs.Data.{Data}
+use Rattle.serde_json.specs.Find.{as_str}
+use Rattle.oauth2_script.specs.Part.{◌>>=◌, needed, listed, pair}
+
+pub record RefreshParams : Type 0 where
+  pub refresh_token : List ℕ
+  pub scopes : List (List ℕ)
+  pub extra : List (List ℕ × List ℕ)
+
+unfoldable pub refresh_params : Data → Option RefreshParams
+refresh_params d = do
+  refresh_token ← needed as_str (codes "refresh_token") d
+  scopes ← listed as_str (codes "scopes") d
+  extra ← listed pair (codes "extra") d
+  Some (record { refresh_token = refresh_token; scopes = scopes; extra = extra })

@@ -1,0 +1,35 @@
+-- The replies of a script.
+use Rattle.std.specs.Prelude.{ℕ, List, Bool, true, false, Option, Some, None, option_map, codes}
+use Rattle.serde_json.specs.Data.{Data}
+use Rattle.serde_json.specs.Find.{get, as_str, as_bool}
+use Rattle.oauth2_script.specs.Part.{◌>>=◌, needed, optional, status, field}
+
+-- a reply as values
+pub record HttpReply : Type 0 where
+  pub status : ℕ
+  pub content_type : Option (List ℕ)
+  pub body : List ℕ
+
+-- what the scripted client does at one call
+pub data Reply : Type 0 where
+  replied : HttpReply → Reply
+  failed : Reply
+
+unfoldable pub http_reply : Data → Option HttpReply
+http_reply d = do
+  status ← needed status (codes "status") d
+  content_type ← optional field (codes "content_type") d
+  body ← needed as_str (codes "body") d
+  Some (record { status = status; content_type = content_type; body = body })
+
+abbrev pub failed_if : Bool → Option Reply
+failed_if true = Some failed
+failed_if false = None
+
+-- a member `fail` makes the reply a failure, whatever else is there
+abbrev pub reply_by : Option Data → Option HttpReply → Option Reply
+reply_by None given = option_map replied given
+reply_by (Some d) given = as_bool d >>= failed_if
+
+abbrev pub reply : Data → Option Reply
+reply d = reply_by (get (codes "fail") d) (http_reply d)

@@ -1,0 +1,35 @@
+-- What a script says, and which JSON value says it.
+use Rattle.std.specs.Prelude.{ℕ, ℤ, List, Option, Some, None, option_map, if◌then◌else◌, codes}
+use Rattle.std.specs.Str.{is_utf8}
+use Rattle.serde_json.specs.Data.{Data, object, no_members}
+use Rattle.serde_json.specs.Find.{get, as_str, as_object}
+use Rattle.serde_json.specs.Read.{read}
+use Rattle.oauth2_script.specs.Part.{◌>>=◌, needed, listed, second}
+use Rattle.oauth2_script.specs.Client.{Client, client}
+use Rattle.oauth2_script.specs.Command.{Command, command_of}
+use Rattle.oauth2_script.specs.Replies.{Reply, reply}
+
+pub record Script : Type 0 where
+  pub client : Client
+  pub command : Command
+  pub replies : List Reply
+  pub readings : List ℤ
+
+-- an object, empty where it is absent
+abbrev pub object_or_empty : Option Data → Option Data
+object_or_empty None = Some (object no_members)
+object_or_empty (Some d) = option_map (λ _. d) (as_object d)
+
+unfoldable pub script_of : Data → Option Script
+script_of d = do
+  name ← needed as_str (codes "command") d
+  replies ← listed reply (codes "replies") d
+  readings ← listed second (codes "readings") d
+  params ← object_or_empty (get (codes "params") d)
+  command ← command_of name params
+  client ← needed client (codes "client") d
+  Some (record { client = client; command = command; replies = replies; readings = readings })
+
+-- the script that an input is, where it is one
+unfoldable pub script_in : List ℕ → Option Script
+script_in input = if is_utf8 input then (read input >>= script_of) else None

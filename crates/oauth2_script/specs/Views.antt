@@ -1,0 +1,101 @@
+-- What contracts see of the values that the code holds.
+use Rattle.std.specs.Prelude.{map, option_map, string_bytes}
+use Rattle.oauth2_script.specs.Client as client_spec
+use Rattle.oauth2_script.specs.Command as command_spec
+use Rattle.oauth2_script.specs.Replies as replies_spec
+use Rattle.oauth2_script.specs.Script as script_spec
+use Rattle.oauth2_script.specs.CodeParams as code_spec
+use Rattle.oauth2_script.specs.RefreshParams as refresh_spec
+use Rattle.oauth2_script.specs.PasswordParams as password_spec
+use Rattle.oauth2_script.specs.ClientCredentialsParams as client_credentials_spec
+use Rattle.oauth2_script.specs.AuthorizeParams as authorize_spec
+use Rattle.oauth2_script.specs.declared.code_params.CodeParams.{CodeParams}
+use Rattle.oauth2_script.specs.declared.refresh_params.RefreshParams.{RefreshParams}
+use Rattle.oauth2_script.specs.declared.password_params.PasswordParams.{PasswordParams}
+use Rattle.oauth2_script.specs.declared.client_credentials_params.ClientCredentialsParams.{ClientCredentialsParams}
+use Rattle.oauth2_script.specs.declared.authorize_params.AuthorizeParams.{AuthorizeParams}
+use Rattle.oauth2_script.specs.declared.client_part.ClientPart.{ClientPart}
+use Rattle.oauth2_script.specs.declared.client_part.Endpoints.{Endpoints}
+use Rattle.oauth2_script.specs.declared.command.Command.{Command}
+use Rattle.oauth2_script.specs.declared.command.Command.TheVariants.{Code, Refresh, Password, ClientCredentials, Authorize}
+use Rattle.oauth2_script.specs.declared.reply.HttpReply.{HttpReply}
+use Rattle.oauth2_script.specs.declared.reply.Reply.{Reply}
+use Rattle.oauth2_script.specs.declared.reply.Reply.TheVariants.{Replied, Failed}
+use Rattle.oauth2_script.specs.declared.script.Script.{Script}
+
+abbrev pub code_view : CodeParams → code_spec.CodeParams
+code_view p = record {
+  code = p.code;
+  verifier = p.verifier;
+  redirect = p.redirect;
+  extra = map (λ e. (string_bytes e.0, string_bytes e.1)) p.extra.items;
+}
+
+abbrev pub refresh_view : RefreshParams → refresh_spec.RefreshParams
+refresh_view p = record {
+  refresh_token = p.refresh_token;
+  scopes = p.scopes.items;
+  extra = map (λ e. (string_bytes e.0, string_bytes e.1)) p.extra.items;
+}
+
+abbrev pub password_view : PasswordParams → password_spec.PasswordParams
+password_view p = record {
+  username = p.username;
+  password = p.password;
+  scopes = p.scopes.items;
+  extra = map (λ e. (string_bytes e.0, string_bytes e.1)) p.extra.items;
+}
+
+abbrev pub client_credentials_view : ClientCredentialsParams → client_credentials_spec.ClientCredentialsParams
+client_credentials_view p = record {
+  scopes = p.scopes.items;
+  extra = map (λ e. (string_bytes e.0, string_bytes e.1)) p.extra.items;
+}
+
+abbrev pub authorize_view : AuthorizeParams → authorize_spec.AuthorizeParams
+authorize_view p = record {
+  state = p.state;
+  challenge = p.challenge;
+  redirect = p.redirect;
+  response_type = p.response_type;
+  scopes = p.scopes.items;
+  extra = map (λ e. (string_bytes e.0, string_bytes e.1)) p.extra.items;
+}
+
+abbrev pub endpoints_view : Endpoints → client_spec.Endpoints
+endpoints_view e = record { auth = e.auth; token = e.token; device = e.device; introspection = e.introspection; revocation = e.revocation }
+
+abbrev pub client_view : ClientPart → client_spec.Client
+client_view c = record {
+  id = c.id;
+  secret = c.secret;
+  auth = c.auth;
+  redirect = c.redirect;
+  endpoints = endpoints_view c.endpoints;
+}
+
+abbrev pub http_reply_view : HttpReply → replies_spec.HttpReply
+http_reply_view r = record {
+  status = r.status;
+  content_type = option_map (λ v. v.bytes) r.content_type;
+  body = string_bytes r.body;
+}
+
+abbrev pub reply_view : Reply → replies_spec.Reply
+reply_view (Replied r) = replies_spec.replied (http_reply_view r)
+reply_view Failed = replies_spec.failed
+
+abbrev pub command_view : Command → command_spec.Command
+command_view (Code p) = command_spec.code (code_view p)
+command_view (Refresh p) = command_spec.refresh (refresh_view p)
+command_view (Password p) = command_spec.password (password_view p)
+command_view (ClientCredentials p) = command_spec.client_credentials (client_credentials_view p)
+command_view (Authorize p) = command_spec.authorize (authorize_view p)
+
+abbrev pub script_view : Script → script_spec.Script
+script_view s = record {
+  client = client_view s.client;
+  command = command_view s.command;
+  replies = map reply_view s.replies.items;
+  readings = map (λ r. r.0) s.readings.items;
+}

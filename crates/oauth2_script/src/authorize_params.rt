@@ -1,0 +1,49 @@
+//! The parameters of the command `authorize`.
+
+ghost use Rattle.oauth2_script.specs.AuthorizeParams as spec;
+
+use crate::part::{Part, listed, needed, optional};
+use crate::script_error::ScriptError;
+use oauth2_types::{CsrfToken, PkceCodeChallenge, ResponseType, Scope};
+use oauth2_urls::RedirectUrl;
+use serde_json::Value;
+use std::alloc::Global;
+
+/// What an authorization URL takes.
+#[derive(Drop)]
+pub struct AuthorizeParams {
+    pub state: CsrfToken,
+    pub challenge: Option<PkceCodeChallenge>,
+    pub redirect: Option<RedirectUrl>,
+    pub response_type: Option<ResponseType>,
+    pub scopes: Vec<Scope>,
+    pub extra: Vec<(String, String)>,
+}
+
+impl Part for AuthorizeParams {
+    ghost use Rattle.oauth2_script.specs.Views.{authorize_view};
+
+    ghost Meaning = { spec.AuthorizeParams };
+
+    ghost meaning = { authorize_view };
+
+    ghost reading = { spec.authorize_params };
+
+    #[tactic(auto, unfolding(crate::specs::AuthorizeParams::authorize_params))]
+    fn from_value(alloc: Global, value: &Value) -> Result<AuthorizeParams, ScriptError> {
+        let state = needed(alloc, value, "state")?;
+        let scopes = listed(alloc, value, "scopes")?;
+        let extra = listed(alloc, value, "extra")?;
+        let challenge = optional(alloc, value, "verifier")?;
+        let redirect = optional(alloc, value, "redirect")?;
+        let response_type = optional(alloc, value, "response_type")?;
+        Ok(AuthorizeParams {
+            state,
+            challenge,
+            redirect,
+            response_type,
+            scopes,
+            extra,
+        })
+    }
+}

@@ -1,0 +1,33 @@
+//! The parameters of the command `client_credentials`.
+
+ghost use Rattle.oauth2_script.specs.ClientCredentialsParams as spec;
+
+use crate::part::{Part, listed};
+use crate::script_error::ScriptError;
+use oauth2_types::Scope;
+use serde_json::Value;
+use std::alloc::Global;
+
+/// What a request for the client's own token takes.
+#[derive(Drop)]
+pub struct ClientCredentialsParams {
+    pub scopes: Vec<Scope>,
+    pub extra: Vec<(String, String)>,
+}
+
+impl Part for ClientCredentialsParams {
+    ghost use Rattle.oauth2_script.specs.Views.{client_credentials_view};
+
+    ghost Meaning = { spec.ClientCredentialsParams };
+
+    ghost meaning = { client_credentials_view };
+
+    ghost reading = { spec.client_credentials_params };
+
+    #[tactic(auto, unfolding(crate::specs::ClientCredentialsParams::client_credentials_params))]
+    fn from_value(alloc: Global, value: &Value) -> Result<ClientCredentialsParams, ScriptError> {
+        let scopes = listed(alloc, value, "scopes")?;
+        let extra = listed(alloc, value, "extra")?;
+        Ok(ClientCredentialsParams { scopes, extra })
+    }
+}

@@ -1,0 +1,43 @@
+//! The parameters of the command `code`.
+
+ghost use Rattle.oauth2_script.specs.CodeParams as spec;
+
+use crate::part::{Part, listed, needed, optional};
+use crate::script_error::ScriptError;
+use oauth2_types::{AuthorizationCode, PkceCodeVerifier};
+use oauth2_urls::RedirectUrl;
+use serde_json::Value;
+use std::alloc::Global;
+
+/// What the exchange of a code takes.
+#[derive(Drop)]
+pub struct CodeParams {
+    pub code: AuthorizationCode,
+    pub verifier: Option<PkceCodeVerifier>,
+    pub redirect: Option<RedirectUrl>,
+    pub extra: Vec<(String, String)>,
+}
+
+impl Part for CodeParams {
+    ghost use Rattle.oauth2_script.specs.Views.{code_view};
+
+    ghost Meaning = { spec.CodeParams };
+
+    ghost meaning = { code_view };
+
+    ghost reading = { spec.code_params };
+
+    #[tactic(auto, unfolding(crate::specs::CodeParams::code_params))]
+    fn from_value(alloc: Global, value: &Value) -> Result<CodeParams, ScriptError> {
+        let code = needed(alloc, value, "code")?;
+        let verifier = optional(alloc, value, "verifier")?;
+        let redirect = optional(alloc, value, "redirect")?;
+        let extra = listed(alloc, value, "extra")?;
+        Ok(CodeParams {
+            code,
+            verifier,
+            redirect,
+            extra,
+        })
+    }
+}

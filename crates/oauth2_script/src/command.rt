@@ -1,0 +1,43 @@
+//! The commands of a script.
+
+ghost use Rattle.serde_json.specs.View.{view};
+ghost use Rattle.oauth2_script.specs.Command as spec;
+ghost use Rattle.oauth2_script.specs.Gives.{Gives};
+ghost use Rattle.oauth2_script.specs.Views.{command_view};
+
+use crate::authorize_params::AuthorizeParams;
+use crate::client_credentials_params::ClientCredentialsParams;
+use crate::code_params::CodeParams;
+use crate::part::Part;
+use crate::password_params::PasswordParams;
+use crate::refresh_params::RefreshParams;
+use crate::script_error::ScriptError;
+use serde_json::Value;
+use std::alloc::Global;
+
+/// A command, with its parameters.
+#[derive(Drop)]
+pub enum Command {
+    Code(CodeParams),
+    Refresh(RefreshParams),
+    Password(PasswordParams),
+    ClientCredentials(ClientCredentialsParams),
+    Authorize(AuthorizeParams),
+}
+
+/// The command of this name, with these parameters.
+#[tactic(auto, unfolding(crate::specs::Command::command_of))]
+pub fn command_of(alloc: Global, name: &str, params: &Value) -> Result<Command, ScriptError>
+    ensures { Gives command_view result (spec.command_of name.now (view params.now)) }
+{
+    match name {
+        "code" => Ok(Command::Code(CodeParams::from_value(alloc, params)?)),
+        "refresh" => Ok(Command::Refresh(RefreshParams::from_value(alloc, params)?)),
+        "password" => Ok(Command::Password(PasswordParams::from_value(alloc, params)?)),
+        "authorize" => Ok(Command::Authorize(AuthorizeParams::from_value(alloc, params)?)),
+        "client_credentials" => Ok(Command::ClientCredentials(ClientCredentialsParams::from_value(
+            alloc, params,
+        )?)),
+        _ => Err(ScriptError::Bad),
+    }
+}

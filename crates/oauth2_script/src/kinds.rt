@@ -1,0 +1,128 @@
+//! The other kinds of values that stand in scripts.
+
+ghost use Rattle.std.specs.Prelude.{ℕ, ℤ, List, string_bytes};
+ghost use Rattle.serde_json.specs.View.{items_view};
+ghost use Rattle.oauth2_types.specs.Pkce.{Challenge};
+ghost use Rattle.oauth2_script.specs.Part as spec;
+ghost use Rattle.oauth2_script.specs.Gives.{Gives};
+
+use crate::part::Part;
+use crate::script_error::ScriptError;
+use http::StatusCode;
+use http_header::HeaderValue;
+use oauth2_types::{PkceCodeChallenge, PkceCodeVerifier};
+use serde_json::Value;
+use std::alloc::Global;
+
+fn two_texts(alloc: Global, values: &[Value]) -> Result<(String, String), ScriptError>
+    ensures { Gives (λ p. (string_bytes p.0, string_bytes p.1)) result
+        (spec.pair_of (items_view values.now)) }
+{
+    if values.len() != 2 {
+        return Err(ScriptError::Bad);
+    }
+    let name = String::from_value(alloc, &values[0])?;
+    let value = String::from_value(alloc, &values[1])?;
+    Ok((name, value))
+}
+
+/// A name and a value.
+impl Part for (String, String) {
+    ghost Meaning = { List ℕ × List ℕ };
+
+    ghost meaning = { λ p. (string_bytes p.0, string_bytes p.1) };
+
+    ghost reading = { spec.pair };
+
+    fn from_value(alloc: Global, value: &Value) -> Result<(String, String), ScriptError> {
+        let list = value.as_array().ok_or(ScriptError::Bad)?;
+        two_texts(alloc, list.as_slice())
+    }
+}
+
+/// A code verifier of 43 to 128 bytes (RFC 7636, section 4.1).
+impl Part for PkceCodeVerifier {
+    ghost Meaning = { List ℕ };
+
+    ghost meaning = { λ verifier. verifier };
+
+    ghost reading = { spec.verifier };
+
+    fn from_value(alloc: Global, value: &Value) -> Result<PkceCodeVerifier, ScriptError> {
+        let verifier = PkceCodeVerifier::new(String::from_value(alloc, value)?);
+        if verifier.has_valid_length() {
+            Ok(verifier)
+        } else {
+            Err(ScriptError::Bad)
+        }
+    }
+}
+
+/// The S256 challenge of a verifier.
+impl Part for PkceCodeChallenge {
+    ghost Meaning = { Challenge };
+
+    ghost meaning = { λ challenge. challenge };
+
+    ghost reading = { spec.challenge };
+
+    fn from_value(alloc: Global, value: &Value) -> Result<PkceCodeChallenge, ScriptError> {
+        let verifier = PkceCodeVerifier::from_value(alloc, value)?;
+        Ok(PkceCodeChallenge::from_code_verifier_sha256(alloc, &verifier)?)
+    }
+}
+
+/// The value of a header field.
+impl Part for HeaderValue {
+    ghost Meaning = { List ℕ };
+
+    ghost meaning = { λ v. v.bytes };
+
+    ghost reading = { spec.field };
+
+    fn from_value(alloc: Global, value: &Value) -> Result<HeaderValue, ScriptError> {
+        let text = value.as_str().ok_or(ScriptError::Bad)?;
+        Ok(HeaderValue::from_bytes(alloc, text.as_bytes())?)
+    }
+}
+
+/// A status code of HTTP, 100 to 999.
+impl Part for StatusCode {
+    ghost Meaning = { ℕ };
+
+    ghost meaning = { λ code. code };
+
+    ghost reading = { spec.status };
+
+    fn from_value(_alloc: Global, value: &Value) -> Result<StatusCode, ScriptError> {
+        let code = value.as_u64().ok_or(ScriptError::Bad)?;
+        if code < 100 || 999 < code {
+            return Err(ScriptError::Bad);
+        }
+        match StatusCode::from_u16(code as u16) {
+            Ok(status) => Ok(status),
+            Err(_) => Err(ScriptError::Bad),
+        }
+    }
+}
+
+/// Whole seconds since 1970, inside the range of `jiff`.
+#[derive(Clone, Copy)]
+pub struct Second(pub i64);
+
+impl Part for Second {
+    ghost Meaning = { ℤ };
+
+    ghost meaning = { λ s. s.0 };
+
+    ghost reading = { spec.second };
+
+    fn from_value(_alloc: Global, value: &Value) -> Result<Second, ScriptError> {
+        let second = value.as_i64().ok_or(ScriptError::Bad)?;
+        if -377_705_023_201 <= second && second <= 253_402_207_200 {
+            Ok(Second(second))
+        } else {
+            Err(ScriptError::Bad)
+        }
+    }
+}

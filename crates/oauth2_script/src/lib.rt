@@ -1,0 +1,29 @@
+//! The JSON scripts of the program: which bytes say which script.
+#![tactic(auto)]
+
+mod authorize_params;
+mod client_credentials_params;
+mod client_part;
+mod code_params;
+mod command;
+mod kinds;
+mod part;
+mod password_params;
+mod refresh_params;
+mod reply;
+mod script;
+mod script_error;
+mod texts;
+mod urls;
+
+pub use authorize_params::AuthorizeParams;
+pub use client_credentials_params::ClientCredentialsParams;
+pub use client_part::{Auth, ClientPart, Endpoints};
+pub use code_params::CodeParams;
+pub use command::Command;
+pub use kinds::Second;
+pub use password_params::PasswordParams;
+pub use refresh_params::RefreshParams;
+pub use reply::{HttpReply, Reply};
+pub use script::{Script, script_in};
+pub use script_error::ScriptError;

@@ -1,0 +1,82 @@
+//! The parts that scripts are made of, each read from a JSON value.
+
+ghost use Rattle.std.specs.Prelude.{map, option_map};
+ghost use Rattle.serde_json.specs.View.{view, items_view};
+ghost use Rattle.oauth2_script.specs.Part as spec;
+ghost use Rattle.oauth2_script.specs.Gives.{Gives};
+
+use crate::script_error::ScriptError;
+use serde_json::Value;
+use std::alloc::Global;
+
+/// What a value of a script may say.
+pub trait Part: Sized {
+    ghost use Rattle.std.specs.Prelude.{Option};
+    ghost use Rattle.serde_json.specs.Data.{Data};
+    ghost use Rattle.serde_json.specs.View.{view};
+    ghost use Rattle.oauth2_script.specs.Gives.{Gives};
+
+    /// What contracts see of it.
+    ghost Meaning: { Type 0 };
+
+    ghost meaning: { Self → Meaning };
+
+    /// What a value says.
+    ghost reading: { Data → Option Meaning };
+
+    fn from_value(alloc: Global, value: &Value) -> Result<Self, ScriptError>
+        ensures { Gives meaning result (reading (view value.now)) };
+}
+
+#[tactic(auto, unfolding(crate::specs::Part::needed))]
+pub fn needed<T: Part>(alloc: Global, object: &Value, name: &str) -> Result<T, ScriptError>
+    ensures { Gives T.meaning result (spec.needed T.reading name.now (view object.now)) }
+{
+    let value = object.get(name).ok_or(ScriptError::Bad)?;
+    T::from_value(alloc, value)
+}
+
+#[tactic(auto, unfolding(crate::specs::Part::optional))]
+pub fn optional<T: Part>(
+    alloc: Global,
+    object: &Value,
+    name: &str,
+) -> Result<Option<T>, ScriptError>
+    ensures { Gives (option_map T.meaning) result
+        (spec.optional T.reading name.now (view object.now)) }
+{
+    match object.get(name) {
+        None => Ok(None),
+        Some(value) => Ok(Some(T::from_value(alloc, value)?)),
+    }
+}
+
+fn each<T: Part + Drop>(alloc: Global, values: &[Value]) -> Result<Vec<T>, ScriptError>
+    ensures { Gives (λ v. map T.meaning v.items) result
+        (spec.each T.reading (items_view values.now)) }
+{
+    let mut parts = Vec::new(alloc);
+    for value in values {
+        parts.push(T::from_value(alloc, value)?)?;
+    }
+    Ok(parts)
+}
+
+/// An absent list is empty.
+#[tactic(auto, unfolding(crate::specs::Part::listed))]
+pub fn listed<T: Part + Drop>(
+    alloc: Global,
+    object: &Value,
+    name: &str,
+) -> Result<Vec<T>, ScriptError>
+    ensures { Gives (λ v. map T.meaning v.items) result
+        (spec.listed T.reading name.now (view object.now)) }
+{
+    match object.get(name) {
+        None => Ok(Vec::new(alloc)),
+        Some(value) => {
+            let list = value.as_array().ok_or(ScriptError::Bad)?;
+            each(alloc, list.as_slice())
+        }
+    }
+}

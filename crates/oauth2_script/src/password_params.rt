@@ -1,0 +1,42 @@
+//! The parameters of the command `password`.
+
+ghost use Rattle.oauth2_script.specs.PasswordParams as spec;
+
+use crate::part::{Part, listed, needed};
+use crate::script_error::ScriptError;
+use oauth2_types::{ResourceOwnerPassword, ResourceOwnerUsername, Scope};
+use serde_json::Value;
+use std::alloc::Global;
+
+/// What a request by a resource owner's name and password takes.
+#[derive(Drop)]
+pub struct PasswordParams {
+    pub username: ResourceOwnerUsername,
+    pub password: ResourceOwnerPassword,
+    pub scopes: Vec<Scope>,
+    pub extra: Vec<(String, String)>,
+}
+
+impl Part for PasswordParams {
+    ghost use Rattle.oauth2_script.specs.Views.{password_view};
+
+    ghost Meaning = { spec.PasswordParams };
+
+    ghost meaning = { password_view };
+
+    ghost reading = { spec.password_params };
+
+    #[tactic(auto, unfolding(crate::specs::PasswordParams::password_params))]
+    fn from_value(alloc: Global, value: &Value) -> Result<PasswordParams, ScriptError> {
+        let username = needed(alloc, value, "username")?;
+        let password = needed(alloc, value, "password")?;
+        let scopes = listed(alloc, value, "scopes")?;
+        let extra = listed(alloc, value, "extra")?;
+        Ok(PasswordParams {
+            username,
+            password,
+            scopes,
+            extra,
+        })
+    }
+}

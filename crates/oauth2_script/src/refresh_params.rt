@@ -1,0 +1,39 @@
+//! The parameters of the command `refresh`.
+
+ghost use Rattle.oauth2_script.specs.RefreshParams as spec;
+
+use crate::part::{Part, listed, needed};
+use crate::script_error::ScriptError;
+use oauth2_types::{RefreshToken, Scope};
+use serde_json::Value;
+use std::alloc::Global;
+
+/// What the exchange of a refresh token takes.
+#[derive(Drop)]
+pub struct RefreshParams {
+    pub refresh_token: RefreshToken,
+    pub scopes: Vec<Scope>,
+    pub extra: Vec<(String, String)>,
+}
+
+impl Part for RefreshParams {
+    ghost use Rattle.oauth2_script.specs.Views.{refresh_view};
+
+    ghost Meaning = { spec.RefreshParams };
+
+    ghost meaning = { refresh_view };
+
+    ghost reading = { spec.refresh_params };
+
+    #[tactic(auto, unfolding(crate::specs::RefreshParams::refresh_params))]
+    fn from_value(alloc: Global, value: &Value) -> Result<RefreshParams, ScriptError> {
+        let refresh_token = needed(alloc, value, "refresh_token")?;
+        let scopes = listed(alloc, value, "scopes")?;
+        let extra = listed(alloc, value, "extra")?;
+        Ok(RefreshParams {
+            refresh_token,
+            scopes,
+            extra,
+        })
+    }
+}

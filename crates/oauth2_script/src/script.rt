@@ -1,0 +1,81 @@
+//! What a script says, and the script that an input is.
+
+ghost use Rattle.std.specs.Prelude.{◌≡◌, option_map};
+ghost use Rattle.serde_json.specs.View.{view};
+ghost use Rattle.serde_json.specs.Data.{object, no_members};
+ghost use Rattle.oauth2_script.specs.Script as spec;
+ghost use Rattle.oauth2_script.specs.Gives.{Gives};
+ghost use Rattle.oauth2_script.specs.Views.{script_view};
+
+use crate::client_part::ClientPart;
+use crate::command::{Command, command_of};
+use crate::kinds::Second;
+use crate::part::{listed, needed};
+use crate::reply::Reply;
+use crate::script_error::ScriptError;
+use serde_json::{Map, Value};
+use std::alloc::Global;
+use std::collections::VecDeque;
+
+/// One command, and what its run stands on.
+#[derive(Drop)]
+pub struct Script {
+    pub client: ClientPart,
+    pub command: Command,
+    /// One for each call, in order; after the last the client fails.
+    pub replies: VecDeque<Reply>,
+    pub readings: Vec<Second>,
+}
+
+fn params_of<'v>(params: Option<&'v Value>, empty: &'v Value) -> Result<&'v Value, ScriptError>
+    requires { view empty.now ≡ object no_members }
+    ensures { Gives (λ v. view v.now) result
+        (spec.object_or_empty (option_map (λ v. view v.now) params.entry)) }
+{
+    match params {
+        None => Ok(empty),
+        Some(value) => {
+            if value.is_object() {
+                Ok(value)
+            } else {
+                Err(ScriptError::Bad)
+            }
+        }
+    }
+}
+
+#[tactic(auto, unfolding(crate::specs::Script::script_of))]
+fn script_of(alloc: Global, value: &Value) -> Result<Script, ScriptError>
+    ensures { Gives script_view result (spec.script_of (view value.now)) }
+{
+    let name: String = needed(alloc, value, "command")?;
+    let replies: Vec<Reply> = listed(alloc, value, "replies")?;
+    let readings = listed(alloc, value, "readings")?;
+    let empty = Value::Object(Map::new(alloc));
+    let params = params_of(value.get("params"), &empty)?;
+    let command = command_of(alloc, name.as_str(), params)?;
+    let client = needed(alloc, value, "client")?;
+    Ok(Script {
+        client,
+        command,
+        replies: VecDeque::from(replies),
+        readings,
+    })
+}
+
+/// The script that the input is. Judges the whole of it.
+#[tactic(auto, unfolding(crate::specs::Script::script_in))]
+pub fn script_in(alloc: Global, input: &[u8]) -> Result<Script, ScriptError>
+    ensures { Gives script_view result (spec.script_in input.now) }
+{
+    match Value::from_slice(alloc, input) {
+        Ok(value) => script_of(alloc, &value),
+        Err(e) => {
+            if e.is_memory() {
+                Err(ScriptError::Memory)
+            } else {
+                Err(ScriptError::Bad)
+            }
+        }
+    }
+}

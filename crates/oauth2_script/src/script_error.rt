@@ -1,0 +1,55 @@
+//! Why an input is no script.
+
+ghost use Rattle.std.specs.Prelude.{◌≡◌, ◌⊎◌};
+ghost use Rattle.http_header.specs.declared.value.HeaderValueError.TheVariants.{Invalid};
+ghost use Rattle.url.specs.Parser.{IsOutOfRoom};
+ghost use Rattle.oauth2_script.specs.declared.script_error.ScriptError.TheVariants.{Bad, Memory};
+
+use http_header::HeaderValueError;
+use std::alloc::{AllocError, AllocFailed};
+use url::ParseError;
+
+#[derive(Clone, Copy, Debug, PartialEq, Eq)]
+pub enum ScriptError {
+    Bad,
+    Memory,
+}
+
+impl From<AllocError> for ScriptError {
+    ghost from_gives = { λ _ e. e ≡ Memory };
+
+    fn from(_e: AllocError) -> ScriptError {
+        ScriptError::Memory
+    }
+}
+
+impl<T: Drop> From<AllocFailed<T>> for ScriptError {
+    ghost from_gives = { λ _ e. e ≡ Memory };
+
+    fn from(_e: AllocFailed<T>) -> ScriptError {
+        ScriptError::Memory
+    }
+}
+
+impl From<ParseError> for ScriptError {
+    ghost from_gives = { λ given e. (e ≡ Memory) ⊎ ((e ≡ Bad) × (IsOutOfRoom given → ⊥)) };
+
+    fn from(e: ParseError) -> ScriptError {
+        match e {
+            ParseError::OutOfMemory => ScriptError::Memory,
+            ParseError::Overflow => ScriptError::Memory,
+            _ => ScriptError::Bad,
+        }
+    }
+}
+
+impl From<HeaderValueError> for ScriptError {
+    ghost from_gives = { λ given e. (e ≡ Memory) ⊎ ((e ≡ Bad) × (given ≡ Invalid)) };
+
+    fn from(e: HeaderValueError) -> ScriptError {
+        match e {
+            HeaderValueError::Invalid => ScriptError::Bad,
+            HeaderValueError::OutOfMemory => ScriptError::Memory,
+        }
+    }
+}

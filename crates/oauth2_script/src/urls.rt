@@ -1,0 +1,101 @@
+//! URLs, each from its text.
+
+ghost use Rattle.oauth2_script.specs.Part as spec;
+
+use crate::part::Part;
+use crate::script_error::ScriptError;
+use oauth2_urls::{
+    AuthUrl, DeviceAuthorizationUrl, IntrospectionUrl, RedirectUrl, RevocationUrl, TokenUrl,
+};
+use serde_json::Value;
+use std::alloc::Global;
+
+impl Part for AuthUrl {
+    ghost use Rattle.oauth2_urls.specs.Addressed.{Addressed};
+
+    ghost Meaning = { Addressed };
+
+    ghost meaning = { λ url. url };
+
+    ghost reading = { spec.address };
+
+    fn from_value(alloc: Global, value: &Value) -> Result<AuthUrl, ScriptError> {
+        let text = String::from_value(alloc, value)?;
+        Ok(AuthUrl::new(alloc, text)?)
+    }
+}
+
+impl Part for DeviceAuthorizationUrl {
+    ghost use Rattle.oauth2_urls.specs.Addressed.{Addressed};
+
+    ghost Meaning = { Addressed };
+
+    ghost meaning = { λ url. url };
+
+    ghost reading = { spec.address };
+
+    fn from_value(alloc: Global, value: &Value) -> Result<DeviceAuthorizationUrl, ScriptError> {
+        let text = String::from_value(alloc, value)?;
+        Ok(DeviceAuthorizationUrl::new(alloc, text)?)
+    }
+}
+
+impl Part for IntrospectionUrl {
+    ghost use Rattle.oauth2_urls.specs.Addressed.{Addressed};
+
+    ghost Meaning = { Addressed };
+
+    ghost meaning = { λ url. url };
+
+    ghost reading = { spec.address };
+
+    fn from_value(alloc: Global, value: &Value) -> Result<IntrospectionUrl, ScriptError> {
+        let text = String::from_value(alloc, value)?;
+        Ok(IntrospectionUrl::new(alloc, text)?)
+    }
+}
+
+impl Part for RedirectUrl {
+    ghost use Rattle.oauth2_urls.specs.Addressed.{Addressed};
+
+    ghost Meaning = { Addressed };
+
+    ghost meaning = { λ url. url };
+
+    ghost reading = { spec.address };
+
+    fn from_value(alloc: Global, value: &Value) -> Result<RedirectUrl, ScriptError> {
+        let text = String::from_value(alloc, value)?;
+        Ok(RedirectUrl::new(alloc, text)?)
+    }
+}
+
+impl Part for RevocationUrl {
+    ghost use Rattle.oauth2_urls.specs.Addressed.{Addressed};
+
+    ghost Meaning = { Addressed };
+
+    ghost meaning = { λ url. url };
+
+    ghost reading = { spec.address };
+
+    fn from_value(alloc: Global, value: &Value) -> Result<RevocationUrl, ScriptError> {
+        let text = String::from_value(alloc, value)?;
+        Ok(RevocationUrl::new(alloc, text)?)
+    }
+}
+
+impl Part for TokenUrl {
+    ghost use Rattle.oauth2_urls.specs.Addressed.{Addressed};
+
+    ghost Meaning = { Addressed };
+
+    ghost meaning = { λ url. url };
+
+    ghost reading = { spec.address };
+
+    fn from_value(alloc: Global, value: &Value) -> Result<TokenUrl, ScriptError> {
+        let text = String::from_value(alloc, value)?;
+        Ok(TokenUrl::new(alloc, text)?)
+    }
+}
