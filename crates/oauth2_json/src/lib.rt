@@ -35,6 +35,3 @@ pub use read::{FromJson, ParseCause, ParseFault, ReadError};
 pub use revocation_error::{RevocationErrorResponseType, revocation_error_laws};
 pub use token_type::{BasicTokenType, TokenType, token_type_laws};
 pub use write::{ToJson, WriteError};
-
-#[cfg(test)]
-mod tests;

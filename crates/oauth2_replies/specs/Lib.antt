@@ -6,4 +6,3 @@ pub mod IntrospectionRows
 pub mod Device
 pub mod DeviceRows
 pub mod Revocable
-pub mod Colorful
