@@ -5,8 +5,6 @@ mod authorization;
 mod client;
 mod example;
 mod exchange;
-#[cfg(test)]
-mod tests;
 
 pub use authorization::{challenged_login, login_url, login_url_if_set};
 pub use client::{

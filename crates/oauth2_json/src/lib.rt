@@ -39,6 +39,3 @@ pub use revocation_error::{RevocationErrorResponseType, revocation_error_laws};
 pub use text_error::{TextErrorResponseType, text_error_laws};
 pub use token_type::{BasicTokenType, TokenType, token_type_laws};
 pub use write::{ToJson, WriteError};
-
-#[cfg(test)]
-mod tests;

@@ -5,4 +5,3 @@ pub mod Device
 pub mod Revocable
 pub mod Extra
 pub mod private
-pub mod Colorful

@@ -25,6 +25,3 @@ pub use token::{
     BasicTokenResponse, EmptyExtraTokenFields, ExtraTokenFields, StandardTokenResponse,
     TokenResponse,
 };
-
-#[cfg(test)]
-mod tests;

@@ -18,8 +18,6 @@ mod resource_owner_username;
 mod response_type;
 mod scope;
 mod secret;
-#[cfg(test)]
-mod tests;
 mod try_clone;
 mod user_code;
 mod verification_uri_complete;

@@ -8,8 +8,6 @@ mod end_user_verification_url;
 mod introspection_url;
 mod redirect_url;
 mod revocation_url;
-#[cfg(test)]
-mod tests;
 mod token_url;
 
 pub use auth_url::AuthUrl;

@@ -28,6 +28,3 @@ pub use request::{
 };
 pub use texts::{ParamText, RedirectRef};
 pub use view::{ServerView, ViewError, server_view};
-
-#[cfg(test)]
-mod tests;

@@ -1,0 +1,80 @@
+//! Device authorization responses (RFC 8628, section 3.2).
+
+use crate::support::{is_refused, is_rewritten, is_written_as, read};
+use oauth2::{
+    EmptyExtraDeviceAuthorizationFields, ParseCause, StandardDeviceAuthorizationResponse, TryClone,
+};
+use std::ops::Deref;
+use std::time::Duration;
+
+#[test]
+fn refused_device_responses(rt: HostRuntime) {
+    for (body, member, cause) in [
+        (
+            "{\"device_code\":\"d\",\"user_code\":\"u\",\"verification_uri\":\"https://v/\",\"verification_url\":\"https://v/\",\"expires_in\":300}",
+            "verification_uri",
+            ParseCause::BothNames,
+        ),
+        (
+            "{\"device_code\":\"d\",\"user_code\":\"u\",\"verification_url\":\"x\",\"expires_in\":300}",
+            "verification_uri",
+            ParseCause::BadUrl,
+        ),
+        (
+            "{\"device_code\":\"d\",\"user_code\":\"u\",\"verification_url\":\"https://v/\",\"expires_in\":300,\"interval\":\"1\"}",
+            "interval",
+            ParseCause::WrongType,
+        ),
+    ] {
+        is_refused::<StandardDeviceAuthorizationResponse>(&rt, body, member, cause);
+    }
+}
+
+#[test]
+fn address_stands_under_one_name(rt: HostRuntime) {
+    for body in [
+        "{\"device_code\":\"d\",\"user_code\":\"u\",\"verification_url\":\"https://v/\",\"expires_in\":300}",
+        "{\"device_code\":\"d\",\"user_code\":\"u\",\"verification_uri\":\"https://v/\",\"expires_in\":300,\"interval\":null}",
+    ] {
+        is_rewritten::<StandardDeviceAuthorizationResponse>(
+            &rt,
+            body,
+            "{\"device_code\":\"d\",\"expires_in\":300,\"interval\":5,\"user_code\":\"u\",\"verification_uri\":\"https://v/\"}",
+        );
+    }
+}
+
+const WHOLE: &str =
+    "{\"device_code\":\"d\",\"expires_in\":300,\"interval\":7,\"user_code\":\"u\",\"verification_uri\":\"https://v/\",\"verification_uri_complete\":\"https://v/u\"}";
+
+#[test]
+fn copy_of_a_device_response_is_written_alike(rt: HostRuntime) {
+    let device = read::<StandardDeviceAuthorizationResponse>(&rt, WHOLE);
+    let copy = device.try_clone(rt.alloc()).expect(&rt, "a copy");
+    is_written_as(&rt, &copy, WHOLE);
+}
+
+#[test]
+fn codes_of_a_device_response(rt: HostRuntime) {
+    let device = read::<StandardDeviceAuthorizationResponse>(&rt, WHOLE);
+    assert_eq!(rt; device.device_code().secret().as_str(), "d");
+    assert_eq!(rt; device.user_code().secret().as_str(), "u");
+    let EmptyExtraDeviceAuthorizationFields {} = device.extra_fields();
+}
+
+#[test]
+fn addresses_of_a_device_response(rt: HostRuntime) {
+    let device = read::<StandardDeviceAuthorizationResponse>(&rt, WHOLE);
+    assert_eq!(rt; device.verification_uri().deref().as_str(), "https://v/");
+    let complete = device
+        .verification_uri_complete()
+        .expect(&rt, "a complete URI");
+    assert_eq!(rt; complete.secret().as_str(), "https://v/u");
+}
+
+#[test]
+fn times_of_a_device_response(rt: HostRuntime) {
+    let device = read::<StandardDeviceAuthorizationResponse>(&rt, WHOLE);
+    assert!(rt; device.expires_in() == Duration::from_secs(300));
+    assert!(rt; device.interval() == Duration::from_secs(7));
+}

@@ -1,0 +1,112 @@
+//! Error codes and error responses (RFC 6749, section 5.2), and the body that holds one.
+
+use crate::support::{is_fault, is_refused, is_written_as, read, text};
+use oauth2::basic::{BasicErrorResponse, BasicErrorResponseType};
+use oauth2::{
+    DeviceCodeErrorResponseType, ErrorResponse, ParseCause, StandardErrorResponse, TryClone,
+    compact, read_body,
+};
+use std::convert::AsStr;
+use std::process::Abort;
+
+#[test]
+fn codes_are_compared_with_case(rt: HostRuntime) {
+    let error = read::<BasicErrorResponseType>(&rt, "\"Invalid_Client\"");
+    let shown = format!(in rt.alloc(); "{error}").expect(&rt, "a text");
+    assert_eq!(rt; shown.as_str(), "Invalid_Client");
+    let debug = format!(in rt.alloc(); "{error:?}").expect(&rt, "a text");
+    assert_eq!(rt; debug.as_str(), "Invalid_Client");
+    let copy = error.try_clone(rt.alloc()).expect(&rt, "a copy");
+    assert!(rt; copy == BasicErrorResponseType::Extension(shown));
+}
+
+#[test]
+fn written_code_reads_as_its_own_variant(rt: HostRuntime) {
+    let basic = BasicErrorResponseType::Extension(text(&rt, "slow_down"));
+    let error = DeviceCodeErrorResponseType::Basic(basic);
+    let written = compact(rt.alloc(), &error).expect(&rt, "a text");
+    assert_eq!(rt; written.as_str(), "\"slow_down\"");
+    let read = read::<DeviceCodeErrorResponseType>(&rt, written.as_str());
+    assert!(rt; read == DeviceCodeErrorResponseType::SlowDown);
+}
+
+/// An error response with each of its members.
+fn full(rt: &(impl Abort + AllocGlobal)) -> BasicErrorResponse {
+    StandardErrorResponse::new(
+        BasicErrorResponseType::InvalidClient,
+        Some(text(rt, "Invalid client_id")),
+        Some(text(rt, "https://example.com/errors/invalid_client")),
+    )
+}
+
+/// What a caller that knows no more than the bound shows.
+fn is_shown_as<E: ErrorResponse>(rt: &(impl Abort + AllocGlobal), response: &E, wanted: &str) {
+    let shown = format!(in rt.alloc(); "{response}").expect(rt, "a text");
+    assert_eq!(rt; shown.as_str(), wanted);
+}
+
+#[test]
+fn error_response_is_shown(rt: HostRuntime) {
+    is_shown_as(
+        &rt,
+        &full(&rt),
+        "invalid_client: Invalid client_id (see https://example.com/errors/invalid_client)",
+    );
+}
+
+const WRITTEN: &str =
+    "{\"error\":\"invalid_client\",\"error_description\":\"Invalid client_id\",\"error_uri\":\"https://example.com/errors/invalid_client\"}";
+
+#[test]
+fn error_response_is_written(rt: HostRuntime) {
+    let response = full(&rt);
+    is_written_as(&rt, &response, WRITTEN);
+    let copy = response.try_clone(rt.alloc()).expect(&rt, "a copy");
+    assert!(rt; read::<BasicErrorResponse>(&rt, WRITTEN) == copy);
+}
+
+#[test]
+fn refused_error_responses(rt: HostRuntime) {
+    for (body, member, cause) in [
+        ("{\"access_token\":\"t\"}", "error", ParseCause::Missing),
+        ("{\"error\":1}", "error", ParseCause::WrongType),
+        ("[]", "", ParseCause::NotObject),
+        ("{\"error\":\"x\"", "", ParseCause::NotJson),
+        ("{\"error\":\"x\"}x", "", ParseCause::NotJson),
+    ] {
+        is_refused::<BasicErrorResponse>(&rt, body, member, cause);
+    }
+}
+
+#[test]
+fn body_is_one_whole_value(rt: HostRuntime) {
+    let read = read::<BasicErrorResponse>(&rt, "{\"error\":\"x\"} \n");
+    assert_eq!(rt; read.error().as_str(), "x");
+}
+
+#[test]
+fn body_is_utf8(rt: HostRuntime) {
+    let read = read_body::<BasicErrorResponse>(rt.alloc(), &[255]);
+    assert!(rt; is_fault(read, "", ParseCause::NotJson));
+}
+
+/// An error response with a member that makes the nesting this deep in all.
+fn nested(rt: &(impl Abort + AllocGlobal), depth: usize) -> String {
+    let mut text = text(rt, "{\"error\":\"x\",\"more\":");
+    for _ in 1..depth {
+        text.push_str("[").expect(rt, "a text");
+    }
+    for _ in 1..depth {
+        text.push_str("]").expect(rt, "a text");
+    }
+    text.push_str("}").expect(rt, "a text");
+    text
+}
+
+#[test]
+fn body_nests_to_127(rt: HostRuntime) {
+    let read = read::<BasicErrorResponse>(&rt, nested(&rt, 127).as_str());
+    assert_eq!(rt; read.error().as_str(), "x");
+    let deeper = nested(&rt, 128);
+    is_refused::<BasicErrorResponse>(&rt, deeper.as_str(), "", ParseCause::NotJson);
+}

@@ -1,0 +1,82 @@
+//! Responses with extra fields of a user's own.
+
+use crate::colorful::{ColorfulFields, ColorfulTokenType, RawFields};
+use crate::support::{is_refused, is_rewritten, read, text};
+use oauth2::basic::{BasicTokenResponse, BasicTokenType};
+use oauth2::{
+    AccessToken, DeviceAuthorizationResponse, ParseCause, StandardTokenResponse, ToJson, WriteError,
+};
+use std::process::Abort;
+
+type ColorfulToken = StandardTokenResponse<ColorfulFields, ColorfulTokenType>;
+
+type RawToken = StandardTokenResponse<RawFields, BasicTokenType>;
+
+#[test]
+fn extra_fields_are_read_last(rt: HostRuntime) {
+    for (body, member, cause) in [
+        (
+            "{\"access_token\":\"12/34\",\"token_type\":\"blue\"}",
+            "token_type",
+            ParseCause::Refused,
+        ),
+        (
+            "{\"access_token\":\"12/34\",\"token_type\":\"red\"}",
+            "height",
+            ParseCause::Missing,
+        ),
+        (
+            "{\"access_token\":\"12/34\",\"token_type\":\"red\",\"height\":4294967296}",
+            "height",
+            ParseCause::OutOfRange,
+        ),
+    ] {
+        is_refused::<ColorfulToken>(&rt, body, member, cause);
+    }
+}
+
+#[test]
+fn extra_fields_are_written_beside(rt: HostRuntime) {
+    is_rewritten::<ColorfulToken>(
+        &rt,
+        "{\"access_token\":\"12/34\",\"token_type\":\"GREEN\",\"shape\":\"round\",\"height\":12}",
+        "{\"access_token\":\"12/34\",\"height\":12,\"shape\":\"round\",\"token_type\":\"green\"}",
+    );
+    is_rewritten::<BasicTokenResponse>(
+        &rt,
+        "{\"access_token\":\"t\",\"token_type\":\"bearer\",\"f\":1.5}",
+        "{\"access_token\":\"t\",\"token_type\":\"bearer\"}",
+    );
+}
+
+#[test]
+fn extra_fields_of_a_device_response(rt: HostRuntime) {
+    is_rewritten::<DeviceAuthorizationResponse<RawFields>>(
+        &rt,
+        "{\"device_code\":\"d\",\"user_code\":\"u\",\"verification_url\":\"https://v/\",\"expires_in\":1,\"z\":[]}",
+        "{\"device_code\":\"d\",\"expires_in\":1,\"interval\":5,\"user_code\":\"u\",\"verification_uri\":\"https://v/\",\"z\":[]}",
+    );
+}
+
+/// A token response with these extra fields.
+fn with_raw(rt: &(impl Abort + AllocGlobal), fields: &str) -> RawToken {
+    let extra_fields = read::<RawFields>(rt, fields);
+    let access_token = AccessToken::new(text(rt, "t"));
+    StandardTokenResponse::new(access_token, BasicTokenType::Bearer, extra_fields)
+}
+
+#[test]
+fn clash_is_refused_before_a_float(rt: HostRuntime) {
+    for (fields, refusal) in [
+        ("{\"scope\":\"x\"}", WriteError::NameClash),
+        ("{\"a\":{\"b\":[1.5]}}", WriteError::Float),
+        (
+            "{\"a\":{\"b\":[1.5]},\"scope\":\"x\"}",
+            WriteError::NameClash,
+        ),
+    ] {
+        let token = with_raw(&rt, fields);
+        let refused = token.to_json(rt.alloc()).err();
+        assert!(rt; refused == Some(refusal), "{fields}");
+    }
+}

@@ -1,0 +1,131 @@
+//! Introspection responses (RFC 7662, section 2.2).
+
+use crate::support::{is_refused, is_rewritten, is_written_as, read, text};
+use jiff::Timestamp;
+use oauth2::basic::{BasicTokenIntrospectionResponse, BasicTokenType};
+use oauth2::{
+    ClientId, EmptyExtraTokenFields, ParseCause, Scope, StandardTokenIntrospectionResponse,
+    TokenIntrospectionResponse, TryClone,
+};
+
+#[test]
+fn first_fault_of_an_introspection_response(rt: HostRuntime) {
+    for (body, member, cause) in [
+        ("{\"active\":\"yes\"}", "active", ParseCause::WrongType),
+        (
+            "{\"active\":true,\"aud\":[\"a\",1]}",
+            "aud",
+            ParseCause::WrongType,
+        ),
+        ("{\"active\":true,\"exp\":1.5}", "exp", ParseCause::NotWhole),
+        (
+            "{\"active\":true,\"exp\":18446744073709551615}",
+            "exp",
+            ParseCause::OutOfRange,
+        ),
+        (
+            "{\"active\":true,\"token_type\":null}",
+            "token_type",
+            ParseCause::WrongType,
+        ),
+    ] {
+        is_refused::<BasicTokenIntrospectionResponse>(&rt, body, member, cause);
+    }
+}
+
+#[test]
+fn audience_of_one_is_written_as_a_list(rt: HostRuntime) {
+    is_rewritten::<BasicTokenIntrospectionResponse>(
+        &rt,
+        "{\"active\":true,\"aud\":\"demo\",\"exp\":-1}",
+        "{\"active\":true,\"aud\":[\"demo\"],\"exp\":-1}",
+    );
+}
+
+#[test]
+fn copy_of_an_introspection_response_is_written_alike(rt: HostRuntime) {
+    let written =
+        "{\"active\":true,\"aud\":[\"audience\"],\"client_id\":\"aaa\",\"exp\":3,\"iat\":1,\"iss\":\"issuer\",\"jti\":\"identifier\",\"nbf\":2,\"scope\":\"read write\",\"sub\":\"subject\",\"token_type\":\"bearer\",\"username\":\"demo\"}";
+    let response = read::<BasicTokenIntrospectionResponse>(&rt, written);
+    let copy = response.try_clone(rt.alloc()).expect(&rt, "a copy");
+    is_written_as(&rt, &copy, written);
+}
+
+fn active() -> BasicTokenIntrospectionResponse {
+    StandardTokenIntrospectionResponse::new(true, EmptyExtraTokenFields {})
+}
+
+#[test]
+fn times_are_rounded_down(rt: HostRuntime) {
+    let time = Timestamp::from_nanosecond(-500_000_000).expect(&rt, "a time");
+    let mut response = active();
+    response.set_exp(Some(time));
+    is_written_as(&rt, &response, "{\"active\":true,\"exp\":-1}");
+}
+
+#[test]
+fn times_are_set(rt: HostRuntime) {
+    let exp = Timestamp::from_second(3).expect(&rt, "a time");
+    let iat = Timestamp::from_second(1).expect(&rt, "a time");
+    let nbf = Timestamp::from_second(2).expect(&rt, "a time");
+    let mut response = active();
+    response.set_active(false);
+    response.set_exp(Some(exp));
+    response.set_iat(Some(iat));
+    response.set_nbf(Some(nbf));
+    assert!(rt; !response.active());
+    assert!(rt;
+        response.exp() == Some(exp) && response.iat() == Some(iat) && response.nbf() == Some(nbf)
+    );
+    is_written_as(
+        &rt,
+        &response,
+        "{\"active\":false,\"exp\":3,\"iat\":1,\"nbf\":2}",
+    );
+}
+
+#[test]
+fn texts_are_set(rt: HostRuntime) {
+    let mut response = active();
+    response.set_username(Some(text(&rt, "demo")));
+    response.set_sub(Some(text(&rt, "subject")));
+    assert!(rt; response.username() == Some("demo") && response.sub() == Some("subject"));
+    response.set_iss(Some(text(&rt, "issuer")));
+    response.set_jti(Some(text(&rt, "identifier")));
+    assert!(rt; response.iss() == Some("issuer") && response.jti() == Some("identifier"));
+    is_written_as(
+        &rt,
+        &response,
+        "{\"active\":true,\"iss\":\"issuer\",\"jti\":\"identifier\",\"sub\":\"subject\",\"username\":\"demo\"}",
+    );
+}
+
+#[test]
+fn lists_are_set(rt: HostRuntime) {
+    let scopes = vec![in rt.alloc(); Scope::new(text(&rt, "read"))].expect(&rt, "a list");
+    let aud = vec![in rt.alloc(); text(&rt, "audience")].expect(&rt, "a list");
+    let mut response = active();
+    response.set_scopes(Some(scopes));
+    response.set_aud(Some(aud));
+    response.set_extra_fields(EmptyExtraTokenFields {});
+    assert!(rt; response.scopes().is_some() && response.aud().is_some());
+    assert!(rt; *response.extra_fields() == EmptyExtraTokenFields {});
+    is_written_as(
+        &rt,
+        &response,
+        "{\"active\":true,\"aud\":[\"audience\"],\"scope\":\"read\"}",
+    );
+}
+
+#[test]
+fn client_and_token_type_are_set(rt: HostRuntime) {
+    let mut response = active();
+    response.set_client_id(Some(ClientId::new(text(&rt, "aaa"))));
+    response.set_token_type(Some(BasicTokenType::Bearer));
+    assert!(rt; response.client_id().is_some() && response.token_type().is_some());
+    is_written_as(
+        &rt,
+        &response,
+        "{\"active\":true,\"client_id\":\"aaa\",\"token_type\":\"bearer\"}",
+    );
+}

@@ -1,0 +1,80 @@
+//! Texts, URLs, codes and challenges: each reads to a value that is written as the text.
+
+use crate::support::{is_kept, is_refused};
+use oauth2::basic::{BasicErrorResponseType, BasicTokenType};
+use oauth2::{
+    AccessToken, AuthUrl, AuthorizationCode, ClientId, ClientSecret, CsrfToken,
+    DeviceAuthorizationUrl, DeviceCode, DeviceCodeErrorResponseType, EndUserVerificationUrl,
+    IntrospectionUrl, ParseCause, PkceCodeChallenge, PkceCodeChallengeMethod, PkceCodeVerifier,
+    RedirectUrl, RefreshToken, ResourceOwnerUsername, ResponseType, RevocationErrorResponseType,
+    RevocationUrl, Scope, TokenUrl, UserCode, VerificationUriComplete,
+};
+
+const TEXT: &str = "\"a \\\"b\\\"\"";
+
+#[test]
+fn texts_are_kept(rt: HostRuntime) {
+    is_kept::<String>(&rt, TEXT);
+    is_kept::<ClientId>(&rt, TEXT);
+    is_kept::<PkceCodeChallengeMethod>(&rt, TEXT);
+    is_kept::<ResourceOwnerUsername>(&rt, TEXT);
+    is_kept::<ResponseType>(&rt, TEXT);
+    is_kept::<Scope>(&rt, TEXT);
+}
+
+#[test]
+fn secrets_are_kept(rt: HostRuntime) {
+    is_kept::<AccessToken>(&rt, TEXT);
+    is_kept::<AuthorizationCode>(&rt, TEXT);
+    is_kept::<ClientSecret>(&rt, TEXT);
+    is_kept::<CsrfToken>(&rt, TEXT);
+    is_kept::<DeviceCode>(&rt, TEXT);
+    is_kept::<PkceCodeVerifier>(&rt, TEXT);
+    is_kept::<RefreshToken>(&rt, TEXT);
+    is_kept::<UserCode>(&rt, TEXT);
+    is_kept::<VerificationUriComplete>(&rt, TEXT);
+}
+
+#[test]
+fn urls_are_kept_as_given(rt: HostRuntime) {
+    let text = "\"https://example.com\"";
+    is_kept::<AuthUrl>(&rt, text);
+    is_kept::<DeviceAuthorizationUrl>(&rt, text);
+    is_kept::<EndUserVerificationUrl>(&rt, text);
+    is_kept::<IntrospectionUrl>(&rt, text);
+    is_kept::<RedirectUrl>(&rt, text);
+    is_kept::<RevocationUrl>(&rt, text);
+    is_kept::<TokenUrl>(&rt, text);
+}
+
+#[test]
+fn refused_urls(rt: HostRuntime) {
+    is_refused::<AuthUrl>(&rt, "\"x\"", "", ParseCause::BadUrl);
+    is_refused::<AuthUrl>(&rt, "1", "", ParseCause::WrongType);
+}
+
+#[test]
+fn codes_are_kept(rt: HostRuntime) {
+    for text in ["\"bearer\"", "\"mac\"", "\"Bearer\""] {
+        is_kept::<BasicTokenType>(&rt, text);
+    }
+    for text in ["\"invalid_client\"", "\"slow_down\"", "\"Invalid_Client\""] {
+        is_kept::<BasicErrorResponseType>(&rt, text);
+        is_kept::<DeviceCodeErrorResponseType>(&rt, text);
+        is_kept::<RevocationErrorResponseType>(&rt, text);
+    }
+}
+
+#[test]
+fn challenge_is_kept(rt: HostRuntime) {
+    is_kept::<PkceCodeChallenge>(
+        &rt,
+        "{\"code_challenge\":\"c\",\"code_challenge_method\":\"S256\"}",
+    );
+    is_refused::<PkceCodeChallenge>(
+        &rt,
+        "{\"code_challenge\":\"c\"}",
+        "code_challenge_method",
+        ParseCause::Missing,
+    );
+}

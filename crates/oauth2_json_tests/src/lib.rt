@@ -1,0 +1,25 @@
+//! Tests of what is read from JSON and written as JSON, through the names of `oauth2`.
+#![tactic(auto)]
+
+#[cfg(test)]
+mod colorful;
+#[cfg(test)]
+mod device_response;
+#[cfg(test)]
+mod error_response;
+#[cfg(test)]
+mod extra_fields;
+#[cfg(test)]
+mod introspection_response;
+#[cfg(test)]
+mod json_helpers;
+#[cfg(test)]
+mod json_members;
+#[cfg(test)]
+mod kept;
+#[cfg(test)]
+mod revocable_token;
+#[cfg(test)]
+mod support;
+#[cfg(test)]
+mod token_response;

@@ -1,0 +1,71 @@
+//! Tokens that can be revoked (RFC 7009, section 2.1).
+
+use crate::support::{is_refused, is_written_as, read, text};
+use oauth2::helpers::variant_name;
+use oauth2::{
+    AccessToken, ParseCause, RefreshToken, RevocableToken, StandardRevocableToken, TryClone,
+};
+use std::process::Abort;
+
+#[test]
+fn revocable_token_is_one_member(rt: HostRuntime) {
+    for (body, member, cause) in [
+        ("{\"AccessToken\":1}", "AccessToken", ParseCause::WrongType),
+        (
+            "{\"AccessToken\":\"a\",\"RefreshToken\":\"b\"}",
+            "",
+            ParseCause::Refused,
+        ),
+        (
+            "{\"AccessToken\":\"a\",\"x\":\"b\"}",
+            "",
+            ParseCause::Refused,
+        ),
+        ("{}", "", ParseCause::Refused),
+        ("\"AccessToken\"", "", ParseCause::NotObject),
+    ] {
+        is_refused::<StandardRevocableToken>(&rt, body, member, cause);
+    }
+}
+
+#[test]
+fn copy_of_a_revocable_token_is_written_alike(rt: HostRuntime) {
+    for text in ["{\"AccessToken\":\"a\"}", "{\"RefreshToken\":\"b\"}"] {
+        let token = read::<StandardRevocableToken>(&rt, text);
+        let copy = token.try_clone(rt.alloc()).expect(&rt, "a copy");
+        is_written_as(&rt, &copy, text);
+    }
+}
+
+/// The secret, the hint and the name of a token.
+fn tells(
+    rt: &impl Abort,
+    token: &StandardRevocableToken,
+    secret: &str,
+    hint: &'static str,
+    name: &str,
+) {
+    assert_eq!(rt; token.secret(), secret);
+    assert!(rt; token.type_hint() == Some(hint));
+    assert_eq!(rt; variant_name(token), name);
+}
+
+#[test]
+fn access_tokens(rt: HostRuntime) {
+    let access_token = AccessToken::new(text(&rt, "a"));
+    let token = StandardRevocableToken::from_access_token_ref(rt.alloc(), &access_token).expect(
+        &rt, "a token",
+    );
+    tells(&rt, &token, "a", "access_token", "AccessToken");
+    assert_eq!(rt; StandardRevocableToken::from(access_token).secret(), "a");
+}
+
+#[test]
+fn refresh_tokens(rt: HostRuntime) {
+    let refresh_token = RefreshToken::new(text(&rt, "b"));
+    let token = StandardRevocableToken::from_refresh_token_ref(rt.alloc(), &refresh_token).expect(
+        &rt, "a token",
+    );
+    tells(&rt, &token, "b", "refresh_token", "RefreshToken");
+    assert_eq!(rt; StandardRevocableToken::from(refresh_token).secret(), "b");
+}

@@ -1,0 +1,59 @@
+//! What the tests of several subjects share.
+
+use oauth2::{FromJson, ParseCause, ReadError, ToJson, compact, read_body};
+use serde_json::Value;
+use std::process::Abort;
+
+pub fn text(rt: &(impl Abort + AllocGlobal), text: &str) -> String {
+    String::from_str(rt.alloc(), text).expect(rt, "a text")
+}
+
+/// The JSON value of a text.
+pub fn parsed(rt: &(impl Abort + AllocGlobal), text: &str) -> Value {
+    Value::from_str(rt.alloc(), text).expect(rt, "a JSON value")
+}
+
+/// What the body reads to.
+pub fn read<T: FromJson>(rt: &(impl Abort + AllocGlobal), body: &str) -> T {
+    read_body::<T>(rt.alloc(), body.as_bytes()).expect(rt, "a value")
+}
+
+/// The value is written as this text.
+pub fn is_written_as<T: ToJson>(rt: &(impl Abort + AllocGlobal), value: &T, wanted: &str) {
+    let json = compact(rt.alloc(), value).expect(rt, "a text");
+    assert_eq!(rt; json.as_str(), wanted);
+}
+
+/// The body reads to a value that is written as this text.
+pub fn is_rewritten<T: FromJson + ToJson + Drop>(
+    rt: &(impl Abort + AllocGlobal),
+    body: &str,
+    wanted: &str,
+) {
+    let value = read::<T>(rt, body);
+    is_written_as(rt, &value, wanted);
+}
+
+/// The text reads to a value that is written as the text.
+pub fn is_kept<T: FromJson + ToJson + Drop>(rt: &(impl Abort + AllocGlobal), text: &str) {
+    is_rewritten::<T>(rt, text, text);
+}
+
+/// Whether reading answers this fault.
+pub fn is_fault<T: Drop>(read: Result<T, ReadError>, member: &str, cause: ParseCause) -> bool {
+    let Err(ReadError::Fault(fault)) = read else {
+        return false;
+    };
+    fault.member.as_str() == member && fault.cause == cause
+}
+
+/// The body reads to this fault.
+pub fn is_refused<T: FromJson + Drop>(
+    rt: &(impl Abort + AllocGlobal),
+    body: &str,
+    member: &str,
+    cause: ParseCause,
+) {
+    let read = read_body::<T>(rt.alloc(), body.as_bytes());
+    assert!(rt; is_fault(read, member, cause), "{body}");
+}

@@ -1,0 +1,101 @@
+//! Token responses (RFC 6749, section 5.1).
+
+use crate::support::{is_refused, is_written_as, read, text};
+use oauth2::basic::{BasicTokenResponse, BasicTokenType};
+use oauth2::{
+    AccessToken, EmptyExtraTokenFields, ParseCause, RefreshToken, Scope, TokenResponse, TryClone,
+};
+use std::process::Abort;
+use std::time::Duration;
+
+#[test]
+fn token_type_is_lowered_and_an_empty_scope_is_one_entry(rt: HostRuntime) {
+    let token = read::<BasicTokenResponse>(
+        &rt,
+        "{\"access_token\":\"t\",\"token_type\":\"BEARER\",\"scope\":\"\",\"expires_in\":null}",
+    );
+    assert!(rt; *token.token_type() == BasicTokenType::Bearer);
+    assert!(rt; token.expires_in().is_none());
+    let scopes = token.scopes().expect(&rt, "scopes");
+    assert_eq!(rt; scopes.len(), 1);
+    is_written_as(
+        &rt,
+        &token,
+        "{\"access_token\":\"t\",\"scope\":\"\",\"token_type\":\"bearer\"}",
+    );
+}
+
+#[test]
+fn first_fault_of_a_token_response(rt: HostRuntime) {
+    for (body, member, cause) in [
+        ("{\"token_type\":null}", "access_token", ParseCause::Missing),
+        (
+            "{\"access_token\":\"t\",\"token_type\":null}",
+            "token_type",
+            ParseCause::WrongType,
+        ),
+        (
+            "{\"access_token\":\"t\",\"token_type\":\"x\",\"expires_in\":1.5}",
+            "expires_in",
+            ParseCause::NotWhole,
+        ),
+        (
+            "{\"access_token\":\"t\",\"token_type\":\"x\",\"expires_in\":-1}",
+            "expires_in",
+            ParseCause::OutOfRange,
+        ),
+    ] {
+        is_refused::<BasicTokenResponse>(&rt, body, member, cause);
+    }
+}
+
+#[test]
+fn copy_of_a_token_response_is_written_alike(rt: HostRuntime) {
+    let written =
+        "{\"access_token\":\"t\",\"expires_in\":1,\"refresh_token\":\"r\",\"scope\":\"read write\",\"token_type\":\"bearer\"}";
+    let token = read::<BasicTokenResponse>(&rt, written);
+    let copy = token.try_clone(rt.alloc()).expect(&rt, "a copy");
+    is_written_as(&rt, &copy, written);
+}
+
+/// A token response with the members that each has.
+fn least(rt: &(impl Abort + AllocGlobal)) -> BasicTokenResponse {
+    let access_token = AccessToken::new(text(rt, "t"));
+    BasicTokenResponse::new(access_token, BasicTokenType::Mac, EmptyExtraTokenFields {})
+}
+
+#[test]
+fn lifetime_keeps_whole_seconds(rt: HostRuntime) {
+    let mut token = least(&rt);
+    token.set_expires_in(Some(&Duration::from_millis(1900)));
+    assert!(rt; token.expires_in() == Some(Duration::from_secs(1)));
+    token.set_expires_in(None);
+    assert!(rt; token.expires_in().is_none());
+}
+
+fn set_tokens(rt: &(impl Abort + AllocGlobal), token: &mut BasicTokenResponse) {
+    token.set_access_token(AccessToken::new(text(rt, "u")));
+    token.set_token_type(BasicTokenType::Bearer);
+    token.set_refresh_token(Some(RefreshToken::new(text(rt, "r"))));
+}
+
+fn set_scopes(rt: &(impl Abort + AllocGlobal), token: &mut BasicTokenResponse) {
+    let scopes = vec![in rt.alloc(); Scope::new(text(rt, "read"))].expect(rt, "a list");
+    token.set_scopes(Some(scopes));
+}
+
+#[test]
+fn token_response_is_set(rt: HostRuntime) {
+    let mut token = least(&rt);
+    set_tokens(&rt, &mut token);
+    set_scopes(&rt, &mut token);
+    token.set_extra_fields(EmptyExtraTokenFields {});
+    assert!(rt; *token.extra_fields() == EmptyExtraTokenFields {});
+    assert!(rt; token.refresh_token().is_some());
+    assert_eq!(rt; token.access_token().secret().as_str(), "u");
+    is_written_as(
+        &rt,
+        &token,
+        "{\"access_token\":\"u\",\"refresh_token\":\"r\",\"scope\":\"read\",\"token_type\":\"bearer\"}",
+    );
+}

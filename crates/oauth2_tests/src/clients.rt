@@ -1,0 +1,72 @@
+//! Clients: made, copied, and where a login leads.
+
+use crate::support::text;
+use oauth2::basic::BasicClient;
+use oauth2::{
+    AuthUrl, AuthorizationRequest, Client, ClientId, ClientSecret, CsrfToken, EndpointMaybeSet,
+    EndpointNotSet, EndpointSet, TokenUrl, TryClone,
+};
+use std::process::Abort;
+
+type PlainClient<HasAuthUrl = EndpointNotSet, HasTokenUrl = EndpointNotSet> = BasicClient<
+    HasAuthUrl,
+    EndpointNotSet,
+    EndpointNotSet,
+    EndpointNotSet,
+    HasTokenUrl,
+>;
+
+type CodeClient = PlainClient<EndpointSet, EndpointSet>;
+
+fn auth_url(rt: &(impl Abort + AllocGlobal)) -> AuthUrl {
+    AuthUrl::new(rt.alloc(), text(rt, "https://example.com/auth")).expect(rt, "a URL")
+}
+
+fn token_url(rt: &(impl Abort + AllocGlobal)) -> TokenUrl {
+    TokenUrl::new(rt.alloc(), text(rt, "https://example.com/token")).expect(rt, "a URL")
+}
+
+fn client(rt: &(impl Abort + AllocGlobal)) -> CodeClient {
+    let client: PlainClient = Client::new(ClientId::new(text(rt, "aaa")));
+    client
+        .set_client_secret(ClientSecret::new(text(rt, "bbb")))
+        .set_auth_uri(auth_url(rt))
+        .set_token_uri(token_url(rt))
+}
+
+#[test]
+fn copies(rt: HostRuntime) {
+    let client = client(&rt);
+    let copy = client.try_clone(rt.alloc()).expect(&rt, "a copy");
+    assert_eq!(rt; copy.client_id().as_str(), "aaa");
+    assert_eq!(rt; copy.token_uri().as_str(), "https://example.com/token");
+}
+
+#[test]
+fn copies_of_endpoint_states(rt: HostRuntime) {
+    EndpointNotSet.try_clone(rt.alloc()).expect(&rt, "a copy");
+    EndpointSet.try_clone(rt.alloc()).expect(&rt, "a copy");
+    EndpointMaybeSet.try_clone(rt.alloc()).expect(&rt, "a copy");
+}
+
+fn login<'a>(rt: &(impl Abort + AllocGlobal), client: &'a CodeClient) -> AuthorizationRequest<'a> {
+    let state = CsrfToken::new(text(rt, "csrf_token"));
+    client.authorize_url(rt.alloc(), move || state)
+}
+
+fn leads_to(rt: &(impl Abort + AllocGlobal), request: AuthorizationRequest<'_>, url: &str) {
+    let (made, state) = request.url(rt.alloc()).expect(rt, "a URL");
+    assert_eq!(rt; made.as_str(), url);
+    assert_eq!(rt; state.secret().as_str(), "csrf_token");
+}
+
+#[test]
+fn the_implicit_flow(rt: HostRuntime) {
+    let client = client(&rt);
+    let request = login(&rt, &client).use_implicit_flow();
+    leads_to(
+        &rt,
+        request,
+        "https://example.com/auth?response_type=token&client_id=aaa&state=csrf_token",
+    );
+}

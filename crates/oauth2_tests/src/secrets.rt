@@ -1,0 +1,68 @@
+//! Secrets: hidden in debug, compared by their digests, copied and taken apart.
+
+ghost use Rattle.std.specs.Prelude.{◌≡◌, IsTrue};
+
+use crate::support::{compares, is_text, text};
+use oauth2::{
+    AccessToken, AuthorizationCode, ClientSecret, CsrfToken, DeviceCode, RefreshToken,
+    ResourceOwnerPassword, TryClone, UserCode, VerificationUriComplete,
+};
+
+#[test]
+fn secrets_of_clients(rt: HostRuntime) {
+    compares(&rt, AccessToken::new, "AccessToken([redacted])");
+    compares(&rt, AuthorizationCode::new, "AuthorizationCode([redacted])");
+    compares(&rt, ClientSecret::new, "ClientSecret([redacted])");
+}
+
+#[test]
+fn secrets_of_requests(rt: HostRuntime) {
+    compares(&rt, CsrfToken::new, "CsrfToken([redacted])");
+    compares(&rt, DeviceCode::new, "DeviceCode([redacted])");
+    compares(&rt, RefreshToken::new, "RefreshToken([redacted])");
+}
+
+#[test]
+fn secrets_of_users(rt: HostRuntime) {
+    compares(
+        &rt,
+        ResourceOwnerPassword::new,
+        "ResourceOwnerPassword([redacted])",
+    );
+    compares(&rt, UserCode::new, "UserCode([redacted])");
+    compares(
+        &rt,
+        VerificationUriComplete::new,
+        "VerificationUriComplete([redacted])",
+    );
+}
+
+#[test]
+fn texts_of_secrets(rt: HostRuntime) {
+    let secret = ClientSecret::new(text(&rt, "a"));
+    is_text(&rt, secret.secret().as_str(), "a");
+    is_text(&rt, secret.into_secret().as_str(), "a");
+}
+
+/// Two secrets with the same text are equal.
+fn equal_texts(a: &AccessToken, b: &AccessToken) -> bool
+    requires { a.now ≡ b.now }
+    ensures { IsTrue result }
+{
+    a == b
+}
+
+/// Equality is reflexive, symmetric and transitive.
+fn is_lawful<T: Eq>(a: &T, b: &T, c: &T) -> bool
+    ensures { IsTrue result }
+{
+    *a == *a && (*a == *b) == (*b == *a) && (!(*a == *b && *b == *c) || *a == *c)
+}
+
+#[test]
+fn laws_of_secrets(rt: HostRuntime) {
+    let token = AccessToken::new(text(&rt, "a"));
+    let copy = token.try_clone(rt.alloc()).expect(&rt, "a copy");
+    assert!(rt; equal_texts(&token, &copy));
+    assert!(rt; is_lawful(&token, &copy, &token));
+}

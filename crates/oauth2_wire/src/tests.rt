@@ -1,2 +1,0 @@
-mod replies;
-mod requests;

@@ -1,0 +1,46 @@
+//! The texts of errors.
+
+use crate::support::{is_text, text};
+use oauth2::{ConfigurationError, HttpClientError, RequestTokenError};
+use std::fmt::Display;
+use std::io;
+use std::process::Abort;
+
+fn is_displayed_as<T: Display + Drop>(rt: &(impl Abort + AllocGlobal), value: T, wanted: &str) {
+    let shown = format!(in rt.alloc(); "{value}").expect(rt, "a text");
+    is_text(rt, shown.as_str(), wanted);
+}
+
+#[test]
+fn texts_of_configurations(rt: HostRuntime) {
+    is_displayed_as(
+        &rt,
+        ConfigurationError::MissingUrl("token"),
+        "No token endpoint URL specified",
+    );
+    is_displayed_as(
+        &rt,
+        ConfigurationError::InsecureUrl("revocation"),
+        "Scheme for revocation endpoint URL must be HTTPS",
+    );
+}
+
+#[test]
+fn text_of_a_failed_request(rt: HostRuntime) {
+    let of_client: RequestTokenError<u8, String> = RequestTokenError::from(7);
+    is_displayed_as(&rt, of_client, "Request failed");
+}
+
+#[test]
+fn texts_of_http_clients(rt: HostRuntime) {
+    let library = Box::new(rt.alloc(), 7u8).expect(&rt, "a box");
+    let library: HttpClientError<u8> = HttpClientError::from(library);
+    is_displayed_as(&rt, library, "client error");
+    let status: HttpClientError<u8> = HttpClientError::from(oauth2::http::Error::StatusCode);
+    is_displayed_as(&rt, status, "HTTP error");
+    let not_found = io::Error::from(io::ErrorKind::NotFound);
+    let not_found: HttpClientError<u8> = HttpClientError::from(not_found);
+    is_displayed_as(&rt, not_found, "I/O error");
+    let other: HttpClientError<u8> = HttpClientError::Other(text(&rt, "no answer"));
+    is_displayed_as(&rt, other, "no answer");
+}

@@ -1,0 +1,98 @@
+//! What a form writes for each byte (URL Standard, section 5.2).
+
+use crate::support::{text, url};
+use oauth2::{AuthType, ClientId, ParamText, endpoint_request};
+use std::process::Abort;
+
+/// A request with one extra parameter, of which the name is the text, sends this body.
+fn sends(rt: &(impl Abort + AllocGlobal), name: &str, body: &[u8]) {
+    let url = url(rt, "https://example.com/token");
+    let id = ClientId::new(text(rt, "a"));
+    let extra = [(ParamText::from(name), ParamText::from(""))];
+    let request = endpoint_request(
+        rt.alloc(),
+        &AuthType::RequestBody,
+        &id,
+        None,
+        extra.as_slice(),
+        None,
+        None,
+        &url,
+        &[],
+    )
+    .expect(rt, "a request");
+    assert_eq!(rt; request.body().as_slice(), body);
+}
+
+/// The bytes that are no escapes: the ASCII letters and digits, `*`, `-`, `.` and `_`.
+fn is_unescaped(byte: u8) -> bool {
+    byte.is_ascii_alphanumeric() || matches!(byte, b'*' | b'-' | b'.' | b'_')
+}
+
+/// Appends `+` for a space, an unescaped byte, or the escape of two upper-case hexadecimal digits.
+fn append_encoded(rt: &(impl Abort + AllocGlobal), body: &mut String, byte: u8) {
+    if is_unescaped(byte) {
+        body.push(char::from(byte)).expect(rt, "a text");
+    } else if byte == b' ' {
+        body.push('+').expect(rt, "a text");
+    } else {
+        let escape = format!(in rt.alloc(); "%{byte:02X}").expect(rt, "an escape");
+        body.push_str(escape.as_str()).expect(rt, "a text");
+    }
+}
+
+/// The body of a request whose extra parameter's name is the text.
+fn body_of(rt: &(impl Abort + AllocGlobal), name: &str) -> String {
+    let mut body = text(rt, "client_id=a&");
+    for &byte in name.as_bytes() {
+        append_encoded(rt, &mut body, byte);
+    }
+    body.push('=').expect(rt, "a text");
+    body
+}
+
+/// Appends the character, if there is one of this code.
+fn push_code(rt: &(impl Abort + AllocGlobal), characters: &mut String, code: u32) {
+    if let Some(c) = char::from_u32(code) {
+        characters.push(c).expect(rt, "a text");
+    }
+}
+
+/// A character for each first byte of three and of four (RFC 3629, section 3).
+const LONG: [u32; 21] = [
+    0x800, 0x1000, 0x2000, 0x3000, 0x4000, 0x5000, 0x6000, 0x7000, 0x8000, 0x9000, 0xA000, 0xB000,
+    0xC000, 0xD000, 0xE000, 0xF000, 0x1_0000, 0x4_0000, 0x8_0000, 0xC_0000, 0x10_0000,
+];
+
+/// Characters whose encodings hold every byte that UTF-8 has.
+fn every_byte(rt: &(impl Abort + AllocGlobal)) -> String {
+    let mut characters = text(rt, "");
+    for code in 0..0x800u32 {
+        push_code(rt, &mut characters, code);
+    }
+    for code in LONG {
+        push_code(rt, &mut characters, code);
+    }
+    characters
+}
+
+#[test]
+fn every_byte_of_utf8(rt: HostRuntime) {
+    let name = every_byte(&rt);
+    let body = body_of(&rt, name.as_str());
+    sends(&rt, name.as_str(), body.as_bytes());
+}
+
+#[test]
+fn worked_texts(rt: HostRuntime) {
+    for (name, body) in [
+        ("é", "client_id=a&%C3%A9="),
+        (" ", "client_id=a&+="),
+        ("~", "client_id=a&%7E="),
+        ("%", "client_id=a&%25="),
+        ("+", "client_id=a&%2B="),
+        ("*-._", "client_id=a&*-._="),
+    ] {
+        sends(&rt, name, body.as_bytes());
+    }
+}
