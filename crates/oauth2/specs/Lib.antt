@@ -12,17 +12,16 @@ pub use Rattle.oauth2_json.specs.ErrorResponse
 pub use Rattle.oauth2_json.specs.Words
 pub use Rattle.oauth2_json.specs.Codes
 pub use Rattle.oauth2_json.specs.ErrorCodes
+pub use Rattle.oauth2_json.specs.ErrorTexts
 pub use Rattle.oauth2_json.specs.Body
 pub use Rattle.oauth2_json.specs.Challenge
 pub use Rattle.oauth2_json.specs.Helpers
 pub use Rattle.oauth2_replies.specs.Kept
 pub use Rattle.oauth2_replies.specs.Token
-pub use Rattle.oauth2_replies.specs.TokenRows
 pub use Rattle.oauth2_replies.specs.Introspection
-pub use Rattle.oauth2_replies.specs.IntrospectionRows
 pub use Rattle.oauth2_replies.specs.Device
-pub use Rattle.oauth2_replies.specs.DeviceRows
 pub use Rattle.oauth2_replies.specs.Revocable
+pub use Rattle.oauth2_replies.specs.Extra
 pub use Rattle.oauth2_wire.specs.Pairs
 pub use Rattle.oauth2_wire.specs.Basic
 pub use Rattle.oauth2_wire.specs.Texts
@@ -36,6 +35,7 @@ pub use Rattle.oauth2_wire.specs.Reply
 pub use Rattle.oauth2_wire.specs.OneShot
 pub use Rattle.oauth2_wire.specs.Display
 pub use Rattle.oauth2_wire.specs.ConfigurationError
+pub use Rattle.oauth2_wire.specs.FormEncoding
 pub use Rattle.oauth2_requests.specs.Base
 pub use Rattle.oauth2_requests.specs.Code
 pub use Rattle.oauth2_requests.specs.Refresh

@@ -14,8 +14,8 @@ use Rattle.oauth2_urls.specs.Addressed.{Addressed}
 use Rattle.oauth2_wire.specs.Pairs.{Pair, form}
 use Rattle.oauth2_wire.specs.Basic.{basic, basic_value}
 use Rattle.oauth2_wire.specs.Expected.{Configuration, expected_basic, expected_pairs, expected_headers, authorization_header, headers_before}
-use Rattle.oauth2_wire.specs.OneShot.{HttpRequest, not_http_text, Refuses, AnswersTo}
-use Rattle.oauth2_wire.specs.Reply.{HttpResponse, Answer, accepted, refused, unread, other, ReplyView, reply_of, answer_of, Shows as ReplyShows}
+use Rattle.oauth2_wire.specs.OneShot.{HttpRequest, not_http_text, AnswersUnsent, AnswersTo}
+use Rattle.oauth2_wire.specs.Reply.{HttpResponse, Answer, accepted, refused, unread, other, ReplyView, reply_of, answer_of, ShowsAnswer as ReplyShows}
 use Rattle.oauth2_wire.specs.Request.{RequestView, IsRequestOf, view_of, authorization_of, basic_of}
 use Rattle.oauth2_wire.specs.ServerView.{shown_pair}
 use Rattle.oauth2_wire.specs.declared.error.RequestTokenError.TheVariants.{ServerResponse, Request, Parse, Other, Memory}
@@ -108,7 +108,7 @@ module _ (c : Configuration) (endpoint : Addressed) (old new : ScriptedClient) (
       let all : lines ≡ string_bytes old.lines ++ starved.lines = rw (printed, same, shown) refl in
       (starved, inl refl, all, ended ∙ ap (λ (x : Output). x.status) shown)
 
-  not_http : (result : Result TokenSeen Fault) → Refuses fault.NotHttp result → SpellsNone (serialize endpoint.url) → string_bytes new.lines ≡ string_bytes old.lines
+  not_http : (result : Result TokenSeen Fault) → AnswersUnsent fault.NotHttp result → SpellsNone (serialize endpoint.url) → string_bytes new.lines ≡ string_bytes old.lines
       → Prints (string_bytes new.lines) lines s (token_output result) → Adds (string_bytes old.lines) lines s (IsTokenExchange c endpoint (replies_of old))
   not_http (Ok token) h none same p = absurd h
   not_http (Err (ServerResponse e)) h none same p = absurd h
@@ -120,7 +120,7 @@ module _ (c : Configuration) (endpoint : Addressed) (old new : ScriptedClient) (
       (o, inr (None, none, refl), all, ended)
   not_http (Err (Memory was_sent)) h none same p = unsent (Err (Memory was_sent)) same refl p
 
-  unfed : (result : Result TokenSeen Fault) → Refuses fault.Memory result → string_bytes new.lines ≡ string_bytes old.lines
+  unfed : (result : Result TokenSeen Fault) → AnswersUnsent fault.Memory result → string_bytes new.lines ≡ string_bytes old.lines
       → Prints (string_bytes new.lines) lines s (token_output result) → Adds (string_bytes old.lines) lines s (IsTokenExchange c endpoint (replies_of old))
   unfed (Ok token) h same p = absurd h
   unfed (Err (ServerResponse e)) h same p = absurd h

@@ -2,8 +2,8 @@
 use Rattle.std.specs.Prelude.{List, None}
 use Rattle.oauth2_urls.specs.Addressed.{Addressed}
 use Rattle.oauth2_wire.specs.Params.{with_scopes}
-use Rattle.oauth2.specs.Base.{base_of}
-use Rattle.oauth2.specs.ClientCredentials.{ClientCredentialsRequest, client_credentials_configuration}
+use Rattle.oauth2.specs.NewRequest.{base_of}
+use Rattle.oauth2_requests.specs.ClientCredentials.{ClientCredentialsRequest, client_credentials_configuration}
 use Rattle.oauth2.specs.Settings.{Settings}
 use Rattle.oauth2_run.specs.Client.{WithToken}
 use Rattle.oauth2_run.specs.Exchange.{IsTokenExchange}

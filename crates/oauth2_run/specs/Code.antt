@@ -1,8 +1,8 @@
 -- The command `code`: a code is exchanged for a token.
 use Rattle.std.specs.Prelude.{List}
 use Rattle.oauth2_urls.specs.Addressed.{Addressed}
-use Rattle.oauth2.specs.Base.{base_of}
-use Rattle.oauth2.specs.Code.{CodeRequest, code_configuration}
+use Rattle.oauth2.specs.NewRequest.{base_of}
+use Rattle.oauth2_requests.specs.Code.{CodeRequest, code_configuration}
 use Rattle.oauth2.specs.Settings.{Settings}
 use Rattle.oauth2_run.specs.Client.{WithToken, given_or}
 use Rattle.oauth2_run.specs.Exchange.{IsTokenExchange}

@@ -1,7 +1,7 @@
 //! What a run shows of the end of a request.
 
 ghost use Rattle.std.specs.Prelude.{◌≡◌, ◌++◌, ℕ, List, string_bytes, codes, IfOk, OnOk};
-ghost use Rattle.oauth2.specs.Missing.{IsMissing};
+ghost use Rattle.oauth2_wire.specs.ConfigurationError.{IsMissingUrl};
 ghost use Rattle.oauth2_run.specs.Exchange.{cause_name, unread_line};
 ghost use Rattle.oauth2_run.specs.Lines.{line};
 ghost use Rattle.oauth2_run.specs.private.Added.{Prints};
@@ -131,7 +131,7 @@ pub fn show_missing(
     lines: &mut String,
     error: &ConfigurationError,
 ) -> Result<RunStatus, AllocError>
-    ensures { IfOk result (λ status. (name : List ℕ) → IsMissing name error.now
+    ensures { IfOk result (λ status. (name : List ℕ) → IsMissingUrl name error.now
         → Prints (string_bytes lines.old) (string_bytes lines.new) status (missing name)) }
 {
     let text = error.to_string(alloc)?;

@@ -2,7 +2,7 @@
 
 ghost use Rattle.std.specs.Prelude.{◌≡◌, ◌++◌, Some, IfSome, IfNone, IsOkAnd, IsErrAnd, OnOk, IfOk, codes, map, option_map, unwrap_or, string_bytes};
 ghost use Rattle.oauth2_wire.specs.ServerView.{pair_texts};
-ghost use Rattle.oauth2.specs.Missing.{IsMissing};
+ghost use Rattle.oauth2_wire.specs.ConfigurationError.{IsMissingUrl};
 ghost use Rattle.oauth2_run.specs.Authorize as spec;
 ghost use Rattle.oauth2_run.specs.private.Authorize as private_spec;
 ghost use Rattle.oauth2_run.specs.Client.{given_or};
@@ -26,7 +26,7 @@ fn start<'a>(
     state: CsrfToken,
 ) -> Result<AuthorizationRequest<'a>, ConfigurationError>
     ensures there { IfSome client.now.auth_url (λ url. IsOkAnd result (λ r. r ≡ private_spec.new_authorization client.now url state)) }
-    ensures missing { IfNone client.now.auth_url (IsErrAnd result (IsMissing (codes "authorization"))) }
+    ensures missing { IfNone client.now.auth_url (IsErrAnd result (IsMissingUrl (codes "authorization"))) }
 {
     client.authorize_url(alloc, move || state)
 }

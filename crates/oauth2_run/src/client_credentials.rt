@@ -24,8 +24,8 @@ type ClientCredentialsRequest<'a> = ClientCredentialsTokenRequest<
 
 impl<'a> TokenRequest<'a> for ClientCredentialsRequest<'a> {
     ghost use Rattle.std.proofs.Common.{ap};
-    ghost use Rattle.oauth2.specs.Base.{Base};
-    ghost use Rattle.oauth2.specs.ClientCredentials.{client_credentials_configuration};
+    ghost use Rattle.oauth2_requests.specs.Base.{Base};
+    ghost use Rattle.oauth2_requests.specs.ClientCredentials.{client_credentials_configuration};
     ghost use Rattle.oauth2_run.specs.private.Extra.{with_pairs, with_pairs-none, with_pairs-more};
 
     ghost extended = { λ r added. record r { base = with_pairs r.base added } };

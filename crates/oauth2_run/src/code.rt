@@ -21,8 +21,8 @@ type CodeRequest<'a> = CodeTokenRequest<'a, BasicErrorResponse, BasicTokenRespon
 
 impl<'a> TokenRequest<'a> for CodeRequest<'a> {
     ghost use Rattle.std.proofs.Common.{ap};
-    ghost use Rattle.oauth2.specs.Base.{Base};
-    ghost use Rattle.oauth2.specs.Code.{code_configuration};
+    ghost use Rattle.oauth2_requests.specs.Base.{Base};
+    ghost use Rattle.oauth2_requests.specs.Code.{code_configuration};
     ghost use Rattle.oauth2_run.specs.private.Extra.{with_pairs, with_pairs-none, with_pairs-more};
 
     ghost extended = { λ r added. record r { base = with_pairs r.base added } };

@@ -20,8 +20,8 @@ type PasswordRequest<'a> = PasswordTokenRequest<'a, BasicErrorResponse, BasicTok
 
 impl<'a> TokenRequest<'a> for PasswordRequest<'a> {
     ghost use Rattle.std.proofs.Common.{ap};
-    ghost use Rattle.oauth2.specs.Base.{Base};
-    ghost use Rattle.oauth2.specs.Password.{password_configuration};
+    ghost use Rattle.oauth2_requests.specs.Base.{Base};
+    ghost use Rattle.oauth2_requests.specs.Password.{password_configuration};
     ghost use Rattle.oauth2_run.specs.private.Extra.{with_pairs, with_pairs-none, with_pairs-more};
 
     ghost extended = { λ r added. record r { base = with_pairs r.base added } };

@@ -20,8 +20,8 @@ type RefreshRequest<'a> = RefreshTokenRequest<'a, BasicErrorResponse, BasicToken
 
 impl<'a> TokenRequest<'a> for RefreshRequest<'a> {
     ghost use Rattle.std.proofs.Common.{ap};
-    ghost use Rattle.oauth2.specs.Base.{Base};
-    ghost use Rattle.oauth2.specs.Refresh.{refresh_configuration};
+    ghost use Rattle.oauth2_requests.specs.Base.{Base};
+    ghost use Rattle.oauth2_requests.specs.Refresh.{refresh_configuration};
     ghost use Rattle.oauth2_run.specs.private.Extra.{with_pairs, with_pairs-none, with_pairs-more};
 
     ghost extended = { λ r added. record r { base = with_pairs r.base added } };

@@ -18,14 +18,16 @@ not_http_text = codes "failed to prepare request: endpoint URL is not an HTTP ta
 
 module _ {D A T E RE : Type 0} where
   -- the result is the client's error, or what its reply says
-  abbrev pub AnswersTo : (D → A) → (T → E) → (HttpResponse → Answer A E) → Result HttpResponse RE → Result D (RequestTokenError RE T) → Type 0
+  abbrev pub AnswersTo : (D → A) → (T → E) → (HttpResponse → Answer A E) → Result HttpResponse RE
+      → Result D (RequestTokenError RE T) → Type 0
   AnswersTo meaning error_meaning says (Ok reply) result = ShowsAnswer meaning error_meaning (says reply) result
   AnswersTo meaning error_meaning says (Err error) result = result ≡ Err (token.Request error)
 
   module _ {C : Type 0} where
     -- the client goes from the state before to the state after by exactly one step, with this
     -- request, and the result is what that step's answer says
-    abbrev pub CallsOnce : (D → A) → (T → E) → (C → HttpRequest → Result HttpResponse RE → C → Type 0) → (HttpResponse → Answer A E) → C → HttpRequest → Result D (RequestTokenError RE T) → C → Type 0
+    abbrev pub CallsOnce : (D → A) → (T → E) → (C → HttpRequest → Result HttpResponse RE → C → Type 0)
+        → (HttpResponse → Answer A E) → C → HttpRequest → Result D (RequestTokenError RE T) → C → Type 0
     CallsOnce meaning error_meaning step says before request result after =
         (answer : Result HttpResponse RE) × step before request answer after × AnswersTo meaning error_meaning says answer result
 
@@ -42,13 +44,15 @@ module _ {T RE : Type 0} where
 
 module _ {D A T E RE C : Type 0} where
   -- a prepared request is sent once, and a fault of its preparation is answered without a call
-  abbrev pub SendsOnce : (D → A) → (T → E) → (C → HttpRequest → Result HttpResponse RE → C → Type 0) → (HttpResponse → Answer A E) → C → Result HttpRequest RequestFault → Result D (RequestTokenError RE T) → C → Type 0
+  abbrev pub SendsOnce : (D → A) → (T → E) → (C → HttpRequest → Result HttpResponse RE → C → Type 0)
+      → (HttpResponse → Answer A E) → C → Result HttpRequest RequestFault → Result D (RequestTokenError RE T) → C → Type 0
   SendsOnce meaning error_meaning step says before (Ok request) result after =
       CallsOnce meaning error_meaning step says before request result after
   SendsOnce meaning error_meaning step says before (Err kind) result after = AnswersUnsent kind result × (after ≡ before)
 
   -- a whole request: one call, or none and a fault; `NotHttp` holds where the endpoint is no HTTP target
-  abbrev pub OneShot : (D → A) → (T → E) → (C → HttpRequest → Result HttpResponse RE → C → Type 0) → (HttpResponse → Answer A E) → (HttpRequest → Type 0) → Type 0 → C → Result D (RequestTokenError RE T) → C → Type 0
+  abbrev pub OneShot : (D → A) → (T → E) → (C → HttpRequest → Result HttpResponse RE → C → Type 0)
+      → (HttpResponse → Answer A E) → (HttpRequest → Type 0) → Type 0 → C → Result D (RequestTokenError RE T) → C → Type 0
   OneShot meaning error_meaning step says IsRequest NotHttp before result after =
       ((request : HttpRequest) × IsRequest request × CallsOnce meaning error_meaning step says before request result after)
       ⊎ (((AnswersUnsent fault.NotHttp result × NotHttp) ⊎ AnswersUnsent fault.Memory result) × (after ≡ before))

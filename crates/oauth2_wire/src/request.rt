@@ -266,7 +266,8 @@ fn push_credentials(
     client_secret: Option<&ClientSecret>,
 ) -> Result<(), AllocError>
     ensures { let secret = option_copied client_secret.entry in
-        OnOk result (body.new ≡ body.old ++ body_credentials (basic_credentials auth_type.now client_id.now secret) client_id.now secret) }
+        let credentials = basic_credentials auth_type.now client_id.now secret in
+        OnOk result (body.new ≡ body.old ++ body_credentials credentials client_id.now secret) }
 {
     match (auth_type, client_secret) {
         (AuthType::BasicAuth, Some(_)) => Ok(()),

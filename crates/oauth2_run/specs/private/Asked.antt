@@ -7,7 +7,7 @@ use Rattle.oauth2_replies.specs.Kept.{any_object}
 use Rattle.oauth2_replies.specs.Token.{token_reading}
 use Rattle.oauth2_urls.specs.Addressed.{Addressed}
 use Rattle.oauth2_wire.specs.Expected.{Configuration}
-use Rattle.oauth2.specs.Once.{AsksOnce}
+use Rattle.oauth2_requests.specs.Once.{AsksOnce}
 use Rattle.oauth2_run.specs.private.Replay.{ReplaysOrStarves}
 use Rattle.oauth2_run.specs.private.Results.{Fault, TokenSeen, token_meaning}
 use Rattle.oauth2_run.specs.declared.replay.ScriptedClient.{ScriptedClient}

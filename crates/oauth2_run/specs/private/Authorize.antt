@@ -1,7 +1,7 @@
 -- The request for an authorization URL, as it begins.
 use Rattle.std.specs.Prelude.{ℕ, List, [], None, codes}
 use Rattle.oauth2_urls.specs.Addressed.{Addressed}
-use Rattle.oauth2.specs.Authorization.{Authorization}
+use Rattle.oauth2_requests.specs.Authorization.{Authorization}
 use Rattle.oauth2.specs.Settings.{Settings}
 
 -- a new request for the URL

@@ -1,7 +1,7 @@
 -- The extra parameters of a request.
 use Rattle.std.proofs.Common.{◌≡◌, List, [], ◌++◌, ap, append-nil, append_assoc}
 use Rattle.oauth2_wire.specs.Pairs.{Pair}
-use Rattle.oauth2.specs.Base.{Base}
+use Rattle.oauth2_requests.specs.Base.{Base}
 
 -- with these pairs after those that are there
 abbrev pub with_pairs : Base → List Pair → Base

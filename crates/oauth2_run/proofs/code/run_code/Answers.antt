@@ -1,7 +1,8 @@
 use Rattle.std.proofs.Common.{◌≡◌, ℕ, List, ◌++◌, length, string_bytes, codes, refl, rules, ap, ◌∙◌}
 use Rattle.std.proofs.lemmas.Result.{IfOk-weaker}
-use Rattle.oauth2.specs.Missing.{IsMissing}
-use Rattle.oauth2.specs.Code.{CodeRequest, new_code_request, code_configuration}
+use Rattle.oauth2_wire.specs.ConfigurationError.{IsMissingUrl}
+use Rattle.oauth2_requests.specs.Code.{CodeRequest, code_configuration}
+use Rattle.oauth2.specs.NewRequest.{new_code_request}
 use Rattle.oauth2_script.specs.CodeParams.{CodeParams}
 use Rattle.oauth2_script.specs.Views.{code_view}
 use Rattle.oauth2_run.specs.Client.{given_or}
@@ -39,5 +40,5 @@ returns-in-Err c =
     IfOk-weaker c.show_missing.result _ _
     (λ status printed. λ fed.
     missing_told (codes "token") _ c.args.client.now.token_url (string_bytes c.args.http_client.now.lines) (string_bytes c.show_missing.new.lines) status
-    (IsMissing (codes "token") c.in-Err.error) c.in-Err.ensures.there c.in-Err.ensures.missing (printed (codes "token")))
+    (IsMissingUrl (codes "token") c.in-Err.error) c.in-Err.ensures.there c.in-Err.ensures.missing (printed (codes "token")))
     c.show_missing.ensures

@@ -2,8 +2,9 @@ use Rattle.std.proofs.Common.{◌≡◌, ℕ, List, ◌++◌, length, string_byt
 use Rattle.std.specs.Vec.Iter.{into_iter_len}
 use Rattle.std.proofs.lemmas.Result.{IfOk-weaker}
 use Rattle.oauth2_wire.specs.Params.{with_scopes}
-use Rattle.oauth2.specs.Missing.{IsMissing}
-use Rattle.oauth2.specs.Refresh.{RefreshRequest, new_refresh_request, refresh_configuration}
+use Rattle.oauth2_wire.specs.ConfigurationError.{IsMissingUrl}
+use Rattle.oauth2_requests.specs.Refresh.{RefreshRequest, refresh_configuration}
+use Rattle.oauth2.specs.NewRequest.{new_refresh_request}
 use Rattle.oauth2_script.specs.RefreshParams.{RefreshParams}
 use Rattle.oauth2_script.specs.Views.{refresh_view}
 use Rattle.oauth2_run.specs.Exchange.{IsTokenExchange}
@@ -45,5 +46,5 @@ returns-in-Err c =
     IfOk-weaker c.show_missing.result _ _
     (λ status printed. λ fed.
     missing_told (codes "token") _ c.args.client.now.token_url (string_bytes c.args.http_client.now.lines) (string_bytes c.show_missing.new.lines) status
-    (IsMissing (codes "token") c.in-Err.error) c.in-Err.ensures.there c.in-Err.ensures.missing (printed (codes "token")))
+    (IsMissingUrl (codes "token") c.in-Err.error) c.in-Err.ensures.there c.in-Err.ensures.missing (printed (codes "token")))
     c.show_missing.ensures
