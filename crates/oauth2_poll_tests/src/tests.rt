@@ -9,6 +9,7 @@ const LONGEST: u64 = 18_446_744_073_709_551_615;
 const TOO_LONG: u64 = 9_223_372_036_854_775_808;
 
 // A run as a row of the table below: times in seconds, interval 1 and cap 10.
+#[derive(Clone, Copy)]
 struct Row<'a> {
     timeout: u64,
     max_polls: u64,
