@@ -7,7 +7,10 @@
 mod authorization_endpoint;
 pub mod basic;
 mod client;
+mod device_authorization_endpoint;
 mod endpoint;
+mod introspection_endpoint;
+mod revocation_endpoint;
 mod token_endpoint;
 
 pub use client::Client;
@@ -26,8 +29,9 @@ pub use oauth2_replies::{
     TokenResponse,
 };
 pub use oauth2_requests::{
-    AuthorizationRequest, ClientCredentialsTokenRequest, CodeTokenRequest, PasswordTokenRequest,
-    RefreshTokenRequest,
+    AuthorizationRequest, ClientCredentialsTokenRequest, CodeTokenRequest,
+    DeviceAuthorizationRequest, IntrospectionRequest, PasswordTokenRequest, RefreshTokenRequest,
+    RevocationRequest,
 };
 pub use oauth2_types::{
     AccessToken, AuthorizationCode, ClientId, ClientSecret, CsrfToken, DeviceCode,
