@@ -104,8 +104,8 @@ impl<'a, TE> DeviceAuthorizationRequest<'a, TE> {
             (serialize self.now.device_authorization_url.url) (view_of r)) }
         ensures not_http { result ≡ Err RequestFault.NotHttp → SpellsNone (serialize self.now.device_authorization_url.url) }
     {
-        self.base
-            .prepare(alloc, self.device_authorization_url.url(), None, &[])
+        let url = self.device_authorization_url.url();
+        self.base.prepare(alloc, url, None, &[])
     }
 }
 
