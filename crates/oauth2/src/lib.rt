@@ -7,7 +7,10 @@
 mod authorization_endpoint;
 pub mod basic;
 mod client;
+mod device_authorization_endpoint;
 mod endpoint;
+mod introspection_endpoint;
+mod revocation_endpoint;
 mod token_endpoint;
 
 pub use client::Client;
