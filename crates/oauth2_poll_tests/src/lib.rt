@@ -1,4 +1,4 @@
-//! The device poll for its users: a caller whose contract bounds its requests, and worked rows.
+//! The device poll for its users: a caller whose contract bounds its requests, and worked polls.
 #![tactic(auto)]
 
 mod callers;

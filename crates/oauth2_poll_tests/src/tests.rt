@@ -7,9 +7,9 @@ const LONGEST: u64 = 18_446_744_073_709_551_615;
 
 const TOO_LONG: u64 = 9_223_372_036_854_775_808;
 
-/// A run: times in seconds, interval 1 and cap 10.
+/// What a poll goes by: times in seconds, interval 1 and cap 10.
 #[derive(Clone, Copy)]
-struct Row<'a> {
+struct PollInput<'a> {
     timeout: u64,
     max_polls: u64,
     readings: &'a [i64],
@@ -33,20 +33,20 @@ fn moments(rt: &(impl Abort + AllocGlobal), seconds: &[i64]) -> Vec<Timestamp> {
 }
 
 /// The run does this and ends so.
-fn runs(rt: &(impl Abort + AllocGlobal), row: Row<'_>, trace: &[PollEvent], end: PollEnd) {
-    assert!(rt; 0 < row.max_polls);
-    let readings = moments(rt, row.readings);
+fn runs(rt: &(impl Abort + AllocGlobal), input: PollInput<'_>, trace: &[PollEvent], end: PollEnd) {
+    assert!(rt; 0 < input.max_polls);
+    let readings = moments(rt, input.readings);
     let settings = PollSettings {
         interval: secs(1),
         cap: secs(10),
-        max_polls: row.max_polls,
+        max_polls: input.max_polls,
     };
     let run = DevicePoll::run(
         rt.alloc(),
-        secs(row.timeout),
+        secs(input.timeout),
         settings,
         readings.as_slice(),
-        row.answers,
+        input.answers,
     )
     .expect(rt, "a run");
     assert!(rt; run.trace.as_slice() == trace);
@@ -71,7 +71,7 @@ const DECIDING: PollEvent = PollEvent::Answer(PollAnswer::Deciding);
 
 #[test]
 fn a_late_reading_ends_it(rt: HostRuntime) {
-    let row = Row {
+    let input = PollInput {
         timeout: 2,
         max_polls: 5,
         readings: &[0, 1, 2, 3],
@@ -89,12 +89,12 @@ fn a_late_reading_ends_it(rt: HostRuntime) {
         slept(1),
         read(&rt, 3),
     ];
-    runs(&rt, row, &trace, PollEnd::Expired);
+    runs(&rt, input, &trace, PollEnd::Expired);
 }
 
 #[test]
 fn slow_downs_count_in_the_waits(rt: HostRuntime) {
-    let row = Row {
+    let input = PollInput {
         timeout: 10,
         max_polls: 9,
         readings: &[0, 0, 6, 17],
@@ -112,12 +112,12 @@ fn slow_downs_count_in_the_waits(rt: HostRuntime) {
         slept(11),
         read(&rt, 17),
     ];
-    runs(&rt, row, &trace, PollEnd::Expired);
+    runs(&rt, input, &trace, PollEnd::Expired);
 }
 
 #[test]
 fn a_decision_goes_before_the_limit_and_a_late_reading_before_both(rt: HostRuntime) {
-    let decided = Row {
+    let decided = PollInput {
         timeout: 2,
         max_polls: 1,
         readings: &[0, 0],
@@ -125,7 +125,7 @@ fn a_decision_goes_before_the_limit_and_a_late_reading_before_both(rt: HostRunti
     };
     let trace = [read(&rt, 0), read(&rt, 0), ASK, DECIDING];
     runs(&rt, decided, &trace, PollEnd::Done);
-    let late = Row {
+    let late = PollInput {
         timeout: 2,
         max_polls: 1,
         readings: &[0, 3],
@@ -136,7 +136,7 @@ fn a_decision_goes_before_the_limit_and_a_late_reading_before_both(rt: HostRunti
 
 #[test]
 fn the_last_request_is_not_slept_after(rt: HostRuntime) {
-    let row = Row {
+    let input = PollInput {
         timeout: 2,
         max_polls: 3,
         readings: &[0, 0, 0, 0],
@@ -160,12 +160,12 @@ fn the_last_request_is_not_slept_after(rt: HostRuntime) {
         ASK,
         PENDING,
     ];
-    runs(&rt, row, &trace, PollEnd::Limit);
+    runs(&rt, input, &trace, PollEnd::Limit);
 }
 
 #[test]
 fn a_list_runs_out(rt: HostRuntime) {
-    let unanswered = Row {
+    let unanswered = PollInput {
         timeout: 2,
         max_polls: 3,
         readings: &[0, 1],
@@ -177,7 +177,7 @@ fn a_list_runs_out(rt: HostRuntime) {
         &[read(&rt, 0), read(&rt, 1), ASK],
         PollEnd::OutOfInput,
     );
-    let answered = Row {
+    let answered = PollInput {
         timeout: 2,
         max_polls: 3,
         readings: &[0, 1],
@@ -185,14 +185,14 @@ fn a_list_runs_out(rt: HostRuntime) {
     };
     let trace = [read(&rt, 0), read(&rt, 1), ASK, PENDING, slept(1)];
     runs(&rt, answered, &trace, PollEnd::OutOfInput);
-    let unread = Row {
+    let unread = PollInput {
         timeout: 2,
         max_polls: 3,
         readings: &[],
         answers: &[],
     };
     runs(&rt, unread, &[], PollEnd::OutOfInput);
-    let started = Row {
+    let started = PollInput {
         timeout: 2,
         max_polls: 3,
         readings: &[0],
@@ -203,14 +203,14 @@ fn a_list_runs_out(rt: HostRuntime) {
 
 #[test]
 fn a_timeout_is_too_long_or_passes_the_last_timestamp(rt: HostRuntime) {
-    let too_long = Row {
+    let too_long = PollInput {
         timeout: TOO_LONG,
         max_polls: 3,
         readings: &[],
         answers: &[],
     };
     runs(&rt, too_long, &[], PollEnd::TimeoutTooLong);
-    let out_of_range = Row {
+    let out_of_range = PollInput {
         timeout: TOO_LONG - 1,
         max_polls: 3,
         readings: &[0],

@@ -59,7 +59,9 @@ pub(crate) fn push_any(form: &mut Vec<u8>, name: &str, value: &str) -> Result<()
 pub(crate) fn with_form(url: &Url, form: &[u8]) -> Result<Url, ParseError>
     requires valid { IsValid url.now }
     requires form { (pairs : List Pair) × ExtendsForm (unwrap_or url.now.query []) form.now pairs }
-    ensures ok { IfOk result (λ new. (pairs : List Pair) → ExtendsForm (unwrap_or url.now.query []) form.now pairs → ExtendsQuery url.now new pairs) }
+    ensures ok { IfOk result (λ new. (pairs : List Pair)
+        → ExtendsForm (unwrap_or url.now.query []) form.now pairs
+        → ExtendsQuery url.now new pairs) }
     ensures refusal { IfErr result IsOutOfRoom }
 {
     let mut new = url.clone()?;

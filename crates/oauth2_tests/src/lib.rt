@@ -10,6 +10,8 @@ mod pkce;
 #[cfg(test)]
 mod secrets;
 #[cfg(test)]
+mod started_requests;
+#[cfg(test)]
 mod support;
 #[cfg(test)]
 mod texts;

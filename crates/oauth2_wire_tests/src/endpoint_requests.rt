@@ -240,13 +240,15 @@ fn redirect_url(rt: &(impl Abort + AllocGlobal)) -> RedirectUrl {
     RedirectUrl::new(rt.alloc(), text(rt, "https://example.com")).expect(rt, "a URL")
 }
 
+fn redirects_to(rt: &impl Abort, redirect: RedirectRef<'_>, wanted: &str) {
+    is_text(rt, redirect.redirect_url().as_str(), wanted);
+}
+
 #[test]
 fn redirects_are_borrowed_or_owned(rt: HostRuntime) {
     let url = redirect_url(&rt);
-    let borrowed = RedirectRef::from(&url);
-    is_text(&rt, borrowed.redirect_url().as_str(), "https://example.com");
-    let owned = RedirectRef::from(url);
-    is_text(&rt, owned.redirect_url().as_str(), "https://example.com");
+    redirects_to(&rt, RedirectRef::from(&url), "https://example.com");
+    redirects_to(&rt, RedirectRef::from(url), "https://example.com");
 }
 
 #[test]
