@@ -5,6 +5,7 @@ use oauth2::{
     EmptyExtraDeviceAuthorizationFields, ParseCause, StandardDeviceAuthorizationResponse, TryClone,
 };
 use std::ops::Deref;
+use std::process::Abort;
 use std::time::Duration;
 
 #[test]
@@ -54,27 +55,29 @@ fn copy_of_a_device_response_is_written_alike(rt: HostRuntime) {
     is_written_as(&rt, &copy, WHOLE);
 }
 
-#[test]
-fn codes_of_a_device_response(rt: HostRuntime) {
-    let device = read::<StandardDeviceAuthorizationResponse>(&rt, WHOLE);
+fn has_codes(rt: &impl Abort, device: &StandardDeviceAuthorizationResponse) {
     assert_eq!(rt; device.device_code().secret().as_str(), "d");
     assert_eq!(rt; device.user_code().secret().as_str(), "u");
-    let EmptyExtraDeviceAuthorizationFields {} = device.extra_fields();
 }
 
-#[test]
-fn addresses_of_a_device_response(rt: HostRuntime) {
-    let device = read::<StandardDeviceAuthorizationResponse>(&rt, WHOLE);
+fn has_addresses(rt: &impl Abort, device: &StandardDeviceAuthorizationResponse) {
     assert_eq!(rt; device.verification_uri().deref().as_str(), "https://v/");
     let complete = device
         .verification_uri_complete()
-        .expect(&rt, "a complete URI");
+        .expect(rt, "a complete URI");
     assert_eq!(rt; complete.secret().as_str(), "https://v/u");
 }
 
-#[test]
-fn times_of_a_device_response(rt: HostRuntime) {
-    let device = read::<StandardDeviceAuthorizationResponse>(&rt, WHOLE);
+fn has_times(rt: &impl Abort, device: &StandardDeviceAuthorizationResponse) {
     assert!(rt; device.expires_in() == Duration::from_secs(300));
     assert!(rt; device.interval() == Duration::from_secs(7));
+}
+
+#[test]
+fn members_of_a_device_response(rt: HostRuntime) {
+    let device = read::<StandardDeviceAuthorizationResponse>(&rt, WHOLE);
+    has_codes(&rt, &device);
+    has_addresses(&rt, &device);
+    has_times(&rt, &device);
+    let EmptyExtraDeviceAuthorizationFields {} = device.extra_fields();
 }

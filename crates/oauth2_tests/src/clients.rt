@@ -1,6 +1,6 @@
 //! Clients: made, copied, and where a login leads.
 
-use crate::support::text;
+use crate::support::{is_text, text};
 use oauth2::basic::BasicClient;
 use oauth2::{
     AuthUrl, AuthorizationRequest, Client, ClientId, ClientSecret, CsrfToken, EndpointMaybeSet,
@@ -34,12 +34,20 @@ fn client(rt: &(impl Abort + AllocGlobal)) -> CodeClient {
         .set_token_uri(token_url(rt))
 }
 
+fn tells(rt: &impl Abort, client: &CodeClient) {
+    is_text(rt, client.client_id().as_str(), "aaa");
+    is_text(rt, client.token_uri().as_str(), "https://example.com/token");
+}
+
+fn copy_tells(rt: &(impl Abort + AllocGlobal), client: &CodeClient) {
+    let copy = client.try_clone(rt.alloc()).expect(rt, "a copy");
+    tells(rt, &copy);
+}
+
 #[test]
 fn copies(rt: HostRuntime) {
     let client = client(&rt);
-    let copy = client.try_clone(rt.alloc()).expect(&rt, "a copy");
-    assert_eq!(rt; copy.client_id().as_str(), "aaa");
-    assert_eq!(rt; copy.token_uri().as_str(), "https://example.com/token");
+    copy_tells(&rt, &client);
 }
 
 #[test]
@@ -56,8 +64,8 @@ fn login<'a>(rt: &(impl Abort + AllocGlobal), client: &'a CodeClient) -> Authori
 
 fn leads_to(rt: &(impl Abort + AllocGlobal), request: AuthorizationRequest<'_>, url: &str) {
     let (made, state) = request.url(rt.alloc()).expect(rt, "a URL");
-    assert_eq!(rt; made.as_str(), url);
-    assert_eq!(rt; state.secret().as_str(), "csrf_token");
+    is_text(rt, made.as_str(), url);
+    is_text(rt, state.secret().as_str(), "csrf_token");
 }
 
 #[test]

@@ -4,6 +4,7 @@
 use crate::support::{is_text, text, url};
 use crate::views::{shows_basic, shows_no_basic, view_of};
 use oauth2::AuthType::{BasicAuth, RequestBody};
+use oauth2::url::Url;
 use oauth2::{
     AuthType, ClientId, ClientSecret, HttpRequest, ParamText, RedirectRef, RedirectUrl,
     RequestFault, Scope, TryClone, endpoint_request,
@@ -76,6 +77,13 @@ fn has(rt: &impl Abort, request: &HttpRequest, body: &str, headers: usize) {
     assert_eq!(rt; request.headers().len(), headers);
 }
 
+fn is_post_with_header(rt: &(impl Abort + AllocGlobal), request: &HttpRequest) {
+    let view = view_of(rt, request);
+    assert_eq!(rt; view.method.as_str(), "POST");
+    assert_eq!(rt; view.target.as_str(), "https://example.com/token");
+    shows_basic(rt, view, "aaa", "bbb");
+}
+
 /// The body where the secret is `bbb` and goes into the header.
 fn sends(
     rt: &(impl Abort + AllocGlobal),
@@ -87,10 +95,7 @@ fn sends(
     let secret = secret(rt);
     let request = request_of(rt, BasicAuth, Some(&secret), own, scopes, extra);
     has(rt, &request, body, 3);
-    let view = view_of(rt, &request);
-    assert_eq!(rt; view.method.as_str(), "POST");
-    assert_eq!(rt; view.target.as_str(), "https://example.com/token");
-    shows_basic(rt, view, "aaa", "bbb");
+    is_post_with_header(rt, &request);
 }
 
 /// The body where there is no such header, and how many pairs a server reads of it.
@@ -251,55 +256,56 @@ fn redirects_are_borrowed_or_owned(rt: HostRuntime) {
     redirects_to(&rt, RedirectRef::from(url), "https://example.com");
 }
 
-#[test]
-fn redirect_as_given(rt: HostRuntime) {
-    let url = url(&rt, "https://example.com");
-    let id = client_id(&rt);
-    let redirect = redirect_url(&rt);
-    let request = endpoint_request(
+/// A request with nothing but the identifier and the redirect URL.
+fn bare_request(
+    rt: &(impl Abort + AllocGlobal),
+    auth_type: &AuthType,
+    redirect: Option<&RedirectUrl>,
+    url: &Url,
+) -> Result<HttpRequest, RequestFault> {
+    let id = client_id(rt);
+    endpoint_request(
         rt.alloc(),
-        &RequestBody,
+        auth_type,
         &id,
         None,
         &[],
-        Some(&redirect),
+        redirect,
         None,
-        &url,
+        url,
         &[],
     )
-    .expect(&rt, "a request");
+}
+
+fn has_target(rt: &(impl Abort + AllocGlobal), request: &HttpRequest, target: &str) {
+    let view = view_of(rt, request);
+    assert_eq!(rt; view.target.as_str(), target);
+}
+
+#[test]
+fn redirect_as_given(rt: HostRuntime) {
+    let url = url(&rt, "https://example.com");
+    let redirect = redirect_url(&rt);
+    let request = bare_request(&rt, &RequestBody, Some(&redirect), &url).expect(&rt, "a request");
     has(
         &rt,
         &request,
         "client_id=aaa&redirect_uri=https%3A%2F%2Fexample.com",
         2,
     );
-    let view = view_of(&rt, &request);
-    assert_eq!(rt; view.target.as_str(), "https://example.com/");
+    has_target(&rt, &request, "https://example.com/");
 }
 
 /// A request with nothing but the identifier, to this URL.
 fn request_to(rt: &(impl Abort + AllocGlobal), text: &str) -> Result<HttpRequest, RequestFault> {
     let url = url(rt, text);
-    let id = client_id(rt);
-    endpoint_request(
-        rt.alloc(),
-        &BasicAuth,
-        &id,
-        None,
-        &[],
-        None,
-        None,
-        &url,
-        &[],
-    )
+    bare_request(rt, &BasicAuth, None, &url)
 }
 
 #[test]
 fn target_without_fragment(rt: HostRuntime) {
     let request = request_to(&rt, "http://[::1]:8080/x?y=z#f").expect(&rt, "a request");
-    let view = view_of(&rt, &request);
-    assert_eq!(rt; view.target.as_str(), "http://[::1]:8080/x?y=z");
+    has_target(&rt, &request, "http://[::1]:8080/x?y=z");
 }
 
 #[test]

@@ -1,26 +1,34 @@
 //! What a form writes for each byte (URL Standard, section 5.2).
 
 use crate::support::{text, url};
-use oauth2::{AuthType, ClientId, ParamText, endpoint_request};
+use oauth2::{AuthType, ClientId, HttpRequest, ParamText, endpoint_request};
 use std::process::Abort;
 
-/// A request with one extra parameter, of which the name is the text, sends this body.
-fn sends(rt: &(impl Abort + AllocGlobal), name: &str, body: &[u8]) {
+/// A request with these extra parameters.
+fn request_of(
+    rt: &(impl Abort + AllocGlobal),
+    extra: &[(ParamText<'_>, ParamText<'_>)],
+) -> HttpRequest {
     let url = url(rt, "https://example.com/token");
     let id = ClientId::new(text(rt, "a"));
-    let extra = [(ParamText::from(name), ParamText::from(""))];
-    let request = endpoint_request(
+    endpoint_request(
         rt.alloc(),
         &AuthType::RequestBody,
         &id,
         None,
-        extra.as_slice(),
+        extra,
         None,
         None,
         &url,
         &[],
     )
-    .expect(rt, "a request");
+    .expect(rt, "a request")
+}
+
+/// A request with one extra parameter, of which the name is the text, sends this body.
+fn sends(rt: &(impl Abort + AllocGlobal), name: &str, body: &[u8]) {
+    let extra = [(ParamText::from(name), ParamText::from(""))];
+    let request = request_of(rt, extra.as_slice());
     assert_eq!(rt; request.body().as_slice(), body);
 }
 
