@@ -41,6 +41,10 @@ pub use Rattle.oauth2_requests.specs.Code
 pub use Rattle.oauth2_requests.specs.Refresh
 pub use Rattle.oauth2_requests.specs.Password
 pub use Rattle.oauth2_requests.specs.ClientCredentials
+pub use Rattle.oauth2_requests.specs.DeviceAuthorization
+pub use Rattle.oauth2_requests.specs.HintedToken
+pub use Rattle.oauth2_requests.specs.TokenIntrospection
+pub use Rattle.oauth2_requests.specs.TokenRevocation
 pub use Rattle.oauth2_requests.specs.Once
 pub use Rattle.oauth2_requests.specs.Query
 pub use Rattle.oauth2_requests.specs.Authorization

@@ -1,12 +1,15 @@
 -- The requests that a client starts, as they are before anything is added.
-use Rattle.std.specs.Prelude.{◌≡◌, ℕ, List, [], codes, None}
+use Rattle.std.specs.Prelude.{◌≡◌, ℕ, List, [], codes, Option, None}
 use Rattle.oauth2_urls.specs.Addressed.{Addressed}
 use Rattle.oauth2_requests.specs.Authorization.{Authorization}
 use Rattle.oauth2_requests.specs.Base.{Base}
 use Rattle.oauth2_requests.specs.ClientCredentials.{ClientCredentialsRequest}
 use Rattle.oauth2_requests.specs.Code.{CodeRequest}
+use Rattle.oauth2_requests.specs.DeviceAuthorization.{DeviceRequest}
 use Rattle.oauth2_requests.specs.Password.{PasswordRequest}
 use Rattle.oauth2_requests.specs.Refresh.{RefreshRequest}
+use Rattle.oauth2_requests.specs.TokenIntrospection.{TokenIntrospection}
+use Rattle.oauth2_requests.specs.TokenRevocation.{TokenRevocation}
 use Rattle.oauth2.specs.Settings.{Settings}
 
 -- a request of this client that asks for no scope yet
@@ -67,4 +70,34 @@ abbrev pub new_client_credentials_request : Settings → Addressed → ClientCre
 new_client_credentials_request client url = record {
   base = base_of client;
   token_url = url;
+}
+
+-- the request of a device for its codes (RFC 8628, section 3.1)
+abbrev pub new_device_request : Settings → Addressed → DeviceRequest
+new_device_request client url = record {
+  base = base_of client;
+  device_authorization_url = url;
+}
+
+-- the introspection of a token (RFC 7662, section 2.1)
+abbrev pub new_introspection_request : Settings → Addressed → List ℕ → TokenIntrospection
+new_introspection_request client url token = record {
+  base = base_of client;
+  introspection_url = url;
+  token = token;
+  token_type_hint = None;
+}
+
+-- the endpoint is an `https` URL: the scheme that its text parses to, which the parser writes in
+-- lower case (RFC 7009, section 2)
+abbrev pub IsHttps : Addressed → Type 0
+IsHttps endpoint = endpoint.url.scheme ≡ codes "https"
+
+-- the revocation of a token with this text and this hint (RFC 7009, section 2.1)
+abbrev pub new_revocation_request : Settings → Addressed → List ℕ → Option (List ℕ) → TokenRevocation
+new_revocation_request client url token token_type_hint = record {
+  base = base_of client;
+  revocation_url = url;
+  token = token;
+  token_type_hint = token_type_hint;
 }

@@ -1,10 +1,10 @@
 //! Error codes and error responses (RFC 6749, section 5.2), and the body that holds one.
 
-use crate::support::{is_fault, is_refused, is_written_as, read, text};
+use crate::support::{is_displayed_as, is_fault, is_refused, is_written_as, read, text};
 use oauth2::basic::{BasicErrorResponse, BasicErrorResponseType};
 use oauth2::{
-    DeviceCodeErrorResponseType, ErrorResponse, ParseCause, StandardErrorResponse, TryClone,
-    compact, read_body,
+    DeviceCodeErrorResponseType, ErrorResponse, ParseCause, StandardErrorResponse,
+    TextErrorResponseType, TryClone, compact, read_body,
 };
 use std::convert::AsStr;
 use std::process::Abort;
@@ -30,6 +30,24 @@ fn written_code_reads_as_its_own_variant(rt: HostRuntime) {
     assert!(rt; read == DeviceCodeErrorResponseType::SlowDown);
 }
 
+#[test]
+fn code_of_any_text(rt: HostRuntime) {
+    let code = read::<TextErrorResponseType>(&rt, "\"Invalid_Client\"");
+    is_displayed_as(&rt, &code, "Invalid_Client");
+    is_written_as(&rt, &code, "\"Invalid_Client\"");
+    let copy = code.try_clone(rt.alloc()).expect(&rt, "a copy");
+    assert!(rt; copy == code);
+    is_refused::<TextErrorResponseType>(&rt, "1", "", ParseCause::WrongType);
+}
+
+#[test]
+fn response_with_a_code_of_any_text(rt: HostRuntime) {
+    let written = "{\"error\":\"too_many_requests\",\"error_description\":\"wait\"}";
+    let response = read::<StandardErrorResponse<TextErrorResponseType>>(&rt, written);
+    is_shown_as(&rt, &response, "too_many_requests: wait");
+    is_written_as(&rt, &response, written);
+}
+
 /// An error response with each of its members.
 fn full(rt: &(impl Abort + AllocGlobal)) -> BasicErrorResponse {
     StandardErrorResponse::new(
@@ -41,8 +59,7 @@ fn full(rt: &(impl Abort + AllocGlobal)) -> BasicErrorResponse {
 
 /// What a caller that knows no more than the bound shows.
 fn is_shown_as<E: ErrorResponse>(rt: &(impl Abort + AllocGlobal), response: &E, wanted: &str) {
-    let shown = format!(in rt.alloc(); "{response}").expect(rt, "a text");
-    assert_eq!(rt; shown.as_str(), wanted);
+    is_displayed_as(rt, response, wanted);
 }
 
 #[test]

@@ -1,10 +1,11 @@
 //! Responses with extra fields of a user's own.
 
 use crate::colorful::{ColorfulFields, ColorfulTokenType, RawFields};
-use crate::support::{is_refused, is_rewritten, read, text};
+use crate::support::{is_kept, is_refused, is_rewritten, read, text};
 use oauth2::basic::{BasicTokenResponse, BasicTokenType};
 use oauth2::{
-    AccessToken, DeviceAuthorizationResponse, ParseCause, StandardTokenResponse, ToJson, WriteError,
+    AccessToken, DeviceAuthorizationResponse, ExtraFields, ParseCause, StandardTokenResponse,
+    ToJson, WriteError,
 };
 use std::process::Abort;
 
@@ -56,6 +57,29 @@ fn extra_fields_of_a_device_response(rt: HostRuntime) {
         "{\"device_code\":\"d\",\"user_code\":\"u\",\"verification_url\":\"https://v/\",\"expires_in\":1,\"z\":[]}",
         "{\"device_code\":\"d\",\"expires_in\":1,\"interval\":5,\"user_code\":\"u\",\"verification_uri\":\"https://v/\",\"z\":[]}",
     );
+}
+
+#[test]
+fn members_that_are_left(rt: HostRuntime) {
+    let fields = read::<ExtraFields>(&rt, "{\"id_token\":\"x\",\"n\":1}");
+    assert!(rt; fields.text("id_token") == Some("x"));
+    assert!(rt; fields.text("n").is_none());
+    let number = fields.get("n").expect(&rt, "a member");
+    assert!(rt; number.as_u64() == Some(1));
+    assert!(rt; fields.get("m").is_none());
+}
+
+#[test]
+fn members_that_are_left_are_kept(rt: HostRuntime) {
+    is_kept::<StandardTokenResponse<ExtraFields, BasicTokenType>>(
+        &rt,
+        "{\"access_token\":\"t\",\"id_token\":\"x\",\"n\":1,\"token_type\":\"bearer\"}",
+    );
+    is_kept::<DeviceAuthorizationResponse<ExtraFields>>(
+        &rt,
+        "{\"device_code\":\"d\",\"expires_in\":1,\"interval\":5,\"user_code\":\"u\",\"verification_uri\":\"https://v/\",\"z\":[]}",
+    );
+    is_refused::<ExtraFields>(&rt, "[]", "", ParseCause::NotObject);
 }
 
 /// A token response with these extra fields.

@@ -8,6 +8,8 @@ mod device_response;
 #[cfg(test)]
 mod error_response;
 #[cfg(test)]
+mod error_texts;
+#[cfg(test)]
 mod extra_fields;
 #[cfg(test)]
 mod introspection_response;

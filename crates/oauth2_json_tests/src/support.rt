@@ -2,6 +2,7 @@
 
 use oauth2::{FromJson, ParseCause, ReadError, ToJson, compact, read_body};
 use serde_json::Value;
+use std::fmt::Display;
 use std::process::Abort;
 
 pub fn text(rt: &(impl Abort + AllocGlobal), text: &str) -> String {
@@ -16,6 +17,12 @@ pub fn parsed(rt: &(impl Abort + AllocGlobal), text: &str) -> Value {
 /// What the body reads to.
 pub fn read<T: FromJson>(rt: &(impl Abort + AllocGlobal), body: &str) -> T {
     read_body::<T>(rt.alloc(), body.as_bytes()).expect(rt, "a value")
+}
+
+/// The value is shown as this text.
+pub fn is_displayed_as<T: Display>(rt: &(impl Abort + AllocGlobal), value: &T, wanted: &str) {
+    let shown = format!(in rt.alloc(); "{value}").expect(rt, "a text");
+    assert_eq!(rt; shown.as_str(), wanted);
 }
 
 /// The value is written as this text.

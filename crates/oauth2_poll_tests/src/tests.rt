@@ -1,14 +1,14 @@
 use jiff::Timestamp;
 use oauth2_poll::{DevicePoll, PollAnswer, PollEnd, PollEvent, PollReady, PollSettings, PollStep};
 use std::process::Abort;
-use std::test::Fail;
 use std::time::Duration;
 
 const LONGEST: u64 = 18_446_744_073_709_551_615;
 
 const TOO_LONG: u64 = 9_223_372_036_854_775_808;
 
-// A run as a row of the table below: times in seconds, interval 1 and cap 10.
+/// A run: times in seconds, interval 1 and cap 10.
+#[derive(Clone, Copy)]
 struct Row<'a> {
     timeout: u64,
     max_polls: u64,
@@ -16,52 +16,49 @@ struct Row<'a> {
     answers: &'a [PollAnswer],
 }
 
-fn settings(interval: Duration, cap: Duration, max_polls: u64) -> PollSettings {
-    PollSettings {
-        interval,
-        cap,
-        max_polls,
-    }
+fn secs(seconds: u64) -> Duration {
+    Duration::from_secs(seconds)
 }
 
-fn moment(second: i64) -> Result<Timestamp, Fail> {
-    Ok(Timestamp::from_second(second)?)
+fn moment(rt: &impl Abort, second: i64) -> Timestamp {
+    Timestamp::from_second(second).expect(rt, "a timestamp")
 }
 
-fn moments(rt: &HostRuntime, seconds: &[i64]) -> Result<Vec<Timestamp>, Fail> {
+fn moments(rt: &(impl Abort + AllocGlobal), seconds: &[i64]) -> Vec<Timestamp> {
     let mut moments = Vec::new(rt.alloc());
     for second in seconds.iter() {
-        moments.push(moment(*second)?)?;
+        moments.push(moment(rt, *second)).expect(rt, "a list");
     }
-    Ok(moments)
+    moments
 }
 
-/// Whether the run does this and ends so.
-fn runs(rt: &HostRuntime, row: &Row, trace: &[PollEvent], end: PollEnd) -> Result<bool, Fail> {
-    if row.max_polls == 0 {
-        return Ok(false);
-    }
-    let readings = moments(rt, row.readings)?;
+/// The run does this and ends so.
+fn runs(rt: &(impl Abort + AllocGlobal), row: Row<'_>, trace: &[PollEvent], end: PollEnd) {
+    assert!(rt; 0 < row.max_polls);
+    let readings = moments(rt, row.readings);
+    let settings = PollSettings {
+        interval: secs(1),
+        cap: secs(10),
+        max_polls: row.max_polls,
+    };
     let run = DevicePoll::run(
         rt.alloc(),
-        Duration::from_secs(row.timeout),
-        settings(
-            Duration::from_secs(1),
-            Duration::from_secs(10),
-            row.max_polls,
-        ),
+        secs(row.timeout),
+        settings,
         readings.as_slice(),
         row.answers,
-    )?;
-    Ok(run.trace.as_slice() == trace && run.end == end)
+    )
+    .expect(rt, "a run");
+    assert!(rt; run.trace.as_slice() == trace);
+    assert_eq!(rt; run.end, end);
 }
 
-fn read(second: i64) -> Result<PollEvent, Fail> {
-    Ok(PollEvent::Reading(moment(second)?))
+fn read(rt: &impl Abort, second: i64) -> PollEvent {
+    PollEvent::Reading(moment(rt, second))
 }
 
 fn slept(seconds: u64) -> PollEvent {
-    PollEvent::Sleep(Duration::from_secs(seconds))
+    PollEvent::Sleep(secs(seconds))
 }
 
 const ASK: PollEvent = PollEvent::Request;
@@ -73,7 +70,7 @@ const SLOW_DOWN: PollEvent = PollEvent::Answer(PollAnswer::SlowDown);
 const DECIDING: PollEvent = PollEvent::Answer(PollAnswer::Deciding);
 
 #[test]
-fn a_late_reading_ends_it(rt: HostRuntime) -> Result<(), Fail> {
+fn a_late_reading_ends_it(rt: HostRuntime) {
     let row = Row {
         timeout: 2,
         max_polls: 5,
@@ -81,23 +78,22 @@ fn a_late_reading_ends_it(rt: HostRuntime) -> Result<(), Fail> {
         answers: &[PollAnswer::Pending, PollAnswer::Pending],
     };
     let trace = [
-        read(0)?,
-        read(1)?,
+        read(&rt, 0),
+        read(&rt, 1),
         ASK,
         PENDING,
         slept(1),
-        read(2)?,
+        read(&rt, 2),
         ASK,
         PENDING,
         slept(1),
-        read(3)?,
+        read(&rt, 3),
     ];
-    assert!(rt; runs(&rt, &row, &trace, PollEnd::Expired)?);
-    Ok(())
+    runs(&rt, row, &trace, PollEnd::Expired);
 }
 
 #[test]
-fn slow_downs_count_in_the_waits(rt: HostRuntime) -> Result<(), Fail> {
+fn slow_downs_count_in_the_waits(rt: HostRuntime) {
     let row = Row {
         timeout: 10,
         max_polls: 9,
@@ -105,45 +101,41 @@ fn slow_downs_count_in_the_waits(rt: HostRuntime) -> Result<(), Fail> {
         answers: &[PollAnswer::SlowDown, PollAnswer::SlowDown],
     };
     let trace = [
-        read(0)?,
-        read(0)?,
+        read(&rt, 0),
+        read(&rt, 0),
         ASK,
         SLOW_DOWN,
         slept(6),
-        read(6)?,
+        read(&rt, 6),
         ASK,
         SLOW_DOWN,
         slept(11),
-        read(17)?,
+        read(&rt, 17),
     ];
-    assert!(rt; runs(&rt, &row, &trace, PollEnd::Expired)?);
-    Ok(())
+    runs(&rt, row, &trace, PollEnd::Expired);
 }
 
 #[test]
-fn a_decision_goes_before_the_limit_and_a_late_reading_before_both(
-    rt: HostRuntime,
-) -> Result<(), Fail> {
+fn a_decision_goes_before_the_limit_and_a_late_reading_before_both(rt: HostRuntime) {
     let decided = Row {
         timeout: 2,
         max_polls: 1,
         readings: &[0, 0],
         answers: &[PollAnswer::Deciding],
     };
-    let trace = [read(0)?, read(0)?, ASK, DECIDING];
-    assert!(rt; runs(&rt, &decided, &trace, PollEnd::Done)?);
+    let trace = [read(&rt, 0), read(&rt, 0), ASK, DECIDING];
+    runs(&rt, decided, &trace, PollEnd::Done);
     let late = Row {
         timeout: 2,
         max_polls: 1,
         readings: &[0, 3],
         answers: &[],
     };
-    assert!(rt; runs(&rt, &late, &[read(0)?, read(3)?], PollEnd::Expired)?);
-    Ok(())
+    runs(&rt, late, &[read(&rt, 0), read(&rt, 3)], PollEnd::Expired);
 }
 
 #[test]
-fn the_last_request_is_not_slept_after(rt: HostRuntime) -> Result<(), Fail> {
+fn the_last_request_is_not_slept_after(rt: HostRuntime) {
     let row = Row {
         timeout: 2,
         max_polls: 3,
@@ -155,38 +147,35 @@ fn the_last_request_is_not_slept_after(rt: HostRuntime) -> Result<(), Fail> {
         ],
     };
     let trace = [
-        read(0)?,
-        read(0)?,
+        read(&rt, 0),
+        read(&rt, 0),
         ASK,
         PENDING,
         slept(1),
-        read(0)?,
+        read(&rt, 0),
         ASK,
         PENDING,
         slept(1),
-        read(0)?,
+        read(&rt, 0),
         ASK,
         PENDING,
     ];
-    assert!(rt; runs(&rt, &row, &trace, PollEnd::Limit)?);
-    Ok(())
+    runs(&rt, row, &trace, PollEnd::Limit);
 }
 
 #[test]
-fn a_list_runs_out(rt: HostRuntime) -> Result<(), Fail> {
+fn a_list_runs_out(rt: HostRuntime) {
     let unanswered = Row {
         timeout: 2,
         max_polls: 3,
         readings: &[0, 1],
         answers: &[],
     };
-    assert!(rt;
-        runs(
-            &rt,
-            &unanswered,
-            &[read(0)?, read(1)?, ASK],
-            PollEnd::OutOfInput
-        )?
+    runs(
+        &rt,
+        unanswered,
+        &[read(&rt, 0), read(&rt, 1), ASK],
+        PollEnd::OutOfInput,
     );
     let answered = Row {
         timeout: 2,
@@ -194,108 +183,99 @@ fn a_list_runs_out(rt: HostRuntime) -> Result<(), Fail> {
         readings: &[0, 1],
         answers: &[PollAnswer::Pending],
     };
-    let trace = [read(0)?, read(1)?, ASK, PENDING, slept(1)];
-    assert!(rt; runs(&rt, &answered, &trace, PollEnd::OutOfInput)?);
+    let trace = [read(&rt, 0), read(&rt, 1), ASK, PENDING, slept(1)];
+    runs(&rt, answered, &trace, PollEnd::OutOfInput);
     let unread = Row {
         timeout: 2,
         max_polls: 3,
         readings: &[],
         answers: &[],
     };
-    assert!(rt; runs(&rt, &unread, &[], PollEnd::OutOfInput)?);
+    runs(&rt, unread, &[], PollEnd::OutOfInput);
     let started = Row {
         timeout: 2,
         max_polls: 3,
         readings: &[0],
         answers: &[],
     };
-    assert!(rt; runs(&rt, &started, &[read(0)?], PollEnd::OutOfInput)?);
-    Ok(())
+    runs(&rt, started, &[read(&rt, 0)], PollEnd::OutOfInput);
 }
 
 #[test]
-fn a_timeout_is_too_long_or_passes_the_last_timestamp(rt: HostRuntime) -> Result<(), Fail> {
+fn a_timeout_is_too_long_or_passes_the_last_timestamp(rt: HostRuntime) {
     let too_long = Row {
         timeout: TOO_LONG,
         max_polls: 3,
         readings: &[],
         answers: &[],
     };
-    assert!(rt; runs(&rt, &too_long, &[], PollEnd::TimeoutTooLong)?);
+    runs(&rt, too_long, &[], PollEnd::TimeoutTooLong);
     let out_of_range = Row {
         timeout: TOO_LONG - 1,
         max_polls: 3,
         readings: &[0],
         answers: &[],
     };
-    assert!(rt; runs(&rt, &out_of_range, &[read(0)?], PollEnd::DeadlineOutOfRange)?);
-    Ok(())
+    runs(
+        &rt,
+        out_of_range,
+        &[read(&rt, 0)],
+        PollEnd::DeadlineOutOfRange,
+    );
 }
 
-/// Whether the poll sleeps so long after these answers in turn.
+/// The poll sleeps so long after these answers in turn.
 fn sleeps(
-    rt: &HostRuntime,
+    rt: &(impl Abort + AllocGlobal),
     interval: Duration,
     cap: Duration,
     answers: &[PollAnswer],
     wanted: &[Duration],
-) -> Result<bool, Fail> {
-    let Some(mut poll) = DevicePoll::new(
-        moment(0)?,
-        Duration::from_secs(1),
-        settings(interval, cap, 100),
-    ) else {
-        return Ok(false);
+) {
+    let settings = PollSettings {
+        interval,
+        cap,
+        max_polls: 100,
     };
+    let timeout = Duration::from_secs(1);
+    let mut poll = DevicePoll::new(moment(rt, 0), timeout, settings).expect(rt, "a deadline");
     let mut slept = Vec::new(rt.alloc());
     for answer in answers.iter() {
-        if poll.polls_left() == 0 {
-            return Ok(false);
-        }
-        match poll.answer(*answer) {
-            PollStep::Sleep(duration) => slept.push(duration)?,
-            PollStep::Limit | PollStep::Done => return Ok(false),
+        assert!(rt; 0 < poll.polls_left());
+        if let PollStep::Sleep(duration) = poll.answer(*answer) {
+            slept.push(duration).expect(rt, "a list");
         }
     }
-    Ok(slept.as_slice() == wanted)
-}
-
-fn secs(seconds: u64) -> Duration {
-    Duration::from_secs(seconds)
+    assert!(rt; slept.as_slice() == wanted);
 }
 
 #[test]
-fn sleeps_are_paced(rt: HostRuntime) -> Result<(), Fail> {
+fn sleeps_are_paced(rt: HostRuntime) {
     let failed = PollAnswer::Failed;
     let slow = PollAnswer::SlowDown;
     let cap = secs(10);
-    assert!(rt; sleeps(&rt, secs(1), cap, &[slow, failed], &[secs(6), secs(10)])?);
-    assert!(rt; sleeps(&rt, secs(30), cap, &[failed], &[secs(30)])?);
-    assert!(rt; sleeps(&rt, secs(0), cap, &[failed], &[secs(0)])?);
-    assert!(rt;
-        sleeps(
-            &rt,
-            secs(1),
-            cap,
-            &[failed, slow, failed],
-            &[secs(2), secs(7), secs(10)]
-        )?
+    sleeps(&rt, secs(1), cap, &[slow, failed], &[secs(6), secs(10)]);
+    sleeps(&rt, secs(30), cap, &[failed], &[secs(30)]);
+    sleeps(&rt, secs(0), cap, &[failed], &[secs(0)]);
+    sleeps(
+        &rt,
+        secs(1),
+        cap,
+        &[failed, slow, failed],
+        &[secs(2), secs(7), secs(10)],
     );
-    assert!(rt; sleeps(&rt, secs(30), cap, &[slow, failed], &[secs(35), secs(35)])?);
-    assert!(rt;
-        sleeps(
-            &rt,
-            secs(1),
-            Duration::from_millis(500),
-            &[failed],
-            &[secs(1)]
-        )?
+    sleeps(&rt, secs(30), cap, &[slow, failed], &[secs(35), secs(35)]);
+    sleeps(
+        &rt,
+        secs(1),
+        Duration::from_millis(500),
+        &[failed],
+        &[secs(1)],
     );
-    Ok(())
 }
 
 #[test]
-fn back_off_stops_at_the_cap(rt: HostRuntime) -> Result<(), Fail> {
+fn back_off_stops_at_the_cap(rt: HostRuntime) {
     let failed = PollAnswer::Failed;
     let answers = [
         failed,
@@ -315,40 +295,39 @@ fn back_off_stops_at_the_cap(rt: HostRuntime) -> Result<(), Fail> {
         secs(15),
         secs(15),
     ];
-    assert!(rt; sleeps(&rt, secs(1), secs(10), &answers, &wanted)?);
-    Ok(())
+    sleeps(&rt, secs(1), secs(10), &answers, &wanted);
 }
 
 #[test]
-fn sleeps_stop_at_the_greatest_duration(rt: HostRuntime) -> Result<(), Fail> {
+fn sleeps_stop_at_the_greatest_duration(rt: HostRuntime) {
     let failed = PollAnswer::Failed;
     let slow = PollAnswer::SlowDown;
     let longest = secs(LONGEST);
-    assert!(rt; sleeps(&rt, longest, secs(10), &[slow], &[Duration::MAX])?);
+    sleeps(&rt, longest, secs(10), &[slow], &[Duration::MAX]);
     let wanted = [longest, Duration::MAX, Duration::MAX];
-    assert!(rt; sleeps(&rt, longest, secs(10), &[failed, slow, failed], &wanted)?);
+    sleeps(&rt, longest, secs(10), &[failed, slow, failed], &wanted);
     let doubled = secs(LONGEST - 1);
     let answers = [failed, failed];
-    assert!(rt;
-        sleeps(
-            &rt,
-            secs(TOO_LONG - 1),
-            Duration::MAX,
-            &answers,
-            &[doubled, doubled]
-        )?
+    sleeps(
+        &rt,
+        secs(TOO_LONG - 1),
+        Duration::MAX,
+        &answers,
+        &[doubled, doubled],
     );
-    Ok(())
 }
 
 #[test]
-fn at_the_deadline_it_still_asks(rt: HostRuntime) -> Result<(), Fail> {
-    let limits = settings(secs(1), secs(10), 3);
-    let Some(poll) = DevicePoll::new(moment(0)?, secs(2), limits) else {
-        return Err(Fail::new("no deadline"));
+fn at_the_deadline_it_still_asks(rt: HostRuntime) {
+    let settings = PollSettings {
+        interval: secs(1),
+        cap: secs(10),
+        max_polls: 3,
     };
-    assert!(rt; poll.ready(moment(2)?) == PollReady::Ask);
-    assert!(rt; poll.ready(Timestamp::new(2, 1)?) == PollReady::Expired);
-    assert!(rt; poll.polls_left() == 3);
-    Ok(())
+    let timeout = Duration::from_secs(2);
+    let poll = DevicePoll::new(moment(&rt, 0), timeout, settings).expect(&rt, "a deadline");
+    assert_eq!(rt; poll.ready(moment(&rt, 2)), PollReady::Ask);
+    let late = Timestamp::new(2, 1).expect(&rt, "a timestamp");
+    assert_eq!(rt; poll.ready(late), PollReady::Expired);
+    assert_eq!(rt; poll.polls_left(), 3);
 }

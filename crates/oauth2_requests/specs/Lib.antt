@@ -3,6 +3,10 @@ pub mod Code
 pub mod Refresh
 pub mod Password
 pub mod ClientCredentials
+pub mod DeviceAuthorization
+pub mod HintedToken
+pub mod TokenIntrospection
+pub mod TokenRevocation
 pub mod Once
 pub mod Query
 pub mod Authorization

@@ -4,7 +4,7 @@
 #[cfg(test)]
 mod clients;
 #[cfg(test)]
-mod constant;
+mod constant_generator;
 #[cfg(test)]
 mod pkce;
 #[cfg(test)]

@@ -1,6 +1,6 @@
 //! Code challenges (RFC 7636), and the random texts of states and verifiers.
 
-use crate::constant::Constant;
+use crate::constant_generator::ConstantGenerator;
 use crate::support::{is_shown_as, is_text, text};
 use oauth2::{CsrfToken, PkceCodeChallenge, PkceCodeChallengeMethod, PkceCodeVerifier, TryClone};
 use std::process::Abort;
@@ -72,7 +72,7 @@ fn plain_challenge_in_lines(rt: HostRuntime) {
 
 #[test]
 fn random_states(rt: HostRuntime) {
-    let state = CsrfToken::new_random(rt.alloc(), &mut Constant(0)).expect(&rt, "a state");
+    let state = CsrfToken::new_random(rt.alloc(), &mut ConstantGenerator(0)).expect(&rt, "a state");
     is_text(&rt, state.secret().as_str(), "AAAAAAAAAAAAAAAAAAAAAA");
     let rows = [
         (0, 0, ""),
@@ -81,7 +81,7 @@ fn random_states(rt: HostRuntime) {
         (3, 0xbe_effb, "----"),
     ];
     for (n, word, wanted) in rows {
-        let state = CsrfToken::new_random_len(rt.alloc(), &mut Constant(word), n).expect(
+        let state = CsrfToken::new_random_len(rt.alloc(), &mut ConstantGenerator(word), n).expect(
             &rt, "a state",
         );
         is_text(&rt, state.secret().as_str(), wanted);
@@ -98,7 +98,7 @@ const SHORTEST: &str = "AAAAAAAAAAAAAAAAAAAAAAAAAAAAAAAAAAAAAAAAAAA";
 fn longest_random_verifier(rt: HostRuntime) {
     let (_, verifier) = PkceCodeChallenge::new_random_sha256_len(
         rt.alloc(),
-        &mut Constant(0),
+        &mut ConstantGenerator(0),
         96,
     ).expect(&rt, "a verifier");
     is_text(&rt, verifier.secret().as_str(), LONGEST);
@@ -106,10 +106,10 @@ fn longest_random_verifier(rt: HostRuntime) {
 
 #[test]
 fn random_verifier(rt: HostRuntime) {
-    let (_, verifier) = PkceCodeChallenge::new_random_sha256(rt.alloc(), &mut Constant(0)).expect(
-        &rt,
-        "a verifier",
-    );
+    let (_, verifier) = PkceCodeChallenge::new_random_sha256(
+        rt.alloc(),
+        &mut ConstantGenerator(0),
+    ).expect(&rt, "a verifier");
     is_text(&rt, verifier.secret().as_str(), SHORTEST);
 }
 
@@ -117,7 +117,7 @@ fn random_verifier(rt: HostRuntime) {
 fn random_plain_challenge(rt: HostRuntime) {
     let (challenge, verifier) = PkceCodeChallenge::new_random_plain(
         rt.alloc(),
-        &mut Constant(0),
+        &mut ConstantGenerator(0),
     ).expect(&rt, "a verifier");
     is_text(&rt, challenge.as_str(), SHORTEST);
     is_text(&rt, verifier.secret().as_str(), SHORTEST);

@@ -38,6 +38,13 @@ fn secrets_of_users(rt: HostRuntime) {
 }
 
 #[test]
+fn secrets_in_lines(rt: HostRuntime) {
+    let secret = ClientSecret::new(text(&rt, "top_secret"));
+    let pretty = format!(in rt.alloc(); "{secret:#?}").expect(&rt, "a debug text");
+    is_text(&rt, pretty.as_str(), "ClientSecret([redacted])");
+}
+
+#[test]
 fn texts_of_secrets(rt: HostRuntime) {
     let secret = ClientSecret::new(text(&rt, "a"));
     is_text(&rt, secret.secret().as_str(), "a");

@@ -1,7 +1,7 @@
 //! Requests to an endpoint: their bodies (RFC 6749, sections 4 and 6, and what extends them), their
 //! headers and their targets.
 
-use crate::support::{text, url};
+use crate::support::{is_text, text, url};
 use crate::views::{shows_basic, shows_no_basic, view_of};
 use oauth2::AuthType::{BasicAuth, RequestBody};
 use oauth2::{
@@ -236,24 +236,31 @@ fn no_header_without_a_secret(rt: HostRuntime) {
     );
 }
 
-fn redirect(rt: &(impl Abort + AllocGlobal)) -> RedirectRef<'static> {
-    let url = RedirectUrl::new(rt.alloc(), text(rt, "https://example.com")).expect(rt, "a URL");
-    RedirectRef::Owned(url)
+fn redirect_url(rt: &(impl Abort + AllocGlobal)) -> RedirectUrl {
+    RedirectUrl::new(rt.alloc(), text(rt, "https://example.com")).expect(rt, "a URL")
+}
+
+#[test]
+fn redirects_are_borrowed_or_owned(rt: HostRuntime) {
+    let url = redirect_url(&rt);
+    let borrowed = RedirectRef::from(&url);
+    is_text(&rt, borrowed.redirect_url().as_str(), "https://example.com");
+    let owned = RedirectRef::from(url);
+    is_text(&rt, owned.redirect_url().as_str(), "https://example.com");
 }
 
 #[test]
 fn redirect_as_given(rt: HostRuntime) {
     let url = url(&rt, "https://example.com");
     let id = client_id(&rt);
-    let redirect = redirect(&rt);
-    let redirect = Some(redirect.redirect_url());
+    let redirect = redirect_url(&rt);
     let request = endpoint_request(
         rt.alloc(),
         &RequestBody,
         &id,
         None,
         &[],
-        redirect,
+        Some(&redirect),
         None,
         &url,
         &[],

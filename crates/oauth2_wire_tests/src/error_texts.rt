@@ -1,13 +1,15 @@
 //! The texts of errors.
 
 use crate::support::{is_text, text};
-use oauth2::{ConfigurationError, HttpClientError, RequestTokenError};
-use std::fmt::Display;
+use oauth2::{ConfigurationError, HttpClientError, RequestFault, RequestTokenError, ViewError};
+use std::alloc::AllocError;
+use std::error::Error;
 use std::io;
 use std::process::Abort;
 
-fn is_displayed_as<T: Display + Drop>(rt: &(impl Abort + AllocGlobal), value: T, wanted: &str) {
-    let shown = format!(in rt.alloc(); "{value}").expect(rt, "a text");
+/// What a caller that knows no more than the bound shows.
+fn is_displayed_as<E: Error + Drop>(rt: &(impl Abort + AllocGlobal), error: E, wanted: &str) {
+    let shown = format!(in rt.alloc(); "{error}").expect(rt, "a text");
     is_text(rt, shown.as_str(), wanted);
 }
 
@@ -29,6 +31,33 @@ fn texts_of_configurations(rt: HostRuntime) {
 fn text_of_a_failed_request(rt: HostRuntime) {
     let of_client: RequestTokenError<u8, String> = RequestTokenError::from(7);
     is_displayed_as(&rt, of_client, "Request failed");
+}
+
+#[test]
+fn want_of_memory_before_a_request(rt: HostRuntime) {
+    let refused: RequestTokenError<u8, String> = RequestTokenError::refused(AllocError);
+    assert!(rt; matches!(&refused, RequestTokenError::Memory { sent: false }));
+    is_displayed_as(&rt, refused, "Out of memory");
+}
+
+#[test]
+fn texts_of_requests(rt: HostRuntime) {
+    is_displayed_as(
+        &rt,
+        RequestFault::NotHttp,
+        "endpoint URL is not an HTTP target",
+    );
+    is_displayed_as(&rt, RequestFault::Memory, "Out of memory");
+}
+
+#[test]
+fn texts_of_views(rt: HostRuntime) {
+    is_displayed_as(
+        &rt,
+        ViewError::BadBasic,
+        "Authorization header holds no identifier and secret",
+    );
+    is_displayed_as(&rt, ViewError::Memory, "Out of memory");
 }
 
 #[test]

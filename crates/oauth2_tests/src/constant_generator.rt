@@ -8,15 +8,15 @@ use rand_core::utils::{self, NextWord};
 use std::marker::Model;
 
 #[derive(Drop)]
-pub struct Constant(pub u32);
+pub struct ConstantGenerator(pub u32);
 
-impl Model for Constant {
+impl Model for ConstantGenerator {
     ghost Value = { ℕ };
 
     ghost view = { λ c. c.0 };
 }
 
-impl NextWord<u32> for Constant {
+impl NextWord<u32> for ConstantGenerator {
     ghost step = { λ c. (c, c) };
 
     fn next_word(&mut self) -> u32 {
@@ -24,7 +24,7 @@ impl NextWord<u32> for Constant {
     }
 }
 
-impl Rng for Constant {
+impl Rng for ConstantGenerator {
     ghost stream = { stream_of (steps_u32 (λ c. (c, c))) };
 
     fn next_u32(&mut self) -> u32 {

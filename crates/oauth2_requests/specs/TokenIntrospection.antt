@@ -1,0 +1,15 @@
+-- The introspection of a token (RFC 7662, section 2.1).
+use Rattle.std.specs.Prelude.{ℕ, List, Option, None}
+use Rattle.oauth2_urls.specs.Addressed.{Addressed}
+use Rattle.oauth2_wire.specs.Expected.{Configuration}
+use Rattle.oauth2_requests.specs.Base.{Base, configuration_of}
+use Rattle.oauth2_requests.specs.HintedToken.{hinted_token_pairs}
+
+pub record TokenIntrospection : Type 0 where
+  pub base : Base
+  pub introspection_url : Addressed
+  pub token : List ℕ
+  pub token_type_hint : Option (List ℕ)
+
+abbrev pub introspection_configuration : TokenIntrospection → Configuration
+introspection_configuration r = configuration_of r.base (hinted_token_pairs r.token r.token_type_hint) None

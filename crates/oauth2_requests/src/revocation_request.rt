@@ -1,0 +1,120 @@
+//! The revocation of a token (RFC 7009, section 2).
+
+ghost use Rattle.std.specs.Prelude.{◌≡◌, ◌++◌, ◌∷◌, [], IfOk, Err};
+ghost use Rattle.http_uri.specs.Uri.{SpellsNone};
+ghost use Rattle.url.specs.Parts.{serialize};
+ghost use Rattle.oauth2_wire.specs.Request.{IsRequestOf, view_of};
+ghost use Rattle.oauth2_wire.specs.Texts.{param_bytes};
+ghost use Rattle.oauth2_requests.specs.TokenRevocation.{revocation_configuration};
+ghost use Rattle.oauth2_requests.specs.Once.{AsksOnceStatusOnly};
+
+use crate::base_request::BaseRequest;
+use oauth2_json::ErrorResponse;
+use oauth2_replies::RevocableToken;
+use oauth2_urls::RevocationUrl;
+use oauth2_wire::{
+    HttpRequest, ParamText, RequestFault, RequestTokenError, SyncHttpClient, send_once_status_only,
+};
+use std::alloc::{AllocError, Global};
+use std::marker::{Model, PhantomData};
+
+/// A request to revoke a token.
+#[derive(Drop)]
+#[derive_where(Debug; RT)]
+pub struct RevocationRequest<'a, RT, TRE>
+where
+    RT: RevocableToken,
+{
+    base: BaseRequest<'a>,
+    revocation_url: &'a RevocationUrl,
+    token: RT,
+    phantom: PhantomData<TRE>,
+}
+
+impl<'a, RT, TRE> Model for RevocationRequest<'a, RT, TRE>
+where
+    RT: RevocableToken,
+{
+    ghost use Rattle.oauth2_requests.specs.TokenRevocation.{TokenRevocation};
+
+    ghost Value = { TokenRevocation };
+
+    ghost view = { λ r. record {
+      base = r.base;
+      revocation_url = r.revocation_url.now;
+      token = RT.secret r.token;
+      token_type_hint = RT.type_hint r.token;
+    } };
+}
+
+impl<'a, RT: RevocableToken, TRE> RevocationRequest<'a, RT, TRE> {
+    /// A request at this endpoint, whose scheme is not tested. `oauth2::Client` makes it, where the
+    /// endpoint is an `https` URL; a caller with endpoints of its own can too.
+    pub fn new(base: BaseRequest<'a>, revocation_url: &'a RevocationUrl, token: RT) -> Self
+        ensures { result ≡ record {
+          base = base.entry;
+          revocation_url = revocation_url.now;
+          token = RT.secret token;
+          token_type_hint = RT.type_hint token;
+        } }
+    {
+        RevocationRequest {
+            base,
+            revocation_url,
+            token,
+            phantom: PhantomData,
+        }
+    }
+
+    /// The HTTP request.
+    pub fn prepare_request(&self, alloc: Global) -> Result<HttpRequest, RequestFault>
+        ensures ok { IfOk result (λ r. IsRequestOf (revocation_configuration self.now)
+            (serialize self.now.revocation_url.url) (view_of r)) }
+        ensures not_http { result ≡ Err RequestFault.NotHttp → SpellsNone (serialize self.now.revocation_url.url) }
+    {
+        let url = self.revocation_url.url();
+        let token = ("token", self.token.secret());
+        match self.token.type_hint() {
+            None => self.base.prepare(alloc, url, None, &[token]),
+            Some(hint) => self
+                .base
+                .prepare(alloc, url, None, &[token, ("token_type_hint", hint)]),
+        }
+    }
+}
+
+impl<'a, RT: RevocableToken + Drop, TRE> RevocationRequest<'a, RT, TRE> {
+    /// Adds a parameter. It may bear a name that the request itself sends, and both are then sent.
+    pub fn add_extra_param(
+        mut self,
+        name: ParamText<'a>,
+        value: ParamText<'a>,
+    ) -> Result<Self, AllocError>
+        ensures { let added = (param_bytes name.entry, param_bytes value.entry) ∷ [] in
+            IfOk result (λ r. r ≡ record self.entry {
+              base =
+                  record self.entry.base { extra_params = self.entry.base.extra_params ++ added };
+            }) }
+    {
+        self.base.add_extra_param(name, value)?;
+        Ok(self)
+    }
+}
+
+impl<'a, RT: RevocableToken + Drop, TRE: ErrorResponse> RevocationRequest<'a, RT, TRE> {
+    /// Sends the request, once. Status 200 says that the token is revoked, or that the server knows
+    /// none such (RFC 7009, section 2.2).
+    pub fn request<C: SyncHttpClient>(
+        self,
+        alloc: Global,
+        http_client: &mut C,
+    ) -> Result<(), RequestTokenError<C::Error, TRE>>
+        requires { C.is_ready http_client.old }
+        ensures once { AsksOnceStatusOnly TRE.meaning TRE.reading C.step
+            (revocation_configuration self.entry) self.entry.revocation_url http_client.old result http_client.new }
+        ensures ready { C.is_ready http_client.new }
+    {
+        let prepared = self.prepare_request(alloc);
+        send_once_status_only(alloc, prepared, http_client)
+    }
+}
