@@ -1,7 +1,8 @@
 //! An OAuth 2.0 client (RFC 6749): its configuration, its requests and what replies say, proved.
 //!
-//! The crates below are passed on: every public name of theirs stands here, those that begin with
-//! `Basic` in `basic` and the functions for JSON members in `helpers`.
+//! The crates below are passed on: the names that a user calls stand here, those that begin with
+//! `Basic` in `basic` and the functions for JSON members in `helpers`. What the crates share among
+//! themselves (`BaseRequest` of the requests, the form encoder of the wire) stays there.
 #![tactic(auto)]
 
 mod authorization_endpoint;

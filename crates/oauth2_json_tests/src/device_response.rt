@@ -1,8 +1,8 @@
 //! Device authorization responses (RFC 8628, section 3.2).
 
-use crate::support::{is_refused, is_rewritten, is_written_as, read};
+use crate::support::{copy_is_kept, is_refused, is_rewritten, read};
 use oauth2::{
-    EmptyExtraDeviceAuthorizationFields, ParseCause, StandardDeviceAuthorizationResponse, TryClone,
+    EmptyExtraDeviceAuthorizationFields, ParseCause, StandardDeviceAuthorizationResponse,
 };
 use std::ops::Deref;
 use std::process::Abort;
@@ -50,9 +50,7 @@ const WHOLE: &str =
 
 #[test]
 fn copy_of_a_device_response_is_written_alike(rt: HostRuntime) {
-    let device = read::<StandardDeviceAuthorizationResponse>(&rt, WHOLE);
-    let copy = device.try_clone(rt.alloc()).expect(&rt, "a copy");
-    is_written_as(&rt, &copy, WHOLE);
+    copy_is_kept::<StandardDeviceAuthorizationResponse>(&rt, WHOLE);
 }
 
 fn has_codes(rt: &impl Abort, device: &StandardDeviceAuthorizationResponse) {

@@ -1,11 +1,11 @@
 //! Introspection responses (RFC 7662, section 2.2).
 
-use crate::support::{is_refused, is_rewritten, is_written_as, read, text};
+use crate::support::{copy_is_kept, is_refused, is_rewritten, is_written_as, text};
 use jiff::Timestamp;
 use oauth2::basic::{BasicTokenIntrospectionResponse, BasicTokenType};
 use oauth2::{
     ClientId, EmptyExtraTokenFields, ParseCause, Scope, StandardTokenIntrospectionResponse,
-    TokenIntrospectionResponse, TryClone,
+    TokenIntrospectionResponse,
 };
 
 #[test]
@@ -46,9 +46,7 @@ fn audience_of_one_is_written_as_a_list(rt: HostRuntime) {
 fn copy_of_an_introspection_response_is_written_alike(rt: HostRuntime) {
     let written =
         "{\"active\":true,\"aud\":[\"audience\"],\"client_id\":\"aaa\",\"exp\":3,\"iat\":1,\"iss\":\"issuer\",\"jti\":\"identifier\",\"nbf\":2,\"scope\":\"read write\",\"sub\":\"subject\",\"token_type\":\"bearer\",\"username\":\"demo\"}";
-    let response = read::<BasicTokenIntrospectionResponse>(&rt, written);
-    let copy = response.try_clone(rt.alloc()).expect(&rt, "a copy");
-    is_written_as(&rt, &copy, written);
+    copy_is_kept::<BasicTokenIntrospectionResponse>(&rt, written);
 }
 
 fn active() -> BasicTokenIntrospectionResponse {

@@ -1,6 +1,6 @@
 //! What the tests of several subjects share.
 
-use oauth2::{FromJson, ParseCause, ReadError, ToJson, compact, read_body};
+use oauth2::{FromJson, ParseCause, ReadError, ToJson, TryClone, compact, read_body};
 use serde_json::Value;
 use std::fmt::Display;
 use std::process::Abort;
@@ -44,6 +44,16 @@ pub fn is_rewritten<T: FromJson + ToJson + Drop>(
 /// The text reads to a value that is written as the text.
 pub fn is_kept<T: FromJson + ToJson + Drop>(rt: &(impl Abort + AllocGlobal), text: &str) {
     is_rewritten::<T>(rt, text, text);
+}
+
+/// A copy of what the text reads to is written as the text.
+pub fn copy_is_kept<T: FromJson + ToJson + TryClone + Drop>(
+    rt: &(impl Abort + AllocGlobal),
+    text: &str,
+) {
+    let value = read::<T>(rt, text);
+    let copy = value.try_clone(rt.alloc()).expect(rt, "a copy");
+    is_written_as(rt, &copy, text);
 }
 
 /// Whether reading answers this fault.

@@ -1,10 +1,8 @@
 //! Token responses (RFC 6749, section 5.1).
 
-use crate::support::{is_refused, is_written_as, read, text};
+use crate::support::{copy_is_kept, is_refused, is_written_as, read, text};
 use oauth2::basic::{BasicTokenResponse, BasicTokenType};
-use oauth2::{
-    AccessToken, EmptyExtraTokenFields, ParseCause, RefreshToken, Scope, TokenResponse, TryClone,
-};
+use oauth2::{AccessToken, EmptyExtraTokenFields, ParseCause, RefreshToken, Scope, TokenResponse};
 use std::process::Abort;
 use std::time::Duration;
 
@@ -53,9 +51,7 @@ fn first_fault_of_a_token_response(rt: HostRuntime) {
 fn copy_of_a_token_response_is_written_alike(rt: HostRuntime) {
     let written =
         "{\"access_token\":\"t\",\"expires_in\":1,\"refresh_token\":\"r\",\"scope\":\"read write\",\"token_type\":\"bearer\"}";
-    let token = read::<BasicTokenResponse>(&rt, written);
-    let copy = token.try_clone(rt.alloc()).expect(&rt, "a copy");
-    is_written_as(&rt, &copy, written);
+    copy_is_kept::<BasicTokenResponse>(&rt, written);
 }
 
 /// A token response with the members that each has.

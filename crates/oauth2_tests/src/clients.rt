@@ -68,13 +68,17 @@ fn leads_to(rt: &(impl Abort + AllocGlobal), request: AuthorizationRequest<'_>, 
     is_text(rt, state.secret().as_str(), "csrf_token");
 }
 
+fn implicit_flow_leads_to(rt: &(impl Abort + AllocGlobal), client: &CodeClient, url: &str) {
+    let request = login(rt, client).use_implicit_flow();
+    leads_to(rt, request, url);
+}
+
 #[test]
 fn the_implicit_flow(rt: HostRuntime) {
     let client = client(&rt);
-    let request = login(&rt, &client).use_implicit_flow();
-    leads_to(
+    implicit_flow_leads_to(
         &rt,
-        request,
+        &client,
         "https://example.com/auth?response_type=token&client_id=aaa&state=csrf_token",
     );
 }
