@@ -1,11 +1,17 @@
 //! Callers of the client's calls at concrete types, with contracts of their own.
 #![tactic(auto)]
 
+mod application;
 mod authorization;
 mod client;
 mod example;
 mod exchange;
+mod own_extra_fields;
 
+pub use application::{
+    CannedClient, CannedError, IdentityClient, IdentityTokenResponse, canned_id_token, id_token,
+    id_token_for_code, identity_client, own_token, token_response,
+};
 pub use authorization::{challenged_login, login_url, login_url_if_set};
 pub use client::{
     CodeClient, PlainClient, TokenClient, code_client, copy_of, every_endpoint, token_client,
@@ -15,3 +21,4 @@ pub use example::{TokenOnlyClient, new_client, token_for_code};
 pub use exchange::{
     code_request, lacks_token_url, password_token, refresh_request, with_all_scopes,
 };
+pub use own_extra_fields::IdentityFields;
