@@ -98,7 +98,8 @@ fn append_name_and_encoded_value(
     name: &str,
     encoded: &[u8],
 ) -> Result<Vec<u8>, AllocError>
-    ensures { IfOk result (λ new. (value : List ℕ) → encoded.now ≡ encoded_text value → new.items ≡ with_pair text.items name.now value) }
+    ensures { IfOk result (λ new. (value : List ℕ) → encoded.now ≡ encoded_text value
+        → new.items ≡ with_pair text.items name.now value) }
 {
     let mut new = text;
     append_name(&mut new, name)?;
