@@ -8,10 +8,10 @@ pub use Rattle.oauth2_json.specs.Writing
 pub use Rattle.oauth2_json.specs.Values
 pub use Rattle.oauth2_json.specs.Members
 pub use Rattle.oauth2_json.specs.Puts
-pub use Rattle.oauth2_json.specs.ErrorResponse
+pub use Rattle.oauth2_codes.specs.ErrorResponse
 pub use Rattle.oauth2_json.specs.Words
-pub use Rattle.oauth2_json.specs.Codes
-pub use Rattle.oauth2_json.specs.ErrorCodes
+pub use Rattle.oauth2_codes.specs.Codes
+pub use Rattle.oauth2_codes.specs.ErrorCodes
 pub use Rattle.oauth2_json.specs.ErrorTexts
 pub use Rattle.oauth2_json.specs.Body
 pub use Rattle.oauth2_json.specs.Challenge

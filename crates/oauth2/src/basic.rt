@@ -1,7 +1,7 @@
 //! The types for a server that uses no extension.
 
 pub use crate::client::BasicClient;
-pub use oauth2_json::{
+pub use oauth2_codes::{
     BasicErrorResponse, BasicErrorResponseType, BasicRevocationErrorResponse, BasicTokenType,
 };
 pub use oauth2_replies::{BasicTokenIntrospectionResponse, BasicTokenResponse};

@@ -4,7 +4,7 @@ ghost use Rattle.std.specs.Prelude.{◌≡◌, Some, None, IfOk, option_copied};
 ghost use Rattle.oauth2_wire.specs.declared.request.AuthType.TheVariants.{BasicAuth};
 
 use crate::endpoint::{EndpointMaybeSet, EndpointNotSet, EndpointSet, EndpointState};
-use oauth2_json::{BasicErrorResponse, BasicRevocationErrorResponse};
+use oauth2_codes::{BasicErrorResponse, BasicRevocationErrorResponse};
 use oauth2_replies::{BasicTokenIntrospectionResponse, BasicTokenResponse, StandardRevocableToken};
 use oauth2_types::{ClientId, ClientSecret, TryClone};
 use oauth2_urls::{

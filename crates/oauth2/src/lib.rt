@@ -16,12 +16,15 @@ mod token_endpoint;
 
 pub use client::Client;
 pub use endpoint::{EndpointMaybeSet, EndpointNotSet, EndpointSet, EndpointState};
-pub use oauth2_json::{
+pub use oauth2_codes::{
     DeviceCodeErrorResponse, DeviceCodeErrorResponseType, ErrorResponse, ErrorResponseType,
-    FromJson, ParseCause, ParseFault, ReadError, RevocationErrorResponseType,
-    StandardErrorResponse, TextErrorResponseType, ToJson, TokenType, WriteError, basic_error_laws,
-    compact, device_code_error_laws, helpers, members, read_body, revocation_error_laws,
-    text_error_laws, token_type_laws,
+    RevocationErrorResponseType, StandardErrorResponse, TextErrorResponseType, TokenType,
+    basic_error_laws, device_code_error_laws, revocation_error_laws, text_error_laws,
+    token_type_laws,
+};
+pub use oauth2_json::{
+    FromJson, ParseCause, ParseFault, ReadError, ToJson, WriteError, compact, helpers, members,
+    read_body,
 };
 pub use oauth2_replies::{
     DeviceAuthorizationResponse, EmptyExtraDeviceAuthorizationFields, EmptyExtraTokenFields,

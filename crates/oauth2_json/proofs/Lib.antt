@@ -6,5 +6,3 @@ pub mod WholeValue
 pub mod Words
 pub mod Seconds
 pub mod Optionals
-pub mod ErrorMembers
-pub mod Codes

@@ -3,11 +3,8 @@ pub mod Writing
 pub mod Values
 pub mod Members
 pub mod Puts
-pub mod ErrorResponse
 pub mod ErrorTexts
 pub mod Words
-pub mod Codes
-pub mod ErrorCodes
 pub mod Body
 pub mod Challenge
 pub mod Helpers

@@ -5,7 +5,8 @@ ghost use Rattle.oauth2_replies.specs.Introspection.{Introspection, introspectio
 
 use crate::token::{EmptyExtraTokenFields, ExtraTokenFields};
 use jiff::Timestamp;
-use oauth2_json::{BasicTokenType, FromJson, ToJson, TokenType};
+use oauth2_codes::{BasicTokenType, TokenType};
+use oauth2_json::{FromJson, ToJson};
 use oauth2_types::{ClientId, Scope, TryClone};
 use std::alloc::{AllocError, Global};
 use std::fmt;

@@ -12,7 +12,8 @@ ghost use Rattle.oauth2_replies.specs.private.IntrospectionRows.{in_turn, AreIns
 use crate::introspection::StandardTokenIntrospectionResponse;
 use crate::scopes;
 use crate::token::ExtraTokenFields;
-use oauth2_json::{FromJson, ReadError, ToJson, TokenType, WriteError, members};
+use oauth2_codes::TokenType;
+use oauth2_json::{FromJson, ReadError, ToJson, WriteError, members};
 use oauth2_types::ClientId;
 use serde_json::{Map, Value};
 use std::alloc::{AllocError, Global};

@@ -4,7 +4,8 @@ ghost use Rattle.std.specs.Prelude.{◌≡◌, ℕ, ◌*◌, ◌/◌, Ok, None, 
 ghost use Rattle.std.specs.Duration.{as_nanos};
 ghost use Rattle.oauth2_replies.specs.Token.{Token, token_seen};
 
-use oauth2_json::{BasicTokenType, FromJson, ReadError, ToJson, TokenType, WriteError, members};
+use oauth2_codes::{BasicTokenType, TokenType};
+use oauth2_json::{FromJson, ReadError, ToJson, WriteError, members};
 use oauth2_types::{AccessToken, RefreshToken, Scope, TryClone};
 use serde_json::{Map, Value};
 use std::alloc::{AllocError, Global};

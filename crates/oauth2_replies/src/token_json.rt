@@ -11,7 +11,8 @@ ghost use Rattle.oauth2_replies.specs.private.TokenRows.{in_turn};
 
 use crate::scopes;
 use crate::token::{ExtraTokenFields, StandardTokenResponse};
-use oauth2_json::{FromJson, ReadError, ToJson, TokenType, WriteError, members};
+use oauth2_codes::TokenType;
+use oauth2_json::{FromJson, ReadError, ToJson, WriteError, members};
 use oauth2_types::RefreshToken;
 use serde_json::{Map, Value};
 use std::alloc::{AllocError, Global};

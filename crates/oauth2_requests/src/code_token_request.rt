@@ -9,7 +9,7 @@ ghost use Rattle.oauth2_requests.specs.Code.{code_configuration};
 ghost use Rattle.oauth2_requests.specs.Once.{AsksOnce};
 
 use crate::base_request::BaseRequest;
-use oauth2_json::ErrorResponse;
+use oauth2_codes::ErrorResponse;
 use oauth2_replies::TokenResponse;
 use oauth2_types::{AuthorizationCode, PkceCodeVerifier};
 use oauth2_urls::{RedirectUrl, TokenUrl};

@@ -12,7 +12,7 @@ ghost use Rattle.oauth2_requests.specs.DeviceAuthorization.{device_authorization
 ghost use Rattle.oauth2_requests.specs.Once.{AsksOnce};
 
 use crate::base_request::BaseRequest;
-use oauth2_json::ErrorResponse;
+use oauth2_codes::ErrorResponse;
 use oauth2_replies::{DeviceAuthorizationResponse, ExtraDeviceAuthorizationFields};
 use oauth2_types::Scope;
 use oauth2_urls::DeviceAuthorizationUrl;

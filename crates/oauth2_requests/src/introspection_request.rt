@@ -9,7 +9,7 @@ ghost use Rattle.oauth2_requests.specs.TokenIntrospection.{introspection_configu
 ghost use Rattle.oauth2_requests.specs.Once.{AsksOnce};
 
 use crate::base_request::BaseRequest;
-use oauth2_json::ErrorResponse;
+use oauth2_codes::ErrorResponse;
 use oauth2_replies::TokenIntrospectionResponse;
 use oauth2_types::AccessToken;
 use oauth2_urls::IntrospectionUrl;

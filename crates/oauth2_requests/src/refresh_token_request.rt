@@ -11,7 +11,7 @@ ghost use Rattle.oauth2_requests.specs.Refresh.{refresh_configuration};
 ghost use Rattle.oauth2_requests.specs.Once.{AsksOnce};
 
 use crate::base_request::BaseRequest;
-use oauth2_json::ErrorResponse;
+use oauth2_codes::ErrorResponse;
 use oauth2_replies::TokenResponse;
 use oauth2_types::{RefreshToken, Scope};
 use oauth2_urls::TokenUrl;

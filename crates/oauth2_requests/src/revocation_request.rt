@@ -9,7 +9,7 @@ ghost use Rattle.oauth2_requests.specs.TokenRevocation.{revocation_configuration
 ghost use Rattle.oauth2_requests.specs.Once.{AsksOnceStatusOnly};
 
 use crate::base_request::BaseRequest;
-use oauth2_json::ErrorResponse;
+use oauth2_codes::ErrorResponse;
 use oauth2_replies::RevocableToken;
 use oauth2_urls::RevocationUrl;
 use oauth2_wire::{

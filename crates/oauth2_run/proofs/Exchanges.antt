@@ -4,9 +4,9 @@ use Rattle.http_header.specs.HeaderMap.{get}
 use Rattle.http_header.specs.FieldValue.{plain_value}
 use Rattle.http_uri.specs.Uri.{SpellsNone, uri_text}
 use Rattle.url.specs.Parts.{serialize}
-use Rattle.oauth2_json.specs.Codes.{token_code, token_code_reading}
-use Rattle.oauth2_json.specs.ErrorCodes.{error_code, error_code_reading, ErrorCode}
-use Rattle.oauth2_json.specs.ErrorResponse.{ErrorParts, parts_of, error_reading}
+use Rattle.oauth2_codes.specs.Codes.{token_code, token_code_reading}
+use Rattle.oauth2_codes.specs.ErrorCodes.{error_code, error_code_reading, ErrorCode}
+use Rattle.oauth2_codes.specs.ErrorResponse.{ErrorParts, parts_of, error_reading}
 use Rattle.oauth2_json.specs.Reading.{fault_of}
 use Rattle.oauth2_replies.specs.Kept.{any_object}
 use Rattle.oauth2_replies.specs.Token.{token_reading}

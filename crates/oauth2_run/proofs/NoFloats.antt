@@ -6,7 +6,7 @@ use Rattle.std.specs.declared.cmp.Ordering.TheVariants.{Less, Equal, Greater}
 use Rattle.std.specs.Cmp.Lexicographic.{slice_cmp}
 use Rattle.serde_json.specs.Data.{Data, Members, no_members, member, put, string, number, unsigned, object}
 use Rattle.serde_json.specs.Written.{has_float, members_have_float}
-use Rattle.oauth2_json.specs.Codes.{token_code_text}
+use Rattle.oauth2_codes.specs.Codes.{token_code_text}
 use Rattle.oauth2_json.specs.Members.{put_some}
 use Rattle.oauth2_json.specs.Words.{joined}
 use Rattle.oauth2_run.specs.Exchange.{BasicToken, token_data}

@@ -4,9 +4,9 @@ use Rattle.std.specs.Prelude.{IfSome}
 use Rattle.std.specs.declared.alloc.Global.{Global}
 use Rattle.serde_json.specs.Data.{Data, string, object, no_members}
 use Rattle.serde_json.specs.Written.{has_float, compact_text}
-use Rattle.oauth2_json.specs.Codes.{token_code, token_code_text}
-use Rattle.oauth2_json.specs.ErrorCodes.{error_code, error_code_text}
-use Rattle.oauth2_json.specs.ErrorResponse.{error_text, parts_of}
+use Rattle.oauth2_codes.specs.Codes.{token_code, token_code_text}
+use Rattle.oauth2_codes.specs.ErrorCodes.{error_code, error_code_text}
+use Rattle.oauth2_codes.specs.ErrorResponse.{error_text, parts_of}
 use Rattle.oauth2_json.specs.declared.read.ParseFault.{ParseFault}
 use Rattle.oauth2_replies.specs.Token.{token_writing}
 use Rattle.oauth2_wire.specs.Display.{fault_text}

@@ -5,9 +5,9 @@ use Rattle.http_uri.specs.Uri.{Spells, SpellsNone, uri_text}
 use Rattle.serde_json.specs.Data.{Data, string, object, no_members}
 use Rattle.serde_json.specs.Written.{compact_text}
 use Rattle.url.specs.Parts.{serialize}
-use Rattle.oauth2_json.specs.Codes.{TokenCode, token_code_text, token_code_reading}
-use Rattle.oauth2_json.specs.ErrorCodes.{ErrorCode, error_code_text, error_code_reading}
-use Rattle.oauth2_json.specs.ErrorResponse.{ErrorParts, error_reading, after_colon, in_brackets}
+use Rattle.oauth2_codes.specs.Codes.{TokenCode, token_code_text, token_code_reading}
+use Rattle.oauth2_codes.specs.ErrorCodes.{ErrorCode, error_code_text, error_code_reading}
+use Rattle.oauth2_codes.specs.ErrorResponse.{ErrorParts, error_reading, after_colon, in_brackets}
 use Rattle.oauth2_json.specs.Puts.{put_all}
 use Rattle.oauth2_json.specs.Reading.{Reading, Fault}
 use Rattle.oauth2_json.specs.declared.read.ParseCause.{ParseCause}

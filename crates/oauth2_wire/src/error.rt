@@ -1,5 +1,6 @@
 //! Why a request could not be made, was not sent, or got no answer.
-use oauth2_json::{BasicErrorResponseType, ParseFault, StandardErrorResponse};
+use oauth2_codes::{BasicErrorResponseType, StandardErrorResponse};
+use oauth2_json::ParseFault;
 use std::alloc::AllocError;
 use std::{fmt, io};
 use thiserror::Error;

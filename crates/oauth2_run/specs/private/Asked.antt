@@ -1,8 +1,8 @@
 -- One request of the scripted client for a token.
 use Rattle.std.specs.Prelude.{Result}
-use Rattle.oauth2_json.specs.Codes.{token_code_reading}
-use Rattle.oauth2_json.specs.ErrorCodes.{error_code, error_code_reading}
-use Rattle.oauth2_json.specs.ErrorResponse.{parts_of, error_reading}
+use Rattle.oauth2_codes.specs.Codes.{token_code_reading}
+use Rattle.oauth2_codes.specs.ErrorCodes.{error_code, error_code_reading}
+use Rattle.oauth2_codes.specs.ErrorResponse.{parts_of, error_reading}
 use Rattle.oauth2_replies.specs.Kept.{any_object}
 use Rattle.oauth2_replies.specs.Token.{token_reading}
 use Rattle.oauth2_urls.specs.Addressed.{Addressed}

@@ -1,12 +1,12 @@
 -- What a run shows of the result of a request.
 use Rattle.std.specs.Prelude.{ℕ, List, Result, Ok, Err, string_bytes, codes}
-use Rattle.oauth2_json.specs.Codes.{token_code}
-use Rattle.oauth2_json.specs.ErrorCodes.{error_code}
-use Rattle.oauth2_json.specs.ErrorResponse.{parts_of}
+use Rattle.oauth2_codes.specs.Codes.{token_code}
+use Rattle.oauth2_codes.specs.ErrorCodes.{error_code}
+use Rattle.oauth2_codes.specs.ErrorResponse.{parts_of}
 use Rattle.oauth2_json.specs.Reading.{fault_of}
-use Rattle.oauth2_json.specs.declared.basic_error.BasicErrorResponseType.{BasicErrorResponseType}
-use Rattle.oauth2_json.specs.declared.error_response.StandardErrorResponse.{StandardErrorResponse}
-use Rattle.oauth2_json.specs.declared.token_type.BasicTokenType.{BasicTokenType}
+use Rattle.oauth2_codes.specs.declared.basic_error.BasicErrorResponseType.{BasicErrorResponseType}
+use Rattle.oauth2_codes.specs.declared.error_response.StandardErrorResponse.{StandardErrorResponse}
+use Rattle.oauth2_codes.specs.declared.token_type.BasicTokenType.{BasicTokenType}
 use Rattle.oauth2_replies.specs.Token.{Token, token_seen}
 use Rattle.oauth2_replies.specs.declared.token.EmptyExtraTokenFields.{EmptyExtraTokenFields}
 use Rattle.oauth2_wire.specs.declared.error.RequestTokenError.{RequestTokenError}

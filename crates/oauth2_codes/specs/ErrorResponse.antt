@@ -1,0 +1,64 @@
+-- The error response of RFC 6749, 5.2 (and so of RFC 7009, 2.2.1, and RFC 8628, 3.5).
+use Rattle.std.specs.Prelude.{◌≡◌, ℕ, List, [], ◌∷◌, ◌++◌, Option, Some, None, Ok, codes, option_map, string_bytes}
+use Rattle.serde_json.specs.Data.{Data, Members, string, object, no_members}
+use Rattle.serde_json.specs.Find.{get_member}
+use Rattle.oauth2_json.specs.Reading.{Reading, read_then, ◌⊛◌}
+use Rattle.oauth2_json.specs.Writing.{Writing, write_then}
+use Rattle.oauth2_json.specs.Members.{members_of_object, needed, optional}
+use Rattle.oauth2_json.specs.Puts.{Row, put_all}
+use Rattle.oauth2_json.specs.Values.{text}
+use Rattle.oauth2_codes.specs.declared.error_response.StandardErrorResponse.{StandardErrorResponse}
+
+pub record ErrorParts (T : Type 0) : Type 0 where
+  pub error : T
+  pub description : Option (List ℕ)
+  pub uri : Option (List ℕ)
+
+abbrev pub parts : {T : Type 0} → T → Option (List ℕ) → Option (List ℕ) → ErrorParts T
+parts e d u = record { error = e; description = d; uri = u }
+
+-- a response without where its texts lie in memory, its code seen by f
+abbrev pub parts_of : {T M : Type 0} → (T → M) → StandardErrorResponse T → ErrorParts M
+parts_of f r =
+    parts (f r.error) (option_map string_bytes r.error_description) (option_map string_bytes r.error_uri)
+
+-- other members are ignored
+abbrev pub error_row : {T : Type 0} → (Data → Reading T) → Members → Reading (ErrorParts T)
+error_row code ms =
+    Ok parts
+    ⊛ needed code (codes "error") (get_member (codes "error") ms)
+    ⊛ optional text (codes "error_description") (get_member (codes "error_description") ms)
+    ⊛ optional text (codes "error_uri") (get_member (codes "error_uri") ms)
+
+abbrev pub error_reading : {T : Type 0} → (Data → Reading T) → Data → Reading (ErrorParts T)
+error_reading code d = read_then (members_of_object d) (error_row code)
+
+-- the members of a response whose code is written as `code`
+abbrev pub error_rows : {T : Type 0} → Data → ErrorParts T → List Row
+error_rows code r =
+    (codes "error", Some code)
+    ∷ (codes "error_description", option_map string r.description)
+    ∷ (codes "error_uri", option_map string r.uri)
+    ∷ []
+
+abbrev pub error_writing : {T : Type 0} → (T → Writing) → ErrorParts T → Writing
+error_writing code r =
+    write_then (code r.error) (λ d. Ok (object (put_all (error_rows d r) no_members)))
+
+-- the code is written as a text that reads back as itself
+abbrev pub IsReadBack : {T M : Type 0} → (Data → Reading M) → (T → M) → (T → Writing) → T → Type 0
+IsReadBack reading meaning writing t =
+    (s : List ℕ) × (writing t ≡ Ok (string s)) × (reading (string s) ≡ Ok (meaning t))
+
+abbrev pub after_colon : Option (List ℕ) → List ℕ
+after_colon None = []
+after_colon (Some d) = codes ": " ++ d
+
+abbrev pub in_brackets : Option (List ℕ) → List ℕ
+in_brackets None = []
+in_brackets (Some u) = codes " (see " ++ u ++ codes ")"
+
+-- what `Display` writes, where the code's own text is known: the code, `: ` and the description, and
+-- ` (see `, the URI and `)`
+abbrev pub error_text : {T : Type 0} → Option (List ℕ) → ErrorParts T → Option (List ℕ)
+error_text code r = option_map (λ c. (c ++ after_colon r.description) ++ in_brackets r.uri) code

@@ -1,0 +1,164 @@
+//! Error responses (RFC 6749, section 5.2).
+
+ghost use Rattle.std.specs.Prelude.{◌≡◌};
+
+use crate::basic_error::BasicErrorResponseType;
+use crate::device_error::DeviceCodeErrorResponseType;
+use crate::error_traits::{ErrorResponse, ErrorResponseType};
+use crate::revocation_error::RevocationErrorResponseType;
+use oauth2_json::{FromJson, ReadError, ToJson, WriteError, members};
+use oauth2_types::TryClone;
+use serde_json::{Map, Value};
+use std::alloc::{AllocError, Global};
+use std::fmt;
+
+/// An error response: a code, and a description and a page about it for people.
+#[derive(Debug, PartialEq, Eq, Drop)]
+pub struct StandardErrorResponse<T> {
+    error: T,
+    error_description: Option<String>,
+    error_uri: Option<String>,
+}
+
+impl<T> StandardErrorResponse<T> {
+    ghost use Rattle.std.specs.Prelude.{◌≡◌, option_map, option_copied, string_bytes};
+    ghost use Rattle.oauth2_codes.specs.ErrorResponse.{parts, parts_of};
+
+    pub fn new(
+        error: T,
+        error_description: Option<String>,
+        error_uri: Option<String>,
+    ) -> StandardErrorResponse<T>
+        ensures { parts_of (λ t. t) result
+            ≡ parts error (option_map string_bytes error_description) (option_map string_bytes error_uri) }
+    {
+        StandardErrorResponse {
+            error,
+            error_description,
+            error_uri,
+        }
+    }
+
+    pub fn error(&self) -> &T
+        ensures { result.now ≡ (parts_of (λ t. t) self.now).error }
+    {
+        &self.error
+    }
+
+    pub fn error_description(&self) -> Option<&String>
+        ensures { option_map string_bytes (option_copied result)
+            ≡ (parts_of (λ t. t) self.now).description }
+    {
+        self.error_description.as_ref()
+    }
+
+    pub fn error_uri(&self) -> Option<&String>
+        ensures { option_map string_bytes (option_copied result) ≡ (parts_of (λ t. t) self.now).uri }
+    {
+        self.error_uri.as_ref()
+    }
+}
+
+impl<T: FromJson + Drop> FromJson for StandardErrorResponse<T> {
+    ghost use Rattle.oauth2_codes.specs.ErrorResponse.{ErrorParts, parts_of, error_reading};
+
+    ghost Meaning = { ErrorParts T.Meaning };
+
+    ghost meaning = { parts_of T.meaning };
+
+    ghost reading = { error_reading T.reading };
+
+    #[tactic(auto, using(oauth2_json::proofs::Objects::member_facts))]
+    fn from_json(alloc: Global, value: Value) -> Result<StandardErrorResponse<T>, ReadError> {
+        let mut members = members::of_object(alloc, value)?;
+        let error = members::take(&mut members, "error");
+        let error_description = members::take(&mut members, "error_description");
+        let error_uri = members::take(&mut members, "error_uri");
+        Ok(StandardErrorResponse {
+            error: members::needed(alloc, "error", error)?,
+            error_description: members::optional(alloc, "error_description", error_description)?,
+            error_uri: members::optional(alloc, "error_uri", error_uri)?,
+        })
+    }
+}
+
+impl<T: FromJson + ToJson> StandardErrorResponse<T> {
+    ghost use Rattle.oauth2_json.specs.Writing.{WritesAs};
+    ghost use Rattle.oauth2_codes.specs.ErrorResponse.{parts_of, error_writing};
+
+    fn written(&self, alloc: Global) -> Result<Value, WriteError>
+        ensures { WritesAs result (error_writing T.writing (parts_of (λ t. t) self.now)) }
+    {
+        let error = self.error.to_json(alloc)?;
+        let description = members::text_value(alloc, &self.error_description)?;
+        let uri = members::text_value(alloc, &self.error_uri)?;
+        let mut members = Map::new(alloc);
+        members::put_some(&mut members, alloc, "error_uri", uri)?;
+        members::put_some(&mut members, alloc, "error_description", description)?;
+        members::put_some(&mut members, alloc, "error", Some(error))?;
+        Ok(Value::Object(members))
+    }
+}
+
+impl<T: FromJson + ToJson> ToJson for StandardErrorResponse<T> {
+    ghost use Rattle.std.specs.Prelude.{◌≡◌, Ok, IfOk};
+    ghost use Rattle.serde_json.specs.View.{view};
+    ghost use Rattle.oauth2_json.specs.Writing.{WritesAs};
+    ghost use Rattle.oauth2_codes.specs.ErrorResponse.{parts_of, error_writing, error_reading, IsReadBack};
+
+    ghost writing = { λ r. error_writing T.writing (parts_of (λ t. t) r) };
+
+    fn to_json(&self, alloc: Global) -> Result<Value, WriteError>
+        ensures written { WritesAs result (error_writing T.writing (parts_of (λ t. t) self.now)) }
+        // A response whose code reads back as itself reads back as itself.
+        ensures reads_back { IfOk result (λ v.
+            IsReadBack T.reading T.meaning T.writing (parts_of (λ t. t) self.now).error
+            → error_reading T.reading (view v) ≡ Ok (parts_of T.meaning self.now)) }
+    {
+        self.written(alloc)
+    }
+}
+
+impl<T: TryClone + Drop> TryClone for StandardErrorResponse<T> {
+    ghost use Rattle.oauth2_codes.specs.ErrorResponse.{ErrorParts, parts_of};
+
+    ghost Seen = { ErrorParts T.Seen };
+
+    ghost seen = { parts_of T.seen };
+
+    fn try_clone(&self, alloc: Global) -> Result<StandardErrorResponse<T>, AllocError> {
+        Ok(StandardErrorResponse {
+            error: self.error.try_clone(alloc)?,
+            error_description: self.error_description.try_clone(alloc)?,
+            error_uri: self.error_uri.try_clone(alloc)?,
+        })
+    }
+}
+
+impl<T: fmt::Display> fmt::Display for StandardErrorResponse<T> {
+    ghost use Rattle.oauth2_codes.specs.ErrorResponse.{error_text, parts_of};
+
+    ghost output = { λ r. let p = parts_of (λ t. t) r in error_text (T.output p.error) p };
+
+    fn fmt<W: fmt::Write>(&self, f: &mut fmt::Formatter<W>) -> fmt::Result {
+        write!(f, "{}", self.error)?;
+        if let Some(description) = &self.error_description {
+            write!(f, ": {description}")?;
+        }
+        if let Some(uri) = &self.error_uri {
+            write!(f, " (see {uri})")?;
+        }
+        Ok(())
+    }
+}
+
+/// The error response of the token, introspection and device authorization endpoints.
+pub type BasicErrorResponse = StandardErrorResponse<BasicErrorResponseType>;
+
+/// The error response of the revocation endpoint.
+pub type BasicRevocationErrorResponse = StandardErrorResponse<RevocationErrorResponseType>;
+
+/// The error response of the token endpoint while a device polls.
+pub type DeviceCodeErrorResponse = StandardErrorResponse<DeviceCodeErrorResponseType>;
+
+impl<T: ErrorResponseType + fmt::Display + Drop> ErrorResponse for StandardErrorResponse<T> {}

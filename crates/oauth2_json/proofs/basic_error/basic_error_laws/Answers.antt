@@ -1,6 +1,0 @@
-use Rattle.std.proofs.Common.{refl}
-use Rattle.oauth2_json.proofs.Codes.{error_code_text-of, error_canonical-canonical}
-use Rattle.oauth2_json.proofs.basic_error.basic_error_laws.Goals as goal
-
-pub returns : goal.returns
-returns c = record { text = error_code_text-of; back = λ k. refl; once = error_canonical-canonical }
