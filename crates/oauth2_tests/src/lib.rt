@@ -1,6 +1,9 @@
-//! Tests of texts, secrets, challenges, URLs and clients, through the names of `oauth2`.
+//! Tests of texts, secrets, challenges, URLs, clients and an application, through the names of
+//! `oauth2`.
 #![tactic(auto)]
 
+#[cfg(test)]
+mod applications;
 #[cfg(test)]
 mod clients;
 #[cfg(test)]

@@ -1,0 +1,34 @@
+//! An application with an HTTP client and an error of its own, which wants a member of the reply
+//! that the standard does not name.
+
+use crate::support::text;
+use oauth2::HttpResponse;
+use oauth2::http::Response;
+use oauth2_callers::canned_id_token;
+use std::process::Abort;
+
+fn reply(rt: &(impl Abort + AllocGlobal), body: &str) -> HttpResponse {
+    Response::new(
+        rt.alloc(),
+        body.as_bytes().to_vec(rt.alloc()).expect(rt, "a body"),
+    )
+}
+
+/// The application answers this `id_token` for a code and this reply.
+fn tells(rt: &(impl Abort + AllocGlobal), body: &str, wanted: Option<&str>) {
+    let url = text(rt, "https://example.com/token");
+    let answer = canned_id_token(rt.alloc(), url, text(rt, "ccc"), reply(rt, body));
+    let id_token = answer.expect(rt, "an answer");
+    assert_eq!(rt; id_token.as_deref(), wanted);
+}
+
+#[test]
+fn id_token_of_a_reply(rt: HostRuntime) {
+    let body = r#"{"access_token":"a","token_type":"bearer","id_token":"x.y.z"}"#;
+    tells(&rt, body, Some("x.y.z"));
+}
+
+#[test]
+fn no_id_token_in_a_reply(rt: HostRuntime) {
+    tells(&rt, r#"{"access_token":"a","token_type":"bearer"}"#, None);
+}
