@@ -43,6 +43,7 @@ where
     HasTokenUrl: EndpointState,
 {
     parts: Parts,
+    endpoints: Endpoints,
     phantom: PhantomData<
         (
             TE,
@@ -59,13 +60,18 @@ where
     >,
 }
 
-// What a client of any type holds.
+// What a client of any type holds beside its endpoints.
 #[derive(Debug, Drop)]
 struct Parts {
     client_id: ClientId,
     client_secret: Option<ClientSecret>,
     auth_type: AuthType,
     redirect_url: Option<RedirectUrl>,
+}
+
+// Where a client of any type sends its requests.
+#[derive(Debug, Drop)]
+struct Endpoints {
     auth_url: Option<AuthUrl>,
     device_authorization_url: Option<DeviceAuthorizationUrl>,
     introspection_url: Option<IntrospectionUrl>,
@@ -83,6 +89,16 @@ impl Parts {
             client_secret: self.client_secret.try_clone(alloc)?,
             auth_type: self.auth_type,
             redirect_url: self.redirect_url.try_clone(alloc)?,
+        })
+    }
+}
+
+impl Endpoints {
+    #[tactic(auto, using(std::proofs::lemmas::Iterator::Adapters::option_map_id))]
+    fn try_clone(&self, alloc: Global) -> Result<Endpoints, AllocError>
+        ensures { IfOk result (λ copy. copy ≡ self.now) }
+    {
+        Ok(Endpoints {
             auth_url: self.auth_url.try_clone(alloc)?,
             device_authorization_url: self.device_authorization_url.try_clone(alloc)?,
             introspection_url: self.introspection_url.try_clone(alloc)?,
@@ -134,19 +150,19 @@ where
       client_secret = c.parts.client_secret;
       auth_type = c.parts.auth_type;
       redirect_url = c.parts.redirect_url;
-      auth_url = c.parts.auth_url;
-      device_authorization_url = c.parts.device_authorization_url;
-      introspection_url = c.parts.introspection_url;
-      revocation_url = c.parts.revocation_url;
-      token_url = c.parts.token_url;
+      auth_url = c.endpoints.auth_url;
+      device_authorization_url = c.endpoints.device_authorization_url;
+      introspection_url = c.endpoints.introspection_url;
+      revocation_url = c.endpoints.revocation_url;
+      token_url = c.endpoints.token_url;
     } };
 
     ghost invariant = { λ c.
-        IsTrue (HasAuthUrl.allows (is_some c.parts.auth_url))
-        × IsTrue (HasDeviceAuthUrl.allows (is_some c.parts.device_authorization_url))
-        × IsTrue (HasIntrospectionUrl.allows (is_some c.parts.introspection_url))
-        × IsTrue (HasRevocationUrl.allows (is_some c.parts.revocation_url))
-        × IsTrue (HasTokenUrl.allows (is_some c.parts.token_url)) };
+        IsTrue (HasAuthUrl.allows (is_some c.endpoints.auth_url))
+        × IsTrue (HasDeviceAuthUrl.allows (is_some c.endpoints.device_authorization_url))
+        × IsTrue (HasIntrospectionUrl.allows (is_some c.endpoints.introspection_url))
+        × IsTrue (HasRevocationUrl.allows (is_some c.endpoints.revocation_url))
+        × IsTrue (HasTokenUrl.allows (is_some c.endpoints.token_url)) };
 }
 
 impl<TE, TR, TIR, RT, TRE> Client<TE, TR, TIR, RT, TRE> {
@@ -171,6 +187,8 @@ impl<TE, TR, TIR, RT, TRE> Client<TE, TR, TIR, RT, TRE> {
                 client_secret: None,
                 auth_type: AuthType::BasicAuth,
                 redirect_url: None,
+            },
+            endpoints: Endpoints {
                 auth_url: None,
                 device_authorization_url: None,
                 introspection_url: None,
@@ -250,9 +268,10 @@ where
         ensures { result ≡ record self { auth_url = Some auth_url } }
     {
         Client {
-            parts: Parts {
+            parts: self.parts,
+            endpoints: Endpoints {
                 auth_url: Some(auth_url),
-                ..self.parts
+                ..self.endpoints
             },
             phantom: PhantomData,
         }
@@ -266,9 +285,10 @@ where
         ensures { result ≡ record self { auth_url = auth_url } }
     {
         Client {
-            parts: Parts {
+            parts: self.parts,
+            endpoints: Endpoints {
                 auth_url,
-                ..self.parts
+                ..self.endpoints
             },
             phantom: PhantomData,
         }
@@ -282,9 +302,10 @@ where
         ensures { result ≡ record self { device_authorization_url = Some device_authorization_url } }
     {
         Client {
-            parts: Parts {
+            parts: self.parts,
+            endpoints: Endpoints {
                 device_authorization_url: Some(device_authorization_url),
-                ..self.parts
+                ..self.endpoints
             },
             phantom: PhantomData,
         }
@@ -298,9 +319,10 @@ where
         ensures { result ≡ record self { device_authorization_url = device_authorization_url } }
     {
         Client {
-            parts: Parts {
+            parts: self.parts,
+            endpoints: Endpoints {
                 device_authorization_url,
-                ..self.parts
+                ..self.endpoints
             },
             phantom: PhantomData,
         }
@@ -314,9 +336,10 @@ where
         ensures { result ≡ record self { introspection_url = Some introspection_url } }
     {
         Client {
-            parts: Parts {
+            parts: self.parts,
+            endpoints: Endpoints {
                 introspection_url: Some(introspection_url),
-                ..self.parts
+                ..self.endpoints
             },
             phantom: PhantomData,
         }
@@ -330,9 +353,10 @@ where
         ensures { result ≡ record self { introspection_url = introspection_url } }
     {
         Client {
-            parts: Parts {
+            parts: self.parts,
+            endpoints: Endpoints {
                 introspection_url,
-                ..self.parts
+                ..self.endpoints
             },
             phantom: PhantomData,
         }
@@ -346,9 +370,10 @@ where
         ensures { result ≡ record self { revocation_url = Some revocation_url } }
     {
         Client {
-            parts: Parts {
+            parts: self.parts,
+            endpoints: Endpoints {
                 revocation_url: Some(revocation_url),
-                ..self.parts
+                ..self.endpoints
             },
             phantom: PhantomData,
         }
@@ -362,9 +387,10 @@ where
         ensures { result ≡ record self { revocation_url = revocation_url } }
     {
         Client {
-            parts: Parts {
+            parts: self.parts,
+            endpoints: Endpoints {
                 revocation_url,
-                ..self.parts
+                ..self.endpoints
             },
             phantom: PhantomData,
         }
@@ -378,9 +404,10 @@ where
         ensures { result ≡ record self { token_url = Some token_url } }
     {
         Client {
-            parts: Parts {
+            parts: self.parts,
+            endpoints: Endpoints {
                 token_url: Some(token_url),
-                ..self.parts
+                ..self.endpoints
             },
             phantom: PhantomData,
         }
@@ -394,9 +421,10 @@ where
         ensures { result ≡ record self { token_url = token_url } }
     {
         Client {
-            parts: Parts {
+            parts: self.parts,
+            endpoints: Endpoints {
                 token_url,
-                ..self.parts
+                ..self.endpoints
             },
             phantom: PhantomData,
         }
@@ -414,7 +442,7 @@ where
     pub fn auth_uri(&self) -> &AuthUrl
         ensures { self.now.auth_url ≡ Some result.now }
     {
-        self.parts.auth_url.as_ref().unwrap()
+        self.endpoints.auth_url.as_ref().unwrap()
     }
 }
 
@@ -429,7 +457,7 @@ where
     pub fn auth_uri(&self) -> Option<&AuthUrl>
         ensures { option_copied result ≡ self.now.auth_url }
     {
-        self.parts.auth_url.as_ref()
+        self.endpoints.auth_url.as_ref()
     }
 }
 
@@ -444,7 +472,7 @@ where
     pub fn device_authorization_url(&self) -> &DeviceAuthorizationUrl
         ensures { self.now.device_authorization_url ≡ Some result.now }
     {
-        self.parts.device_authorization_url.as_ref().unwrap()
+        self.endpoints.device_authorization_url.as_ref().unwrap()
     }
 }
 
@@ -459,7 +487,7 @@ where
     pub fn device_authorization_url(&self) -> Option<&DeviceAuthorizationUrl>
         ensures { option_copied result ≡ self.now.device_authorization_url }
     {
-        self.parts.device_authorization_url.as_ref()
+        self.endpoints.device_authorization_url.as_ref()
     }
 }
 
@@ -474,7 +502,7 @@ where
     pub fn introspection_url(&self) -> &IntrospectionUrl
         ensures { self.now.introspection_url ≡ Some result.now }
     {
-        self.parts.introspection_url.as_ref().unwrap()
+        self.endpoints.introspection_url.as_ref().unwrap()
     }
 }
 
@@ -489,7 +517,7 @@ where
     pub fn introspection_url(&self) -> Option<&IntrospectionUrl>
         ensures { option_copied result ≡ self.now.introspection_url }
     {
-        self.parts.introspection_url.as_ref()
+        self.endpoints.introspection_url.as_ref()
     }
 }
 
@@ -504,7 +532,7 @@ where
     pub fn revocation_url(&self) -> &RevocationUrl
         ensures { self.now.revocation_url ≡ Some result.now }
     {
-        self.parts.revocation_url.as_ref().unwrap()
+        self.endpoints.revocation_url.as_ref().unwrap()
     }
 }
 
@@ -519,7 +547,7 @@ where
     pub fn revocation_url(&self) -> Option<&RevocationUrl>
         ensures { option_copied result ≡ self.now.revocation_url }
     {
-        self.parts.revocation_url.as_ref()
+        self.endpoints.revocation_url.as_ref()
     }
 }
 
@@ -534,7 +562,7 @@ where
     pub fn token_uri(&self) -> &TokenUrl
         ensures { self.now.token_url ≡ Some result.now }
     {
-        self.parts.token_url.as_ref().unwrap()
+        self.endpoints.token_url.as_ref().unwrap()
     }
 }
 
@@ -549,7 +577,7 @@ where
     pub fn token_uri(&self) -> Option<&TokenUrl>
         ensures { option_copied result ≡ self.now.token_url }
     {
-        self.parts.token_url.as_ref()
+        self.endpoints.token_url.as_ref()
     }
 }
 
@@ -570,6 +598,7 @@ where
     fn try_clone(&self, alloc: Global) -> Result<Self, AllocError> {
         Ok(Client {
             parts: self.parts.try_clone(alloc)?,
+            endpoints: self.endpoints.try_clone(alloc)?,
             phantom: PhantomData,
         })
     }
@@ -584,7 +613,10 @@ where
     T: EndpointState,
 {
     fn fmt<W: fmt::Write>(&self, f: &mut fmt::Formatter<W>) -> fmt::Result {
-        f.debug_tuple("Client").field(&self.parts).finish()
+        f.debug_tuple("Client")
+            .field(&self.parts)
+            .field(&self.endpoints)
+            .finish()
     }
 }
 
