@@ -1,5 +1,5 @@
 -- The ways through one round.
-use Rattle.std.proofs.Common.{◌≡◌, ◌≢◌, ◌⊎◌, inl, inr, List, [], ◌∷◌, Bool, true, Option, Some, Result, Ok, Err, refl, ap, sym, ◌∙◌, rules}
+use Rattle.std.proofs.Common.{◌≡◌, ◌≢◌, ◌⊎◌, inl, inr, [], ◌∷◌, Bool, true, Some, Result, Ok, Err, refl, ap, sym, ◌∙◌}
 use Rattle.std.specs.Prelude.{codes, ◌<ℤ◌}
 use Rattle.std.specs.declared.time.Duration.{Duration}
 use Rattle.jiff.specs.Types.{Timestamp}
@@ -15,7 +15,7 @@ use Rattle.oauth2_wire.specs.declared.request.RequestFault.TheVariants as fault
 use Rattle.oauth2_wire.specs.OneShot.{HttpRequest}
 use Rattle.oauth2_wire.specs.Reply.{HttpResponse, Answer}
 use Rattle.oauth2_device.specs.declared.verdict.Verdict.TheVariants.{Again, Decided}
-use Rattle.oauth2_device.specs.Events.{Event, Reading, Sent, Slept}
+use Rattle.oauth2_device.specs.Events.{Reading, Sent, Slept}
 use Rattle.oauth2_device.specs.Poll.{DeviceError, PollError, SaysOther, SaysExpired, class_of}
 use Rattle.oauth2_device.specs.private.Round.{OrMemory, IsUnprepared, IsJudged, EndsUnsent, EndsSent, GoesOn, IsTurn}
 

@@ -1,5 +1,5 @@
 -- The events of a poll so far, and what they become in the next round.
-use Rattle.std.proofs.Common.{◌≡◌, ◌≢◌, ◌⊎◌, inl, inr, ℕ, suc, ◌<◌, ◌≤◌, List, [], ◌∷◌, ◌++◌, map, length, Bool, true, false, Option, Some, None, Result, Ok, Err, refl, ap, sym, ◌∙◌, arith, append_assoc, subst, length-append}
+use Rattle.std.proofs.Common.{◌≡◌, ◌≢◌, inl, inr, ℕ, suc, ◌<◌, ◌≤◌, List, [], ◌∷◌, ◌++◌, map, length, Bool, true, false, Some, None, Result, Ok, Err, refl, ap, sym, ◌∙◌, arith, append_assoc, subst, length-append}
 use Rattle.std.specs.Prelude.{slice_get, codes, IsErrAnd, ℤ, pos, ◌+ℤ◌, ◌<ℤ◌}
 use Rattle.std.specs.declared.time.Duration.{Duration}
 use Rattle.std.specs.Duration.{as_nanos, max_nanos}
@@ -26,11 +26,10 @@ use Rattle.oauth2_poll.proofs.Requests.{requests_are_bounded}
 use Rattle.oauth2_wire.specs.declared.error.RequestTokenError.TheVariants as token
 use Rattle.oauth2_wire.specs.OneShot.{HttpRequest, not_http_text}
 use Rattle.oauth2_wire.specs.Reply.{HttpResponse, Answer}
-use Rattle.oauth2_wire.specs.Request.{IsRequestOf, view_of}
 use Rattle.oauth2_device.specs.DeviceToken.{DeviceToken}
-use Rattle.oauth2_device.specs.Events.{Event, Reading, Sent, Slept, EachRequest, has_request, last_reply}
-use Rattle.oauth2_device.specs.Poll.{DeviceError, PollError, SaysOther, SaysExpired, IsDeviceRequest, class_of, plain, input_of, device_answer, IsWhole, IsCutShort, IsUnsendable, IsPoll, Polls}
-use Rattle.oauth2_device.specs.private.Round.{OrMemory, IsDecision, EndsUnsent, EndsSent, GoesOn, IsTurn}
+use Rattle.oauth2_device.specs.Events.{Event, Reading, Sent, Slept, EachRequest, has_request}
+use Rattle.oauth2_device.specs.Poll.{DeviceError, PollError, SaysOther, SaysExpired, IsDeviceRequest, class_of, plain, input_of, device_answer, IsWhole, IsUnsendable, IsPoll, Polls}
+use Rattle.oauth2_device.specs.private.Round.{OrMemory, IsDecision, EndsUnsent, EndsSent, IsTurn}
 use Rattle.oauth2_device.proofs.LeadsFacts.{EachRequest-append, none_sent, has_request-unsent, has_request-sent, last_reply-append}
 
 -- the input grows with the events

@@ -1,12 +1,10 @@
 -- What a reply's answer means to a poll.
-use Rattle.std.proofs.Common.{◌≡◌, ◌≢◌, true, false, Bool, Result, Ok, Err, refl, ap, sym, ◌∙◌, inl, inr}
-use Rattle.oauth2_poll.specs.declared.device_poll.PollAnswer.TheVariants.{Deciding}
-use Rattle.oauth2_wire.specs.declared.error.RequestTokenError.{RequestTokenError}
+use Rattle.std.proofs.Common.{◌≡◌, Bool, Result, Ok, Err, refl, ap, inl, inr}
 use Rattle.oauth2_wire.specs.declared.error.RequestTokenError.TheVariants as token
 use Rattle.oauth2_wire.specs.Reply.{HttpResponse, Answer, ShowsAnswer}
 use Rattle.oauth2_device.specs.declared.verdict.Verdict.{Verdict}
 use Rattle.oauth2_device.specs.declared.verdict.Verdict.TheVariants.{Again, Decided}
-use Rattle.oauth2_device.specs.Poll.{DeviceError, DeviceErrorResponse, PollError, device_error, class_of_answer}
+use Rattle.oauth2_device.specs.Poll.{DeviceError, DeviceErrorResponse, PollError, device_error}
 use Rattle.oauth2_device.specs.private.Round.{IsRefusal, IsVerdict, IsJudged}
 
 module _ {D A RE : Type 0} (meaning : D → A) where

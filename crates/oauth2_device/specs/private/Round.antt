@@ -3,7 +3,6 @@ use Rattle.std.specs.Prelude.{◌≡◌, ◌≢◌, ◌⊎◌, Bool, true, List,
 use Rattle.std.specs.declared.time.Duration.{Duration}
 use Rattle.std.specs.Duration.{as_nanos}
 use Rattle.jiff.specs.Types.{Timestamp}
-use Rattle.oauth2_poll.specs.declared.device_poll.PollAnswer.{PollAnswer}
 use Rattle.oauth2_poll.specs.declared.device_poll.PollAnswer.TheVariants.{Deciding}
 use Rattle.oauth2_poll.specs.State.{PollState}
 use Rattle.oauth2_poll.specs.Step.{answered}
@@ -14,7 +13,7 @@ use Rattle.oauth2_wire.specs.OneShot.{HttpRequest, not_http_text}
 use Rattle.oauth2_wire.specs.Reply.{HttpResponse, Answer, ShowsAnswer}
 use Rattle.oauth2_device.specs.declared.verdict.Verdict.{Verdict}
 use Rattle.oauth2_device.specs.declared.verdict.Verdict.TheVariants.{Again, Decided}
-use Rattle.oauth2_device.specs.Events.{Event, Reading, Sent, Slept, Leads, EachRequest}
+use Rattle.oauth2_device.specs.Events.{Event, Reading, Sent, Slept}
 use Rattle.oauth2_device.specs.Poll.{DeviceError, DeviceErrorResponse, PollError, device_error, class_of, class_of_answer, class_of_code, SaysOther, SaysExpired}
 
 -- the error is one of these, or memory ran out

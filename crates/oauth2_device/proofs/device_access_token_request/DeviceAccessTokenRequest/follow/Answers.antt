@@ -1,4 +1,4 @@
-use Rattle.std.proofs.Common.{rules, ◌≡◌, ◌≤◌, [], ◌∷◌, ◌++◌, refl, subst, ℕ}
+use Rattle.std.proofs.Common.{rules, ◌≤◌, [], ◌∷◌, ◌++◌, refl, subst, ℕ}
 use Rattle.std.specs.Prelude.{pos, ◌+ℤ◌}
 use Rattle.std.specs.Duration.{as_nanos, max_nanos}
 use Rattle.jiff.specs.Words.{IsTimestampNanos}

@@ -1,4 +1,4 @@
-use Rattle.std.proofs.Common.{◌≡◌, sym, ◌∙◌, ap}
+use Rattle.std.proofs.Common.{◌≡◌, sym, ◌∙◌}
 use Rattle.oauth2_device.proofs.JoinedFacts.{each_led}
 use Rattle.oauth2_device.proofs.device_access_token_request.DeviceAccessTokenRequest.request.Goals as goal
 

@@ -1,4 +1,4 @@
-use Rattle.std.proofs.Common.{rules, ◌≡◌, [], ◌∷◌, refl, inl, inr}
+use Rattle.std.proofs.Common.{[], ◌∷◌, refl, inl, inr}
 use Rattle.std.specs.Prelude.{◌<ℤ◌}
 use Rattle.oauth2_device.specs.Events.{Reading, Sent, Slept}
 use Rattle.oauth2_device.specs.Poll.{device_answer}
