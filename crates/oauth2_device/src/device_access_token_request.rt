@@ -81,13 +81,12 @@ impl<'a, TR, EF, T> DeviceAccessTokenRequest<'a, TR, EF, T> {
     ) -> Result<Self, AllocError>
     where
         T: Drop,
-        ensures { let request = self.entry.request in
+        ensures request { let request = self.entry.request in
             let added = (param_bytes name.entry, param_bytes value.entry) ∷ [] in
-            IfOk result (λ r. r ≡ record self.entry {
-              request = record request {
-                base = record request.base { extra_params = request.base.extra_params ++ added };
-              };
+            IfOk result (λ r. r.request ≡ record request {
+              base = record request.base { extra_params = request.base.extra_params ++ added };
             }) }
+        ensures clock { IfOk result (λ r. r.time_fn ≡ self.entry.time_fn) }
     {
         self.base.add_extra_param(name, value)?;
         Ok(self)
@@ -100,7 +99,8 @@ impl<'a, TR, EF, T> DeviceAccessTokenRequest<'a, TR, EF, T> {
     ) -> DeviceAccessTokenRequest<'a, TR, EF, F>
     where
         T: Drop,
-        ensures { result ≡ record { request = self.entry.request; time_fn = time_fn } }
+        ensures request { result.request ≡ self.entry.request }
+        ensures clock { result.time_fn ≡ time_fn }
     {
         let (request, _) = self.replace_clock(time_fn);
         request
@@ -109,9 +109,9 @@ impl<'a, TR, EF, T> DeviceAccessTokenRequest<'a, TR, EF, T> {
     /// Sets how long a failed call makes the device wait at most, where the interval itself is
     /// not longer.
     pub fn set_max_backoff_interval(mut self, interval: Duration) -> Self
-        ensures { result ≡ record self.entry {
-          request = record self.entry.request { max_backoff_interval = as_nanos interval };
-        } }
+        ensures request { result.request
+            ≡ record self.entry.request { max_backoff_interval = as_nanos interval } }
+        ensures clock { result.time_fn ≡ self.entry.time_fn }
     {
         self.max_backoff_interval = interval;
         self
@@ -136,8 +136,9 @@ impl<'a, TR, EF, T> DeviceAccessTokenRequest<'a, TR, EF, T> {
 
     // The request with another clock, and the one that it had.
     pub(crate) fn replace_clock<F>(self, time_fn: F) -> (DeviceAccessTokenRequest<'a, TR, EF, F>, T)
-        ensures { (result.0 ≡ record { request = self.entry.request; time_fn = time_fn })
-            × (result.1 ≡ self.entry.time_fn) }
+        ensures request { result.0.request ≡ self.entry.request }
+        ensures clock { result.0.time_fn ≡ time_fn }
+        ensures before { result.1 ≡ self.entry.time_fn }
     {
         let DeviceAccessTokenRequest {
             base,
