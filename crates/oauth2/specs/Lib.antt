@@ -48,3 +48,6 @@ pub use Rattle.oauth2_requests.specs.TokenRevocation
 pub use Rattle.oauth2_requests.specs.Once
 pub use Rattle.oauth2_requests.specs.Query
 pub use Rattle.oauth2_requests.specs.Authorization
+pub use Rattle.oauth2_device.specs.DeviceToken
+pub use Rattle.oauth2_device.specs.Events
+pub use Rattle.oauth2_device.specs.Poll

@@ -1,6 +1,8 @@
 -- The requests that a client starts, as they are before anything is added.
 use Rattle.std.specs.Prelude.{◌≡◌, ℕ, List, [], codes, Option, None}
 use Rattle.oauth2_urls.specs.Addressed.{Addressed}
+use Rattle.oauth2_device.specs.DeviceToken.{DeviceToken, new_device_token}
+use Rattle.oauth2_replies.specs.Device.{DeviceAuthorization}
 use Rattle.oauth2_requests.specs.Authorization.{Authorization}
 use Rattle.oauth2_requests.specs.Base.{Base}
 use Rattle.oauth2_requests.specs.ClientCredentials.{ClientCredentialsRequest}
@@ -78,6 +80,10 @@ new_device_request client url = record {
   base = base_of client;
   device_authorization_url = url;
 }
+
+-- the request for the token of the device that got this response (RFC 8628, section 3.4)
+abbrev pub new_device_token_request : {EF : Type 0} → Settings → Addressed → DeviceAuthorization EF → DeviceToken
+new_device_token_request client url response = new_device_token (base_of client) url response
 
 -- the introspection of a token (RFC 7662, section 2.1)
 abbrev pub new_introspection_request : Settings → Addressed → List ℕ → TokenIntrospection

@@ -22,6 +22,7 @@ pub use oauth2_codes::{
     basic_error_laws, device_code_error_laws, revocation_error_laws, text_error_laws,
     token_type_laws,
 };
+pub use oauth2_device::{DeviceAccessTokenRequest, NoClock, PollWorld};
 pub use oauth2_json::{
     FromJson, ParseCause, ParseFault, ReadError, ToJson, WriteError, compact, helpers, members,
     read_body,

@@ -2,10 +2,12 @@
 
 ghost use Rattle.std.specs.Prelude.{◌≡◌, Some, IfSome, IfNone, IsOkAnd, IsErrAnd, codes};
 ghost use Rattle.oauth2_wire.specs.ConfigurationError.{IsMissingUrl};
-ghost use Rattle.oauth2.specs.NewRequest.{base_of, new_client_credentials_request, new_code_request, new_password_request, new_refresh_request};
+ghost use Rattle.oauth2.specs.NewRequest.{base_of, new_client_credentials_request, new_code_request, new_device_token_request, new_password_request, new_refresh_request};
 
 use crate::client::Client;
 use crate::endpoint::{EndpointMaybeSet, EndpointSet, EndpointState};
+use oauth2_device::DeviceAccessTokenRequest;
+use oauth2_replies::DeviceAuthorizationResponse;
 use oauth2_requests::{
     BaseRequest, ClientCredentialsTokenRequest, CodeTokenRequest, PasswordTokenRequest,
     RefreshTokenRequest,
@@ -100,6 +102,18 @@ where
     {
         ClientCredentialsTokenRequest::new(self.base_request(alloc), self.token_uri())
     }
+
+    /// Starts the poll for the token of the device that got this response.
+    pub fn exchange_device_access_token<'a, EF>(
+        &'a self,
+        alloc: Global,
+        auth_response: &'a DeviceAuthorizationResponse<EF>,
+    ) -> DeviceAccessTokenRequest<'a, TR, EF>
+        ensures url { self.now.token_url ≡ Some result.request.token_url }
+        ensures new { result.request ≡ new_device_token_request self.now result.request.token_url auth_response.now }
+    {
+        DeviceAccessTokenRequest::new(self.base_request(alloc), self.token_uri(), auth_response)
+    }
 }
 
 impl<TE, TR, TIR, RT, TRE, A, D, I, R> Client<TE, TR, TIR, RT, TRE, A, D, I, R, EndpointMaybeSet>
@@ -170,6 +184,21 @@ where
     {
         let token_url = self.token_endpoint()?;
         Ok(ClientCredentialsTokenRequest::new(self.base_request(alloc), token_url))
+    }
+
+    /// Starts the poll for the token of the device that got this response; an error where there is
+    /// no token endpoint.
+    pub fn exchange_device_access_token<'a, EF>(
+        &'a self,
+        alloc: Global,
+        auth_response: &'a DeviceAuthorizationResponse<EF>,
+    ) -> Result<DeviceAccessTokenRequest<'a, TR, EF>, ConfigurationError>
+        ensures there { IfSome self.now.token_url (λ url. IsOkAnd result
+            (λ r. r.request ≡ new_device_token_request self.now url auth_response.now)) }
+        ensures missing { IfNone self.now.token_url (IsErrAnd result (IsMissingUrl (codes "token"))) }
+    {
+        let token_url = self.token_endpoint()?;
+        Ok(DeviceAccessTokenRequest::new(self.base_request(alloc), token_url, auth_response))
     }
 
     fn token_endpoint(&self) -> Result<&TokenUrl, ConfigurationError>

@@ -1,10 +1,19 @@
-//! A caller with a contract of its own.
-ghost use Rattle.std.specs.Prelude.{◌+◌, ◌/◌, ◌<◌, ◌≤◌, map, IfOk};
+//! Callers with contracts of their own.
+ghost use Rattle.std.specs.Prelude.{◌≡◌, ◌+◌, ◌/◌, ◌<◌, ◌≤◌, map, IfOk, Some, List};
 ghost use Rattle.std.specs.Duration.{as_nanos};
 ghost use Rattle.oauth2_poll.specs.Pacing.{ClockIsHonest, requests_in};
 ghost use Rattle.oauth2_poll.specs.Run.{event_of};
+ghost use Rattle.oauth2_urls.specs.Addressed.{Addressed};
+ghost use Rattle.oauth2_device.specs.Events.{ClientLeads, EachRequest, Event};
+ghost use Rattle.oauth2_device.specs.Poll.{IsDeviceRequest};
+ghost use Rattle.oauth2.specs.NewRequest.{new_device_token_request};
 
 use jiff::Timestamp;
+use oauth2::basic::{BasicClient, BasicTokenResponse};
+use oauth2::{
+    DeviceCodeErrorResponse, EndpointNotSet, EndpointSet, RequestTokenError,
+    StandardDeviceAuthorizationResponse, SyncHttpClient,
+};
 use oauth2_poll::{DevicePoll, PollAnswer, PollRun, PollSettings};
 use std::alloc::{AllocError, Global};
 use std::time::Duration;
@@ -24,4 +33,36 @@ pub fn poll_within(
         ≤ as_nanos timeout / as_nanos settings.interval + 1) }
 {
     DevicePoll::run(alloc, timeout, settings, readings, answers)
+}
+
+/// A client with a token endpoint alone.
+pub type DeviceClient = BasicClient<
+    EndpointNotSet,
+    EndpointNotSet,
+    EndpointNotSet,
+    EndpointNotSet,
+    EndpointSet,
+>;
+
+/// The token of a device, by a clock and a sleep function of the caller's: the client is asked for
+/// this device's token and for nothing else.
+pub fn device_token<C: SyncHttpClient, F: FnMut() -> Timestamp + Drop, S: FnMut(Duration)>(
+    alloc: Global,
+    client: &DeviceClient,
+    response: &StandardDeviceAuthorizationResponse,
+    http_client: &mut C,
+    time_fn: F,
+    sleep_fn: &mut S,
+) -> Result<BasicTokenResponse, RequestTokenError<C::Error, DeviceCodeErrorResponse>>
+    requires client { C.is_ready http_client.old }
+    requires clock { F.IsAlwaysCallable time_fn }
+    requires sleep { S.IsAlwaysCallable sleep_fn.old }
+    ensures { (endpoint : Addressed) × (client.now.token_url ≡ Some endpoint) × (e : List (Event C.Error))
+        × ClientLeads C.step http_client.old e http_client.new
+        × EachRequest (IsDeviceRequest (new_device_token_request client.now endpoint response.now)) e }
+{
+    client
+        .exchange_device_access_token(alloc, response)
+        .set_time_fn(time_fn)
+        .request(alloc, http_client, sleep_fn, None, 100)
 }

@@ -1,9 +1,11 @@
-//! The device poll for its users: a caller whose contract bounds its requests, and worked polls.
+//! The device poll for its users: callers with contracts of their own, and worked polls.
 #![tactic(auto)]
 
 mod callers;
 
-pub use callers::poll_within;
+pub use callers::{DeviceClient, device_token, poll_within};
 
 #[cfg(test)]
 mod tests;
+#[cfg(test)]
+mod world_tests;

@@ -92,7 +92,8 @@ impl<'a> BaseRequest<'a> {
         Ok(())
     }
 
-    pub(crate) fn add_extra_param(
+    /// Adds a parameter. It may bear a name that a request itself sends, and both are then sent.
+    pub fn add_extra_param(
         &mut self,
         name: ParamText<'_>,
         value: ParamText<'_>,
@@ -105,8 +106,8 @@ impl<'a> BaseRequest<'a> {
         Ok(())
     }
 
-    // The POST to an endpoint, with the request's own pairs and its redirect.
-    pub(crate) fn prepare(
+    /// The POST to an endpoint, with the request's own pairs and its redirect.
+    pub fn prepare(
         &self,
         alloc: Global,
         url: &Url,

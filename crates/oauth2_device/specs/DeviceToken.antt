@@ -1,0 +1,48 @@
+-- The request of a device for its token (RFC 8628, section 3.4).
+use Rattle.std.specs.Prelude.{ℕ, ◌*◌, List, [], ◌∷◌, codes, None}
+use Rattle.oauth2_urls.specs.Addressed.{Addressed}
+use Rattle.oauth2_wire.specs.Pairs.{Pair}
+use Rattle.oauth2_wire.specs.Expected.{Configuration}
+use Rattle.oauth2_replies.specs.Device.{DeviceAuthorization}
+use Rattle.oauth2_requests.specs.Base.{Base, configuration_of}
+
+-- who asks, where and with which code, how long the code is good, how long the device waits between
+-- two requests, and up to where a failed call doubles that wait; lengths in nanoseconds
+pub record DeviceToken : Type 0 where
+  pub base : Base
+  pub token_url : Addressed
+  pub device_code : List ℕ
+  pub expires_in : ℕ
+  pub interval : ℕ
+  pub max_backoff_interval : ℕ
+
+-- the same beside a clock
+pub record Clocked (T : Type 0) : Type 0 where
+  pub request : DeviceToken
+  pub time_fn : T
+
+-- a number of seconds in nanoseconds
+abbrev pub seconds : ℕ → ℕ
+seconds n = n * 1_000_000_000
+
+-- the request for the token of a device that was told these codes (RFC 8628, section 3.2); the cap
+-- is ten seconds
+abbrev pub new_device_token : {EF : Type 0} → Base → Addressed → DeviceAuthorization EF → DeviceToken
+new_device_token base token_url response = record {
+  base = base;
+  token_url = token_url;
+  device_code = response.device_code;
+  expires_in = seconds response.expires_in;
+  interval = seconds response.interval;
+  max_backoff_interval = seconds 10;
+}
+
+-- the grant and the code
+abbrev pub device_token_pairs : List ℕ → List Pair
+device_token_pairs device_code =
+    (codes "grant_type", codes "urn:ietf:params:oauth:grant-type:device_code")
+    ∷ (codes "device_code", device_code)
+    ∷ []
+
+abbrev pub device_token_configuration : DeviceToken → Configuration
+device_token_configuration r = configuration_of r.base (device_token_pairs r.device_code) None

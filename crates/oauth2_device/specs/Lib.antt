@@ -1,0 +1,4 @@
+pub mod DeviceToken
+pub mod Events
+pub mod Poll
+pub mod private

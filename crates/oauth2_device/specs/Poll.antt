@@ -1,0 +1,147 @@
+-- What the poll of a device does and answers (RFC 8628, sections 3.4 and 3.5), judged on the
+-- finished list of its events.
+use Rattle.std.specs.Prelude.{◌≡◌, ◌⊎◌, ℕ, List, [], ◌∷◌, codes, string_bytes, Option, Some, None, option_map, unwrap_or, Result, Ok, Err, IsErrAnd}
+use Rattle.std.specs.declared.time.Duration.{Duration}
+use Rattle.std.specs.Duration.{as_nanos}
+use Rattle.http_uri.specs.Uri.{SpellsNone}
+use Rattle.jiff.specs.Types.{Timestamp}
+use Rattle.serde_json.specs.Data.{Data}
+use Rattle.url.specs.Parts.{serialize}
+use Rattle.oauth2_codes.specs.declared.device_error.DeviceCodeErrorResponseType.{DeviceCodeErrorResponseType}
+use Rattle.oauth2_codes.specs.declared.error_response.StandardErrorResponse.{StandardErrorResponse}
+use Rattle.oauth2_codes.specs.ErrorCodes.{DeviceErrorCode, authorization_pending, slow_down, access_denied, expired_token, basic, device_error_code, device_error_code_reading}
+use Rattle.oauth2_codes.specs.ErrorResponse.{ErrorParts, parts, parts_of, error_reading}
+use Rattle.oauth2_json.specs.Reading.{Reading as JsonReading}
+use Rattle.oauth2_poll.specs.declared.device_poll.PollAnswer.{PollAnswer}
+use Rattle.oauth2_poll.specs.declared.device_poll.PollAnswer.TheVariants.{Failed, Pending, SlowDown, Deciding}
+use Rattle.oauth2_poll.specs.Trace as trace
+use Rattle.oauth2_poll.specs.Trace.{PollInput, Ending, IsLate, readings_in, answers_in}
+use Rattle.oauth2_poll.specs.Laws.{IsTraceOf}
+use Rattle.oauth2_poll.specs.Pacing.{SleepsArePaced, ClockIsHonest, RequestsFit}
+use Rattle.oauth2_wire.specs.declared.error.RequestTokenError.{RequestTokenError}
+use Rattle.oauth2_wire.specs.declared.error.RequestTokenError.TheVariants as token
+use Rattle.oauth2_wire.specs.OneShot.{HttpRequest, not_http_text}
+use Rattle.oauth2_wire.specs.Reply.{HttpResponse, Answer, accepted, refused, unread, other, answer_of, reply_of, ShowsAnswer}
+use Rattle.oauth2_wire.specs.Request.{IsRequestOf, view_of}
+use Rattle.oauth2_device.specs.DeviceToken.{DeviceToken, device_token_configuration}
+use Rattle.oauth2_device.specs.Events.{Event, Reading, Sent, Slept, EachRequest, has_request, last_reply}
+
+-- the error response to a device that polls, as values
+abbrev pub DeviceError : Type 0
+DeviceError = ErrorParts DeviceErrorCode
+
+abbrev pub DeviceErrorResponse : Type 0
+DeviceErrorResponse = StandardErrorResponse DeviceCodeErrorResponseType
+
+abbrev pub device_error : DeviceErrorResponse → DeviceError
+device_error response = parts_of device_error_code response
+
+-- why a poll gave no token
+abbrev pub PollError : Type 0 → Type 0
+PollError RE = RequestTokenError RE DeviceErrorResponse
+
+-- what a reply says to a device that waits for a token
+abbrev pub device_answer : {A : Type 0} → (Data → JsonReading A) → HttpResponse → Answer A DeviceError
+device_answer reading reply = answer_of reading (error_reading device_error_code_reading) (reply_of reply)
+
+-- which error codes ask for patience
+abbrev pub class_of_code : DeviceErrorCode → PollAnswer
+class_of_code authorization_pending = Pending
+class_of_code slow_down = SlowDown
+class_of_code access_denied = Deciding
+class_of_code expired_token = Deciding
+class_of_code (basic code) = Deciding
+
+-- and so which replies
+abbrev pub class_of_answer : {A : Type 0} → Answer A DeviceError → PollAnswer
+class_of_answer (accepted value) = Deciding
+class_of_answer (refused error) = class_of_code error.error
+class_of_answer (unread fault body) = Deciding
+class_of_answer (other text) = Deciding
+
+-- the error is another one, in these words
+abbrev pub SaysOther : {RE : Type 0} → List ℕ → PollError RE → Type 0
+SaysOther text (token.Other said) = string_bytes said ≡ text
+SaysOther text error = ⊥
+
+-- the error is the server's that the code has expired
+abbrev pub SaysExpired : {RE : Type 0} → PollError RE → Type 0
+SaysExpired (token.ServerResponse error) =
+    device_error error ≡ parts expired_token (Some (codes "This device code has expired.")) None
+SaysExpired error = ⊥
+
+-- the request of a device, at its endpoint
+abbrev pub IsDeviceRequest : DeviceToken → HttpRequest → Type 0
+IsDeviceRequest r request =
+    IsRequestOf (device_token_configuration r) (serialize r.token_url.url) (view_of request)
+
+-- how long the device polls: this long, or as long as its code is good
+abbrev pub timeout_of : DeviceToken → Option Duration → ℕ
+timeout_of r timeout = unwrap_or (option_map as_nanos timeout) r.expires_in
+
+-- the poll that saw these events
+abbrev pub input_of : DeviceToken → ℕ → ℕ → List trace.Event → PollInput
+input_of r timeout max_polls events = record {
+  timeout = timeout;
+  interval = r.interval;
+  cap = r.max_backoff_interval;
+  max_polls = max_polls;
+  readings = readings_in events;
+  answers = answers_in events;
+}
+
+module _ {A : Type 0} (says : HttpResponse → Answer A DeviceError) where
+  -- what came of a request, to a poll: a call that failed, or what the reply says
+  abbrev pub class_of : {RE : Type 0} → Result HttpResponse RE → PollAnswer
+  class_of (Err error) = Failed
+  class_of (Ok reply) = class_of_answer (says reply)
+
+  -- the events by their numbers
+  abbrev pub plain : {RE : Type 0} → List (Event RE) → List trace.Event
+  plain [] = []
+  plain (Reading t ∷ e) = trace.Reading t.nanosecond ∷ plain e
+  plain (Sent r a ∷ e) = trace.Asked ∷ trace.Answered (class_of a) ∷ plain e
+  plain (Slept d ∷ e) = trace.Slept (as_nanos d) ∷ plain e
+
+module _ {D A RE : Type 0} (meaning : D → A) (says : HttpResponse → Answer A DeviceError) where
+  -- the answer that fits an end
+  abbrev pub IsAnswerAt : Ending → List (Event RE) → Result D (PollError RE) → Type 0
+  IsAnswerAt trace.TooLong e result = IsErrAnd result (SaysOther (codes "failed to convert the timeout"))
+  IsAnswerAt trace.OutOfRange e result = IsErrAnd result (SaysOther (codes "failed to calculate timeout"))
+  IsAnswerAt (trace.Late n) e result = IsErrAnd result SaysExpired
+  IsAnswerAt (trace.Decided n) e result =
+      (reply : HttpResponse) × (last_reply None e ≡ Some (Ok reply)) × ShowsAnswer meaning device_error (says reply) result
+  IsAnswerAt (trace.Limited n) e result = IsErrAnd result (SaysOther (codes "polling limit reached"))
+
+  -- the poll did all that it does up to its end, which its answer fits
+  pub record IsWhole (p : PollInput) (e : List (Event RE)) (result : Result D (PollError RE)) : Type 0 where
+    pub done : IsTraceOf p (plain says e)
+    pub to_the_end : done.rest ≡ []
+    pub answer : IsAnswerAt done.ending e result
+
+  -- memory ran out: it did a beginning of that, and the answer tells whether it sent a request
+  pub record IsCutShort (p : PollInput) (e : List (Event RE)) (result : Result D (PollError RE)) : Type 0 where
+    pub done : IsTraceOf p (plain says e)
+    pub answer : result ≡ Err (token.Memory (has_request e))
+
+  -- the endpoint is no HTTP target: the poll read the clock twice, the second time in time
+  pub record IsUnsendable (NotHttp : Type 0) (p : PollInput) (e : List (Event RE)) (result : Result D (PollError RE)) : Type 0 where
+    pub done : IsTraceOf p (plain says e)
+    pub not_http : NotHttp
+    pub start : Timestamp
+    pub moment : Timestamp
+    pub events : e ≡ Reading start ∷ Reading moment ∷ []
+    pub in_time : ¬ (IsLate p 1)
+    pub answer : IsErrAnd result (SaysOther not_http_text)
+
+  abbrev pub IsPoll : Type 0 → PollInput → List (Event RE) → Result D (PollError RE) → Type 0
+  IsPoll NotHttp p e result = IsWhole p e result ⊎ (IsCutShort p e result ⊎ IsUnsendable NotHttp p e result)
+
+-- the device polled like this, for so long and so many times at most, and got this result; each
+-- request is the one of the configuration, and sleeps and requests keep their bounds
+pub record Polls {D A RE : Type 0} (meaning : D → A) (reading : Data → JsonReading A) (r : DeviceToken) (timeout max_polls : ℕ) (e : List (Event RE)) (result : Result D (PollError RE)) : Type 0 where
+  pub requests : EachRequest (IsDeviceRequest r) e
+  pub poll : (let says = device_answer reading in
+      IsPoll meaning says (SpellsNone (serialize r.token_url.url)) (input_of r timeout max_polls (plain says e)) e result)
+  pub paced : SleepsArePaced r.interval r.max_backoff_interval (plain (device_answer reading) e)
+  pub bounded : ClockIsHonest (plain (device_answer reading) e) → RequestsFit timeout r.interval (plain (device_answer reading) e)

@@ -1,0 +1,3 @@
+-- What private clauses alone cite.
+pub mod Joined
+pub mod Round

@@ -1,0 +1,86 @@
+-- One round of a poll.
+use Rattle.std.specs.Prelude.{◌≡◌, ◌≢◌, ◌⊎◌, Bool, true, List, [], ◌∷◌, codes, Option, Some, None, Result, Ok, Err, IsErrAnd, ◌<ℤ◌}
+use Rattle.std.specs.declared.time.Duration.{Duration}
+use Rattle.std.specs.Duration.{as_nanos}
+use Rattle.jiff.specs.Types.{Timestamp}
+use Rattle.oauth2_poll.specs.declared.device_poll.PollAnswer.TheVariants.{Deciding}
+use Rattle.oauth2_poll.specs.State.{PollState}
+use Rattle.oauth2_poll.specs.Step.{answered}
+use Rattle.oauth2_wire.specs.declared.error.RequestTokenError.TheVariants as token
+use Rattle.oauth2_wire.specs.declared.request.RequestFault.{RequestFault}
+use Rattle.oauth2_wire.specs.declared.request.RequestFault.TheVariants as fault
+use Rattle.oauth2_wire.specs.OneShot.{HttpRequest, not_http_text}
+use Rattle.oauth2_wire.specs.Reply.{HttpResponse, Answer, ShowsAnswer}
+use Rattle.oauth2_device.specs.declared.verdict.Verdict.{Verdict}
+use Rattle.oauth2_device.specs.declared.verdict.Verdict.TheVariants.{Again, Decided}
+use Rattle.oauth2_device.specs.Events.{Event, Reading, Sent, Slept}
+use Rattle.oauth2_device.specs.Poll.{DeviceError, DeviceErrorResponse, PollError, device_error, class_of, class_of_answer, class_of_code, SaysOther, SaysExpired}
+
+-- the error is one of these, or memory ran out
+abbrev pub OrMemory : {RE : Type 0} → (PollError RE → Type 0) → Bool → PollError RE → Type 0
+OrMemory IsError sent error = IsError error ⊎ (error ≡ token.Memory sent)
+
+-- the error of a request that could not be made
+abbrev pub IsUnprepared : {RE : Type 0} → RequestFault → Bool → PollError RE → Type 0
+IsUnprepared fault.NotHttp sent error = OrMemory (SaysOther not_http_text) sent error
+IsUnprepared fault.Memory sent error = error ≡ token.Memory sent
+
+-- what an error response means to a poll
+abbrev pub IsRefusal : {D RE : Type 0} → DeviceErrorResponse → Verdict D RE → Type 0
+IsRefusal error (Again answer) = (class_of_code (device_error error).error ≡ answer) × (answer ≢ Deciding)
+IsRefusal error (Decided result) = (class_of_code (device_error error).error ≡ Deciding) × (result ≡ Err (token.ServerResponse error))
+
+module _ {D A RE : Type 0} (meaning : D → A) where
+  -- the result decides, and is what was said
+  abbrev pub IsDecision : Answer A DeviceError → Result D (PollError RE) → Type 0
+  IsDecision said result = (class_of_answer said ≡ Deciding) × ShowsAnswer meaning device_error said result
+
+  -- what was said means this to a poll
+  abbrev pub IsVerdict : Answer A DeviceError → Verdict D RE → Type 0
+  IsVerdict said (Again answer) = (class_of_answer said ≡ answer) × (answer ≢ Deciding)
+  IsVerdict said (Decided result) = IsDecision said result ⊎ (result ≡ Err (token.Memory true))
+
+  module _ (says : HttpResponse → Answer A DeviceError) where
+    -- what came of a request means this to a poll
+    abbrev pub IsJudged : Result HttpResponse RE → Verdict D RE → Type 0
+    IsJudged reply (Again answer) = (class_of says reply ≡ answer) × (answer ≢ Deciding)
+    IsJudged reply (Decided result) =
+        ((r : HttpResponse) × (reply ≡ Ok r) × IsDecision (says r) result) ⊎ (result ≡ Err (token.Memory true))
+
+    -- a round that ends without a request
+    pub record EndsUnsent (NotHttp : Type 0) (poll : PollState) (sent : Bool) (e : List (Event RE)) (error : PollError RE) : Type 0 where
+      pub moment : Timestamp
+      pub events : e ≡ Reading moment ∷ []
+      pub cause :
+          ((poll.deadline <ℤ moment.nanosecond) × SaysExpired error)
+          ⊎ (((¬ (poll.deadline <ℤ moment.nanosecond)) × NotHttp × SaysOther not_http_text error) ⊎ (error ≡ token.Memory sent))
+
+    -- a round that ends after its request
+    pub record EndsSent (poll : PollState) (e : List (Event RE)) (result : Result D (PollError RE)) : Type 0 where
+      pub moment : Timestamp
+      pub request : HttpRequest
+      pub reply : Result HttpResponse RE
+      pub events : e ≡ Reading moment ∷ Sent request reply ∷ []
+      pub in_time : ¬ (poll.deadline <ℤ moment.nanosecond)
+      pub cause :
+          ((r : HttpResponse) × (reply ≡ Ok r) × IsDecision (says r) result)
+          ⊎ (((class_of says reply ≢ Deciding) × (poll.polls_left ≡ 1) × IsErrAnd result (SaysOther (codes "polling limit reached"))) ⊎ (result ≡ Err (token.Memory true)))
+
+    -- a round after which the poll goes on
+    pub record GoesOn (poll : PollState) (e : List (Event RE)) (after : PollState) : Type 0 where
+      pub moment : Timestamp
+      pub request : HttpRequest
+      pub reply : Result HttpResponse RE
+      pub sleep : Duration
+      pub events : e ≡ Reading moment ∷ Sent request reply ∷ Slept sleep ∷ []
+      pub in_time : ¬ (poll.deadline <ℤ moment.nanosecond)
+      pub open_answer : class_of says reply ≢ Deciding
+      pub more : poll.polls_left ≢ 1
+      pub after_is : after ≡ answered poll (class_of says reply)
+      pub sleep_is : as_nanos sleep ≡ after.interval
+
+    -- what a round did, and how the poll stands
+    abbrev pub IsTurn : Type 0 → PollState → Bool → List (Event RE) → Option (Result D (PollError RE)) → PollState → Type 0
+    IsTurn NotHttp poll sent e None after = GoesOn poll e after
+    IsTurn NotHttp poll sent e (Some (Err error)) after = EndsUnsent NotHttp poll sent e error ⊎ EndsSent poll e (Err error)
+    IsTurn NotHttp poll sent e (Some (Ok value)) after = EndsSent poll e (Ok value)

@@ -1,0 +1,138 @@
+//! The poll over a world (RFC 8628, section 3.5).
+ghost use Rattle.std.specs.Prelude.{◌≡◌, ◌<◌, List};
+ghost use Rattle.std.specs.Duration.{as_nanos};
+ghost use Rattle.http_uri.specs.Uri.{SpellsNone};
+ghost use Rattle.url.specs.Parts.{serialize};
+ghost use Rattle.oauth2_device.specs.Events.{Event, Leads, EachRequest};
+ghost use Rattle.oauth2_device.specs.Poll.{IsDeviceRequest, Polls, device_answer, timeout_of};
+ghost use Rattle.oauth2_device.specs.private.Round.{IsTurn, IsUnprepared};
+
+use crate::device_access_token_request::DeviceAccessTokenRequest;
+use crate::poll_world::PollWorld;
+use crate::verdict::{PollError, Verdict, expired, judge, other};
+use oauth2_codes::DeviceCodeErrorResponse;
+use oauth2_poll::{DevicePoll, PollReady, PollSettings, PollStep};
+use oauth2_replies::TokenResponse;
+use oauth2_wire::{RequestFault, RequestTokenError};
+use std::alloc::Global;
+use std::time::Duration;
+
+impl<'a, TR: TokenResponse, EF, T> DeviceAccessTokenRequest<'a, TR, EF, T> {
+    /// Polls in a world, for the given time or as long as the device's code is good, with so many
+    /// requests at most.
+    pub fn poll_with<W: PollWorld>(
+        self,
+        alloc: Global,
+        world: &mut W,
+        timeout: Option<Duration>,
+        max_polls: u64,
+    ) -> Result<TR, RequestTokenError<W::Error, DeviceCodeErrorResponse>>
+    where
+        T: Drop,
+        requires polls { 0 < max_polls }
+        requires ready { W.is_ready world.old }
+        ensures poll { (e : List (Event W.Error)) × Leads W.reads W.sends W.sleeps world.old e world.new
+            × Polls TR.meaning TR.reading self.entry.request (timeout_of self.entry.request timeout) max_polls e result }
+        ensures ready { W.is_ready world.new }
+    {
+        let timeout = timeout.unwrap_or(self.response.expires_in());
+        self.follow(alloc, world, timeout, max_polls)
+    }
+
+    // The whole poll.
+    fn follow<W: PollWorld>(
+        &self,
+        alloc: Global,
+        world: &mut W,
+        timeout: Duration,
+        max_polls: u64,
+    ) -> Result<TR, PollError<W::Error>>
+        requires polls { 0 < max_polls }
+        requires ready { W.is_ready world.old }
+        ensures poll { (e : List (Event W.Error)) × Leads W.reads W.sends W.sleeps world.old e world.new
+            × Polls TR.meaning TR.reading self.now.request (as_nanos timeout) max_polls e result }
+        ensures ready { W.is_ready world.new }
+    {
+        let settings = self.settings(max_polls);
+        if !DevicePoll::timeout_fits(&timeout) {
+            return Err(other(alloc, "failed to convert the timeout", false));
+        }
+        let start = world.now();
+        let Some(mut poll) = DevicePoll::new(start, timeout, settings) else {
+            return Err(other(alloc, "failed to calculate timeout", false));
+        };
+        let mut sent = false;
+        'rounds: loop {
+            if let Some(result) = self.round(alloc, world, &mut poll, sent) {
+                return result;
+            }
+            sent = true;
+        }
+    }
+
+    // The intervals and the limit of the poll.
+    fn settings(&self, max_polls: u64) -> PollSettings
+        ensures interval { as_nanos result.interval ≡ self.now.request.interval }
+        ensures cap { as_nanos result.cap ≡ self.now.request.max_backoff_interval }
+        ensures polls { result.max_polls ≡ max_polls }
+    {
+        PollSettings {
+            interval: self.response.interval(),
+            cap: self.max_backoff_interval,
+            max_polls,
+        }
+    }
+
+    // One round: its result, or none where the poll goes on.
+    fn round<W: PollWorld>(
+        &self,
+        alloc: Global,
+        world: &mut W,
+        poll: &mut DevicePoll,
+        sent: bool,
+    ) -> Option<Result<TR, PollError<W::Error>>>
+        requires polls { 0 < poll.old.polls_left }
+        requires ready { W.is_ready world.old }
+        ensures turn { (e : List (Event W.Error)) × Leads W.reads W.sends W.sleeps world.old e world.new
+            × EachRequest (IsDeviceRequest self.now.request) e
+            × IsTurn TR.meaning (device_answer TR.reading) (SpellsNone (serialize self.now.request.token_url.url)) poll.old sent e result poll.new }
+        ensures ready { W.is_ready world.new }
+    {
+        let now = world.now();
+        match poll.ready(now) {
+            PollReady::Expired => return Some(Err(expired(alloc, sent))),
+            PollReady::Ask => {}
+        }
+        let request = match self.prepare_request(alloc) {
+            Ok(request) => request,
+            Err(fault) => return Some(Err(unprepared(alloc, fault, sent))),
+        };
+        let reply = world.send(request);
+        match judge(alloc, reply) {
+            Verdict::Decided(result) => Some(result),
+            Verdict::Again(answer) => match poll.answer(answer) {
+                PollStep::Sleep(duration) => {
+                    world.sleep(duration);
+                    None
+                }
+                PollStep::Limit | PollStep::Done => {
+                    Some(Err(other(alloc, "polling limit reached", true)))
+                }
+            },
+        }
+    }
+}
+
+// The error of a request that could not be made.
+fn unprepared<RE>(alloc: Global, fault: RequestFault, sent: bool) -> PollError<RE>
+    ensures { IsUnprepared fault sent result }
+{
+    match fault {
+        RequestFault::NotHttp => other(
+            alloc,
+            "failed to prepare request: endpoint URL is not an HTTP target",
+            sent,
+        ),
+        RequestFault::Memory => RequestTokenError::Memory { sent },
+    }
+}

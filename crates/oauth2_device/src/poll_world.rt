@@ -1,0 +1,47 @@
+//! What a device polls in.
+use jiff::Timestamp;
+use oauth2_wire::{HttpRequest, HttpResponse};
+use std::time::Duration;
+
+/// What a device polls in: a clock, a client and a way to sleep.
+///
+/// A world whose calls may always be made leaves `is_ready` as it is.
+pub trait PollWorld {
+    ghost use Rattle.std.specs.Prelude.{ℕ, Vec, Result, ⊤};
+    ghost use Rattle.std.specs.declared.alloc.Global.{Global};
+    ghost use Rattle.std.specs.declared.time.Duration.{Duration};
+    ghost use Rattle.http.specs.declared.request.Request.{Request};
+    ghost use Rattle.http.specs.declared.response.Response.{Response};
+    ghost use Rattle.jiff.specs.Types.{Timestamp};
+
+    /// Why a request got no reply.
+    type Error: Drop;
+
+    // Each call may be made in this state.
+    ghost is_ready: { Self → Type 0 } = { λ _. ⊤ };
+
+    // What each call may do: the state before, what is told, what is answered, the state after.
+    ghost reads: { Self → Timestamp → Self → Type 0 } = { λ _ _ _. ⊤ };
+
+    ghost sends: { Self → Request (Vec ℕ Global) → Result (Response (Vec ℕ Global)) Self.Error → Self → Type 0 } = { λ _ _ _ _. ⊤ };
+
+    ghost sleeps: { Self → Duration → Self → Type 0 } = { λ _ _ _. ⊤ };
+
+    /// Reads the clock.
+    fn now(&mut self) -> Timestamp
+        requires { is_ready self.old }
+        ensures reads { reads self.old result self.new }
+        ensures ready { is_ready self.new };
+
+    /// Sends one request.
+    fn send(&mut self, request: HttpRequest) -> Result<HttpResponse, Self::Error>
+        requires { is_ready self.old }
+        ensures sends { sends self.old request result self.new }
+        ensures ready { is_ready self.new };
+
+    /// Sleeps.
+    fn sleep(&mut self, duration: Duration)
+        requires { is_ready self.old }
+        ensures sleeps { sleeps self.old duration self.new }
+        ensures ready { is_ready self.new };
+}

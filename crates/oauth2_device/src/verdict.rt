@@ -1,0 +1,79 @@
+//! What an answer means to a device that polls (RFC 8628, section 3.5).
+ghost use Rattle.std.specs.Prelude.{◌≡◌};
+ghost use Rattle.oauth2_wire.specs.Reply.{Answer, ShowsAnswer};
+ghost use Rattle.oauth2_device.specs.Poll.{DeviceError, SaysOther, SaysExpired, device_answer, device_error};
+ghost use Rattle.oauth2_device.specs.private.Round.{IsJudged, IsRefusal, IsVerdict, OrMemory};
+
+use oauth2_codes::{DeviceCodeErrorResponse, DeviceCodeErrorResponseType};
+use oauth2_poll::PollAnswer;
+use oauth2_replies::TokenResponse;
+use oauth2_wire::{HttpResponse, RequestTokenError, endpoint_response};
+use std::alloc::{AllocError, Global};
+
+/// Why a poll gave no token.
+pub(crate) type PollError<RE> = RequestTokenError<RE, DeviceCodeErrorResponse>;
+
+/// What an answer means to a poll: it goes on, or this is its result.
+pub(crate) enum Verdict<TR, RE> {
+    Again(PollAnswer),
+    Decided(Result<TR, PollError<RE>>),
+}
+
+// What came of a request.
+pub(crate) fn judge<RE: Drop, TR: TokenResponse>(
+    alloc: Global,
+    reply: Result<HttpResponse, RE>,
+) -> Verdict<TR, RE>
+    ensures { IsJudged TR.meaning (device_answer TR.reading) reply result }
+{
+    match reply {
+        Ok(reply) => judge_answer(endpoint_response(alloc, reply)),
+        Err(_) => Verdict::Again(PollAnswer::Failed),
+    }
+}
+
+// What a reply says.
+fn judge_answer<RE, TR: TokenResponse>(answer: Result<TR, PollError<RE>>) -> Verdict<TR, RE>
+    ensures { (said : Answer TR.Meaning DeviceError)
+        → ShowsAnswer TR.meaning device_error said answer → IsVerdict TR.meaning said result }
+{
+    match answer {
+        Err(RequestTokenError::ServerResponse(error)) => refusal(error),
+        answer => Verdict::Decided(answer),
+    }
+}
+
+// What an error response says.
+fn refusal<RE, TR>(error: DeviceCodeErrorResponse) -> Verdict<TR, RE>
+    ensures { IsRefusal error result }
+{
+    match error.error() {
+        DeviceCodeErrorResponseType::AuthorizationPending => Verdict::Again(PollAnswer::Pending),
+        DeviceCodeErrorResponseType::SlowDown => Verdict::Again(PollAnswer::SlowDown),
+        _ => Verdict::Decided(Err(RequestTokenError::ServerResponse(error))),
+    }
+}
+
+// Another error, in words.
+pub(crate) fn other<RE>(alloc: Global, text: &str, sent: bool) -> PollError<RE>
+    ensures { OrMemory (SaysOther text.now) sent result }
+{
+    match String::from_str(alloc, text) {
+        Ok(text) => RequestTokenError::Other(text),
+        Err(AllocError) => RequestTokenError::Memory { sent },
+    }
+}
+
+// The error of a device whose code has expired.
+pub(crate) fn expired<RE>(alloc: Global, sent: bool) -> PollError<RE>
+    ensures { OrMemory SaysExpired sent result }
+{
+    match String::from_str(alloc, "This device code has expired.") {
+        Ok(description) => RequestTokenError::ServerResponse(DeviceCodeErrorResponse::new(
+            DeviceCodeErrorResponseType::ExpiredToken,
+            Some(description),
+            None,
+        )),
+        Err(AllocError) => RequestTokenError::Memory { sent },
+    }
+}

@@ -1,0 +1,372 @@
+//! Polls over a world that keeps what it saw, in one list.
+
+use crate::callers::{DeviceClient, device_token};
+use jiff::Timestamp;
+use oauth2::basic::{BasicClient, BasicTokenResponse};
+use oauth2::http::response::Parts;
+use oauth2::http::{Response, StatusCode};
+use oauth2::{
+    ClientId, ClientSecret, DeviceCodeErrorResponse, FnClient, HttpRequest, HttpResponse,
+    PollWorld, RequestTokenError, StandardDeviceAuthorizationResponse, TokenResponse, TokenUrl,
+    read_body,
+};
+use std::alloc::{AllocError, Global};
+use std::process::Abort;
+use std::time::Duration;
+
+type TokenResult = Result<
+    BasicTokenResponse,
+    RequestTokenError<AllocError, DeviceCodeErrorResponse>,
+>;
+
+const PENDING: (u16, &str) = (400, "{\"error\":\"authorization_pending\"}");
+
+/// What a world saw: a reading in seconds, a request, a sleep.
+#[derive(Clone, Copy, Debug, PartialEq, Eq)]
+enum Seen {
+    Reading(i64),
+    Request,
+    Sleep(Duration),
+}
+
+const ASK: Seen = Seen::Request;
+
+fn slept(seconds: u64) -> Seen {
+    Seen::Sleep(Duration::from_secs(seconds))
+}
+
+/// A world whose clock shows these readings in turn and then stands still, and whose client gets
+/// these replies in turn and then fails.
+#[derive(Drop)]
+struct Recorder<'a> {
+    alloc: Global,
+    readings: &'a [Timestamp],
+    last: Timestamp,
+    replies: &'a [(u16, &'a str)],
+    seen: Vec<Seen>,
+    is_whole: bool,
+}
+
+impl Recorder<'_> {
+    fn note(&mut self, event: Seen) {
+        if self.seen.push(event).is_err() {
+            self.is_whole = false;
+        }
+    }
+}
+
+fn reply(alloc: Global, status: u16, body: &str) -> Result<HttpResponse, AllocError> {
+    let mut head = Parts::new(alloc);
+    let Ok(status) = StatusCode::from_u16(status) else {
+        return Err(AllocError);
+    };
+    head.status = status;
+    Ok(Response::from_parts(head, body.as_bytes().to_vec(alloc)?))
+}
+
+impl PollWorld for Recorder<'_> {
+    type Error = AllocError;
+
+    fn now(&mut self) -> Timestamp {
+        if let Some((first, rest)) = self.readings.split_first() {
+            self.last = *first;
+            self.readings = rest;
+        }
+        self.note(Seen::Reading(self.last.as_second()));
+        self.last
+    }
+
+    fn send(&mut self, request: HttpRequest) -> Result<HttpResponse, AllocError> {
+        drop(request);
+        self.note(Seen::Request);
+        let Some((first, rest)) = self.replies.split_first() else {
+            return Err(AllocError);
+        };
+        self.replies = rest;
+        reply(self.alloc, first.0, first.1)
+    }
+
+    fn sleep(&mut self, duration: Duration) {
+        self.note(Seen::Sleep(duration));
+    }
+}
+
+fn text(rt: &(impl Abort + AllocGlobal), text: &str) -> String {
+    String::from_str(rt.alloc(), text).expect(rt, "a text")
+}
+
+fn client(rt: &(impl Abort + AllocGlobal), token_url: &str) -> DeviceClient {
+    let token_url = TokenUrl::new(rt.alloc(), text(rt, token_url)).expect(rt, "a URL");
+    BasicClient::new(ClientId::new(text(rt, "aaa")))
+        .set_client_secret(ClientSecret::new(text(rt, "bbb")))
+        .set_token_uri(token_url)
+}
+
+/// The response to the device; its interval is one second.
+fn device(rt: &(impl Abort + AllocGlobal), body: &str) -> StandardDeviceAuthorizationResponse {
+    read_body(rt.alloc(), body.as_bytes()).expect(rt, "a response")
+}
+
+const TWO_SECONDS: &str =
+    "{\"device_code\":\"12345\",\"user_code\":\"abcde\",\"verification_uri\":\"https://verify/here\",\"expires_in\":2,\"interval\":1}";
+
+const LONGEST: &str =
+    "{\"device_code\":\"12345\",\"user_code\":\"abcde\",\"verification_uri\":\"https://verify/here\",\"expires_in\":18446744073709551615,\"interval\":1}";
+
+const ENDPOINT: &str = "https://example.com/token";
+
+/// A poll: where, for which device, for how long, how often at most, by which clock and replies.
+#[derive(Clone, Copy)]
+struct Poll<'a> {
+    token_url: &'a str,
+    device: &'a str,
+    timeout: Option<u64>,
+    max_polls: u64,
+    readings: &'a [i64],
+    replies: &'a [(u16, &'a str)],
+}
+
+fn moment(rt: &impl Abort, second: i64) -> Timestamp {
+    Timestamp::from_second(second).expect(rt, "a timestamp")
+}
+
+fn moments(rt: &(impl Abort + AllocGlobal), seconds: &[i64]) -> Vec<Timestamp> {
+    let mut moments = Vec::new(rt.alloc());
+    for second in seconds.iter() {
+        moments.push(moment(rt, *second)).expect(rt, "a list");
+    }
+    moments
+}
+
+/// The poll's result, whose world saw these events.
+fn polled(rt: &(impl Abort + AllocGlobal), poll: Poll<'_>, seen: &[Seen]) -> TokenResult {
+    assert!(rt; 0 < poll.max_polls);
+    let client = client(rt, poll.token_url);
+    let device = device(rt, poll.device);
+    let readings = moments(rt, poll.readings);
+    let mut world = Recorder {
+        alloc: rt.alloc(),
+        readings: readings.as_slice(),
+        last: moment(rt, 0),
+        replies: poll.replies,
+        seen: Vec::new(rt.alloc()),
+        is_whole: true,
+    };
+    let result = client
+        .exchange_device_access_token(rt.alloc(), &device)
+        .poll_with(
+            rt.alloc(),
+            &mut world,
+            poll.timeout.map(Duration::from_secs),
+            poll.max_polls,
+        );
+    assert!(rt; world.is_whole);
+    assert!(rt; world.seen.as_slice() == seen);
+    result
+}
+
+/// The poll fails with this text, after these events.
+fn fails(rt: &(impl Abort + AllocGlobal), poll: Poll<'_>, seen: &[Seen], wanted: &str) {
+    match polled(rt, poll, seen) {
+        Ok(_) => panic!(rt; "a token"),
+        Err(error) => {
+            let found = format!(in rt.alloc(); "{error}").expect(rt, "a text");
+            assert_eq!(rt; found.as_str(), wanted);
+        }
+    }
+}
+
+const WAITING: Poll<'static> = Poll {
+    token_url: ENDPOINT,
+    device: TWO_SECONDS,
+    timeout: None,
+    max_polls: 5,
+    readings: &[0, 1, 2, 3],
+    replies: &[PENDING, PENDING],
+};
+
+const EXPIRED: &str =
+    "Server returned error response: expired_token: This device code has expired.";
+
+const NO_TARGET: &str =
+    "Other error: failed to prepare request: endpoint URL is not an HTTP target";
+
+#[test]
+fn a_device_code_expires(rt: HostRuntime) {
+    let seen = [
+        Seen::Reading(0),
+        Seen::Reading(1),
+        ASK,
+        slept(1),
+        Seen::Reading(2),
+        ASK,
+        slept(1),
+        Seen::Reading(3),
+    ];
+    fails(&rt, WAITING, &seen, EXPIRED);
+}
+
+#[test]
+fn the_limit_is_reached(rt: HostRuntime) {
+    let poll = Poll {
+        max_polls: 3,
+        readings: &[0],
+        replies: &[PENDING, PENDING, PENDING],
+        ..WAITING
+    };
+    let seen = [
+        Seen::Reading(0),
+        Seen::Reading(0),
+        ASK,
+        slept(1),
+        Seen::Reading(0),
+        ASK,
+        slept(1),
+        Seen::Reading(0),
+        ASK,
+    ];
+    fails(&rt, poll, &seen, "Other error: polling limit reached");
+}
+
+#[test]
+fn a_timeout_is_no_duration(rt: HostRuntime) {
+    let given = Poll {
+        timeout: Some(9_223_372_036_854_775_808),
+        ..WAITING
+    };
+    let own = Poll {
+        device: LONGEST,
+        ..WAITING
+    };
+    let wanted = "Other error: failed to convert the timeout";
+    fails(&rt, given, &[], wanted);
+    fails(&rt, own, &[], wanted);
+}
+
+#[test]
+fn a_deadline_is_no_timestamp(rt: HostRuntime) {
+    let poll = Poll {
+        timeout: Some(9_223_372_036_854_775_807),
+        ..WAITING
+    };
+    let wanted = "Other error: failed to calculate timeout";
+    fails(&rt, poll, &[Seen::Reading(0)], wanted);
+}
+
+#[test]
+fn an_endpoint_is_no_target(rt: HostRuntime) {
+    let in_time = Poll {
+        token_url: "data:text/plain,hello",
+        ..WAITING
+    };
+    let late = Poll {
+        readings: &[0, 3],
+        ..in_time
+    };
+    fails(
+        &rt,
+        in_time,
+        &[Seen::Reading(0), Seen::Reading(1)],
+        NO_TARGET,
+    );
+    fails(&rt, late, &[Seen::Reading(0), Seen::Reading(3)], EXPIRED);
+}
+
+#[test]
+fn the_first_reply_decides(rt: HostRuntime) {
+    let seen = [Seen::Reading(0), Seen::Reading(1), ASK];
+    let denied = Poll {
+        replies: &[(400, "{\"error\":\"access_denied\"}")],
+        ..WAITING
+    };
+    let misplaced = Poll {
+        replies: &[(200, "{\"error\":\"authorization_pending\"}")],
+        ..WAITING
+    };
+    fails(
+        &rt,
+        denied,
+        &seen,
+        "Server returned error response: access_denied",
+    );
+    fails(&rt, misplaced, &seen, "Failed to parse server response");
+}
+
+#[test]
+fn a_token_is_given(rt: HostRuntime) {
+    let poll = Poll {
+        max_polls: 1,
+        replies: &[(
+            200,
+            "{\"access_token\":\"12/34\",\"token_type\":\"bearer\"}",
+        )],
+        ..WAITING
+    };
+    let token = polled(&rt, poll, &[Seen::Reading(0), Seen::Reading(1), ASK]).expect(
+        &rt, "a token",
+    );
+    assert_eq!(rt; token.access_token().secret().as_str(), "12/34");
+}
+
+#[test]
+fn a_failed_call_backs_off(rt: HostRuntime) {
+    let poll = Poll {
+        max_polls: 3,
+        readings: &[0],
+        replies: &[],
+        ..WAITING
+    };
+    let seen = [
+        Seen::Reading(0),
+        Seen::Reading(0),
+        ASK,
+        slept(2),
+        Seen::Reading(0),
+        ASK,
+        slept(4),
+        Seen::Reading(0),
+        ASK,
+    ];
+    fails(&rt, poll, &seen, "Other error: polling limit reached");
+}
+
+#[test]
+fn a_clock_is_read_as_often_as_the_trace_says(rt: HostRuntime) {
+    let client = client(&rt, ENDPOINT);
+    let device = device(&rt, TWO_SECONDS);
+    let mut requests: u64 = 0;
+    let mut http_client: FnClient<_, AllocError> = FnClient::new(|request: HttpRequest| {
+        requests = requests.saturating_add(1);
+        drop(request);
+        reply(rt.alloc(), PENDING.0, PENDING.1)
+    });
+    let start = moment(&rt, 0);
+    let mut readings: u64 = 0;
+    let time_fn = || {
+        let now = start
+            .checked_add(Duration::from_secs(readings))
+            .unwrap_or(start);
+        readings = readings.saturating_add(1);
+        now
+    };
+    let mut sleeps: u64 = 0;
+    let mut others: u64 = 0;
+    let mut sleep_fn = |duration: Duration| {
+        if duration == Duration::from_secs(1) {
+            sleeps = sleeps.saturating_add(1);
+        } else {
+            others = others.saturating_add(1);
+        }
+    };
+    let result = device_token(
+        rt.alloc(),
+        &client,
+        &device,
+        &mut http_client,
+        time_fn,
+        &mut sleep_fn,
+    );
+    assert!(rt; result.is_err());
+    drop(http_client.into_inner());
+    assert_eq!(rt; (readings, requests, sleeps, others), (4, 2, 2, 0));
+}
