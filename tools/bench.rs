@@ -3,8 +3,8 @@
 use oauth2::basic::{BasicClient, BasicTokenIntrospectionResponse, BasicTokenResponse};
 use oauth2::http::Response;
 use oauth2::{
-    AuthUrl, AuthorizationCode, ClientId, ClientSecret, CsrfToken, EndpointNotSet, EndpointSet,
-    HttpRequest, HttpResponse, PkceCodeChallenge, PkceCodeVerifier, RedirectUrl, Scope,
+    AccessToken, AuthUrl, AuthorizationCode, ClientId, ClientSecret, CsrfToken, EndpointNotSet, EndpointSet,
+    HttpRequest, HttpResponse, IntrospectionUrl, PkceCodeChallenge, PkceCodeVerifier, RedirectUrl, Scope,
     TokenIntrospectionResponse, TokenResponse, TokenUrl,
 };
 use std::cell::Cell;
@@ -128,6 +128,18 @@ fn token_reading(size: usize, iterations: u64) -> (u128, (usize, usize)) {
     })
 }
 
+fn introspection_request(iterations: u64) -> (u128, (usize, usize)) {
+    let client = BasicClient::new(ClientId::new("aaa".to_string()))
+        .set_client_secret(ClientSecret::new("bbb".to_string()))
+        .set_introspection_url(IntrospectionUrl::new("https://example.com/introspect".to_string()).unwrap());
+    let (token, body, sent) = (AccessToken::new("access_token_123".to_string()), introspection(), Cell::new(0));
+    let http = canned(&sent, &body);
+    timed(iterations, || {
+        let answer: BasicTokenIntrospectionResponse = client.introspect(&token).request(&http).unwrap();
+        (sent.get(), answer.scopes().unwrap().len())
+    })
+}
+
 fn introspection_reading(iterations: u64) -> (u128, (usize, usize)) {
     let body = introspection();
     timed(iterations, || {
@@ -143,12 +155,13 @@ fn challenge(iterations: u64) -> (u128, (usize, usize)) {
     })
 }
 
-const NAMES: [&str; 13] = [
+const NAMES: [&str; 14] = [
     "a_code_exchange",
     "b_client_credentials_20_extra_5_scopes",
     "b_client_credentials_200_extra_5_scopes",
     "b_client_credentials_2000_extra_5_scopes",
     "c_authorize_url_pkce_3_scopes_redirect",
+    "d_introspection_1kb_request",
     "d_introspection_1kb_read_alone",
     "e_token_4kb_request",
     "e_token_64kb_request",
@@ -166,6 +179,7 @@ fn measure(name: &str, iterations: u64) -> (u128, (usize, usize)) {
         "b_client_credentials_200_extra_5_scopes" => client_credentials(200, iterations),
         "b_client_credentials_2000_extra_5_scopes" => client_credentials(2000, iterations),
         "c_authorize_url_pkce_3_scopes_redirect" => authorization_url(iterations),
+        "d_introspection_1kb_request" => introspection_request(iterations),
         "d_introspection_1kb_read_alone" => introspection_reading(iterations),
         "e_token_4kb_request" => token_request(long(4 << 10), iterations),
         "e_token_64kb_request" => token_request(long(64 << 10), iterations),

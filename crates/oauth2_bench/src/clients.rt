@@ -1,10 +1,12 @@
 //! The client whose calls are timed.
 
 use crate::fault::Fault;
-use oauth2::basic::{BasicErrorResponseType, BasicTokenIntrospectionResponse, BasicTokenResponse};
+use oauth2::basic::{
+    BasicClient, BasicErrorResponseType, BasicTokenIntrospectionResponse, BasicTokenResponse,
+};
 use oauth2::{
-    AuthUrl, Client, ClientId, ClientSecret, EndpointNotSet, EndpointSet, RedirectUrl,
-    StandardErrorResponse, TokenUrl,
+    AuthUrl, Client, ClientId, ClientSecret, EndpointNotSet, EndpointSet, IntrospectionUrl,
+    RedirectUrl, StandardErrorResponse, TokenUrl,
 };
 use std::alloc::Global;
 
@@ -41,4 +43,26 @@ pub fn redirecting_client(alloc: Global) -> Result<BenchClient, Fault> {
     let text = String::from_str(alloc, "https://localhost/redirect")?;
     let redirect = RedirectUrl::new(alloc, text)?;
     Ok(client(alloc)?.set_redirect_uri(redirect))
+}
+
+/// A client with an introspection endpoint alone.
+pub type IntrospectionClient = BasicClient<
+    EndpointNotSet,
+    EndpointNotSet,
+    EndpointSet,
+    EndpointNotSet,
+    EndpointNotSet,
+>;
+
+/// The client `aaa` with the secret `bbb`.
+pub fn introspection_client(alloc: Global) -> Result<IntrospectionClient, Fault> {
+    let text = String::from_str(alloc, "https://example.com/introspect")?;
+    let url = IntrospectionUrl::new(alloc, text)?;
+    let id = ClientId::new(String::from_str(alloc, "aaa")?);
+    let secret = ClientSecret::new(String::from_str(alloc, "bbb")?);
+    Ok(
+        Client::new(id)
+            .set_client_secret(secret)
+            .set_introspection_url(url),
+    )
 }

@@ -15,6 +15,7 @@ mod clients;
 mod code_exchange;
 mod fault;
 mod inputs;
+mod introspection_request;
 mod operation;
 mod reading;
 mod table;

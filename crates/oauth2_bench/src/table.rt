@@ -6,18 +6,20 @@ use crate::client_credentials::ClientCredentials;
 use crate::code_exchange::CodeExchange;
 use crate::fault::Fault;
 use crate::inputs::{introspection, long_token, params, scopes, short_token};
+use crate::introspection_request::IntrospectionRequest;
 use crate::operation::{Run, timed};
 use crate::reading::{IntrospectionReading, TokenReading};
 use std::alloc::Global;
 use std::rt::Clock;
 
 /// Every operation.
-pub const NAMES: [&str; 13] = [
+pub const NAMES: [&str; 14] = [
     "a_code_exchange",
     "b_client_credentials_20_extra_5_scopes",
     "b_client_credentials_200_extra_5_scopes",
     "b_client_credentials_2000_extra_5_scopes",
     "c_authorize_url_pkce_3_scopes_redirect",
+    "d_introspection_1kb_request",
     "d_introspection_1kb_read_alone",
     "e_token_4kb_request",
     "e_token_64kb_request",
@@ -49,7 +51,8 @@ impl<C: Clock> Bench<'_, C> {
             "b_client_credentials_200_extra_5_scopes" => self.credentials(200),
             "b_client_credentials_2000_extra_5_scopes" => self.credentials(2000),
             "c_authorize_url_pkce_3_scopes_redirect" => self.authorization_url(),
-            "d_introspection_1kb_read_alone" => self.introspection(),
+            "d_introspection_1kb_request" => self.introspection(),
+            "d_introspection_1kb_read_alone" => self.introspection_response(),
             "e_token_4kb_request" => self.exchange(long_token(self.alloc, 4 * KILOBYTE)?),
             "e_token_64kb_request" => self.exchange(long_token(self.alloc, 64 * KILOBYTE)?),
             "e_token_1mb_request" => self.exchange(long_token(self.alloc, MEGABYTE)?),
@@ -81,6 +84,12 @@ impl<C: Clock> Bench<'_, C> {
     }
 
     fn introspection(&self) -> Result<Run, Fault> {
+        let body = introspection(self.alloc)?;
+        let operation = IntrospectionRequest::new(self.alloc, body)?;
+        timed(self.clock, self.alloc, operation, self.iterations)
+    }
+
+    fn introspection_response(&self) -> Result<Run, Fault> {
         let body = introspection(self.alloc)?;
         timed(
             self.clock,

@@ -1,0 +1,67 @@
+//! The introspection of a token, from the call to the answer.
+
+ghost use Rattle.std.specs.Prelude.{◌≡◌, IfOk, string_bytes};
+ghost use Rattle.oauth2_wire.specs.Reply.{accepted, answer_of};
+ghost use Rattle.oauth2_bench.specs.Canned.{canned_reply};
+
+use crate::canned::CannedClient;
+use crate::clients::{IntrospectionClient, introspection_client};
+use crate::fault::Fault;
+use crate::operation::{Done, Operation};
+use oauth2::basic::{BasicErrorResponse, BasicTokenIntrospectionResponse};
+use oauth2::{AccessToken, FromJson, RequestTokenError, TokenIntrospectionResponse};
+use std::alloc::{AllocError, Global};
+
+/// The introspection of the token `access_token_123`.
+#[derive(Drop)]
+pub struct IntrospectionRequest {
+    client: IntrospectionClient,
+    token: AccessToken,
+    http_client: CannedClient,
+}
+
+impl IntrospectionRequest {
+    /// The introspection that this body answers.
+    pub fn new(alloc: Global, body: String) -> Result<IntrospectionRequest, Fault> {
+        let client = introspection_client(alloc)?;
+        let token = AccessToken::new(String::from_str(alloc, "access_token_123")?);
+        let http_client = CannedClient {
+            alloc,
+            body,
+            sent: 0,
+        };
+        Ok(IntrospectionRequest {
+            client,
+            token,
+            http_client,
+        })
+    }
+}
+
+// The answer is what the canned body says.
+fn introspect(
+    alloc: Global,
+    client: &IntrospectionClient,
+    token: &AccessToken,
+    http_client: &mut CannedClient,
+) -> Result<BasicTokenIntrospectionResponse, RequestTokenError<AllocError, BasicErrorResponse>>
+    ensures { IfOk result (λ answer.
+        answer_of ⟦<BasicTokenIntrospectionResponse as FromJson>⟧.reading ⟦<BasicErrorResponse as FromJson>⟧.reading
+        (canned_reply (string_bytes http_client.old.body))
+        ≡ accepted (⟦<BasicTokenIntrospectionResponse as FromJson>⟧.meaning answer)) }
+{
+    client.introspect(alloc, token).request(alloc, http_client)
+}
+
+impl Operation for IntrospectionRequest {
+    fn run(&mut self, alloc: Global) -> Result<Done, Fault> {
+        let answer = introspect(alloc, &self.client, &self.token, &mut self.http_client)?;
+        let Some(scopes) = answer.scopes() else {
+            return Err(Fault::Refused);
+        };
+        Ok(Done {
+            sent: self.http_client.sent,
+            read: scopes.len(),
+        })
+    }
+}
