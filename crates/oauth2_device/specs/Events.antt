@@ -12,7 +12,8 @@ pub data Event (RE : Type 0) : Type 0 where
   Slept : Duration → Event RE
 
 -- the world can go from w to v by exactly these calls, each as its relation of that call allows
-abbrev pub Leads : {W RE : Type 0} → (W → Timestamp → W → Type 0) → (W → HttpRequest → Result HttpResponse RE → W → Type 0) → (W → Duration → W → Type 0)
+abbrev pub Leads : {W RE : Type 0} → (W → Timestamp → W → Type 0)
+    → (W → HttpRequest → Result HttpResponse RE → W → Type 0) → (W → Duration → W → Type 0)
     → W → List (Event RE) → W → Type 0
 Leads {W} reads sends sleeps w [] v = w ≡ v
 Leads {W} reads sends sleeps w (Reading t ∷ e) v = (u : W) × reads w t u × Leads reads sends sleeps u e v
@@ -27,7 +28,8 @@ ClockLeads {T} ticks clock (Sent r a ∷ e) last = ClockLeads ticks clock e last
 ClockLeads {T} ticks clock (Slept d ∷ e) last = ClockLeads ticks clock e last
 
 -- a client, by exactly the requests
-abbrev pub ClientLeads : {C RE : Type 0} → (C → HttpRequest → Result HttpResponse RE → C → Type 0) → C → List (Event RE) → C → Type 0
+abbrev pub ClientLeads : {C RE : Type 0} → (C → HttpRequest → Result HttpResponse RE → C → Type 0)
+    → C → List (Event RE) → C → Type 0
 ClientLeads {C} step client [] last = client ≡ last
 ClientLeads {C} step client (Reading t ∷ e) last = ClientLeads step client e last
 ClientLeads {C} step client (Sent r a ∷ e) last = (next : C) × step client r a next × ClientLeads step next e last

@@ -137,11 +137,12 @@ module _ {D A RE : Type 0} (meaning : D → A) (says : HttpResponse → Answer A
   abbrev pub IsPoll : Type 0 → PollInput → List (Event RE) → Result D (PollError RE) → Type 0
   IsPoll NotHttp p e result = IsWhole p e result ⊎ (IsCutShort p e result ⊎ IsUnsendable NotHttp p e result)
 
--- the device polled like this, for so long and so many times at most, and got this result; each
--- request is the one of the configuration, and sleeps and requests keep their bounds
-pub record Polls {D A RE : Type 0} (meaning : D → A) (reading : Data → JsonReading A) (r : DeviceToken) (timeout max_polls : ℕ) (e : List (Event RE)) (result : Result D (PollError RE)) : Type 0 where
-  pub requests : EachRequest (IsDeviceRequest r) e
-  pub poll : (let says = device_answer reading in
-      IsPoll meaning says (SpellsNone (serialize r.token_url.url)) (input_of r timeout max_polls (plain says e)) e result)
-  pub paced : SleepsArePaced r.interval r.max_backoff_interval (plain (device_answer reading) e)
-  pub bounded : ClockIsHonest (plain (device_answer reading) e) → RequestsFit timeout r.interval (plain (device_answer reading) e)
+module _ {D A RE : Type 0} (meaning : D → A) (reading : Data → JsonReading A) (r : DeviceToken) (timeout max_polls : ℕ) where
+  -- the device polled like this, for so long and so many times at most, and got this result; each
+  -- request is the one of the configuration, and sleeps and requests keep their bounds
+  pub record Polls (e : List (Event RE)) (result : Result D (PollError RE)) : Type 0 where
+    pub requests : EachRequest (IsDeviceRequest r) e
+    pub poll : (let says = device_answer reading in
+        IsPoll meaning says (SpellsNone (serialize r.token_url.url)) (input_of r timeout max_polls (plain says e)) e result)
+    pub paced : SleepsArePaced r.interval r.max_backoff_interval (plain (device_answer reading) e)
+    pub bounded : ClockIsHonest (plain (device_answer reading) e) → RequestsFit timeout r.interval (plain (device_answer reading) e)

@@ -22,7 +22,8 @@ where
 
     type Error = C::Error;
 
-    ghost is_ready = { λ w. T.IsAlwaysCallable w.clock × C.is_ready w.client.now × S.IsAlwaysCallable w.sleep.now };
+    ghost is_ready = { λ w. T.IsAlwaysCallable w.clock × C.is_ready w.client.now
+        × S.IsAlwaysCallable w.sleep.now };
 
     ghost reads = { joined_reads T.step };
 

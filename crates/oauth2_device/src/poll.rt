@@ -31,8 +31,10 @@ impl<'a, TR: TokenResponse, EF, T> DeviceAccessTokenRequest<'a, TR, EF, T> {
         T: Drop,
         requires polls { 0 < max_polls }
         requires ready { W.is_ready world.old }
-        ensures poll { (e : List (Event W.Error)) × Leads W.reads W.sends W.sleeps world.old e world.new
-            × Polls TR.meaning TR.reading self.entry.request (timeout_of self.entry.request timeout) max_polls e result }
+        ensures poll { (e : List (Event W.Error))
+            × Leads W.reads W.sends W.sleeps world.old e world.new
+            × Polls TR.meaning TR.reading self.entry.request
+            (timeout_of self.entry.request timeout) max_polls e result }
         ensures ready { W.is_ready world.new }
     {
         let timeout = timeout.unwrap_or(self.response.expires_in());
@@ -49,7 +51,8 @@ impl<'a, TR: TokenResponse, EF, T> DeviceAccessTokenRequest<'a, TR, EF, T> {
     ) -> Result<TR, PollError<W::Error>>
         requires polls { 0 < max_polls }
         requires ready { W.is_ready world.old }
-        ensures poll { (e : List (Event W.Error)) × Leads W.reads W.sends W.sleeps world.old e world.new
+        ensures poll { (e : List (Event W.Error))
+            × Leads W.reads W.sends W.sleeps world.old e world.new
             × Polls TR.meaning TR.reading self.now.request (as_nanos timeout) max_polls e result }
         ensures ready { W.is_ready world.new }
     {
@@ -93,9 +96,11 @@ impl<'a, TR: TokenResponse, EF, T> DeviceAccessTokenRequest<'a, TR, EF, T> {
     ) -> Option<Result<TR, PollError<W::Error>>>
         requires polls { 0 < poll.old.polls_left }
         requires ready { W.is_ready world.old }
-        ensures turn { (e : List (Event W.Error)) × Leads W.reads W.sends W.sleeps world.old e world.new
+        ensures turn { (e : List (Event W.Error))
+            × Leads W.reads W.sends W.sleeps world.old e world.new
             × EachRequest (IsDeviceRequest self.now.request) e
-            × IsTurn TR.meaning (device_answer TR.reading) (SpellsNone (serialize self.now.request.token_url.url)) poll.old sent e result poll.new }
+            × IsTurn TR.meaning (device_answer TR.reading)
+            (SpellsNone (serialize self.now.request.token_url.url)) poll.old sent e result poll.new }
         ensures ready { W.is_ready world.new }
     {
         let now = world.now();

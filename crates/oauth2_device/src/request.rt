@@ -35,7 +35,8 @@ where
             × ((last : F) × ClockLeads F.step self.entry.time_fn e last)
             × ClientLeads C.step http_client.old e http_client.new
             × SleepLeads (λ s d v. S.step s d tt v) sleep_fn.old e sleep_fn.new
-            × Polls TR.meaning TR.reading self.entry.request (timeout_of self.entry.request timeout) max_polls e result }
+            × Polls TR.meaning TR.reading self.entry.request
+            (timeout_of self.entry.request timeout) max_polls e result }
         ensures client { C.is_ready http_client.new }
         ensures sleep { S.IsAlwaysCallable sleep_fn.new }
     {

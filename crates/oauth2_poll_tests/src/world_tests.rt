@@ -7,8 +7,8 @@ use oauth2::http::response::Parts;
 use oauth2::http::{Response, StatusCode};
 use oauth2::{
     ClientId, ClientSecret, DeviceCodeErrorResponse, FnClient, HttpRequest, HttpResponse,
-    PollWorld, RequestTokenError, StandardDeviceAuthorizationResponse, TokenResponse, TokenUrl,
-    read_body,
+    ParamText, PollWorld, RequestTokenError, StandardDeviceAuthorizationResponse, TokenResponse,
+    TokenUrl, read_body,
 };
 use std::alloc::{AllocError, Global};
 use std::process::Abort;
@@ -115,12 +115,14 @@ const LONGEST: &str =
 
 const ENDPOINT: &str = "https://example.com/token";
 
-/// A poll: where, for which device, for how long, how often at most, by which clock and replies.
+/// A poll: where, for which device, for how long, with which cap, how often at most, by which clock
+/// and replies.
 #[derive(Clone, Copy)]
 struct Poll<'a> {
     token_url: &'a str,
     device: &'a str,
     timeout: Option<u64>,
+    cap: u64,
     max_polls: u64,
     readings: &'a [i64],
     replies: &'a [(u16, &'a str)],
@@ -154,6 +156,7 @@ fn polled(rt: &(impl Abort + AllocGlobal), poll: Poll<'_>, seen: &[Seen]) -> Tok
     };
     let result = client
         .exchange_device_access_token(rt.alloc(), &device)
+        .set_max_backoff_interval(Duration::from_secs(poll.cap))
         .poll_with(
             rt.alloc(),
             &mut world,
@@ -180,6 +183,7 @@ const WAITING: Poll<'static> = Poll {
     token_url: ENDPOINT,
     device: TWO_SECONDS,
     timeout: None,
+    cap: 10,
     max_polls: 5,
     readings: &[0, 1, 2, 3],
     replies: &[PENDING, PENDING],
@@ -190,6 +194,21 @@ const EXPIRED: &str =
 
 const NO_TARGET: &str =
     "Other error: failed to prepare request: endpoint URL is not an HTTP target";
+
+#[test]
+fn a_request_bears_the_grant_and_the_code(rt: HostRuntime) {
+    let client = client(&rt, ENDPOINT);
+    let device = device(&rt, TWO_SECONDS);
+    let request = client
+        .exchange_device_access_token(rt.alloc(), &device)
+        .add_extra_param(ParamText::from("foo"), ParamText::from("bar"))
+        .expect(&rt, "a request")
+        .prepare_request(rt.alloc())
+        .expect(&rt, "a request");
+    let wanted: &[u8] =
+        b"grant_type=urn%3Aietf%3Aparams%3Aoauth%3Agrant-type%3Adevice_code&device_code=12345&foo=bar";
+    assert!(rt; request.body().as_slice() == wanted);
+}
 
 #[test]
 fn a_device_code_expires(rt: HostRuntime) {
@@ -309,8 +328,9 @@ fn a_token_is_given(rt: HostRuntime) {
 }
 
 #[test]
-fn a_failed_call_backs_off(rt: HostRuntime) {
+fn a_failed_call_backs_off_up_to_the_cap(rt: HostRuntime) {
     let poll = Poll {
+        cap: 3,
         max_polls: 3,
         readings: &[0],
         replies: &[],
@@ -323,7 +343,7 @@ fn a_failed_call_backs_off(rt: HostRuntime) {
         slept(2),
         Seen::Reading(0),
         ASK,
-        slept(4),
+        slept(3),
         Seen::Reading(0),
         ASK,
     ];

@@ -64,7 +64,8 @@ module _ {D A RE : Type 0} (meaning : D → A) where
       pub in_time : ¬ (poll.deadline <ℤ moment.nanosecond)
       pub cause :
           ((r : HttpResponse) × (reply ≡ Ok r) × IsDecision (says r) result)
-          ⊎ (((class_of says reply ≢ Deciding) × (poll.polls_left ≡ 1) × IsErrAnd result (SaysOther (codes "polling limit reached"))) ⊎ (result ≡ Err (token.Memory true)))
+          ⊎ (((class_of says reply ≢ Deciding) × (poll.polls_left ≡ 1) × IsErrAnd result (SaysOther (codes "polling limit reached")))
+          ⊎ (result ≡ Err (token.Memory true)))
 
     -- a round after which the poll goes on
     pub record GoesOn (poll : PollState) (e : List (Event RE)) (after : PollState) : Type 0 where
