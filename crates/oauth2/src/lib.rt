@@ -16,6 +16,7 @@ mod token_endpoint;
 
 pub use client::Client;
 pub use endpoint::{EndpointMaybeSet, EndpointNotSet, EndpointSet, EndpointState};
+pub use oauth2_fields::{MemberValue, NamedMember, WithMember};
 pub use oauth2_json::{
     DeviceCodeErrorResponse, DeviceCodeErrorResponseType, ErrorResponse, ErrorResponseType,
     FromJson, ParseCause, ParseFault, ReadError, RevocationErrorResponseType,
