@@ -48,21 +48,23 @@ impl NamedMember for Offline {
     }
 }
 
-struct AuthorizationDetails;
+struct Confirmation;
 
-impl NamedMember for AuthorizationDetails {
+impl NamedMember for Confirmation {
     type Value = Value;
 
-    ghost name = { codes "authorization_details" };
+    ghost name = { codes "cnf" };
 
     fn name() -> &'static str {
-        "authorization_details"
+        "cnf"
     }
 }
 
-type OfflineFields = WithMember<Offline, WithMember<AuthorizationDetails, EmptyExtraTokenFields>>;
+type OfflineFields = WithMember<Offline, WithMember<Confirmation, EmptyExtraTokenFields>>;
 
 type IdentityFields = WithMember<IdToken, WithMember<ExtExpiresIn, OfflineFields>>;
+
+type DeviceFields = WithMember<Confirmation, EmptyExtraDeviceAuthorizationFields>;
 
 type IdentityToken = StandardTokenResponse<IdentityFields, BasicTokenType>;
 
@@ -70,7 +72,7 @@ type IdentityToken = StandardTokenResponse<IdentityFields, BasicTokenType>;
 fn named_members_are_told(rt: HostRuntime) {
     let fields = read::<IdentityFields>(
         &rt,
-        "{\"n\":1,\"id_token\":\"x\",\"ext_expires_in\":7,\"offline\":true,\"authorization_details\":[]}",
+        "{\"n\":1,\"id_token\":\"x\",\"ext_expires_in\":7,\"offline\":true,\"cnf\":[]}",
     );
     let id_token = fields.value().expect(&rt, "a text");
     assert!(rt; id_token.as_str() == "x");
@@ -80,15 +82,15 @@ fn named_members_are_told(rt: HostRuntime) {
     let rest = rest.rest();
     let offline = rest.value().expect(&rt, "a truth value");
     assert!(rt; *offline);
-    let details = rest.rest().value().expect(&rt, "a value");
-    assert!(rt; details.is_array());
+    let confirmation = rest.rest().value().expect(&rt, "a value");
+    assert!(rt; confirmation.is_array());
 }
 
 #[test]
 fn absent_and_null_members_are_none(rt: HostRuntime) {
     for body in [
         "{\"ext_expires_in\":7}",
-        "{\"authorization_details\":null,\"ext_expires_in\":7,\"id_token\":null,\"offline\":null}",
+        "{\"cnf\":null,\"ext_expires_in\":7,\"id_token\":null,\"offline\":null}",
     ] {
         let fields = read::<IdentityFields>(&rt, body);
         assert!(rt; fields.value().is_none());
@@ -132,7 +134,7 @@ fn members_of_another_kind_are_refused(rt: HostRuntime) {
 #[test]
 fn named_members_are_written(rt: HostRuntime) {
     let whole =
-        "{\"access_token\":\"t\",\"authorization_details\":[],\"ext_expires_in\":7,\"id_token\":\"x\",\"offline\":true,\"token_type\":\"bearer\"}";
+        "{\"access_token\":\"t\",\"cnf\":[],\"ext_expires_in\":7,\"id_token\":\"x\",\"offline\":true,\"token_type\":\"bearer\"}";
     is_kept::<IdentityToken>(&rt, whole);
     copy_is_kept::<IdentityToken>(&rt, whole);
     is_rewritten::<IdentityToken>(
@@ -144,11 +146,9 @@ fn named_members_are_written(rt: HostRuntime) {
         &rt,
         "{\"active\":true,\"id_token\":\"x\"}",
     );
-    is_kept::<
-        DeviceAuthorizationResponse<WithMember<IdToken, EmptyExtraDeviceAuthorizationFields>>,
-    >(
+    is_kept::<DeviceAuthorizationResponse<DeviceFields>>(
         &rt,
-        "{\"device_code\":\"d\",\"expires_in\":1,\"id_token\":\"x\",\"interval\":5,\"user_code\":\"u\",\"verification_uri\":\"https://v/\"}",
+        "{\"cnf\":[],\"device_code\":\"d\",\"expires_in\":1,\"interval\":5,\"user_code\":\"u\",\"verification_uri\":\"https://v/\"}",
     );
 }
 
