@@ -15,47 +15,106 @@ mod revocation_endpoint;
 mod token_endpoint;
 
 pub use client::Client;
-pub use endpoint::{EndpointMaybeSet, EndpointNotSet, EndpointSet, EndpointState};
-pub use oauth2_codes::{
-    DeviceCodeErrorResponse, DeviceCodeErrorResponseType, ErrorResponse, ErrorResponseType,
-    RevocationErrorResponseType, StandardErrorResponse, TextErrorResponseType, TokenType,
-    basic_error_laws, device_code_error_laws, revocation_error_laws, text_error_laws,
-    token_type_laws,
-};
-pub use oauth2_device::{DeviceAccessTokenRequest, NoClock, PollWorld};
-pub use oauth2_json::{
-    FromJson, ParseCause, ParseFault, ReadError, ToJson, WriteError, compact, helpers, members,
-    read_body,
-};
-pub use oauth2_replies::{
-    DeviceAuthorizationResponse, EmptyExtraDeviceAuthorizationFields, EmptyExtraTokenFields,
-    ExtraDeviceAuthorizationFields, ExtraFields, ExtraTokenFields, RevocableToken,
-    StandardDeviceAuthorizationResponse, StandardRevocableToken,
-    StandardTokenIntrospectionResponse, StandardTokenResponse, TokenIntrospectionResponse,
-    TokenResponse,
-};
-pub use oauth2_requests::{
-    AuthorizationRequest, ClientCredentialsTokenRequest, CodeTokenRequest,
-    DeviceAuthorizationRequest, IntrospectionRequest, PasswordTokenRequest, RefreshTokenRequest,
-    RevocationRequest,
-};
-pub use oauth2_types::{
-    AccessToken, AuthorizationCode, ClientId, ClientSecret, CsrfToken, DeviceCode,
-    PkceCodeChallenge, PkceCodeChallengeMethod, PkceCodeVerifier, RefreshToken,
-    ResourceOwnerPassword, ResourceOwnerUsername, ResponseType, Scope, TryClone, UserCode,
-    VerificationUriComplete,
-};
-pub use oauth2_urls::{
-    AuthUrl, DeviceAuthorizationUrl, EndUserVerificationUrl, IntrospectionUrl, RedirectUrl,
-    RevocationUrl, TokenUrl,
-};
-pub use oauth2_wire::{
-    AuthType, ConfigurationError, FnClient, HttpClientError, HttpRequest, HttpResponse,
-    ParamBuffer, ParamText, RedirectRef, RequestFault, RequestTokenError, ServerView,
-    SyncHttpClient, ViewError, basic_header, endpoint_request, endpoint_request_encoded,
-    endpoint_response, endpoint_response_status_only, send_once, send_once_status_only,
-    server_view,
-};
+pub use endpoint::EndpointMaybeSet;
+pub use endpoint::EndpointNotSet;
+pub use endpoint::EndpointSet;
+pub use endpoint::EndpointState;
+pub use oauth2_codes::DeviceCodeErrorResponse;
+pub use oauth2_codes::DeviceCodeErrorResponseType;
+pub use oauth2_codes::ErrorResponse;
+pub use oauth2_codes::ErrorResponseType;
+pub use oauth2_codes::RevocationErrorResponseType;
+pub use oauth2_codes::StandardErrorResponse;
+pub use oauth2_codes::TextErrorResponseType;
+pub use oauth2_codes::TokenType;
+pub use oauth2_codes::basic_error_laws;
+pub use oauth2_codes::device_code_error_laws;
+pub use oauth2_codes::revocation_error_laws;
+pub use oauth2_codes::text_error_laws;
+pub use oauth2_codes::token_type_laws;
+pub use oauth2_device::DeviceAccessTokenRequest;
+pub use oauth2_device::NoClock;
+pub use oauth2_device::PollWorld;
+pub use oauth2_fields::MemberValue;
+pub use oauth2_fields::NamedMember;
+pub use oauth2_fields::WithMember;
+pub use oauth2_json::FromJson;
+pub use oauth2_json::ParseCause;
+pub use oauth2_json::ParseFault;
+pub use oauth2_json::ReadError;
+pub use oauth2_json::ToJson;
+pub use oauth2_json::WriteError;
+pub use oauth2_json::compact;
+pub use oauth2_json::helpers;
+pub use oauth2_json::members;
+pub use oauth2_json::read_body;
+pub use oauth2_replies::DeviceAuthorizationResponse;
+pub use oauth2_replies::EmptyExtraDeviceAuthorizationFields;
+pub use oauth2_replies::EmptyExtraTokenFields;
+pub use oauth2_replies::ExtraDeviceAuthorizationFields;
+pub use oauth2_replies::ExtraFields;
+pub use oauth2_replies::ExtraTokenFields;
+pub use oauth2_replies::RevocableToken;
+pub use oauth2_replies::StandardDeviceAuthorizationResponse;
+pub use oauth2_replies::StandardRevocableToken;
+pub use oauth2_replies::StandardTokenIntrospectionResponse;
+pub use oauth2_replies::StandardTokenResponse;
+pub use oauth2_replies::TokenIntrospectionResponse;
+pub use oauth2_replies::TokenResponse;
+pub use oauth2_requests::AuthorizationRequest;
+pub use oauth2_requests::ClientCredentialsTokenRequest;
+pub use oauth2_requests::CodeTokenRequest;
+pub use oauth2_requests::DeviceAuthorizationRequest;
+pub use oauth2_requests::IntrospectionRequest;
+pub use oauth2_requests::PasswordTokenRequest;
+pub use oauth2_requests::RefreshTokenRequest;
+pub use oauth2_requests::RevocationRequest;
+pub use oauth2_types::AccessToken;
+pub use oauth2_types::AuthorizationCode;
+pub use oauth2_types::ClientId;
+pub use oauth2_types::ClientSecret;
+pub use oauth2_types::CsrfToken;
+pub use oauth2_types::DeviceCode;
+pub use oauth2_types::PkceCodeChallenge;
+pub use oauth2_types::PkceCodeChallengeMethod;
+pub use oauth2_types::PkceCodeVerifier;
+pub use oauth2_types::RefreshToken;
+pub use oauth2_types::ResourceOwnerPassword;
+pub use oauth2_types::ResourceOwnerUsername;
+pub use oauth2_types::ResponseType;
+pub use oauth2_types::Scope;
+pub use oauth2_types::TryClone;
+pub use oauth2_types::UserCode;
+pub use oauth2_types::VerificationUriComplete;
+pub use oauth2_urls::AuthUrl;
+pub use oauth2_urls::DeviceAuthorizationUrl;
+pub use oauth2_urls::EndUserVerificationUrl;
+pub use oauth2_urls::IntrospectionUrl;
+pub use oauth2_urls::RedirectUrl;
+pub use oauth2_urls::RevocationUrl;
+pub use oauth2_urls::TokenUrl;
+pub use oauth2_wire::AuthType;
+pub use oauth2_wire::ConfigurationError;
+pub use oauth2_wire::FnClient;
+pub use oauth2_wire::HttpClientError;
+pub use oauth2_wire::HttpRequest;
+pub use oauth2_wire::HttpResponse;
+pub use oauth2_wire::ParamBuffer;
+pub use oauth2_wire::ParamText;
+pub use oauth2_wire::RedirectRef;
+pub use oauth2_wire::RequestFault;
+pub use oauth2_wire::RequestTokenError;
+pub use oauth2_wire::ServerView;
+pub use oauth2_wire::SyncHttpClient;
+pub use oauth2_wire::ViewError;
+pub use oauth2_wire::basic_header;
+pub use oauth2_wire::endpoint_request;
+pub use oauth2_wire::endpoint_request_encoded;
+pub use oauth2_wire::endpoint_response;
+pub use oauth2_wire::endpoint_response_status_only;
+pub use oauth2_wire::send_once;
+pub use oauth2_wire::send_once_status_only;
+pub use oauth2_wire::server_view;
 
 // The poll as a machine over values.
 pub use oauth2_poll::{

@@ -21,4 +21,4 @@ pub use example::{TokenOnlyClient, new_client, token_for_code};
 pub use exchange::{
     code_request, lacks_token_url, password_token, refresh_request, with_all_scopes,
 };
-pub use own_extra_fields::IdentityFields;
+pub use own_extra_fields::{ExtExpiresIn, IdToken, IdentityFields};

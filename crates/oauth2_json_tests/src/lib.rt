@@ -20,6 +20,8 @@ mod json_members;
 #[cfg(test)]
 mod kept;
 #[cfg(test)]
+mod named_members;
+#[cfg(test)]
 mod revocable_token;
 #[cfg(test)]
 mod support;

@@ -1,0 +1,161 @@
+//! Extra fields as a list of named members: a text, a number, a truth value and any value.
+
+ghost use Rattle.std.specs.Prelude.{codes};
+
+use crate::support::{copy_is_kept, is_kept, is_refused, is_rewritten, read, text};
+use oauth2::basic::BasicTokenType;
+use oauth2::{
+    DeviceAuthorizationResponse, EmptyExtraDeviceAuthorizationFields, EmptyExtraTokenFields,
+    ExtraFields, NamedMember, ParseCause, StandardTokenIntrospectionResponse,
+    StandardTokenResponse, ToJson, WithMember, WriteError,
+};
+use serde_json::Value;
+use std::process::Abort;
+
+struct IdToken;
+
+impl NamedMember for IdToken {
+    type Value = String;
+
+    ghost name = { codes "id_token" };
+
+    fn name() -> &'static str {
+        "id_token"
+    }
+}
+
+struct ExtExpiresIn;
+
+impl NamedMember for ExtExpiresIn {
+    type Value = u64;
+
+    ghost name = { codes "ext_expires_in" };
+
+    fn name() -> &'static str {
+        "ext_expires_in"
+    }
+}
+
+struct Offline;
+
+impl NamedMember for Offline {
+    type Value = bool;
+
+    ghost name = { codes "offline" };
+
+    fn name() -> &'static str {
+        "offline"
+    }
+}
+
+struct Confirmation;
+
+impl NamedMember for Confirmation {
+    type Value = Value;
+
+    ghost name = { codes "cnf" };
+
+    fn name() -> &'static str {
+        "cnf"
+    }
+}
+
+type OfflineFields = WithMember<Offline, WithMember<Confirmation, EmptyExtraTokenFields>>;
+
+type IdentityFields = WithMember<IdToken, WithMember<ExtExpiresIn, OfflineFields>>;
+
+type DeviceFields = WithMember<Confirmation, EmptyExtraDeviceAuthorizationFields>;
+
+type IdentityToken = StandardTokenResponse<IdentityFields, BasicTokenType>;
+
+#[test]
+fn named_members_are_told(rt: HostRuntime) {
+    let fields = read::<IdentityFields>(
+        &rt,
+        "{\"n\":1,\"id_token\":\"x\",\"ext_expires_in\":7,\"offline\":true,\"cnf\":[]}",
+    );
+    let id_token = fields.value().expect(&rt, "a text");
+    assert!(rt; id_token.as_str() == "x");
+    let rest = fields.rest();
+    let lifetime = rest.value().expect(&rt, "a number");
+    assert!(rt; *lifetime == 7);
+    let rest = rest.rest();
+    let offline = rest.value().expect(&rt, "a truth value");
+    assert!(rt; *offline);
+    let confirmation = rest.rest().value().expect(&rt, "a value");
+    assert!(rt; confirmation.is_array());
+}
+
+#[test]
+fn absent_and_null_members_are_none(rt: HostRuntime) {
+    for body in [
+        "{\"ext_expires_in\":7}",
+        "{\"cnf\":null,\"ext_expires_in\":7,\"id_token\":null,\"offline\":null}",
+    ] {
+        let fields = read::<IdentityFields>(&rt, body);
+        assert!(rt; fields.value().is_none());
+        assert!(rt; fields.rest().value().is_some());
+        assert!(rt; fields.rest().rest().value().is_none());
+        assert!(rt; fields.rest().rest().rest().value().is_none());
+    }
+}
+
+#[test]
+fn members_of_another_kind_are_refused(rt: HostRuntime) {
+    for (body, member, cause) in [
+        ("{\"id_token\":1}", "id_token", ParseCause::WrongType),
+        (
+            "{\"ext_expires_in\":\"7\"}",
+            "ext_expires_in",
+            ParseCause::WrongType,
+        ),
+        (
+            "{\"ext_expires_in\":-1}",
+            "ext_expires_in",
+            ParseCause::OutOfRange,
+        ),
+        (
+            "{\"ext_expires_in\":1.5}",
+            "ext_expires_in",
+            ParseCause::NotWhole,
+        ),
+        ("{\"offline\":0}", "offline", ParseCause::WrongType),
+        (
+            "{\"ext_expires_in\":-1,\"id_token\":1}",
+            "id_token",
+            ParseCause::WrongType,
+        ),
+        ("[]", "", ParseCause::NotObject),
+    ] {
+        is_refused::<IdentityFields>(&rt, body, member, cause);
+    }
+}
+
+#[test]
+fn named_members_are_written(rt: HostRuntime) {
+    let whole =
+        "{\"access_token\":\"t\",\"cnf\":[],\"ext_expires_in\":7,\"id_token\":\"x\",\"offline\":true,\"token_type\":\"bearer\"}";
+    is_kept::<IdentityToken>(&rt, whole);
+    copy_is_kept::<IdentityToken>(&rt, whole);
+    is_rewritten::<IdentityToken>(
+        &rt,
+        "{\"access_token\":\"t\",\"token_type\":\"bearer\",\"n\":1,\"offline\":null,\"ext_expires_in\":7}",
+        "{\"access_token\":\"t\",\"ext_expires_in\":7,\"token_type\":\"bearer\"}",
+    );
+    is_kept::<StandardTokenIntrospectionResponse<IdentityFields, BasicTokenType>>(
+        &rt,
+        "{\"active\":true,\"id_token\":\"x\"}",
+    );
+    is_kept::<DeviceAuthorizationResponse<DeviceFields>>(
+        &rt,
+        "{\"cnf\":[],\"device_code\":\"d\",\"expires_in\":1,\"interval\":5,\"user_code\":\"u\",\"verification_uri\":\"https://v/\"}",
+    );
+}
+
+#[test]
+fn name_that_the_rest_writes_is_refused(rt: HostRuntime) {
+    let rest = read::<ExtraFields>(&rt, "{\"id_token\":\"y\"}");
+    let fields = WithMember::<IdToken, ExtraFields>::new(Some(text(&rt, "x")), rest);
+    let refused = fields.to_json(rt.alloc()).err();
+    assert!(rt; refused == Some(WriteError::NameClash));
+}
