@@ -81,11 +81,11 @@ module _ {A E : Type 0} (json : A → List ℕ) (text : E → List ℕ) where
   IsExchange says c endpoint replies o =
       (o ≡ starved) ⊎ ((target : Option (List ℕ)) × IsTarget (serialize endpoint.url) target × IsSent says c replies target o)
 
--- ---- tokens
+-- the text of an error response whose code is written as `code`
+unfoldable pub error_display : {C : Type 0} → (C → List ℕ) → ErrorParts C → List ℕ
+error_display code r = (code r.error ++ after_colon r.description) ++ in_brackets r.uri
 
--- the text of an error response
-unfoldable pub error_display : ErrorParts ErrorCode → List ℕ
-error_display r = (error_code_text r.error ++ after_colon r.description) ++ in_brackets r.uri
+-- ---- tokens
 
 abbrev pub BasicToken : Type 0
 BasicToken = Token (Unit {0}) TokenCode
@@ -102,4 +102,4 @@ token_answer = answer_of (token_reading any_object token_code_reading) (error_re
 
 -- a request for a token
 abbrev pub IsTokenExchange : Configuration → Addressed → List Reply → Output → Type 0
-IsTokenExchange = IsExchange token_json error_display token_answer
+IsTokenExchange = IsExchange token_json (error_display error_code_text) token_answer
