@@ -1,16 +1,16 @@
 -- What one request adds to the lines of a scripted client.
-use Rattle.std.proofs.Common.{◌≡◌, ℕ, List, [], ◌++◌, Bool, true, false, Option, Some, None, option_map, option_and_then, Result, Ok, Err, String, string_bytes, codes, map, inl, inr, refl, sym, ap, ◌∙◌, append_assoc, ◌⊎◌, not, ◌||◌, ◌==◌, length, is_some}
+use Rattle.std.proofs.Common.{◌≡◌, ℕ, List, ◌++◌, Bool, false, Option, Some, None, option_map, option_and_then, Result, Ok, Err, string_bytes, codes, map, inl, inr, refl, ap, ◌∙◌, append_assoc, ◌⊎◌}
 use Rattle.http_header.specs.HeaderMap.{get}
 use Rattle.http_header.specs.FieldValue.{plain_value}
 use Rattle.http_uri.specs.Uri.{SpellsNone, uri_text}
 use Rattle.url.specs.Parts.{serialize}
 use Rattle.oauth2_urls.specs.Addressed.{Addressed}
-use Rattle.oauth2_wire.specs.Pairs.{Pair, form}
+use Rattle.oauth2_wire.specs.Pairs.{Pair}
 use Rattle.oauth2_wire.specs.Basic.{basic, basic_value}
-use Rattle.oauth2_wire.specs.Expected.{Configuration, expected_basic, expected_pairs, expected_headers, authorization_header, headers_before}
+use Rattle.oauth2_wire.specs.Expected.{Configuration, expected_basic, expected_pairs, authorization_header, headers_before}
 use Rattle.oauth2_wire.specs.OneShot.{HttpRequest, not_http_text, AnswersUnsent, AnswersTo}
-use Rattle.oauth2_wire.specs.Reply.{HttpResponse, Answer, accepted, refused, unread, other, ReplyView, reply_of, answer_of, ShowsAnswer as ReplyShows}
-use Rattle.oauth2_wire.specs.Request.{RequestView, IsRequestOf, view_of, authorization_of, basic_of}
+use Rattle.oauth2_wire.specs.Reply.{HttpResponse, Answer, ReplyView, reply_of, ShowsAnswer as ReplyShows}
+use Rattle.oauth2_wire.specs.Request.{RequestView, IsRequestOf, view_of, authorization_of}
 use Rattle.oauth2_wire.specs.ServerView.{shown_pair}
 use Rattle.oauth2_wire.specs.declared.error.RequestTokenError.{RequestTokenError}
 use Rattle.oauth2_wire.specs.declared.error.RequestTokenError.TheVariants.{ServerResponse, Request, Parse, Other, Memory}
@@ -21,14 +21,13 @@ use Rattle.oauth2_run.specs.Lines.{basic_line, pair_lines, expected_lines, autho
 use Rattle.oauth2_run.specs.private.RequestLines.{read_lines, view_lines, request_lines}
 use Rattle.oauth2_run.specs.Out.{Output, failed, starved, after}
 use Rattle.oauth2_run.specs.private.Added.{Prints, Adds}
-use Rattle.oauth2_run.specs.private.Replay.{Replays, ReplaysOrStarves, replied, replies_of}
+use Rattle.oauth2_run.specs.private.Replay.{Replays, replied, replies_of}
 use Rattle.oauth2_script.specs.Replies.{Reply}
 use Rattle.oauth2_run.specs.Replies.{next_reply}
 use Rattle.oauth2_run.specs.private.Results.{end_output}
 use Rattle.oauth2_run.specs.declared.replay.ScriptedClient.{ScriptedClient}
 use Rattle.oauth2_run.specs.declared.replay.NoReply.{NoReply}
 use Rattle.oauth2_run.specs.declared.status.RunStatus.{RunStatus}
-use Rattle.oauth2_run.specs.declared.status.RunStatus.TheVariants as status
 
 -- ---- the lines of the request that a configuration asks for
 

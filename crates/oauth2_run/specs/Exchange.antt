@@ -1,5 +1,5 @@
 -- A request to an endpoint, as a run shows it.
-use Rattle.std.specs.Prelude.{◌≡◌, ◌⊎◌, ℕ, List, ◌++◌, Option, Some, None, Result, Ok, Err, string_bytes, codes}
+use Rattle.std.specs.Prelude.{◌≡◌, ◌⊎◌, ℕ, List, ◌++◌, Option, Some, None, codes}
 use Rattle.http_uri.specs.declared.uri.Uri.{Uri}
 use Rattle.http_uri.specs.Uri.{Spells, SpellsNone, uri_text}
 use Rattle.serde_json.specs.Data.{Data, string, object, no_members}
@@ -9,7 +9,7 @@ use Rattle.oauth2_json.specs.Codes.{TokenCode, token_code_text, token_code_readi
 use Rattle.oauth2_json.specs.ErrorCodes.{ErrorCode, error_code_text, error_code_reading}
 use Rattle.oauth2_json.specs.ErrorResponse.{ErrorParts, error_reading, after_colon, in_brackets}
 use Rattle.oauth2_json.specs.Puts.{put_all}
-use Rattle.oauth2_json.specs.Reading.{Reading, Fault}
+use Rattle.oauth2_json.specs.Reading.{Fault}
 use Rattle.oauth2_json.specs.declared.read.ParseCause.{ParseCause}
 use Rattle.oauth2_json.specs.declared.read.ParseCause.TheVariants as cause
 use Rattle.oauth2_replies.specs.Kept.{any_object}

@@ -1,5 +1,5 @@
 -- One request of the scripted client.
-use Rattle.std.specs.Prelude.{ℕ, List, Result}
+use Rattle.std.specs.Prelude.{Result}
 use Rattle.http_uri.specs.Uri.{SpellsNone}
 use Rattle.url.specs.Parts.{serialize}
 use Rattle.oauth2_json.specs.ErrorCodes.{error_code}
