@@ -1,15 +1,21 @@
--- No token response holds a float.
-use Rattle.std.proofs.Common.{◌≡◌, ℕ, List, [], ◌∷◌, Bool, false, true, ◌||◌, Option, Some, None, option_map, codes, refl}
+-- No response without extra fields holds a float.
+use Rattle.std.proofs.Common.{◌≡◌, ℕ, ℤ, pos, negsuc, List, [], ◌∷◌, Bool, false, true, ◌||◌, Option, Some, None, option_map, refl}
 use Rattle.std.specs.Ordering.{nat_cmp, match_ordering}
 use Rattle.std.specs.declared.cmp.Ordering.{Ordering}
 use Rattle.std.specs.declared.cmp.Ordering.TheVariants.{Less, Equal, Greater}
 use Rattle.std.specs.Cmp.Lexicographic.{slice_cmp}
-use Rattle.serde_json.specs.Data.{Data, Members, no_members, member, put, string, number, unsigned, object}
-use Rattle.serde_json.specs.Written.{has_float, members_have_float}
+use Rattle.serde_json.specs.Data.{Data, Members, no_members, member, put, string, number, unsigned, array}
+use Rattle.serde_json.specs.Find.{of_integer}
+use Rattle.serde_json.specs.Written.{has_float, items_have_float, members_have_float}
 use Rattle.oauth2_codes.specs.Codes.{token_code_text}
 use Rattle.oauth2_json.specs.Members.{put_some}
+use Rattle.oauth2_json.specs.Puts.{Row, put_all}
+use Rattle.oauth2_json.specs.Values.{second_data, second_of, text_items}
 use Rattle.oauth2_json.specs.Words.{joined}
+use Rattle.oauth2_replies.specs.Introspection.{own_rows as introspection_rows}
+use Rattle.oauth2_replies.specs.Token.{own_rows as token_rows}
 use Rattle.oauth2_run.specs.Exchange.{BasicToken, token_data}
+use Rattle.oauth2_run.specs.Introspect.{BasicIntrospection, introspection_data}
 
 or_false : (a b : Bool) → a ≡ false → b ≡ false → (a || b) ≡ false
 or_false a b h g = rw (h, g) refl
@@ -51,19 +57,65 @@ numbers_free : (o : Option ℕ) → FreeOf (option_map (λ n. number (unsigned n
 numbers_free None = tt
 numbers_free (Some n) = refl
 
+integers_free : (z : ℤ) → has_float (number (of_integer z)) ≡ false
+integers_free (pos n) = refl
+integers_free (negsuc n) = refl
+
+seconds_free : (o : Option ℤ) → FreeOf (option_map second_data o)
+seconds_free None = tt
+seconds_free (Some z) = integers_free (second_of z)
+
+items_free : (texts : List (List ℕ)) → items_have_float (text_items texts) ≡ false
+items_free [] = refl
+items_free (text ∷ texts) = items_free texts
+
+lists_free : (o : Option (List (List ℕ))) → FreeOf (option_map (λ list. array (text_items list)) o)
+lists_free None = tt
+lists_free (Some texts) = items_free texts
+
+-- no row holds a float
+abbrev AreFree : List Row → Type 0
+AreFree [] = Unit {0}
+AreFree (r ∷ rs) = FreeOf r.1 × AreFree rs
+
+put_all-no_float : (rs : List Row) (ms : Members) → AreFree rs → members_have_float ms ≡ false → members_have_float (put_all rs ms) ≡ false
+put_all-no_float [] ms h g = g
+put_all-no_float (r ∷ rs) ms (h, hs) g = put_some-no_float r.0 r.1 (put_all rs ms) h (put_all-no_float rs ms hs g)
+
 pub token_data-no_float : (r : BasicToken) → has_float (token_data r) ≡ false
 unfolding token_data
 token_data-no_float r =
-    let scope = option_map (λ scopes. string (joined scopes)) r.scopes in
-    let refresh = option_map string r.refresh_token in
-    let lifetime = option_map (λ n. number (unsigned n)) r.expires_in in
-    let m1 = put_some (codes "scope") scope no_members in
-    let f1 : members_have_float m1 ≡ false = put_some-no_float (codes "scope") scope no_members (texts_free joined r.scopes) refl in
-    let m2 = put_some (codes "refresh_token") refresh m1 in
-    let f2 : members_have_float m2 ≡ false = put_some-no_float (codes "refresh_token") refresh m1 (texts_free (λ s. s) r.refresh_token) f1 in
-    let m3 = put_some (codes "expires_in") lifetime m2 in
-    let f3 : members_have_float m3 ≡ false = put_some-no_float (codes "expires_in") lifetime m2 (numbers_free r.expires_in) f2 in
-    let kind = string (token_code_text r.token_type) in
-    let m4 = put (codes "token_type") kind m3 in
-    let f4 : members_have_float m4 ≡ false = put-no_float (codes "token_type") kind m3 refl f3 in
-    put-no_float (codes "access_token") (string r.access_token) m4 refl f4
+    let free : AreFree (token_rows (string (token_code_text r.token_type)) r) =
+    (refl, (refl, (numbers_free r.expires_in, (texts_free (λ s. s) r.refresh_token, (texts_free joined r.scopes, tt))))) in
+    put_all-no_float (token_rows (string (token_code_text r.token_type)) r) no_members free refl
+
+pub introspection_data-no_float : (r : BasicIntrospection) → has_float (introspection_data r) ≡ false
+unfolding introspection_data
+introspection_data-no_float r =
+    let rows : List Row = introspection_rows (option_map (λ t. string (token_code_text t)) r.token_type) r in
+    let free : AreFree rows = (
+      refl,
+      (
+        texts_free joined r.scopes,
+        (
+          texts_free (λ s. s) r.client_id,
+          (
+            texts_free (λ s. s) r.username,
+            (
+              texts_free token_code_text r.token_type,
+              (
+                seconds_free r.exp,
+                (
+                  seconds_free r.iat,
+                  (
+                    seconds_free r.nbf,
+                    (texts_free (λ s. s) r.sub, (lists_free r.aud, (texts_free (λ s. s) r.iss, (texts_free (λ s. s) r.jti, tt)))),
+                  ),
+                ),
+              ),
+            ),
+          ),
+        ),
+      ),
+    ) in
+    put_all-no_float rows no_members free refl

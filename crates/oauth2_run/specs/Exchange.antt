@@ -1,5 +1,5 @@
 -- A request to an endpoint, as a run shows it.
-use Rattle.std.specs.Prelude.{◌≡◌, ◌⊎◌, ℕ, List, ◌++◌, Option, Some, None, Result, Ok, Err, string_bytes, codes}
+use Rattle.std.specs.Prelude.{◌≡◌, ◌⊎◌, ℕ, List, ◌++◌, Option, Some, None, codes}
 use Rattle.http_uri.specs.declared.uri.Uri.{Uri}
 use Rattle.http_uri.specs.Uri.{Spells, SpellsNone, uri_text}
 use Rattle.serde_json.specs.Data.{Data, string, object, no_members}
@@ -9,7 +9,7 @@ use Rattle.oauth2_codes.specs.Codes.{TokenCode, token_code_text, token_code_read
 use Rattle.oauth2_codes.specs.ErrorCodes.{ErrorCode, error_code_text, error_code_reading}
 use Rattle.oauth2_codes.specs.ErrorResponse.{ErrorParts, error_reading, after_colon, in_brackets}
 use Rattle.oauth2_json.specs.Puts.{put_all}
-use Rattle.oauth2_json.specs.Reading.{Reading, Fault}
+use Rattle.oauth2_json.specs.Reading.{Fault}
 use Rattle.oauth2_json.specs.declared.read.ParseCause.{ParseCause}
 use Rattle.oauth2_json.specs.declared.read.ParseCause.TheVariants as cause
 use Rattle.oauth2_replies.specs.Kept.{any_object}
@@ -81,11 +81,11 @@ module _ {A E : Type 0} (json : A → List ℕ) (text : E → List ℕ) where
   IsExchange says c endpoint replies o =
       (o ≡ starved) ⊎ ((target : Option (List ℕ)) × IsTarget (serialize endpoint.url) target × IsSent says c replies target o)
 
--- ---- tokens
+-- the text of an error response whose code is written as `code`
+unfoldable pub error_display : {C : Type 0} → (C → List ℕ) → ErrorParts C → List ℕ
+error_display code r = (code r.error ++ after_colon r.description) ++ in_brackets r.uri
 
--- the text of an error response
-unfoldable pub error_display : ErrorParts ErrorCode → List ℕ
-error_display r = (error_code_text r.error ++ after_colon r.description) ++ in_brackets r.uri
+-- ---- tokens
 
 abbrev pub BasicToken : Type 0
 BasicToken = Token (Unit {0}) TokenCode
@@ -102,4 +102,4 @@ token_answer = answer_of (token_reading any_object token_code_reading) (error_re
 
 -- a request for a token
 abbrev pub IsTokenExchange : Configuration → Addressed → List Reply → Output → Type 0
-IsTokenExchange = IsExchange token_json error_display token_answer
+IsTokenExchange = IsExchange token_json (error_display error_code_text) token_answer

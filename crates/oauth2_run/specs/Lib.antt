@@ -6,8 +6,10 @@ pub mod Exchange
 pub mod Authorize
 pub mod ClientCredentials
 pub mod Code
+pub mod Introspect
 pub mod Password
 pub mod Refresh
+pub mod Revoke
 pub mod Run
 pub mod Exit
 pub mod private

@@ -4,11 +4,13 @@ use Rattle.oauth2.specs.Settings.{Settings}
 use Rattle.oauth2_run.specs.Authorize.{IsAuthorizeOutput}
 use Rattle.oauth2_run.specs.ClientCredentials.{IsClientCredentialsOutput}
 use Rattle.oauth2_run.specs.Code.{IsCodeOutput}
+use Rattle.oauth2_run.specs.Introspect.{IsIntrospectOutput}
 use Rattle.oauth2_run.specs.Password.{IsPasswordOutput}
 use Rattle.oauth2_run.specs.Refresh.{IsRefreshOutput}
+use Rattle.oauth2_run.specs.Revoke.{IsRevokeOutput}
 use Rattle.oauth2_run.specs.Lines.{line}
 use Rattle.oauth2_run.specs.Out.{Output}
-use Rattle.oauth2_script.specs.Command.{Command, code, refresh, password, client_credentials, authorize}
+use Rattle.oauth2_script.specs.Command.{Command, code, refresh, password, client_credentials, introspect, revoke, authorize}
 use Rattle.oauth2_script.specs.Script.{Script, script_in}
 use Rattle.oauth2_run.specs.Client.{settings_of}
 use Rattle.oauth2_script.specs.Replies.{Reply}
@@ -19,6 +21,8 @@ IsCommandOutput client replies (code p) o = IsCodeOutput client p replies o
 IsCommandOutput client replies (refresh p) o = IsRefreshOutput client p replies o
 IsCommandOutput client replies (password p) o = IsPasswordOutput client p replies o
 IsCommandOutput client replies (client_credentials p) o = IsClientCredentialsOutput client p replies o
+IsCommandOutput client replies (introspect p) o = IsIntrospectOutput client p replies o
+IsCommandOutput client replies (revoke p) o = IsRevokeOutput client p replies o
 IsCommandOutput client replies (authorize p) o = IsAuthorizeOutput client p o
 
 abbrev pub bad_script : Output

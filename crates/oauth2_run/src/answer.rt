@@ -1,22 +1,32 @@
 //! What a run shows of the end of a request.
 
-ghost use Rattle.std.specs.Prelude.{◌≡◌, ◌++◌, ℕ, List, string_bytes, codes, IfOk, OnOk};
-ghost use Rattle.oauth2_wire.specs.ConfigurationError.{IsMissingUrl};
+ghost use Rattle.std.specs.Prelude.{◌≡◌, ◌++◌, ℕ, List, Some, false, string_bytes, codes, IfOk, OnOk, IsOkAnd};
+ghost use Rattle.serde_json.specs.Data.{Data};
+ghost use Rattle.serde_json.specs.Written.{compact_text, has_float};
 ghost use Rattle.oauth2_run.specs.Exchange.{cause_name, unread_line};
 ghost use Rattle.oauth2_run.specs.Lines.{line};
 ghost use Rattle.oauth2_run.specs.private.Added.{Prints};
-ghost use Rattle.oauth2_run.specs.private.Results.{token_text, token_output, fault_output};
-ghost use Rattle.oauth2_run.specs.Client.{missing};
+ghost use Rattle.oauth2_run.specs.private.Results.{token_output, introspection_output, revocation_output};
+ghost use Rattle.oauth2_run.specs.private.Results.{configuration_output, fault_output};
 
 use crate::lines::{print_answer, print_fault, quoted};
 use crate::replay::NoReply;
 use crate::status::RunStatus;
-use oauth2::basic::{BasicErrorResponse, BasicTokenResponse};
-use oauth2::{ConfigurationError, ParseCause, ParseFault, RequestTokenError, WriteError, compact};
+use oauth2::basic::{
+    BasicErrorResponse, BasicRevocationErrorResponse, BasicTokenIntrospectionResponse,
+    BasicTokenResponse,
+};
+use oauth2::{
+    ConfigurationError, ParseCause, ParseFault, RequestTokenError, ToJson, WriteError, compact,
+};
 use std::alloc::{AllocError, Global};
+use std::fmt::Display;
 
 /// Why a run has no answer of the server.
 pub type Fault = RequestTokenError<NoReply, BasicErrorResponse>;
+
+/// Why a token is not revoked.
+pub type RevocationFault = RequestTokenError<NoReply, BasicRevocationErrorResponse>;
 
 fn cause_name(cause: ParseCause) -> &'static str
     ensures { result.now ≡ cause_name cause }
@@ -81,10 +91,14 @@ fn print_parse_fault(
     print_unread(alloc, lines, fault.member.as_str(), cause)
 }
 
-/// The fault of a request.
-pub fn show_fault(alloc: Global, lines: &mut String, fault: &Fault) -> Result<RunStatus, AllocError>
-    ensures { IfOk result (λ status. Prints (string_bytes lines.old) (string_bytes lines.new) status
-        (fault_output fault.now)) }
+// The fault of a request, where the server's error is shown as some text.
+fn show_fault<T: Display>(
+    alloc: Global,
+    lines: &mut String,
+    fault: &RequestTokenError<NoReply, T>,
+) -> Result<RunStatus, AllocError>
+    ensures { IfOk result (λ status. (text : T → List ℕ) → ((e : T) → T.output e ≡ Some (text e))
+        → Prints (string_bytes lines.old) (string_bytes lines.new) status (fault_output text fault.now)) }
 {
     if let RequestTokenError::Parse(fault, _) = fault {
         print_parse_fault(alloc, lines, fault)?;
@@ -93,6 +107,19 @@ pub fn show_fault(alloc: Global, lines: &mut String, fault: &Fault) -> Result<Ru
         print_fault(alloc, lines, text.as_str())?;
     }
     Ok(RunStatus::Fault)
+}
+
+// The compact JSON of what is written without a fault and holds no float.
+fn json_of<T: ToJson>(alloc: Global, value: &T) -> Result<String, AllocError>
+    requires { IsOkAnd (T.writing value.now) (λ d. has_float d ≡ false) }
+    ensures { IfOk result (λ s. (d : Data) → T.writing value.now ≡ Ok d → string_bytes s ≡ compact_text d) }
+{
+    match compact(alloc, value) {
+        Ok(json) => Ok(json),
+        Err(WriteError::Memory) => Err(AllocError),
+        Err(WriteError::NameClash) => unreachable!(),
+        Err(WriteError::Float) => unreachable!(),
+    }
 }
 
 /// The end of a request for a token.
@@ -106,7 +133,7 @@ pub fn show_token(
 {
     match end {
         Ok(token) => {
-            let json = token_json(alloc, token)?;
+            let json = json_of(alloc, token)?;
             print_answer(lines, json.as_str())?;
             Ok(RunStatus::Answered)
         }
@@ -114,25 +141,51 @@ pub fn show_token(
     }
 }
 
-fn token_json(alloc: Global, token: &BasicTokenResponse) -> Result<String, AllocError>
-    ensures { IfOk result (λ s. string_bytes s ≡ token_text token.now) }
+/// The end of an introspection.
+pub fn show_introspection(
+    alloc: Global,
+    lines: &mut String,
+    end: &Result<BasicTokenIntrospectionResponse, Fault>,
+) -> Result<RunStatus, AllocError>
+    ensures { IfOk result (λ status. Prints (string_bytes lines.old) (string_bytes lines.new) status
+        (introspection_output end.now)) }
 {
-    match compact(alloc, token) {
-        Ok(json) => Ok(json),
-        Err(WriteError::Memory) => Err(AllocError),
-        Err(WriteError::NameClash) => unreachable!(),
-        Err(WriteError::Float) => unreachable!(),
+    match end {
+        Ok(response) => {
+            let json = json_of(alloc, response)?;
+            print_answer(lines, json.as_str())?;
+            Ok(RunStatus::Answered)
+        }
+        Err(fault) => show_fault(alloc, lines, fault),
     }
 }
 
-/// An endpoint of the client is missing.
-pub fn show_missing(
+/// The end of a revocation.
+pub fn show_revocation(
+    alloc: Global,
+    lines: &mut String,
+    end: &Result<(), RevocationFault>,
+) -> Result<RunStatus, AllocError>
+    ensures { IfOk result (λ status. Prints (string_bytes lines.old) (string_bytes lines.new) status
+        (revocation_output end.now)) }
+{
+    match end {
+        Ok(()) => {
+            print_answer(lines, "null")?;
+            Ok(RunStatus::Answered)
+        }
+        Err(fault) => show_fault(alloc, lines, fault),
+    }
+}
+
+/// An endpoint of the client is missing, or its URL is not an `https` URL.
+pub fn show_configuration_error(
     alloc: Global,
     lines: &mut String,
     error: &ConfigurationError,
 ) -> Result<RunStatus, AllocError>
-    ensures { IfOk result (λ status. (name : List ℕ) → IsMissingUrl name error.now
-        → Prints (string_bytes lines.old) (string_bytes lines.new) status (missing name)) }
+    ensures { IfOk result (λ status. Prints (string_bytes lines.old) (string_bytes lines.new) status
+        (configuration_output error.now)) }
 {
     let text = error.to_string(alloc)?;
     print_fault(alloc, lines, text.as_str())?;

@@ -9,7 +9,7 @@ ghost use Rattle.oauth2_run.specs.Client.{given_or};
 ghost use Rattle.oauth2_run.specs.private.Added.{Adds};
 ghost use Rattle.oauth2_script.specs.Views.{authorize_view};
 
-use crate::answer::show_missing;
+use crate::answer::show_configuration_error;
 use crate::client::ScriptClient;
 use crate::lines::{print_answer, quoted};
 use crate::status::RunStatus;
@@ -134,6 +134,6 @@ pub fn run_authorize(
             let asked = with_extra(scoped, params.extra.as_slice())?;
             show_url(alloc, lines, asked)
         }
-        Err(error) => show_missing(alloc, lines, &error),
+        Err(error) => show_configuration_error(alloc, lines, &error),
     }
 }

@@ -6,11 +6,12 @@ ghost use Rattle.oauth2_run.specs.private.Added.{Adds};
 ghost use Rattle.oauth2_run.specs.private.Replay.{replies_of};
 ghost use Rattle.oauth2_script.specs.Views.{client_credentials_view};
 
-use crate::answer::{Fault, show_missing};
+use crate::answer::{Fault, show_configuration_error};
 use crate::client::ScriptClient;
+use crate::extra::{Extensible, with_extra};
 use crate::replay::ScriptedClient;
 use crate::status::RunStatus;
-use crate::token_request::{TokenRequest, exchange, with_extra};
+use crate::token_request::{TokenRequest, exchange};
 use oauth2::basic::{BasicErrorResponse, BasicTokenResponse};
 use oauth2::{ClientCredentialsTokenRequest, ParamText};
 use oauth2_script::ClientCredentialsParams;
@@ -22,17 +23,12 @@ type ClientCredentialsRequest<'a> = ClientCredentialsTokenRequest<
     BasicTokenResponse,
 >;
 
-impl<'a> TokenRequest<'a> for ClientCredentialsRequest<'a> {
+impl<'a> Extensible<'a> for ClientCredentialsRequest<'a> {
     ghost use Rattle.std.proofs.Common.{ap};
     ghost use Rattle.oauth2_requests.specs.Base.{Base};
-    ghost use Rattle.oauth2_requests.specs.ClientCredentials.{client_credentials_configuration};
     ghost use Rattle.oauth2_run.specs.private.Extra.{with_pairs, with_pairs-none, with_pairs-more};
 
     ghost extended = { λ r added. record r { base = with_pairs r.base added } };
-
-    ghost configuration = { client_credentials_configuration };
-
-    ghost endpoint = { λ r. r.token_url };
 
     ghost none = { λ r. ap (λ (b : Base). record r { base = b }) (with_pairs-none r.base) };
 
@@ -45,6 +41,14 @@ impl<'a> TokenRequest<'a> for ClientCredentialsRequest<'a> {
     ) -> Result<ClientCredentialsRequest<'a>, AllocError> {
         self.add_extra_param(ParamText::Borrowed(name), ParamText::Borrowed(value))
     }
+}
+
+impl TokenRequest for ClientCredentialsRequest<'_> {
+    ghost use Rattle.oauth2_requests.specs.ClientCredentials.{client_credentials_configuration};
+
+    ghost configuration = { client_credentials_configuration };
+
+    ghost endpoint = { λ r. r.token_url };
 
     fn send(
         self,
@@ -72,6 +76,6 @@ pub fn run_client_credentials(
             let asked = with_extra(scoped, params.extra.as_slice())?;
             exchange(alloc, asked, http_client)
         }
-        Err(error) => show_missing(alloc, &mut http_client.lines, &error),
+        Err(error) => show_configuration_error(alloc, &mut http_client.lines, &error),
     }
 }

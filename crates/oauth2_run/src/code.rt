@@ -7,11 +7,12 @@ ghost use Rattle.oauth2_run.specs.private.Replay.{replies_of};
 ghost use Rattle.oauth2_script.specs.Views.{code_view};
 ghost use Rattle.oauth2_run.specs.Client.{given_or};
 
-use crate::answer::{Fault, show_missing};
+use crate::answer::{Fault, show_configuration_error};
 use crate::client::ScriptClient;
+use crate::extra::{Extensible, with_extra};
 use crate::replay::ScriptedClient;
 use crate::status::RunStatus;
-use crate::token_request::{TokenRequest, exchange, with_extra};
+use crate::token_request::{TokenRequest, exchange};
 use oauth2::basic::{BasicErrorResponse, BasicTokenResponse};
 use oauth2::{CodeTokenRequest, ParamText, PkceCodeVerifier, RedirectRef, RedirectUrl};
 use oauth2_script::CodeParams;
@@ -19,17 +20,12 @@ use std::alloc::{AllocError, Global};
 
 type CodeRequest<'a> = CodeTokenRequest<'a, BasicErrorResponse, BasicTokenResponse>;
 
-impl<'a> TokenRequest<'a> for CodeRequest<'a> {
+impl<'a> Extensible<'a> for CodeRequest<'a> {
     ghost use Rattle.std.proofs.Common.{ap};
     ghost use Rattle.oauth2_requests.specs.Base.{Base};
-    ghost use Rattle.oauth2_requests.specs.Code.{code_configuration};
     ghost use Rattle.oauth2_run.specs.private.Extra.{with_pairs, with_pairs-none, with_pairs-more};
 
     ghost extended = { λ r added. record r { base = with_pairs r.base added } };
-
-    ghost configuration = { code_configuration };
-
-    ghost endpoint = { λ r. r.token_url };
 
     ghost none = { λ r. ap (λ (b : Base). record r { base = b }) (with_pairs-none r.base) };
 
@@ -38,6 +34,14 @@ impl<'a> TokenRequest<'a> for CodeRequest<'a> {
     fn with_pair(self, name: &'a str, value: &'a str) -> Result<CodeRequest<'a>, AllocError> {
         self.add_extra_param(ParamText::Borrowed(name), ParamText::Borrowed(value))
     }
+}
+
+impl TokenRequest for CodeRequest<'_> {
+    ghost use Rattle.oauth2_requests.specs.Code.{code_configuration};
+
+    ghost configuration = { code_configuration };
+
+    ghost endpoint = { λ r. r.token_url };
 
     fn send(
         self,
@@ -87,6 +91,6 @@ pub fn run_code(
             let request = with_extra(request, params.extra.as_slice())?;
             exchange(alloc, request, http_client)
         }
-        Err(error) => show_missing(alloc, &mut http_client.lines, &error),
+        Err(error) => show_configuration_error(alloc, &mut http_client.lines, &error),
     }
 }

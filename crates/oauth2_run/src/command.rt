@@ -10,9 +10,11 @@ use crate::authorize::run_authorize;
 use crate::client::ScriptClient;
 use crate::client_credentials::run_client_credentials;
 use crate::code::run_code;
+use crate::introspect::run_introspect;
 use crate::password::run_password;
 use crate::refresh::run_refresh;
 use crate::replay::ScriptedClient;
+use crate::revoke::run_revoke;
 use crate::status::RunStatus;
 use oauth2_script::Command;
 use std::alloc::{AllocError, Global};
@@ -38,6 +40,8 @@ pub fn run_command(
             params,
             http_client,
         ),
+        Command::Introspect(params) => run_introspect(alloc, client, params, http_client),
+        Command::Revoke(params) => run_revoke(alloc, client, params, http_client),
         Command::Authorize(params) => run_authorize(alloc, client, params, &mut http_client.lines),
     }
 }

@@ -7,11 +7,14 @@ mod client;
 mod client_credentials;
 mod code;
 mod command;
+mod extra;
 mod input;
+mod introspect;
 mod lines;
 mod password;
 mod refresh;
 mod replay;
+mod revoke;
 mod run;
 mod status;
 #[cfg(test)]

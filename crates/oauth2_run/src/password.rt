@@ -6,11 +6,12 @@ ghost use Rattle.oauth2_run.specs.private.Added.{Adds};
 ghost use Rattle.oauth2_run.specs.private.Replay.{replies_of};
 ghost use Rattle.oauth2_script.specs.Views.{password_view};
 
-use crate::answer::{Fault, show_missing};
+use crate::answer::{Fault, show_configuration_error};
 use crate::client::ScriptClient;
+use crate::extra::{Extensible, with_extra};
 use crate::replay::ScriptedClient;
 use crate::status::RunStatus;
-use crate::token_request::{TokenRequest, exchange, with_extra};
+use crate::token_request::{TokenRequest, exchange};
 use oauth2::basic::{BasicErrorResponse, BasicTokenResponse};
 use oauth2::{ParamText, PasswordTokenRequest};
 use oauth2_script::PasswordParams;
@@ -18,17 +19,12 @@ use std::alloc::{AllocError, Global};
 
 type PasswordRequest<'a> = PasswordTokenRequest<'a, BasicErrorResponse, BasicTokenResponse>;
 
-impl<'a> TokenRequest<'a> for PasswordRequest<'a> {
+impl<'a> Extensible<'a> for PasswordRequest<'a> {
     ghost use Rattle.std.proofs.Common.{ap};
     ghost use Rattle.oauth2_requests.specs.Base.{Base};
-    ghost use Rattle.oauth2_requests.specs.Password.{password_configuration};
     ghost use Rattle.oauth2_run.specs.private.Extra.{with_pairs, with_pairs-none, with_pairs-more};
 
     ghost extended = { λ r added. record r { base = with_pairs r.base added } };
-
-    ghost configuration = { password_configuration };
-
-    ghost endpoint = { λ r. r.token_url };
 
     ghost none = { λ r. ap (λ (b : Base). record r { base = b }) (with_pairs-none r.base) };
 
@@ -37,6 +33,14 @@ impl<'a> TokenRequest<'a> for PasswordRequest<'a> {
     fn with_pair(self, name: &'a str, value: &'a str) -> Result<PasswordRequest<'a>, AllocError> {
         self.add_extra_param(ParamText::Borrowed(name), ParamText::Borrowed(value))
     }
+}
+
+impl TokenRequest for PasswordRequest<'_> {
+    ghost use Rattle.oauth2_requests.specs.Password.{password_configuration};
+
+    ghost configuration = { password_configuration };
+
+    ghost endpoint = { λ r. r.token_url };
 
     fn send(
         self,
@@ -66,6 +70,6 @@ pub fn run_password(
             let asked = with_extra(scoped, params.extra.as_slice())?;
             exchange(alloc, asked, http_client)
         }
-        Err(error) => show_missing(alloc, &mut http_client.lines, &error),
+        Err(error) => show_configuration_error(alloc, &mut http_client.lines, &error),
     }
 }

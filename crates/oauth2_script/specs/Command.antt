@@ -5,14 +5,18 @@ use Rattle.serde_json.specs.Data.{Data}
 use Rattle.oauth2_script.specs.AuthorizeParams.{AuthorizeParams, authorize_params}
 use Rattle.oauth2_script.specs.ClientCredentialsParams.{ClientCredentialsParams, client_credentials_params}
 use Rattle.oauth2_script.specs.CodeParams.{CodeParams, code_params}
+use Rattle.oauth2_script.specs.IntrospectParams.{IntrospectParams, introspect_params}
 use Rattle.oauth2_script.specs.PasswordParams.{PasswordParams, password_params}
 use Rattle.oauth2_script.specs.RefreshParams.{RefreshParams, refresh_params}
+use Rattle.oauth2_script.specs.RevokeParams.{RevokeParams, revoke_params}
 
 pub data Command : Type 0 where
   code : CodeParams → Command
   refresh : RefreshParams → Command
   password : PasswordParams → Command
   client_credentials : ClientCredentialsParams → Command
+  introspect : IntrospectParams → Command
+  revoke : RevokeParams → Command
   authorize : AuthorizeParams → Command
 
 unfoldable pub command_of : List ℕ → Data → Option Command
@@ -21,5 +25,7 @@ command_of name params =
     else (if bytes_eq name (codes "refresh") then option_map refresh (refresh_params params)
     else (if bytes_eq name (codes "password") then option_map password (password_params params)
     else (if bytes_eq name (codes "client_credentials") then option_map client_credentials (client_credentials_params params)
+    else (if bytes_eq name (codes "introspect") then option_map introspect (introspect_params params)
+    else (if bytes_eq name (codes "revoke") then option_map revoke (revoke_params params)
     else (if bytes_eq name (codes "authorize") then option_map authorize (authorize_params params)
-    else None))))
+    else None))))))

@@ -5,8 +5,10 @@ pub mod Replies
 pub mod AuthorizeParams
 pub mod ClientCredentialsParams
 pub mod CodeParams
+pub mod IntrospectParams
 pub mod PasswordParams
 pub mod RefreshParams
+pub mod RevokeParams
 pub mod Command
 pub mod Script
 pub mod Views

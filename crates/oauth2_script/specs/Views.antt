@@ -8,16 +8,20 @@ use Rattle.oauth2_script.specs.CodeParams as code_spec
 use Rattle.oauth2_script.specs.RefreshParams as refresh_spec
 use Rattle.oauth2_script.specs.PasswordParams as password_spec
 use Rattle.oauth2_script.specs.ClientCredentialsParams as client_credentials_spec
+use Rattle.oauth2_script.specs.IntrospectParams as introspect_spec
+use Rattle.oauth2_script.specs.RevokeParams as revoke_spec
 use Rattle.oauth2_script.specs.AuthorizeParams as authorize_spec
 use Rattle.oauth2_script.specs.declared.code_params.CodeParams.{CodeParams}
 use Rattle.oauth2_script.specs.declared.refresh_params.RefreshParams.{RefreshParams}
 use Rattle.oauth2_script.specs.declared.password_params.PasswordParams.{PasswordParams}
 use Rattle.oauth2_script.specs.declared.client_credentials_params.ClientCredentialsParams.{ClientCredentialsParams}
+use Rattle.oauth2_script.specs.declared.introspect_params.IntrospectParams.{IntrospectParams}
+use Rattle.oauth2_script.specs.declared.revoke_params.RevokeParams.{RevokeParams}
 use Rattle.oauth2_script.specs.declared.authorize_params.AuthorizeParams.{AuthorizeParams}
 use Rattle.oauth2_script.specs.declared.client_part.ClientPart.{ClientPart}
 use Rattle.oauth2_script.specs.declared.client_part.Endpoints.{Endpoints}
 use Rattle.oauth2_script.specs.declared.command.Command.{Command}
-use Rattle.oauth2_script.specs.declared.command.Command.TheVariants.{Code, Refresh, Password, ClientCredentials, Authorize}
+use Rattle.oauth2_script.specs.declared.command.Command.TheVariants.{Code, Refresh, Password, ClientCredentials, Introspect, Revoke, Authorize}
 use Rattle.oauth2_script.specs.declared.reply.HttpReply.{HttpReply}
 use Rattle.oauth2_script.specs.declared.reply.Reply.{Reply}
 use Rattle.oauth2_script.specs.declared.reply.Reply.TheVariants.{Replied, Failed}
@@ -49,6 +53,20 @@ password_view p = record {
 abbrev pub client_credentials_view : ClientCredentialsParams → client_credentials_spec.ClientCredentialsParams
 client_credentials_view p = record {
   scopes = p.scopes.items;
+  extra = map (λ e. (string_bytes e.0, string_bytes e.1)) p.extra.items;
+}
+
+abbrev pub introspect_view : IntrospectParams → introspect_spec.IntrospectParams
+introspect_view p = record {
+  token = p.token;
+  hint = option_map string_bytes p.hint;
+  extra = map (λ e. (string_bytes e.0, string_bytes e.1)) p.extra.items;
+}
+
+abbrev pub revoke_view : RevokeParams → revoke_spec.RevokeParams
+revoke_view p = record {
+  token = string_bytes p.token;
+  kind = p.kind;
   extra = map (λ e. (string_bytes e.0, string_bytes e.1)) p.extra.items;
 }
 
@@ -90,6 +108,8 @@ command_view (Code p) = command_spec.code (code_view p)
 command_view (Refresh p) = command_spec.refresh (refresh_view p)
 command_view (Password p) = command_spec.password (password_view p)
 command_view (ClientCredentials p) = command_spec.client_credentials (client_credentials_view p)
+command_view (Introspect p) = command_spec.introspect (introspect_view p)
+command_view (Revoke p) = command_spec.revoke (revoke_view p)
 command_view (Authorize p) = command_spec.authorize (authorize_view p)
 
 abbrev pub script_view : Script → script_spec.Script

@@ -8,9 +8,11 @@ ghost use Rattle.oauth2_script.specs.Views.{command_view};
 use crate::authorize_params::AuthorizeParams;
 use crate::client_credentials_params::ClientCredentialsParams;
 use crate::code_params::CodeParams;
+use crate::introspect_params::IntrospectParams;
 use crate::part::Part;
 use crate::password_params::PasswordParams;
 use crate::refresh_params::RefreshParams;
+use crate::revoke_params::RevokeParams;
 use crate::script_error::ScriptError;
 use serde_json::Value;
 use std::alloc::Global;
@@ -22,6 +24,8 @@ pub enum Command {
     Refresh(RefreshParams),
     Password(PasswordParams),
     ClientCredentials(ClientCredentialsParams),
+    Introspect(IntrospectParams),
+    Revoke(RevokeParams),
     Authorize(AuthorizeParams),
 }
 
@@ -34,6 +38,8 @@ pub fn command_of(alloc: Global, name: &str, params: &Value) -> Result<Command, 
         "code" => Ok(Command::Code(CodeParams::from_value(alloc, params)?)),
         "refresh" => Ok(Command::Refresh(RefreshParams::from_value(alloc, params)?)),
         "password" => Ok(Command::Password(PasswordParams::from_value(alloc, params)?)),
+        "introspect" => Ok(Command::Introspect(IntrospectParams::from_value(alloc, params)?)),
+        "revoke" => Ok(Command::Revoke(RevokeParams::from_value(alloc, params)?)),
         "authorize" => Ok(Command::Authorize(AuthorizeParams::from_value(alloc, params)?)),
         "client_credentials" => Ok(Command::ClientCredentials(ClientCredentialsParams::from_value(
             alloc, params,

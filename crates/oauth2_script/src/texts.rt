@@ -6,8 +6,8 @@ ghost use Rattle.serde_json.specs.Find.{as_str};
 use crate::part::Part;
 use crate::script_error::ScriptError;
 use oauth2_types::{
-    AuthorizationCode, ClientId, ClientSecret, CsrfToken, RefreshToken, ResourceOwnerPassword,
-    ResourceOwnerUsername, ResponseType, Scope,
+    AccessToken, AuthorizationCode, ClientId, ClientSecret, CsrfToken, RefreshToken,
+    ResourceOwnerPassword, ResourceOwnerUsername, ResponseType, Scope,
 };
 use serde_json::Value;
 use std::alloc::Global;
@@ -22,6 +22,18 @@ impl Part for String {
     fn from_value(alloc: Global, value: &Value) -> Result<String, ScriptError> {
         let text = value.as_str().ok_or(ScriptError::Bad)?;
         Ok(String::from_str(alloc, text)?)
+    }
+}
+
+impl Part for AccessToken {
+    ghost Meaning = { List ℕ };
+
+    ghost meaning = { λ text. text };
+
+    ghost reading = { as_str };
+
+    fn from_value(alloc: Global, value: &Value) -> Result<AccessToken, ScriptError> {
+        Ok(AccessToken::new(String::from_value(alloc, value)?))
     }
 }
 

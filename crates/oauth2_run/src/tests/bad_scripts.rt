@@ -6,7 +6,7 @@ use crate::tests::support::{COMMAND, REPLY, REQUEST, SCRIPT, TOKEN, check};
 use std::test::Fail;
 
 /// What stands in place of the command.
-const BAD_COMMANDS: [&str; 8] = [
+const BAD_COMMANDS: [&str; 13] = [
     "\"command\":\"refresh\",\"params\":{}",
     "\"command\":\"refresh\",\"params\":{\"refresh_token\":\"r\",\"scopes\":[1]}",
     "\"command\":\"refresh\",\"params\":{\"refresh_token\":\"r\",\"scopes\":null}",
@@ -15,6 +15,11 @@ const BAD_COMMANDS: [&str; 8] = [
     "\"command\":\"client_credentials\",\"params\":{\"extra\":1}",
     "\"command\":\"authorize\",\"params\":{}",
     "\"command\":\"introspection\",\"params\":{\"token\":\"t\"}",
+    "\"command\":\"introspect\",\"params\":{\"hint\":\"access_token\"}",
+    "\"command\":\"introspect\",\"params\":{\"token\":\"t\",\"hint\":null}",
+    "\"command\":\"revoke\",\"params\":{\"kind\":\"access\"}",
+    "\"command\":\"revoke\",\"params\":{\"token\":\"t\",\"kind\":\"refresh_token\"}",
+    "\"command\":\"revoke\",\"params\":{\"token\":\"t\",\"kind\":null}",
 ];
 
 #[test]

@@ -2,7 +2,6 @@ use Rattle.std.proofs.Common.{◌≡◌, ◌++◌, ℕ, List, length, string_byt
 use Rattle.std.specs.Vec.Iter.{into_iter_len}
 use Rattle.std.proofs.lemmas.Result.{IfOk-weaker}
 use Rattle.oauth2_requests.specs.Authorization.{Authorization}
-use Rattle.oauth2_wire.specs.ConfigurationError.{IsMissingUrl}
 use Rattle.oauth2_script.specs.AuthorizeParams.{AuthorizeParams}
 use Rattle.oauth2_run.specs.Authorize.{authorization, IsUrlShown}
 use Rattle.oauth2_run.specs.private.Authorize.{new_authorization}
@@ -46,8 +45,8 @@ returns-in_ok-asked-in-Ok c =
 
 pub returns-in-Err : goal.returns-in-Err
 returns-in-Err c =
-    IfOk-weaker c.show_missing.result _ _
+    IfOk-weaker c.show_configuration_error.result _ _
     (λ status printed.
-    missing_told (codes "authorization") _ c.args.client.now.auth_url (string_bytes c.args.lines.now) (string_bytes c.show_missing.new.lines) status
-    (IsMissingUrl (codes "authorization") c.in-Err.error) c.in-Err.ensures.there c.in-Err.ensures.missing (printed (codes "authorization")))
-    c.show_missing.ensures
+    missing_told (codes "authorization") _ c.args.client.now.auth_url (string_bytes c.args.lines.now) (string_bytes c.show_configuration_error.new.lines) status
+    c.in-Err.error c.in-Err.ensures.there c.in-Err.ensures.missing printed)
+    c.show_configuration_error.ensures

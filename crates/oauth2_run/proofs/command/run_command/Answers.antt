@@ -13,5 +13,11 @@ returns-in-Password c = rw c.in-Password.is c.run_password.ensures
 pub returns-in-ClientCredentials : goal.returns-in-ClientCredentials
 returns-in-ClientCredentials c = rw c.in-ClientCredentials.is c.run_client_credentials.ensures
 
+pub returns-in-Introspect : goal.returns-in-Introspect
+returns-in-Introspect c = rw c.in-Introspect.is c.run_introspect.ensures
+
+pub returns-in-Revoke : goal.returns-in-Revoke
+returns-in-Revoke c = rw c.in-Revoke.is c.run_revoke.ensures
+
 pub returns-in-Authorize : goal.returns-in-Authorize
 returns-in-Authorize c = IfOk-weaker c.run_authorize.result _ _ (λ status adds. λ fed. rw c.in-Authorize.is adds) c.run_authorize.ensures

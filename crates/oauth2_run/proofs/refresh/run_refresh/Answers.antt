@@ -2,7 +2,6 @@ use Rattle.std.proofs.Common.{◌≡◌, ℕ, List, ◌++◌, length, string_byt
 use Rattle.std.specs.Vec.Iter.{into_iter_len}
 use Rattle.std.proofs.lemmas.Result.{IfOk-weaker}
 use Rattle.oauth2_wire.specs.Params.{with_scopes}
-use Rattle.oauth2_wire.specs.ConfigurationError.{IsMissingUrl}
 use Rattle.oauth2_requests.specs.Refresh.{RefreshRequest, refresh_configuration}
 use Rattle.oauth2.specs.NewRequest.{new_refresh_request}
 use Rattle.oauth2_script.specs.RefreshParams.{RefreshParams}
@@ -43,8 +42,8 @@ returns-in_ok-asked-in-Ok c =
 
 pub returns-in-Err : goal.returns-in-Err
 returns-in-Err c =
-    IfOk-weaker c.show_missing.result _ _
+    IfOk-weaker c.show_configuration_error.result _ _
     (λ status printed. λ fed.
-    missing_told (codes "token") _ c.args.client.now.token_url (string_bytes c.args.http_client.now.lines) (string_bytes c.show_missing.new.lines) status
-    (IsMissingUrl (codes "token") c.in-Err.error) c.in-Err.ensures.there c.in-Err.ensures.missing (printed (codes "token")))
-    c.show_missing.ensures
+    missing_told (codes "token") _ c.args.client.now.token_url (string_bytes c.args.http_client.now.lines) (string_bytes c.show_configuration_error.new.lines) status
+    c.in-Err.error c.in-Err.ensures.there c.in-Err.ensures.missing printed)
+    c.show_configuration_error.ensures

@@ -1,5 +1,5 @@
 use Rattle.std.proofs.Common.{◌≡◌, None, refl}
-use Rattle.oauth2_run.specs.Run.{IsOutputOf, IsScriptOutput, bad_script}
+use Rattle.oauth2_run.specs.Run.{IsOutputOf, bad_script}
 use Rattle.oauth2_script.specs.Script.{script_in}
 use Rattle.oauth2_run.proofs.run.output_of.Goals as goal
 

@@ -1,0 +1,36 @@
+//! Requests that take parameters of the caller's own.
+
+ghost use Rattle.std.specs.Prelude.{◌≡◌, map, IfOk};
+ghost use Rattle.oauth2_wire.specs.ServerView.{pair_texts};
+
+use std::alloc::AllocError;
+
+/// A request that more pairs can be added to.
+pub trait Extensible<'a>: Sized {
+    ghost use Rattle.std.specs.Prelude.{◌≡◌, ◌++◌, ◌∷◌, [], List, IfOk};
+    ghost use Rattle.oauth2_wire.specs.Pairs.{Pair};
+
+    /// With these pairs after those that are there.
+    ghost extended: { Self → List Pair → Self };
+
+    fn with_pair(self, name: &'a str, value: &'a str) -> Result<Self, AllocError>
+        ensures { IfOk result (λ r. r ≡ extended self ((name.now, value.now) ∷ [])) };
+
+    ghost none: { (r : Self) → extended r [] ≡ r };
+
+    ghost more: { (r : Self) (p q : List Pair) → extended (extended r p) q ≡ extended r (p ++ q) };
+}
+
+/// Adds each of these pairs.
+pub fn with_extra<'a, T: Extensible<'a> + Drop>(
+    request: T,
+    extra: &'a [(String, String)],
+) -> Result<T, AllocError>
+    ensures { IfOk result (λ r. r ≡ T.extended request (map pair_texts extra.now)) }
+{
+    let mut request = request;
+    for (name, value) in extra {
+        request = request.with_pair(name.as_str(), value.as_str())?;
+    }
+    Ok(request)
+}

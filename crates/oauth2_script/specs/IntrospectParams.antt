@@ -1,0 +1,17 @@
+-- The parameters of the command `introspect`.
+use Rattle.std.specs.Prelude.{ℕ, List, Option, Some, codes}
+use Rattle.serde_json.specs.Data.{Data}
+use Rattle.serde_json.specs.Find.{as_str}
+use Rattle.oauth2_script.specs.Part.{◌>>=◌, needed, optional, listed, pair}
+
+pub record IntrospectParams : Type 0 where
+  pub token : List ℕ
+  pub hint : Option (List ℕ)
+  pub extra : List (List ℕ × List ℕ)
+
+unfoldable pub introspect_params : Data → Option IntrospectParams
+introspect_params d = do
+  token ← needed as_str (codes "token") d
+  hint ← optional as_str (codes "hint") d
+  extra ← listed pair (codes "extra") d
+  Some (record { token = token; hint = hint; extra = extra })

@@ -1,0 +1,28 @@
+-- The parameters of the command `revoke`.
+use Rattle.std.specs.Prelude.{ℕ, List, Option, Some, None, unwrap_or, if◌then◌else◌, codes}
+use Rattle.std.specs.Str.{bytes_eq}
+use Rattle.serde_json.specs.Data.{Data}
+use Rattle.serde_json.specs.Find.{as_str}
+use Rattle.oauth2_script.specs.Part.{◌>>=◌, needed, optional, listed, pair}
+use Rattle.oauth2_script.specs.declared.revoke_params.TokenKind.{TokenKind}
+use Rattle.oauth2_script.specs.declared.revoke_params.TokenKind.TheVariants.{Access, Refresh}
+
+pub record RevokeParams : Type 0 where
+  pub token : List ℕ
+  pub kind : TokenKind
+  pub extra : List (List ℕ × List ℕ)
+
+unfoldable pub kind_of : List ℕ → Option TokenKind
+kind_of text =
+    if bytes_eq text (codes "access") then Some Access
+    else (if bytes_eq text (codes "refresh") then Some Refresh else None)
+
+abbrev pub kind : Data → Option TokenKind
+kind d = as_str d >>= kind_of
+
+unfoldable pub revoke_params : Data → Option RevokeParams
+revoke_params d = do
+  token ← needed as_str (codes "token") d
+  kind ← optional kind (codes "kind") d
+  extra ← listed pair (codes "extra") d
+  Some (record { token = token; kind = unwrap_or kind Access; extra = extra })

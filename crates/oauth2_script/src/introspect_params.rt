@@ -1,0 +1,36 @@
+//! The parameters of the command `introspect`.
+
+ghost use Rattle.oauth2_script.specs.IntrospectParams as spec;
+
+use crate::part::{Part, listed, needed, optional};
+use crate::script_error::ScriptError;
+use oauth2_types::AccessToken;
+use serde_json::Value;
+use std::alloc::Global;
+
+/// What the introspection of a token takes.
+#[derive(Drop)]
+pub struct IntrospectParams {
+    pub token: AccessToken,
+    /// What the server is told of the token's type.
+    pub hint: Option<String>,
+    pub extra: Vec<(String, String)>,
+}
+
+impl Part for IntrospectParams {
+    ghost use Rattle.oauth2_script.specs.Views.{introspect_view};
+
+    ghost Meaning = { spec.IntrospectParams };
+
+    ghost meaning = { introspect_view };
+
+    ghost reading = { spec.introspect_params };
+
+    #[tactic(auto, unfolding(crate::specs::IntrospectParams::introspect_params))]
+    fn from_value(alloc: Global, value: &Value) -> Result<IntrospectParams, ScriptError> {
+        let token = needed(alloc, value, "token")?;
+        let hint = optional(alloc, value, "hint")?;
+        let extra = listed(alloc, value, "extra")?;
+        Ok(IntrospectParams { token, hint, extra })
+    }
+}

@@ -1,0 +1,64 @@
+//! The parameters of the command `revoke`.
+
+ghost use Rattle.oauth2_script.specs.RevokeParams as spec;
+
+use crate::part::{Part, listed, needed, optional};
+use crate::script_error::ScriptError;
+use serde_json::Value;
+use std::alloc::Global;
+
+/// Which kind of token a text is (RFC 7009, section 2.1).
+#[derive(Clone, Copy, Debug, PartialEq, Eq)]
+pub enum TokenKind {
+    Access,
+    Refresh,
+}
+
+/// What the revocation of a token takes.
+#[derive(Drop)]
+pub struct RevokeParams {
+    pub token: String,
+    pub kind: TokenKind,
+    pub extra: Vec<(String, String)>,
+}
+
+impl Part for TokenKind {
+    ghost use Rattle.oauth2_script.specs.declared.revoke_params.TokenKind.{TokenKind};
+
+    ghost Meaning = { TokenKind };
+
+    ghost meaning = { λ kind. kind };
+
+    ghost reading = { spec.kind };
+
+    #[tactic(auto, unfolding(crate::specs::RevokeParams::kind_of))]
+    fn from_value(_alloc: Global, value: &Value) -> Result<TokenKind, ScriptError> {
+        match value.as_str() {
+            Some("access") => Ok(TokenKind::Access),
+            Some("refresh") => Ok(TokenKind::Refresh),
+            _ => Err(ScriptError::Bad),
+        }
+    }
+}
+
+impl Part for RevokeParams {
+    ghost use Rattle.oauth2_script.specs.Views.{revoke_view};
+
+    ghost Meaning = { spec.RevokeParams };
+
+    ghost meaning = { revoke_view };
+
+    ghost reading = { spec.revoke_params };
+
+    #[tactic(auto, unfolding(crate::specs::RevokeParams::revoke_params))]
+    fn from_value(alloc: Global, value: &Value) -> Result<RevokeParams, ScriptError> {
+        let token = needed(alloc, value, "token")?;
+        let kind = optional(alloc, value, "kind")?;
+        let extra = listed(alloc, value, "extra")?;
+        Ok(RevokeParams {
+            token,
+            kind: kind.unwrap_or(TokenKind::Access),
+            extra,
+        })
+    }
+}
