@@ -43,6 +43,7 @@ struct Recorder<'a> {
     readings: &'a [Timestamp],
     last: Timestamp,
     replies: &'a [(u16, &'a str)],
+    sent: usize,
     seen: Vec<Seen>,
     is_whole: bool,
 }
@@ -79,11 +80,11 @@ impl PollWorld for Recorder<'_> {
     fn send(&mut self, request: HttpRequest) -> Result<HttpResponse, AllocError> {
         drop(request);
         self.note(Seen::Request);
-        let Some((first, rest)) = self.replies.split_first() else {
+        let Some((status, body)) = self.replies.get(self.sent).copied() else {
             return Err(AllocError);
         };
-        self.replies = rest;
-        reply(self.alloc, first.0, first.1)
+        self.sent = self.sent.saturating_add(1);
+        reply(self.alloc, status, body)
     }
 
     fn sleep(&mut self, duration: Duration) {
@@ -151,6 +152,7 @@ fn polled(rt: &(impl Abort + AllocGlobal), poll: Poll<'_>, seen: &[Seen]) -> Tok
         readings: readings.as_slice(),
         last: moment(rt, 0),
         replies: poll.replies,
+        sent: 0,
         seen: Vec::new(rt.alloc()),
         is_whole: true,
     };
