@@ -13,9 +13,11 @@ ghost use Rattle.oauth2_replies.specs.private.Address.{IsAddress};
 ghost use Rattle.oauth2_replies.specs.private.Groups.{pair};
 ghost use Rattle.oauth2_replies.specs.private.DeviceRows.{code_names, codes_reading, address_names, addresses_reading, time_names, times_reading, in_turn};
 
-use crate::device::{DeviceAuthorizationResponse, ExtraDeviceAuthorizationFields};
+use crate::device::{
+    Addresses, Codes, DeviceAuthorizationResponse, ExtraDeviceAuthorizationFields, Times,
+};
 use oauth2_json::{FromJson, ReadError, ToJson, WriteError, members};
-use oauth2_types::{DeviceCode, UserCode, VerificationUriComplete};
+use oauth2_types::VerificationUriComplete;
 use oauth2_urls::EndUserVerificationUrl;
 use serde_json::{Map, Value};
 use std::alloc::{AllocError, Global};
@@ -48,27 +50,6 @@ fn verification_uri(
     ensures address { IfOk result IsAddress }
 {
     members::either_name(alloc, "verification_uri", found, other)
-}
-
-/// What the device and the user hold of the authorization.
-#[derive(Drop)]
-struct Codes {
-    device_code: DeviceCode,
-    user_code: UserCode,
-}
-
-/// Where the user goes.
-#[derive(Drop)]
-struct Addresses {
-    verification_uri: EndUserVerificationUrl,
-    verification_uri_complete: Option<VerificationUriComplete>,
-}
-
-/// In seconds.
-#[derive(Drop)]
-struct Times {
-    expires_in: u64,
-    interval: u64,
 }
 
 #[tactic(auto, unfolding(crate::specs::private::DeviceRows::codes_reading))]
