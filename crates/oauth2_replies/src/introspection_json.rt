@@ -9,15 +9,14 @@ ghost use Rattle.oauth2_json.specs.Writing.{WritesAs};
 ghost use Rattle.oauth2_json.specs.Puts.{put_all};
 ghost use Rattle.oauth2_replies.specs.Introspection.{Introspection, introspection_seen, introspection_reading, introspection_writing, own_rows, IsIntrospectionKept};
 ghost use Rattle.oauth2_replies.specs.private.Groups.{quadruple};
-ghost use Rattle.oauth2_replies.specs.private.IntrospectionRows.{grant_names, grant_reading, validity_names, validity_reading, claims_names, claims_reading, in_turn, AreInstants};
+ghost use Rattle.oauth2_replies.specs.private.IntrospectionRows.{grant_names, grant_reading, grant_rows, validity_names, validity_reading, validity_rows, claims_names, claims_reading, claims_rows, in_turn, AreInstants};
 
-use crate::introspection::StandardTokenIntrospectionResponse;
+use crate::introspection::{Claims, Grant, StandardTokenIntrospectionResponse, Validity};
 use crate::scopes;
 use crate::token::ExtraTokenFields;
-use jiff::Timestamp;
 use oauth2_codes::TokenType;
 use oauth2_json::{FromJson, ReadError, ToJson, WriteError, members};
-use oauth2_types::{ClientId, Scope};
+use oauth2_types::ClientId;
 use serde_json::{Map, Value};
 use std::alloc::{AllocError, Global};
 use std::ops::Deref;
@@ -37,33 +36,6 @@ impl<EF: ExtraTokenFields + Drop, TT: TokenType + Drop> FromJson
         let members = members::of_object(alloc, value)?;
         from_members(alloc, members)
     }
-}
-
-/// What was granted, and to whom.
-#[derive(Drop)]
-struct Grant {
-    active: bool,
-    scopes: Option<Vec<Scope>>,
-    client_id: Option<ClientId>,
-    username: Option<String>,
-}
-
-/// What the token is, and when it is good.
-#[derive(Drop)]
-struct Validity<TT> {
-    token_type: Option<TT>,
-    exp: Option<Timestamp>,
-    iat: Option<Timestamp>,
-    nbf: Option<Timestamp>,
-}
-
-/// Whom the token names, and its own name.
-#[derive(Drop)]
-struct Claims {
-    sub: Option<String>,
-    aud: Option<Vec<String>>,
-    iss: Option<String>,
-    jti: Option<String>,
 }
 
 #[tactic(auto, unfolding(crate::specs::private::IntrospectionRows::grant_reading))]
@@ -212,31 +184,52 @@ impl<EF: ExtraTokenFields, TT: TokenType> StandardTokenIntrospectionResponse<EF,
         ensures { IfOk result (λ all. members_view all.entries
             ≡ put_all (own_rows (option_map view token_type) self.now) (members_view members.entries)) }
     {
-        let jti = members::text_value(alloc, &self.jti)?;
-        members::put_some(&mut members, alloc, "jti", jti)?;
-        let iss = members::text_value(alloc, &self.iss)?;
-        members::put_some(&mut members, alloc, "iss", iss)?;
-        let aud = members::texts_value(alloc, &self.aud)?;
-        members::put_some(&mut members, alloc, "aud", aud)?;
-        let sub = members::text_value(alloc, &self.sub)?;
-        members::put_some(&mut members, alloc, "sub", sub)?;
-        members::put_some(&mut members, alloc, "nbf", members::time_value(self.nbf))?;
-        members::put_some(&mut members, alloc, "iat", members::time_value(self.iat))?;
-        members::put_some(&mut members, alloc, "exp", members::time_value(self.exp))?;
-        members::put_some(&mut members, alloc, "token_type", token_type)?;
-        let username = members::text_value(alloc, &self.username)?;
-        members::put_some(&mut members, alloc, "username", username)?;
-        let client_id = client_id_value(alloc, &self.client_id)?;
-        members::put_some(&mut members, alloc, "client_id", client_id)?;
-        let scope = scopes::scopes_value(alloc, &self.scopes)?;
-        members::put_some(&mut members, alloc, "scope", scope)?;
-        members::put_some(
-            &mut members,
-            alloc,
-            "active",
-            Some(Value::from(self.active)),
-        )?;
+        self.put_claims(alloc, &mut members)?;
+        self.put_validity(alloc, token_type, &mut members)?;
+        self.put_grant(alloc, &mut members)?;
         Ok(members)
+    }
+
+    fn put_claims(&self, alloc: Global, members: &mut Map<String, Value>) -> Result<(), AllocError>
+        ensures { IfOk result (λ _. members_view members.new.entries
+            ≡ put_all (claims_rows self.now) (members_view members.old.entries)) }
+    {
+        let jti = members::text_value(alloc, &self.jti)?;
+        members::put_some(members, alloc, "jti", jti)?;
+        let iss = members::text_value(alloc, &self.iss)?;
+        members::put_some(members, alloc, "iss", iss)?;
+        let aud = members::texts_value(alloc, &self.aud)?;
+        members::put_some(members, alloc, "aud", aud)?;
+        let sub = members::text_value(alloc, &self.sub)?;
+        members::put_some(members, alloc, "sub", sub)
+    }
+
+    fn put_validity(
+        &self,
+        alloc: Global,
+        token_type: Option<Value>,
+        members: &mut Map<String, Value>,
+    ) -> Result<(), AllocError>
+        ensures { IfOk result (λ _. members_view members.new.entries
+            ≡ put_all (validity_rows (option_map view token_type) self.now) (members_view members.old.entries)) }
+    {
+        members::put_some(members, alloc, "nbf", members::time_value(self.nbf))?;
+        members::put_some(members, alloc, "iat", members::time_value(self.iat))?;
+        members::put_some(members, alloc, "exp", members::time_value(self.exp))?;
+        members::put_some(members, alloc, "token_type", token_type)
+    }
+
+    fn put_grant(&self, alloc: Global, members: &mut Map<String, Value>) -> Result<(), AllocError>
+        ensures { IfOk result (λ _. members_view members.new.entries
+            ≡ put_all (grant_rows self.now) (members_view members.old.entries)) }
+    {
+        let username = members::text_value(alloc, &self.username)?;
+        members::put_some(members, alloc, "username", username)?;
+        let client_id = client_id_value(alloc, &self.client_id)?;
+        members::put_some(members, alloc, "client_id", client_id)?;
+        let scope = scopes::scopes_value(alloc, &self.scopes)?;
+        members::put_some(members, alloc, "scope", scope)?;
+        members::put_some(members, alloc, "active", Some(Value::from(self.active)))
     }
 }
 

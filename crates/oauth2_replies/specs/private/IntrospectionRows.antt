@@ -1,11 +1,13 @@
 -- The members of an introspection response, taken out in three groups, each out of those that the groups before it
 -- left; and that its times are instants.
-use Rattle.std.specs.Prelude.{◌≡◌, ℕ, ℤ, List, Bool, true, [], ◌∷◌, Option, IfSome, Ok, codes}
-use Rattle.serde_json.specs.Data.{Data, Members, object}
+use Rattle.std.specs.Prelude.{◌≡◌, ℕ, ℤ, List, Bool, true, [], ◌∷◌, Option, Some, IfSome, Ok, codes, option_map}
+use Rattle.serde_json.specs.Data.{Data, Members, boolean, string, array, object}
 use Rattle.serde_json.specs.Find.{get_member}
 use Rattle.oauth2_json.specs.Reading.{Reading, ◌⊛◌}
 use Rattle.oauth2_json.specs.Members.{needed, optional, present, others}
-use Rattle.oauth2_json.specs.Values.{text, flag, instant, lowered, spaced, texts, is_instant}
+use Rattle.oauth2_json.specs.Values.{text, flag, instant, lowered, spaced, texts, text_items, second_data, is_instant}
+use Rattle.oauth2_json.specs.Words.{joined}
+use Rattle.oauth2_json.specs.Puts.{Row}
 use Rattle.oauth2_replies.specs.Introspection.{Introspection, introspection}
 use Rattle.oauth2_replies.specs.private.Groups.{quadruple}
 
@@ -52,6 +54,31 @@ in_turn extra_fields token_type ms =
     ⊛ validity_reading token_type (others grant_names ms)
     ⊛ claims_reading (others validity_names (others grant_names ms))
     ⊛ extra_fields (object (others claims_names (others validity_names (others grant_names ms))))
+
+-- and the same groups as they are written
+abbrev pub grant_rows : {E T : Type 0} → Introspection E T → List Row
+grant_rows r =
+    (codes "active", Some (boolean r.active))
+    ∷ (codes "scope", option_map (λ scopes. string (joined scopes)) r.scopes)
+    ∷ (codes "client_id", option_map string r.client_id)
+    ∷ (codes "username", option_map string r.username)
+    ∷ []
+
+abbrev pub validity_rows : {E T : Type 0} → Option Data → Introspection E T → List Row
+validity_rows token_type r =
+    (codes "token_type", token_type)
+    ∷ (codes "exp", option_map second_data r.exp)
+    ∷ (codes "iat", option_map second_data r.iat)
+    ∷ (codes "nbf", option_map second_data r.nbf)
+    ∷ []
+
+abbrev pub claims_rows : {E T : Type 0} → Introspection E T → List Row
+claims_rows r =
+    (codes "sub", option_map string r.sub)
+    ∷ (codes "aud", option_map (λ list. array (text_items list)) r.aud)
+    ∷ (codes "iss", option_map string r.iss)
+    ∷ (codes "jti", option_map string r.jti)
+    ∷ []
 
 -- `jiff` has each instant that is told
 abbrev pub IsInstant : Option ℤ → Type 0
