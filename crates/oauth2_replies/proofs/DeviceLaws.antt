@@ -10,7 +10,7 @@ use Rattle.oauth2_json.specs.declared.read.ReadError.{ReadError}
 use Rattle.oauth2_json.specs.declared.read.ParseCause.TheVariants as cause
 use Rattle.oauth2_json.specs.Writing.{Writing, write_then}
 use Rattle.oauth2_json.specs.Members.{members_of_object, needed, either_name, others, clashes, beside}
-use Rattle.oauth2_json.specs.Values.{text, url}
+use Rattle.oauth2_json.specs.Values.{url}
 use Rattle.oauth2_json.specs.Puts.{put_all}
 use Rattle.oauth2_json.proofs.Puts.{found, rest}
 use Rattle.oauth2_json.proofs.Objects.{get_member-others, beside_taken, optional-text}
