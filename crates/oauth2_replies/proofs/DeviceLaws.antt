@@ -1,26 +1,40 @@
 -- A device authorization response reads back.
-use Rattle.std.proofs.Common.{◌≡◌, ℕ, List, false, Option, Some, None, option_map, Result, Ok, Err, IfOk, codes, refl, sym, subst, [], ◌∷◌}
+use Rattle.std.proofs.Common.{◌≡◌, ℕ, List, false, Option, Some, None, option_map, Result, Ok, Err, IfOk, codes, refl, sym, ◌∙◌, subst, [], ◌∷◌}
 use Rattle.serde_json.specs.Data.{Data, Members, null, boolean, number, unsigned, string, array, object}
 use Rattle.serde_json.specs.Find.{get_member}
 use Rattle.url.specs.Parser.{Parsed, parse_url}
 use Rattle.url.specs.Parts.{Parts}
 use Rattle.oauth2_urls.specs.Addressed.{Addressed}
-use Rattle.oauth2_json.specs.Reading.{Reading, whole, at_member, ReadsAs}
+use Rattle.oauth2_json.specs.Reading.{Reading, whole, at_member, ReadsAs, ◌⊛◌}
 use Rattle.oauth2_json.specs.declared.read.ReadError.{ReadError}
 use Rattle.oauth2_json.specs.declared.read.ParseCause.TheVariants as cause
 use Rattle.oauth2_json.specs.Writing.{Writing, write_then}
 use Rattle.oauth2_json.specs.Members.{members_of_object, needed, either_name, others, clashes, beside}
-use Rattle.oauth2_json.specs.Values.{text, url}
+use Rattle.oauth2_json.specs.Values.{url}
 use Rattle.oauth2_json.specs.Puts.{put_all}
 use Rattle.oauth2_json.proofs.Puts.{found, rest}
 use Rattle.oauth2_json.proofs.Objects.{get_member-others, beside_taken, optional-text}
 use Rattle.oauth2_replies.specs.Kept.{AreFieldsKept}
-use Rattle.oauth2_replies.specs.Device.{DeviceAuthorization, device_seen, own_names, own_rows, address_reading, device_row, device_reading, device_writing}
+use Rattle.oauth2_replies.specs.Device.{DeviceAuthorization, device_authorization, device_seen, own_names, own_rows, address_reading, device_row, device_reading, device_writing}
 use Rattle.oauth2_replies.specs.private.Address.{IsAddress}
-use Rattle.oauth2_replies.specs.private.DeviceRows.{in_turn}
+use Rattle.oauth2_replies.specs.private.Groups.{pair}
+use Rattle.oauth2_replies.specs.private.DeviceRows.{codes_reading, addresses_reading, times_reading, in_turn}
+
+-- pair by pair is row by row
+paired : {A B C D E F X R : Type 0} (f : A → B → C → D → E → F → X → R) (a : Reading A) (b : Reading B) (c : Reading C) (d : Reading D) (e : Reading E) (g : Reading F) (x : Reading X)
+    → Ok (λ p q r y. f p.0 p.1 q.0 q.1 r.0 r.1 y) ⊛ (Ok pair ⊛ a ⊛ b) ⊛ (Ok pair ⊛ c ⊛ d) ⊛ (Ok pair ⊛ e ⊛ g) ⊛ x ≡ Ok f ⊛ a ⊛ b ⊛ c ⊛ d ⊛ e ⊛ g ⊛ x
+paired f (Err u) b c d e g x = refl
+paired f (Ok a) (Err u) c d e g x = refl
+paired f (Ok a) (Ok b) (Err u) d e g x = refl
+paired f (Ok a) (Ok b) (Ok c) (Err u) e g x = refl
+paired f (Ok a) (Ok b) (Ok c) (Ok d) (Err u) g x = refl
+paired f (Ok a) (Ok b) (Ok c) (Ok d) (Ok e) (Err u) x = refl
+paired f (Ok a) (Ok b) (Ok c) (Ok d) (Ok e) (Ok g) (Err u) = refl
+paired f (Ok a) (Ok b) (Ok c) (Ok d) (Ok e) (Ok g) (Ok y) = refl
 
 pub read_in_turn : {E : Type 0} (er : Data → Reading E) (d : Data) (ms : Members) → members_of_object d ≡ Ok ms → in_turn er ms ≡ device_reading er d
-read_in_turn er d ms h = rw (
+unfolding codes_reading addresses_reading times_reading
+read_in_turn er d ms h = paired device_authorization _ _ _ _ _ _ _ ∙ rw (
   h,
   get_member-others (codes "user_code") (codes "device_code" ∷ []) ms refl,
   get_member-others (codes "verification_uri") (codes "device_code" ∷ codes "user_code" ∷ []) ms refl,

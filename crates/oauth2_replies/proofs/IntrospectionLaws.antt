@@ -1,8 +1,8 @@
 -- An introspection response reads back.
-use Rattle.std.proofs.Common.{◌≡◌, ℕ, List, false, Option, Some, None, IfSome, option_map, Ok, codes, refl, [], ◌∷◌}
+use Rattle.std.proofs.Common.{◌≡◌, ℕ, List, false, Option, Some, None, IfSome, option_map, Ok, Err, codes, refl, ◌∙◌, [], ◌∷◌}
 use Rattle.serde_json.specs.Data.{Data, Members, boolean, string, array, object}
 use Rattle.serde_json.specs.Find.{get_member}
-use Rattle.oauth2_json.specs.Reading.{Reading}
+use Rattle.oauth2_json.specs.Reading.{Reading, ◌⊛◌}
 use Rattle.oauth2_json.specs.Writing.{Writing, write_then}
 use Rattle.oauth2_json.specs.Members.{members_of_object, present, others, clashes, beside, optional_writing}
 use Rattle.oauth2_json.specs.Values.{lowered, text_items, second_data, IsWholeSeconds}
@@ -13,11 +13,31 @@ use Rattle.oauth2_json.proofs.Objects.{get_member-others, beside_taken, optional
 use Rattle.oauth2_json.proofs.Lists.{optional-texts}
 use Rattle.oauth2_json.proofs.Optionals.{optional-words, optional-instant}
 use Rattle.oauth2_replies.specs.Kept.{IsTypeKept, AreScopesKept}
-use Rattle.oauth2_replies.specs.Introspection.{Introspection, introspection_seen, own_names, own_rows, introspection_row, introspection_reading, introspection_writing, IsIntrospectionKept}
-use Rattle.oauth2_replies.specs.private.IntrospectionRows.{in_turn, AreInstants}
+use Rattle.oauth2_replies.specs.Introspection.{Introspection, introspection, introspection_seen, own_names, own_rows, introspection_row, introspection_reading, introspection_writing, IsIntrospectionKept}
+use Rattle.oauth2_replies.specs.private.Groups.{quadruple}
+use Rattle.oauth2_replies.specs.private.IntrospectionRows.{grant_reading, validity_reading, claims_reading, in_turn, AreInstants}
+
+-- group by group is row by row
+grouped : {A B C D E F G H I J K L X R : Type 0} (f : A → B → C → D → E → F → G → H → I → J → K → L → X → R) (a : Reading A) (b : Reading B) (c : Reading C) (d : Reading D) (g : Reading E) (h : Reading F) (i : Reading G) (j : Reading H) (k : Reading I) (l : Reading J) (m : Reading K) (n : Reading L) (x : Reading X)
+    → Ok (λ p q r y. f p.0 p.1 p.2 p.3 q.0 q.1 q.2 q.3 r.0 r.1 r.2 r.3 y) ⊛ (Ok quadruple ⊛ a ⊛ b ⊛ c ⊛ d) ⊛ (Ok quadruple ⊛ g ⊛ h ⊛ i ⊛ j) ⊛ (Ok quadruple ⊛ k ⊛ l ⊛ m ⊛ n) ⊛ x ≡ Ok f ⊛ a ⊛ b ⊛ c ⊛ d ⊛ g ⊛ h ⊛ i ⊛ j ⊛ k ⊛ l ⊛ m ⊛ n ⊛ x
+grouped f (Err u) b c d g h i j k l m n x = refl
+grouped f (Ok a) (Err u) c d g h i j k l m n x = refl
+grouped f (Ok a) (Ok b) (Err u) d g h i j k l m n x = refl
+grouped f (Ok a) (Ok b) (Ok c) (Err u) g h i j k l m n x = refl
+grouped f (Ok a) (Ok b) (Ok c) (Ok d) (Err u) h i j k l m n x = refl
+grouped f (Ok a) (Ok b) (Ok c) (Ok d) (Ok g) (Err u) i j k l m n x = refl
+grouped f (Ok a) (Ok b) (Ok c) (Ok d) (Ok g) (Ok h) (Err u) j k l m n x = refl
+grouped f (Ok a) (Ok b) (Ok c) (Ok d) (Ok g) (Ok h) (Ok i) (Err u) k l m n x = refl
+grouped f (Ok a) (Ok b) (Ok c) (Ok d) (Ok g) (Ok h) (Ok i) (Ok j) (Err u) l m n x = refl
+grouped f (Ok a) (Ok b) (Ok c) (Ok d) (Ok g) (Ok h) (Ok i) (Ok j) (Ok k) (Err u) m n x = refl
+grouped f (Ok a) (Ok b) (Ok c) (Ok d) (Ok g) (Ok h) (Ok i) (Ok j) (Ok k) (Ok l) (Err u) n x = refl
+grouped f (Ok a) (Ok b) (Ok c) (Ok d) (Ok g) (Ok h) (Ok i) (Ok j) (Ok k) (Ok l) (Ok m) (Err u) x = refl
+grouped f (Ok a) (Ok b) (Ok c) (Ok d) (Ok g) (Ok h) (Ok i) (Ok j) (Ok k) (Ok l) (Ok m) (Ok n) (Err u) = refl
+grouped f (Ok a) (Ok b) (Ok c) (Ok d) (Ok g) (Ok h) (Ok i) (Ok j) (Ok k) (Ok l) (Ok m) (Ok n) (Ok y) = refl
 
 pub read_in_turn : {E T : Type 0} (er : Data → Reading E) (tr : Data → Reading T) (d : Data) (ms : Members) → members_of_object d ≡ Ok ms → in_turn er tr ms ≡ introspection_reading er tr d
-read_in_turn er tr d ms h = rw (
+unfolding grant_reading validity_reading claims_reading
+read_in_turn er tr d ms h = grouped introspection _ _ _ _ _ _ _ _ _ _ _ _ _ ∙ rw (
   h,
   get_member-others (codes "scope") (codes "active" ∷ []) ms refl,
   get_member-others (codes "client_id") (codes "active" ∷ codes "scope" ∷ []) ms refl,

@@ -1,9 +1,9 @@
 -- A token response reads back.
-use Rattle.std.proofs.Common.{◌≡◌, ℕ, List, map, Some, option_map, Ok, codes, false, refl, [], ◌∷◌}
+use Rattle.std.proofs.Common.{◌≡◌, ℕ, List, map, Some, option_map, Ok, Err, codes, false, refl, ◌∙◌, [], ◌∷◌}
 use Rattle.std.specs.Char.{to_ascii_lowercase}
 use Rattle.serde_json.specs.Data.{Data, Members, number, unsigned, string, object}
 use Rattle.serde_json.specs.Find.{get_member}
-use Rattle.oauth2_json.specs.Reading.{Reading}
+use Rattle.oauth2_json.specs.Reading.{Reading, ◌⊛◌}
 use Rattle.oauth2_json.specs.Writing.{Writing, write_then}
 use Rattle.oauth2_json.specs.Members.{members_of_object, others, clashes, beside}
 use Rattle.oauth2_json.specs.Words.{joined}
@@ -12,11 +12,24 @@ use Rattle.oauth2_json.proofs.Puts.{found, rest}
 use Rattle.oauth2_json.proofs.Objects.{get_member-others, beside_taken, optional-text, optional-number}
 use Rattle.oauth2_json.proofs.Optionals.{optional-words}
 use Rattle.oauth2_replies.specs.Kept.{AreScopesKept}
-use Rattle.oauth2_replies.specs.Token.{Token, token_seen, own_names, own_rows, token_row, token_reading, token_writing, IsTokenKept}
-use Rattle.oauth2_replies.specs.private.TokenRows.{in_turn}
+use Rattle.oauth2_replies.specs.Token.{Token, token, token_seen, own_names, own_rows, token_row, token_reading, token_writing, IsTokenKept}
+use Rattle.oauth2_replies.specs.private.Groups.{pair, triple}
+use Rattle.oauth2_replies.specs.private.TokenRows.{credential_reading, terms_reading, in_turn}
+
+-- group by group is row by row
+grouped : {A B C D E X R : Type 0} (f : A → B → C → D → E → X → R) (a : Reading A) (b : Reading B) (c : Reading C) (d : Reading D) (e : Reading E) (x : Reading X)
+    → Ok (λ p q y. f p.0 p.1 q.0 q.1 q.2 y) ⊛ (Ok pair ⊛ a ⊛ b) ⊛ (Ok triple ⊛ c ⊛ d ⊛ e) ⊛ x ≡ Ok f ⊛ a ⊛ b ⊛ c ⊛ d ⊛ e ⊛ x
+grouped f (Err u) b c d e x = refl
+grouped f (Ok a) (Err u) c d e x = refl
+grouped f (Ok a) (Ok b) (Err u) d e x = refl
+grouped f (Ok a) (Ok b) (Ok c) (Err u) e x = refl
+grouped f (Ok a) (Ok b) (Ok c) (Ok d) (Err u) x = refl
+grouped f (Ok a) (Ok b) (Ok c) (Ok d) (Ok e) (Err u) = refl
+grouped f (Ok a) (Ok b) (Ok c) (Ok d) (Ok e) (Ok y) = refl
 
 pub read_in_turn : {E T : Type 0} (er : Data → Reading E) (tr : Data → Reading T) (d : Data) (ms : Members) → members_of_object d ≡ Ok ms → in_turn er tr ms ≡ token_reading er tr d
-read_in_turn er tr d ms h = rw (
+unfolding credential_reading terms_reading
+read_in_turn er tr d ms h = grouped token _ _ _ _ _ _ ∙ rw (
   h,
   get_member-others (codes "token_type") (codes "access_token" ∷ []) ms refl,
   get_member-others (codes "expires_in") (codes "access_token" ∷ codes "token_type" ∷ []) ms refl,

@@ -1,8 +1,9 @@
 //! The response of a device authorization endpoint (RFC 8628, section 3.2).
 
-ghost use Rattle.std.specs.Prelude.{◌≡◌, ℕ, ◌*◌, Ok, option_copied};
+ghost use Rattle.std.specs.Prelude.{◌≡◌, ℕ, ◌*◌, Ok, IfOk, option_copied};
 ghost use Rattle.std.specs.Duration.{as_nanos};
 ghost use Rattle.oauth2_replies.specs.Device.{DeviceAuthorization, device_seen};
+ghost use Rattle.oauth2_replies.specs.private.Address.{IsAddress};
 
 use oauth2_json::{FromJson, ReadError, ToJson, WriteError, members};
 use oauth2_types::{DeviceCode, TryClone, UserCode, VerificationUriComplete};
@@ -103,20 +104,67 @@ impl<EF> DeviceAuthorizationResponse<EF> {
     }
 }
 
+/// What the device and the user hold of an authorization.
+#[derive(Drop)]
+pub(crate) struct Codes {
+    pub(crate) device_code: DeviceCode,
+    pub(crate) user_code: UserCode,
+}
+
+/// Where the user goes.
+#[derive(Drop)]
+pub(crate) struct Addresses {
+    pub(crate) verification_uri: EndUserVerificationUrl,
+    pub(crate) verification_uri_complete: Option<VerificationUriComplete>,
+}
+
+/// How long the codes are good, and the wait between two requests, in seconds.
+#[derive(Drop)]
+pub(crate) struct Times {
+    pub(crate) expires_in: u64,
+    pub(crate) interval: u64,
+}
+
+impl<EF> DeviceAuthorizationResponse<EF> {
+    fn copied_codes(&self, alloc: Global) -> Result<Codes, AllocError>
+        ensures device_code { IfOk result (λ c. c.device_code ≡ self.now.device_code) }
+        ensures user_code { IfOk result (λ c. c.user_code ≡ self.now.user_code) }
+    {
+        Ok(Codes {
+            device_code: self.device_code.try_clone(alloc)?,
+            user_code: self.user_code.try_clone(alloc)?,
+        })
+    }
+
+    fn copied_addresses(&self, alloc: Global) -> Result<Addresses, AllocError>
+        ensures uri { IfOk result (λ a. a.verification_uri ≡ self.now.verification_uri) }
+        ensures complete { IfOk result (λ a. a.verification_uri_complete ≡ self.now.verification_uri_complete) }
+        ensures address { IsAddress self.now.verification_uri }
+    {
+        Ok(Addresses {
+            verification_uri: self.verification_uri.try_clone(alloc)?,
+            verification_uri_complete: self.verification_uri_complete.try_clone(alloc)?,
+        })
+    }
+}
+
 impl<EF: TryClone + Drop> TryClone for DeviceAuthorizationResponse<EF> {
     ghost Seen = { DeviceAuthorization EF.Seen };
 
     ghost seen = { device_seen EF.seen };
 
     fn try_clone(&self, alloc: Global) -> Result<DeviceAuthorizationResponse<EF>, AllocError> {
+        let codes = self.copied_codes(alloc)?;
+        let addresses = self.copied_addresses(alloc)?;
+        let extra_fields = self.extra_fields.try_clone(alloc)?;
         Ok(DeviceAuthorizationResponse {
-            device_code: self.device_code.try_clone(alloc)?,
-            user_code: self.user_code.try_clone(alloc)?,
-            verification_uri: self.verification_uri.try_clone(alloc)?,
-            verification_uri_complete: self.verification_uri_complete.try_clone(alloc)?,
+            device_code: codes.device_code,
+            user_code: codes.user_code,
+            verification_uri: addresses.verification_uri,
+            verification_uri_complete: addresses.verification_uri_complete,
             expires_in: self.expires_in,
             interval: self.interval,
-            extra_fields: self.extra_fields.try_clone(alloc)?,
+            extra_fields,
         })
     }
 }

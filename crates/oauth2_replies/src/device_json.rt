@@ -4,14 +4,18 @@ ghost use Rattle.std.specs.Prelude.{◌≡◌, Ok, IfOk, option_map};
 ghost use Rattle.serde_json.specs.Data.{string};
 ghost use Rattle.serde_json.specs.View.{view, members_view};
 ghost use Rattle.oauth2_json.specs.Reading.{ReadsAs};
+ghost use Rattle.oauth2_json.specs.Members.{others};
 ghost use Rattle.oauth2_json.specs.Writing.{WritesAs};
 ghost use Rattle.oauth2_json.specs.Puts.{put_all};
 ghost use Rattle.oauth2_replies.specs.Kept.{AreFieldsKept};
 ghost use Rattle.oauth2_replies.specs.Device.{DeviceAuthorization, device_seen, device_reading, device_writing, own_rows, address_reading};
 ghost use Rattle.oauth2_replies.specs.private.Address.{IsAddress};
-ghost use Rattle.oauth2_replies.specs.private.DeviceRows.{in_turn};
+ghost use Rattle.oauth2_replies.specs.private.Groups.{pair};
+ghost use Rattle.oauth2_replies.specs.private.DeviceRows.{code_names, codes_reading, address_names, addresses_reading, time_names, times_reading, in_turn};
 
-use crate::device::{DeviceAuthorizationResponse, ExtraDeviceAuthorizationFields};
+use crate::device::{
+    Addresses, Codes, DeviceAuthorizationResponse, ExtraDeviceAuthorizationFields, Times,
+};
 use oauth2_json::{FromJson, ReadError, ToJson, WriteError, members};
 use oauth2_types::VerificationUriComplete;
 use oauth2_urls::EndUserVerificationUrl;
@@ -48,42 +52,82 @@ fn verification_uri(
     members::either_name(alloc, "verification_uri", found, other)
 }
 
-/// Each own member, taken out in turn, and what is left of the others.
+#[tactic(auto, unfolding(crate::specs::private::DeviceRows::codes_reading))]
+fn take_codes(alloc: Global, members: &mut Map<String, Value>) -> Result<Codes, ReadError>
+    ensures read { ReadsAs (λ c. pair c.device_code c.user_code) result
+        (codes_reading (members_view members.old.entries)) }
+    ensures rest { IfOk result (λ _. members_view members.new.entries
+        ≡ others code_names (members_view members.old.entries)) }
+{
+    let device_code = members::take(members, "device_code");
+    let device_code = members::needed(alloc, "device_code", device_code)?;
+    let user_code = members::take(members, "user_code");
+    let user_code = members::needed(alloc, "user_code", user_code)?;
+    Ok(Codes {
+        device_code,
+        user_code,
+    })
+}
+
+#[tactic(auto, unfolding(crate::specs::private::DeviceRows::addresses_reading))]
+fn take_addresses(alloc: Global, members: &mut Map<String, Value>) -> Result<Addresses, ReadError>
+    ensures read { ReadsAs (λ a. pair a.verification_uri a.verification_uri_complete) result
+        (addresses_reading (members_view members.old.entries)) }
+    ensures address { IfOk result (λ a. IsAddress a.verification_uri) }
+    ensures rest { IfOk result (λ _. members_view members.new.entries
+        ≡ others address_names (members_view members.old.entries)) }
+{
+    let uri = members::take(members, "verification_uri");
+    let url = members::take(members, "verification_url");
+    let verification_uri = verification_uri(alloc, uri, url)?;
+    let complete = members::take(members, "verification_uri_complete");
+    let verification_uri_complete = members::optional(
+        alloc,
+        "verification_uri_complete",
+        complete,
+    )?;
+    Ok(Addresses {
+        verification_uri,
+        verification_uri_complete,
+    })
+}
+
+#[tactic(auto, unfolding(crate::specs::private::DeviceRows::times_reading))]
+fn take_times(alloc: Global, members: &mut Map<String, Value>) -> Result<Times, ReadError>
+    ensures read { ReadsAs (λ t. pair t.expires_in t.interval) result
+        (times_reading (members_view members.old.entries)) }
+    ensures rest { IfOk result (λ _. members_view members.new.entries
+        ≡ others time_names (members_view members.old.entries)) }
+{
+    let expires_in = members::take(members, "expires_in");
+    let expires_in = members::needed_number(alloc, "expires_in", expires_in)?;
+    let interval = members::take(members, "interval");
+    let interval = members::number_or(alloc, "interval", 5, interval)?;
+    Ok(Times {
+        expires_in,
+        interval,
+    })
+}
+
+/// The own members, pair by pair, and what is left of the others.
 fn from_members<EF: ExtraDeviceAuthorizationFields + Drop>(
     alloc: Global,
     mut members: Map<String, Value>,
 ) -> Result<DeviceAuthorizationResponse<EF>, ReadError>
     ensures { ReadsAs (device_seen EF.meaning) result (in_turn EF.reading (members_view members.entries)) }
 {
+    let codes = take_codes(alloc, &mut members)?;
+    let addresses = take_addresses(alloc, &mut members)?;
+    let times = take_times(alloc, &mut members)?;
+    let extra_fields = EF::from_json(alloc, Value::Object(members))?;
     Ok(DeviceAuthorizationResponse {
-        device_code: members::needed(
-            alloc,
-            "device_code",
-            members::take(&mut members, "device_code"),
-        )?,
-        user_code: members::needed(alloc, "user_code", members::take(&mut members, "user_code"))?,
-        verification_uri: verification_uri(
-            alloc,
-            members::take(&mut members, "verification_uri"),
-            members::take(&mut members, "verification_url"),
-        )?,
-        verification_uri_complete: members::optional(
-            alloc,
-            "verification_uri_complete",
-            members::take(&mut members, "verification_uri_complete"),
-        )?,
-        expires_in: members::needed_number(
-            alloc,
-            "expires_in",
-            members::take(&mut members, "expires_in"),
-        )?,
-        interval: members::number_or(
-            alloc,
-            "interval",
-            5,
-            members::take(&mut members, "interval"),
-        )?,
-        extra_fields: EF::from_json(alloc, Value::Object(members))?,
+        device_code: codes.device_code,
+        user_code: codes.user_code,
+        verification_uri: addresses.verification_uri,
+        verification_uri_complete: addresses.verification_uri_complete,
+        expires_in: times.expires_in,
+        interval: times.interval,
+        extra_fields,
     })
 }
 

@@ -1,6 +1,6 @@
 //! The response of an introspection endpoint (RFC 7662, section 2.2).
 
-ghost use Rattle.std.specs.Prelude.{◌≡◌, ℕ, List, None, map, option_map, option_copied, string_bytes};
+ghost use Rattle.std.specs.Prelude.{◌≡◌, ℕ, List, None, IfOk, map, option_map, option_copied, string_bytes};
 ghost use Rattle.oauth2_replies.specs.Introspection.{Introspection, introspection_seen};
 
 use crate::token::{EmptyExtraTokenFields, ExtraTokenFields};
@@ -333,6 +333,63 @@ impl<EF: ExtraTokenFields + Drop, TT: TokenType + Drop> TokenIntrospectionRespon
     }
 }
 
+/// What was granted, and to whom.
+#[derive(Drop)]
+pub(crate) struct Grant {
+    pub(crate) active: bool,
+    pub(crate) scopes: Option<Vec<Scope>>,
+    pub(crate) client_id: Option<ClientId>,
+    pub(crate) username: Option<String>,
+}
+
+/// What the token is, and when it is good.
+#[derive(Drop)]
+pub(crate) struct Validity<TT> {
+    pub(crate) token_type: Option<TT>,
+    pub(crate) exp: Option<Timestamp>,
+    pub(crate) iat: Option<Timestamp>,
+    pub(crate) nbf: Option<Timestamp>,
+}
+
+/// Whom the token names, and its own name.
+#[derive(Drop)]
+pub(crate) struct Claims {
+    pub(crate) sub: Option<String>,
+    pub(crate) aud: Option<Vec<String>>,
+    pub(crate) iss: Option<String>,
+    pub(crate) jti: Option<String>,
+}
+
+impl<EF, TT> StandardTokenIntrospectionResponse<EF, TT> {
+    fn copied_grant(&self, alloc: Global) -> Result<Grant, AllocError>
+        ensures active { IfOk result (λ g. g.active ≡ self.now.active) }
+        ensures scopes { IfOk result (λ g. option_map (λ list. list.items) g.scopes ≡ self.now.scopes) }
+        ensures client_id { IfOk result (λ g. g.client_id ≡ self.now.client_id) }
+        ensures username { IfOk result (λ g. option_map string_bytes g.username ≡ self.now.username) }
+    {
+        Ok(Grant {
+            active: self.active,
+            scopes: self.scopes.try_clone(alloc)?,
+            client_id: self.client_id.try_clone(alloc)?,
+            username: self.username.try_clone(alloc)?,
+        })
+    }
+
+    fn copied_claims(&self, alloc: Global) -> Result<Claims, AllocError>
+        ensures sub { IfOk result (λ c. option_map string_bytes c.sub ≡ self.now.sub) }
+        ensures aud { IfOk result (λ c. option_map (λ list. map string_bytes list.items) c.aud ≡ self.now.aud) }
+        ensures iss { IfOk result (λ c. option_map string_bytes c.iss ≡ self.now.iss) }
+        ensures jti { IfOk result (λ c. option_map string_bytes c.jti ≡ self.now.jti) }
+    {
+        Ok(Claims {
+            sub: self.sub.try_clone(alloc)?,
+            aud: self.aud.try_clone(alloc)?,
+            iss: self.iss.try_clone(alloc)?,
+            jti: self.jti.try_clone(alloc)?,
+        })
+    }
+}
+
 impl<EF: TryClone + Drop, TT: TryClone + Drop> TryClone
     for StandardTokenIntrospectionResponse<EF, TT> {
     ghost Seen = { Introspection EF.Seen TT.Seen };
@@ -343,20 +400,24 @@ impl<EF: TryClone + Drop, TT: TryClone + Drop> TryClone
         &self,
         alloc: Global,
     ) -> Result<StandardTokenIntrospectionResponse<EF, TT>, AllocError> {
+        let grant = self.copied_grant(alloc)?;
+        let claims = self.copied_claims(alloc)?;
+        let token_type = self.token_type.try_clone(alloc)?;
+        let extra_fields = self.extra_fields.try_clone(alloc)?;
         Ok(StandardTokenIntrospectionResponse {
-            active: self.active,
-            scopes: self.scopes.try_clone(alloc)?,
-            client_id: self.client_id.try_clone(alloc)?,
-            username: self.username.try_clone(alloc)?,
-            token_type: self.token_type.try_clone(alloc)?,
+            active: grant.active,
+            scopes: grant.scopes,
+            client_id: grant.client_id,
+            username: grant.username,
+            token_type,
             exp: self.exp,
             iat: self.iat,
             nbf: self.nbf,
-            sub: self.sub.try_clone(alloc)?,
-            aud: self.aud.try_clone(alloc)?,
-            iss: self.iss.try_clone(alloc)?,
-            jti: self.jti.try_clone(alloc)?,
-            extra_fields: self.extra_fields.try_clone(alloc)?,
+            sub: claims.sub,
+            aud: claims.aud,
+            iss: claims.iss,
+            jti: claims.jti,
+            extra_fields,
         })
     }
 }

@@ -1,15 +1,17 @@
 //! Introspection responses as JSON objects.
 
-ghost use Rattle.std.specs.Prelude.{◌≡◌, Ok, IfOk, option_map};
+ghost use Rattle.std.specs.Prelude.{◌≡◌, Ok, IfOk, map, option_map, string_bytes};
 ghost use Rattle.serde_json.specs.Data.{string};
 ghost use Rattle.serde_json.specs.View.{view, members_view};
 ghost use Rattle.oauth2_json.specs.Reading.{ReadsAs};
+ghost use Rattle.oauth2_json.specs.Members.{others};
 ghost use Rattle.oauth2_json.specs.Writing.{WritesAs};
 ghost use Rattle.oauth2_json.specs.Puts.{put_all};
 ghost use Rattle.oauth2_replies.specs.Introspection.{Introspection, introspection_seen, introspection_reading, introspection_writing, own_rows, IsIntrospectionKept};
-ghost use Rattle.oauth2_replies.specs.private.IntrospectionRows.{in_turn, AreInstants};
+ghost use Rattle.oauth2_replies.specs.private.Groups.{quadruple};
+ghost use Rattle.oauth2_replies.specs.private.IntrospectionRows.{grant_names, grant_reading, grant_rows, validity_names, validity_reading, validity_rows, claims_names, claims_reading, claims_rows, in_turn, AreInstants};
 
-use crate::introspection::StandardTokenIntrospectionResponse;
+use crate::introspection::{Claims, Grant, StandardTokenIntrospectionResponse, Validity};
 use crate::scopes;
 use crate::token::ExtraTokenFields;
 use oauth2_codes::TokenType;
@@ -36,7 +38,79 @@ impl<EF: ExtraTokenFields + Drop, TT: TokenType + Drop> FromJson
     }
 }
 
-/// Each own member, taken out in turn, and what is left of the others.
+#[tactic(auto, unfolding(crate::specs::private::IntrospectionRows::grant_reading))]
+fn take_grant(alloc: Global, members: &mut Map<String, Value>) -> Result<Grant, ReadError>
+    ensures read { ReadsAs (λ g. quadruple g.active (option_map (λ list. list.items) g.scopes)
+        g.client_id (option_map string_bytes g.username))
+        result (grant_reading (members_view members.old.entries)) }
+    ensures rest { IfOk result (λ _. members_view members.new.entries
+        ≡ others grant_names (members_view members.old.entries)) }
+{
+    let active = members::take(members, "active");
+    let active = members::needed_flag(alloc, "active", active)?;
+    let scopes = members::take(members, "scope");
+    let scopes = members::optional_words(alloc, "scope", scopes)?;
+    let client_id = members::take(members, "client_id");
+    let client_id = members::optional(alloc, "client_id", client_id)?;
+    let username = members::take(members, "username");
+    let username = members::optional(alloc, "username", username)?;
+    Ok(Grant {
+        active,
+        scopes,
+        client_id,
+        username,
+    })
+}
+
+#[tactic(auto, unfolding(crate::specs::private::IntrospectionRows::validity_reading))]
+fn take_validity<TT: TokenType + Drop>(
+    alloc: Global,
+    members: &mut Map<String, Value>,
+) -> Result<Validity<TT>, ReadError>
+    ensures read { ReadsAs (λ v. quadruple (option_map TT.meaning v.token_type)
+        (option_map (λ time. time.nanosecond) v.exp) (option_map (λ time. time.nanosecond) v.iat)
+        (option_map (λ time. time.nanosecond) v.nbf))
+        result (validity_reading TT.reading (members_view members.old.entries)) }
+    ensures rest { IfOk result (λ _. members_view members.new.entries
+        ≡ others validity_names (members_view members.old.entries)) }
+{
+    let token_type = members::take(members, "token_type");
+    let token_type = members::present_lowered(alloc, "token_type", token_type)?;
+    let exp = members::take(members, "exp");
+    let exp = members::optional_time(alloc, "exp", exp)?;
+    let iat = members::take(members, "iat");
+    let iat = members::optional_time(alloc, "iat", iat)?;
+    let nbf = members::take(members, "nbf");
+    let nbf = members::optional_time(alloc, "nbf", nbf)?;
+    Ok(Validity {
+        token_type,
+        exp,
+        iat,
+        nbf,
+    })
+}
+
+#[tactic(auto, unfolding(crate::specs::private::IntrospectionRows::claims_reading))]
+fn take_claims(alloc: Global, members: &mut Map<String, Value>) -> Result<Claims, ReadError>
+    ensures read { ReadsAs (λ c. quadruple (option_map string_bytes c.sub)
+        (option_map (λ list. map string_bytes list.items) c.aud)
+        (option_map string_bytes c.iss) (option_map string_bytes c.jti))
+        result (claims_reading (members_view members.old.entries)) }
+    ensures rest { IfOk result (λ _. members_view members.new.entries
+        ≡ others claims_names (members_view members.old.entries)) }
+{
+    let sub = members::take(members, "sub");
+    let sub = members::optional(alloc, "sub", sub)?;
+    let aud = members::take(members, "aud");
+    let aud = members::optional_texts(alloc, "aud", aud)?;
+    let iss = members::take(members, "iss");
+    let iss = members::optional(alloc, "iss", iss)?;
+    let jti = members::take(members, "jti");
+    let jti = members::optional(alloc, "jti", jti)?;
+    Ok(Claims { sub, aud, iss, jti })
+}
+
+/// The own members, group by group, and what is left of the others.
 fn from_members<EF: ExtraTokenFields + Drop, TT: TokenType + Drop>(
     alloc: Global,
     mut members: Map<String, Value>,
@@ -44,24 +118,24 @@ fn from_members<EF: ExtraTokenFields + Drop, TT: TokenType + Drop>(
     ensures { ReadsAs (introspection_seen EF.meaning TT.meaning) result
         (in_turn EF.reading TT.reading (members_view members.entries)) }
 {
+    let grant = take_grant(alloc, &mut members)?;
+    let validity = take_validity::<TT>(alloc, &mut members)?;
+    let claims = take_claims(alloc, &mut members)?;
+    let extra_fields = EF::from_json(alloc, Value::Object(members))?;
     Ok(StandardTokenIntrospectionResponse {
-        active: members::needed_flag(alloc, "active", members::take(&mut members, "active"))?,
-        scopes: members::optional_words(alloc, "scope", members::take(&mut members, "scope"))?,
-        client_id: members::optional(alloc, "client_id", members::take(&mut members, "client_id"))?,
-        username: members::optional(alloc, "username", members::take(&mut members, "username"))?,
-        token_type: members::present_lowered(
-            alloc,
-            "token_type",
-            members::take(&mut members, "token_type"),
-        )?,
-        exp: members::optional_time(alloc, "exp", members::take(&mut members, "exp"))?,
-        iat: members::optional_time(alloc, "iat", members::take(&mut members, "iat"))?,
-        nbf: members::optional_time(alloc, "nbf", members::take(&mut members, "nbf"))?,
-        sub: members::optional(alloc, "sub", members::take(&mut members, "sub"))?,
-        aud: members::optional_texts(alloc, "aud", members::take(&mut members, "aud"))?,
-        iss: members::optional(alloc, "iss", members::take(&mut members, "iss"))?,
-        jti: members::optional(alloc, "jti", members::take(&mut members, "jti"))?,
-        extra_fields: EF::from_json(alloc, Value::Object(members))?,
+        active: grant.active,
+        scopes: grant.scopes,
+        client_id: grant.client_id,
+        username: grant.username,
+        token_type: validity.token_type,
+        exp: validity.exp,
+        iat: validity.iat,
+        nbf: validity.nbf,
+        sub: claims.sub,
+        aud: claims.aud,
+        iss: claims.iss,
+        jti: claims.jti,
+        extra_fields,
     })
 }
 
@@ -110,31 +184,52 @@ impl<EF: ExtraTokenFields, TT: TokenType> StandardTokenIntrospectionResponse<EF,
         ensures { IfOk result (λ all. members_view all.entries
             ≡ put_all (own_rows (option_map view token_type) self.now) (members_view members.entries)) }
     {
-        let jti = members::text_value(alloc, &self.jti)?;
-        members::put_some(&mut members, alloc, "jti", jti)?;
-        let iss = members::text_value(alloc, &self.iss)?;
-        members::put_some(&mut members, alloc, "iss", iss)?;
-        let aud = members::texts_value(alloc, &self.aud)?;
-        members::put_some(&mut members, alloc, "aud", aud)?;
-        let sub = members::text_value(alloc, &self.sub)?;
-        members::put_some(&mut members, alloc, "sub", sub)?;
-        members::put_some(&mut members, alloc, "nbf", members::time_value(self.nbf))?;
-        members::put_some(&mut members, alloc, "iat", members::time_value(self.iat))?;
-        members::put_some(&mut members, alloc, "exp", members::time_value(self.exp))?;
-        members::put_some(&mut members, alloc, "token_type", token_type)?;
-        let username = members::text_value(alloc, &self.username)?;
-        members::put_some(&mut members, alloc, "username", username)?;
-        let client_id = client_id_value(alloc, &self.client_id)?;
-        members::put_some(&mut members, alloc, "client_id", client_id)?;
-        let scope = scopes::scopes_value(alloc, &self.scopes)?;
-        members::put_some(&mut members, alloc, "scope", scope)?;
-        members::put_some(
-            &mut members,
-            alloc,
-            "active",
-            Some(Value::from(self.active)),
-        )?;
+        self.put_claims(alloc, &mut members)?;
+        self.put_validity(alloc, token_type, &mut members)?;
+        self.put_grant(alloc, &mut members)?;
         Ok(members)
+    }
+
+    fn put_claims(&self, alloc: Global, members: &mut Map<String, Value>) -> Result<(), AllocError>
+        ensures { IfOk result (λ _. members_view members.new.entries
+            ≡ put_all (claims_rows self.now) (members_view members.old.entries)) }
+    {
+        let jti = members::text_value(alloc, &self.jti)?;
+        members::put_some(members, alloc, "jti", jti)?;
+        let iss = members::text_value(alloc, &self.iss)?;
+        members::put_some(members, alloc, "iss", iss)?;
+        let aud = members::texts_value(alloc, &self.aud)?;
+        members::put_some(members, alloc, "aud", aud)?;
+        let sub = members::text_value(alloc, &self.sub)?;
+        members::put_some(members, alloc, "sub", sub)
+    }
+
+    fn put_validity(
+        &self,
+        alloc: Global,
+        token_type: Option<Value>,
+        members: &mut Map<String, Value>,
+    ) -> Result<(), AllocError>
+        ensures { IfOk result (λ _. members_view members.new.entries
+            ≡ put_all (validity_rows (option_map view token_type) self.now) (members_view members.old.entries)) }
+    {
+        members::put_some(members, alloc, "nbf", members::time_value(self.nbf))?;
+        members::put_some(members, alloc, "iat", members::time_value(self.iat))?;
+        members::put_some(members, alloc, "exp", members::time_value(self.exp))?;
+        members::put_some(members, alloc, "token_type", token_type)
+    }
+
+    fn put_grant(&self, alloc: Global, members: &mut Map<String, Value>) -> Result<(), AllocError>
+        ensures { IfOk result (λ _. members_view members.new.entries
+            ≡ put_all (grant_rows self.now) (members_view members.old.entries)) }
+    {
+        let username = members::text_value(alloc, &self.username)?;
+        members::put_some(members, alloc, "username", username)?;
+        let client_id = client_id_value(alloc, &self.client_id)?;
+        members::put_some(members, alloc, "client_id", client_id)?;
+        let scope = scopes::scopes_value(alloc, &self.scopes)?;
+        members::put_some(members, alloc, "scope", scope)?;
+        members::put_some(members, alloc, "active", Some(Value::from(self.active)))
     }
 }
 

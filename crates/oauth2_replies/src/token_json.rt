@@ -4,16 +4,18 @@ ghost use Rattle.std.specs.Prelude.{◌≡◌, Ok, IfOk, option_map};
 ghost use Rattle.serde_json.specs.Data.{string};
 ghost use Rattle.serde_json.specs.View.{view, members_view};
 ghost use Rattle.oauth2_json.specs.Reading.{ReadsAs};
+ghost use Rattle.oauth2_json.specs.Members.{others};
 ghost use Rattle.oauth2_json.specs.Writing.{WritesAs};
 ghost use Rattle.oauth2_json.specs.Puts.{put_all};
 ghost use Rattle.oauth2_replies.specs.Token.{Token, token_seen, token_reading, token_writing, own_rows, IsTokenKept};
-ghost use Rattle.oauth2_replies.specs.private.TokenRows.{in_turn};
+ghost use Rattle.oauth2_replies.specs.private.Groups.{pair, triple};
+ghost use Rattle.oauth2_replies.specs.private.TokenRows.{credential_names, credential_reading, terms_names, terms_reading, in_turn};
 
 use crate::scopes;
 use crate::token::{ExtraTokenFields, StandardTokenResponse};
 use oauth2_codes::TokenType;
 use oauth2_json::{FromJson, ReadError, ToJson, WriteError, members};
-use oauth2_types::RefreshToken;
+use oauth2_types::{AccessToken, RefreshToken, Scope};
 use serde_json::{Map, Value};
 use std::alloc::{AllocError, Global};
 
@@ -30,7 +32,62 @@ impl<EF: ExtraTokenFields + Drop, TT: TokenType + Drop> FromJson for StandardTok
     }
 }
 
-/// Each own member, taken out in turn, and what is left of the others.
+/// The token, and how it is used.
+#[derive(Drop)]
+struct Credential<TT> {
+    access_token: AccessToken,
+    token_type: TT,
+}
+
+/// For how long and for what the token is good, and how to get the next one.
+#[derive(Drop)]
+struct Terms {
+    expires_in: Option<u64>,
+    refresh_token: Option<RefreshToken>,
+    scopes: Option<Vec<Scope>>,
+}
+
+#[tactic(auto, unfolding(crate::specs::private::TokenRows::credential_reading))]
+fn take_credential<TT: TokenType + Drop>(
+    alloc: Global,
+    members: &mut Map<String, Value>,
+) -> Result<Credential<TT>, ReadError>
+    ensures read { ReadsAs (λ c. pair c.access_token (TT.meaning c.token_type)) result
+        (credential_reading TT.reading (members_view members.old.entries)) }
+    ensures rest { IfOk result (λ _. members_view members.new.entries
+        ≡ others credential_names (members_view members.old.entries)) }
+{
+    let access_token = members::take(members, "access_token");
+    let access_token = members::needed(alloc, "access_token", access_token)?;
+    let token_type = members::take(members, "token_type");
+    let token_type = members::needed_lowered(alloc, "token_type", token_type)?;
+    Ok(Credential {
+        access_token,
+        token_type,
+    })
+}
+
+#[tactic(auto, unfolding(crate::specs::private::TokenRows::terms_reading))]
+fn take_terms(alloc: Global, members: &mut Map<String, Value>) -> Result<Terms, ReadError>
+    ensures read { ReadsAs (λ t. triple t.expires_in t.refresh_token (option_map (λ list. list.items) t.scopes)) result
+        (terms_reading (members_view members.old.entries)) }
+    ensures rest { IfOk result (λ _. members_view members.new.entries
+        ≡ others terms_names (members_view members.old.entries)) }
+{
+    let expires_in = members::take(members, "expires_in");
+    let expires_in = members::optional_number(alloc, "expires_in", expires_in)?;
+    let refresh_token = members::take(members, "refresh_token");
+    let refresh_token = members::optional(alloc, "refresh_token", refresh_token)?;
+    let scopes = members::take(members, "scope");
+    let scopes = members::optional_words(alloc, "scope", scopes)?;
+    Ok(Terms {
+        expires_in,
+        refresh_token,
+        scopes,
+    })
+}
+
+/// The own members, group by group, and what is left of the others.
 fn from_members<EF: ExtraTokenFields + Drop, TT: TokenType + Drop>(
     alloc: Global,
     mut members: Map<String, Value>,
@@ -38,29 +95,16 @@ fn from_members<EF: ExtraTokenFields + Drop, TT: TokenType + Drop>(
     ensures { ReadsAs (token_seen EF.meaning TT.meaning) result
         (in_turn EF.reading TT.reading (members_view members.entries)) }
 {
+    let credential = take_credential::<TT>(alloc, &mut members)?;
+    let terms = take_terms(alloc, &mut members)?;
+    let extra_fields = EF::from_json(alloc, Value::Object(members))?;
     Ok(StandardTokenResponse {
-        access_token: members::needed(
-            alloc,
-            "access_token",
-            members::take(&mut members, "access_token"),
-        )?,
-        token_type: members::needed_lowered(
-            alloc,
-            "token_type",
-            members::take(&mut members, "token_type"),
-        )?,
-        expires_in: members::optional_number(
-            alloc,
-            "expires_in",
-            members::take(&mut members, "expires_in"),
-        )?,
-        refresh_token: members::optional(
-            alloc,
-            "refresh_token",
-            members::take(&mut members, "refresh_token"),
-        )?,
-        scopes: members::optional_words(alloc, "scope", members::take(&mut members, "scope"))?,
-        extra_fields: EF::from_json(alloc, Value::Object(members))?,
+        access_token: credential.access_token,
+        token_type: credential.token_type,
+        expires_in: terms.expires_in,
+        refresh_token: terms.refresh_token,
+        scopes: terms.scopes,
+        extra_fields,
     })
 }
 
