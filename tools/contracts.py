@@ -27,6 +27,7 @@ def is_statement(rows, row):
 
 
 def tokens(text):
+    """The words, brackets and signs of a text, without its strings."""
     return [token for token in TOKEN.findall(text) if not token.startswith('"')]
 
 
@@ -76,9 +77,7 @@ def citations(words, given, is_constructor):
         elif word in ')}]':
             scopes.pop()
             scopes[-1] |= binders.pop()
-        elif word == '|':
-            pass
-        elif '↦' in words[at:at + 6] and words[at - 1] in ('[', '|'):
+        elif '↦' in words[at:at + 6] and at > 0 and words[at - 1] in '[|':
             end = words.index('↦', at)
             cited, names = pattern(words[at:end], is_constructor)
             found += cited
