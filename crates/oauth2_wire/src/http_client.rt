@@ -11,7 +11,7 @@ pub type HttpResponse = Response<Vec<u8>>;
 /// A client that may always be called leaves `is_ready` as it is, and no caller of that client writes
 /// a word of it. A caller that is generic over the client writes `requires { C.is_ready client.old }`,
 /// and hands on `ensures { C.is_ready client.new }` where its own callers call again. For a `?` into
-/// `anyhow` or `Box<dyn Error>` it writes `where C::Error: fmt::Debug`.
+/// `anyhow` it writes `where C::Error: fmt::Debug`.
 pub trait SyncHttpClient {
     ghost use Rattle.std.specs.Prelude.{ℕ, Vec, Result, ⊤};
     ghost use Rattle.std.specs.declared.alloc.Global.{Global};
