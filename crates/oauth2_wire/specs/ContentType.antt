@@ -1,7 +1,9 @@
 -- The Content-Type of a reply (RFC 9110, section 8.3).
-use Rattle.std.specs.Prelude.{ℕ, ◌/◌, ◌%◌, ◌==◌, ◌&&◌, ◌||◌, Bool, nat_lt, nat_le, List, [], ◌∷◌, ◌++◌, map, take, bytes_eq, codes, flat_map, if◌then◌else◌}
+use Rattle.std.specs.Prelude.{ℕ, ◌/◌, ◌%◌, ◌==◌, ◌&&◌, ◌||◌, Bool, true, nat_lt, nat_le, List, [], ◌∷◌, ◌++◌, map, take, drop, bytes_eq, codes, flat_map, if◌then◌else◌}
 use Rattle.std.specs.List.{list_all}
 use Rattle.std.specs.Char.{to_ascii_lowercase, digit_char}
+use Rattle.oauth2_wire.specs.declared.content_type.ReplyRule.{ReplyRule}
+use Rattle.oauth2_wire.specs.declared.content_type.ReplyRule.TheVariants.{Prefix, MediaType}
 
 -- a tab, or a byte from 32 to 126
 abbrev pub is_text_byte : ℕ → Bool
@@ -11,9 +13,16 @@ is_text_byte b = b == 9 || (nat_le 32 b && nat_le b 126)
 abbrev pub begins_with_json : List ℕ → Bool
 begins_with_json value = bytes_eq (map to_ascii_lowercase (take 16 value)) (codes "application/json")
 
--- the value is that of a JSON text
-abbrev pub is_json_type : List ℕ → Bool
-is_json_type value = list_all is_text_byte value && begins_with_json value
+-- a media type ends before these bytes: none follow, or a semicolon, a space or a tab, behind which
+-- its parameters stand (RFC 9110, sections 8.3.1 and 5.6.6)
+abbrev pub ends_the_type : List ℕ → Bool
+ends_the_type [] = true
+ends_the_type (b ∷ after) = b == 59 || b == 32 || b == 9
+
+-- the value is that of a JSON text: by its beginning alone, or by its whole media type
+abbrev pub is_json_type : ReplyRule → List ℕ → Bool
+is_json_type Prefix value = list_all is_text_byte value && begins_with_json value
+is_json_type MediaType value = list_all is_text_byte value && begins_with_json value && ends_the_type (drop 16 value)
 
 -- a byte as a text shows it: a quotation mark after a backslash, a byte above 126 by its two
 -- hexadecimal digits, and every other as it is

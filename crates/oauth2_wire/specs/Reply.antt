@@ -8,6 +8,7 @@ use Rattle.serde_json.specs.Data.{Data}
 use Rattle.oauth2_json.specs.Reading.{Fault, Reading, fault_of}
 use Rattle.oauth2_json.specs.Body.{body_reading}
 use Rattle.oauth2_wire.specs.ContentType.{is_json_type, unexpected_type_text}
+use Rattle.oauth2_wire.specs.declared.content_type.ReplyRule.{ReplyRule}
 use Rattle.oauth2_wire.specs.declared.error.RequestTokenError.{RequestTokenError}
 use Rattle.oauth2_wire.specs.declared.error.RequestTokenError.TheVariants.{ServerResponse, Request, Parse, Other, Memory}
 
@@ -50,11 +51,11 @@ module _ {A E : Type 0} where
       if length body == 0 then other (codes "server returned empty response body")
       else accepted_reading body (body_reading reading body)
 
-  -- a success: a Content-Type, where there is one, is that of a JSON text
-  abbrev pub success_answer : (Data → Reading A) → Option (List ℕ) → List ℕ → Answer A E
-  success_answer reading None body = body_answer reading body
-  success_answer reading (Some value) body =
-      if is_json_type value then body_answer reading body else other (unexpected_type_text value)
+  -- a success: a Content-Type, where there is one, is that of a JSON text by this rule
+  abbrev pub success_answer : ReplyRule → (Data → Reading A) → Option (List ℕ) → List ℕ → Answer A E
+  success_answer rule reading None body = body_answer reading body
+  success_answer rule reading (Some value) body =
+      if is_json_type rule value then body_answer reading body else other (unexpected_type_text value)
 
   -- any other reply: the Content-Type plays no part (RFC 6749, section 5.2)
   abbrev pub failure_answer : (Data → Reading E) → List ℕ → Answer A E
@@ -63,9 +64,9 @@ module _ {A E : Type 0} where
       else refused_reading body (body_reading reading body)
 
   -- status 200 alone is a success
-  abbrev pub answer_of : (Data → Reading A) → (Data → Reading E) → ReplyView → Answer A E
-  answer_of reading error_reading reply =
-      if reply.status == 200 then success_answer reading reply.content_type reply.body
+  abbrev pub answer_of : ReplyRule → (Data → Reading A) → (Data → Reading E) → ReplyView → Answer A E
+  answer_of rule reading error_reading reply =
+      if reply.status == 200 then success_answer rule reading reply.content_type reply.body
       else failure_answer error_reading reply.body
 
 -- the same where a success says nothing more (RFC 7009, section 2.2)

@@ -1,16 +1,41 @@
 //! The Content-Type of a reply (RFC 9110, section 8.3).
-ghost use Rattle.std.specs.Prelude.{◌≡◌, ◌<◌, ◌++◌, take, IfOk, OnOk, string_bytes};
+ghost use Rattle.std.specs.Prelude.{◌≡◌, ◌<◌, ◌++◌, take, drop, IfOk, OnOk, string_bytes};
 ghost use Rattle.std.specs.List.{list_all};
 ghost use Rattle.std.specs.Char.{digit_char};
-ghost use Rattle.oauth2_wire.specs.ContentType.{is_text_byte, begins_with_json, is_json_type, shown_byte, shown_value, unexpected_type_text};
+ghost use Rattle.oauth2_wire.specs.ContentType.{is_text_byte, begins_with_json, ends_the_type, is_json_type, shown_byte, shown_value, unexpected_type_text};
 
+use oauth2_types::TryClone;
 use std::alloc::{AllocError, Global};
 
-// Whether a value is that of a JSON text.
-pub(crate) fn is_json_type(value: &[u8]) -> bool
-    ensures { result ≡ is_json_type value.now }
+/// Which Content-Type values of a success are those of a JSON text.
+#[derive(Clone, Copy, Debug, PartialEq, Eq)]
+pub enum ReplyRule {
+    /// Those that begin with `application/json`, so `application/jsonfoo` too.
+    Prefix,
+    /// Those whose media type is `application/json`, with any parameters.
+    MediaType,
+}
+
+impl TryClone for ReplyRule {
+    ghost use Rattle.oauth2_wire.specs.declared.content_type.ReplyRule.{ReplyRule};
+
+    ghost Seen = { ReplyRule };
+
+    ghost seen = { λ rule. rule };
+
+    fn try_clone(&self, _alloc: Global) -> Result<ReplyRule, AllocError> {
+        Ok(*self)
+    }
+}
+
+// Whether a value is that of a JSON text by this rule.
+pub(crate) fn is_json_type(rule: ReplyRule, value: &[u8]) -> bool
+    ensures { result ≡ is_json_type rule value.now }
 {
-    is_text(value) && begins_with_json(value)
+    match rule {
+        ReplyRule::Prefix => is_text(value) && begins_with_json(value),
+        ReplyRule::MediaType => is_text(value) && begins_with_json(value) && ends_the_type(value),
+    }
 }
 
 fn is_text(value: &[u8]) -> bool
@@ -23,6 +48,23 @@ fn begins_with_json(value: &[u8]) -> bool
     ensures { result ≡ begins_with_json value.now }
 {
     front(value, 16).eq_ignore_ascii_case(b"application/json".as_slice())
+}
+
+// Whether the media type of a value that begins with `application/json` is that text.
+fn ends_the_type(value: &[u8]) -> bool
+    ensures { result ≡ ends_the_type (drop 16 value.now) }
+{
+    match back(value, 16) {
+        [] => true,
+        [b, ..] => *b == b';' || *b == b' ' || *b == b'\t',
+    }
+}
+
+// What follows the first n bytes, or nothing after fewer.
+fn back(value: &[u8], n: usize) -> &[u8]
+    ensures { result.now ≡ drop n value.now }
+{
+    if value.len() < n { &[] } else { &value[n..] }
 }
 
 // The first n bytes, or all of fewer.

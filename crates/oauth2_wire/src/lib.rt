@@ -17,12 +17,13 @@ mod texts;
 mod view;
 
 pub use basic::basic_header;
+pub use content_type::ReplyRule;
 pub use error::{BasicRequestTokenError, ConfigurationError, HttpClientError, RequestTokenError};
 pub use form_encoding::{append_encoded_text, append_pair};
 pub use http_client::{FnClient, HttpResponse, SyncHttpClient};
 pub use once::{send_once, send_once_status_only};
 pub use param_buffer::ParamBuffer;
-pub use reply::{endpoint_response, endpoint_response_status_only};
+pub use reply::{endpoint_response, endpoint_response_status_only, endpoint_response_with};
 pub use request::{
     AuthType, HttpRequest, RequestFault, endpoint_request, endpoint_request_encoded,
 };

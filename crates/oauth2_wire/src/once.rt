@@ -3,26 +3,28 @@ ghost use Rattle.oauth2_wire.specs.Reply.{reply_of, answer_of, status_answer_of}
 ghost use Rattle.oauth2_wire.specs.OneShot.{SendsOnce, IsUnsentError};
 ghost use Rattle.oauth2_wire.specs.private.Call.{IsCallOf};
 
+use crate::content_type::ReplyRule;
 use crate::error::RequestTokenError;
 use crate::http_client::{HttpResponse, SyncHttpClient};
-use crate::reply::{endpoint_response, endpoint_response_status_only};
+use crate::reply::{endpoint_response_status_only, endpoint_response_with};
 use crate::request::{HttpRequest, RequestFault};
 use oauth2_json::FromJson;
 use std::alloc::{AllocError, Global};
 
-/// Sends a prepared request once, and reads its reply.
+/// Sends a prepared request once, and reads its reply by this rule.
 pub fn send_once<C: SyncHttpClient, TE: FromJson, DO: FromJson>(
     alloc: Global,
+    rule: ReplyRule,
     prepared: Result<HttpRequest, RequestFault>,
     http_client: &mut C,
 ) -> Result<DO, RequestTokenError<C::Error, TE>>
     requires { C.is_ready http_client.old }
-    ensures once { SendsOnce DO.meaning TE.meaning C.step (λ reply. answer_of DO.reading TE.reading (reply_of reply))
+    ensures once { SendsOnce DO.meaning TE.meaning C.step (λ reply. answer_of rule DO.reading TE.reading (reply_of reply))
         http_client.old prepared result http_client.new }
     ensures ready { C.is_ready http_client.new }
 {
     match call(alloc, prepared, http_client) {
-        Ok(reply) => endpoint_response(alloc, reply),
+        Ok(reply) => endpoint_response_with(alloc, rule, reply),
         Err(error) => Err(error),
     }
 }

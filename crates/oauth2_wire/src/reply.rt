@@ -1,27 +1,39 @@
 //! What a reply says (RFC 6749, sections 5.1 and 5.2).
 ghost use Rattle.std.specs.Prelude.{◌≡◌, ◌==◌};
+ghost use Rattle.oauth2_wire.specs.declared.content_type.ReplyRule.TheVariants.{Prefix};
 ghost use Rattle.oauth2_wire.specs.ContentType.{unexpected_type_text};
 ghost use Rattle.oauth2_wire.specs.Reply.{reply_of, answer_of, status_answer_of, success_answer, failure_answer, body_answer, ShowsAnswer, other};
 ghost use Rattle.oauth2_wire.specs.private.Failure.{ShowsFailure};
 
-use crate::content_type::{is_json_type, unexpected_type_text};
+use crate::content_type::{ReplyRule, is_json_type, unexpected_type_text};
 use crate::error::RequestTokenError;
 use crate::http_client::HttpResponse;
 use http_header::CONTENT_TYPE;
 use oauth2_json::{FromJson, ReadError, read_body};
 use std::alloc::{AllocError, Global};
 
-/// What a reply says to a request for a `DO` (RFC 6749, section 5).
+/// What a reply says to a request for a `DO` (RFC 6749, section 5), by the rule `Prefix`.
 pub fn endpoint_response<RE, TE: FromJson, DO: FromJson>(
     alloc: Global,
     reply: HttpResponse,
 ) -> Result<DO, RequestTokenError<RE, TE>>
-    ensures { ShowsAnswer DO.meaning TE.meaning (answer_of DO.reading TE.reading (reply_of reply)) result }
+    ensures { ShowsAnswer DO.meaning TE.meaning (answer_of Prefix DO.reading TE.reading (reply_of reply)) result }
+{
+    endpoint_response_with(alloc, ReplyRule::Prefix, reply)
+}
+
+/// What a reply says to a request for a `DO` (RFC 6749, section 5), by a rule for its Content-Type.
+pub fn endpoint_response_with<RE, TE: FromJson, DO: FromJson>(
+    alloc: Global,
+    rule: ReplyRule,
+    reply: HttpResponse,
+) -> Result<DO, RequestTokenError<RE, TE>>
+    ensures { ShowsAnswer DO.meaning TE.meaning (answer_of rule DO.reading TE.reading (reply_of reply)) result }
 {
     if !is_success(&reply) {
         return Err(read_failure(alloc, reply.into_body()));
     }
-    read_success(alloc, reply)
+    read_success(alloc, rule, reply)
 }
 
 /// What a reply says to a request whose success says nothing more (RFC 7009, section 2.2).
@@ -48,12 +60,13 @@ fn is_success(reply: &HttpResponse) -> bool
 // The reply of a success.
 fn read_success<RE, TE: FromJson, DO: FromJson>(
     alloc: Global,
+    rule: ReplyRule,
     reply: HttpResponse,
 ) -> Result<DO, RequestTokenError<RE, TE>>
-    ensures { ShowsAnswer DO.meaning TE.meaning (success_answer DO.reading (reply_of reply).content_type (reply_of reply).body) result }
+    ensures { ShowsAnswer DO.meaning TE.meaning (success_answer rule DO.reading (reply_of reply).content_type (reply_of reply).body) result }
 {
     match reply.headers().get(CONTENT_TYPE) {
-        Some(value) => if is_json_type(value.as_bytes()) {
+        Some(value) => if is_json_type(rule, value.as_bytes()) {
             read_answer(alloc, reply.into_body())
         } else {
             Err(refused_type(alloc, value.as_bytes()))
