@@ -1,18 +1,21 @@
 -- What contracts see of every request to an endpoint.
 use Rattle.std.specs.Prelude.{ℕ, List, Option, option_map}
 use Rattle.oauth2_urls.specs.Addressed.{Addressed}
+use Rattle.oauth2_wire.specs.declared.content_type.ReplyRule.{ReplyRule}
 use Rattle.oauth2_wire.specs.declared.request.AuthType.{AuthType}
 use Rattle.oauth2_wire.specs.Pairs.{Pair}
 use Rattle.oauth2_wire.specs.Expected.{Configuration}
 use Rattle.oauth2_wire.specs.Texts.{given_text}
 
--- who asks, the text of the scopes, if there are any, and the extra parameters
+-- who asks, the text of the scopes, if there are any, the extra parameters, and the rule for the
+-- Content-Type of the reply
 pub record Base : Type 0 where
   pub auth_type : AuthType
   pub client_id : List ℕ
   pub client_secret : Option (List ℕ)
   pub scope : Option (List ℕ)
   pub extra_params : List Pair
+  pub reply_rule : ReplyRule
 
 -- the configuration of a request that has these pairs of its own, and this redirect
 abbrev pub configuration_of : Base → List Pair → Option Addressed → Configuration

@@ -5,28 +5,33 @@ ghost use Rattle.std.specs.Iterator.{Drains, IsFinite};
 ghost use Rattle.form_urlencoded.specs.Form.{pair_text};
 ghost use Rattle.http_uri.specs.Uri.{SpellsNone};
 ghost use Rattle.url.specs.Parts.{serialize};
+ghost use Rattle.oauth2_wire.specs.OneShot.{SendsOnce};
 ghost use Rattle.oauth2_wire.specs.Params.{with_scope, with_scopes};
+ghost use Rattle.oauth2_wire.specs.Reply.{answer_of, reply_of};
 ghost use Rattle.oauth2_wire.specs.Request.{IsRequestOf, view_of};
 ghost use Rattle.oauth2_wire.specs.Texts.{param_bytes};
 ghost use Rattle.oauth2_requests.specs.Base.{configuration_of};
 
+use oauth2_json::FromJson;
 use oauth2_types::{ClientId, ClientSecret, Scope};
 use oauth2_urls::RedirectUrl;
 use oauth2_wire::{
-    AuthType, HttpRequest, ParamBuffer, ParamText, RequestFault, endpoint_request_encoded,
+    AuthType, HttpRequest, ParamBuffer, ParamText, ReplyRule, RequestFault, RequestTokenError,
+    SyncHttpClient, endpoint_request_encoded, send_once,
 };
 use std::alloc::{AllocError, Global};
 use std::marker::Model;
 use url::Url;
 
-/// What each request to an endpoint holds: who asks, and the scopes and the extra parameters that
-/// were added. Contracts see it as a `Base`.
+/// What each request to an endpoint holds: who asks, the scopes and the extra parameters that were
+/// added, and the rule by which its reply is read. Contracts see it as a `Base`.
 #[derive(Debug, Drop)]
 pub struct BaseRequest<'a> {
     auth_type: &'a AuthType,
     client_id: &'a ClientId,
     client_secret: Option<&'a ClientSecret>,
     params: ParamBuffer,
+    reply_rule: ReplyRule,
 }
 
 impl<'a> Model for BaseRequest<'a> {
@@ -41,6 +46,7 @@ impl<'a> Model for BaseRequest<'a> {
       client_secret = option_copied r.client_secret;
       scope = r.params.scope;
       extra_params = r.params.pairs;
+      reply_rule = r.reply_rule;
     } };
 }
 
@@ -52,6 +58,7 @@ impl<'a> BaseRequest<'a> {
         auth_type: &'a AuthType,
         client_id: &'a ClientId,
         client_secret: Option<&'a ClientSecret>,
+        reply_rule: ReplyRule,
     ) -> Self
         ensures { result ≡ record {
           auth_type = auth_type.now;
@@ -59,6 +66,7 @@ impl<'a> BaseRequest<'a> {
           client_secret = option_copied client_secret.entry;
           scope = None;
           extra_params = [];
+          reply_rule = reply_rule;
         } }
     {
         BaseRequest {
@@ -66,7 +74,15 @@ impl<'a> BaseRequest<'a> {
             client_id,
             client_secret,
             params: ParamBuffer::new(alloc),
+            reply_rule,
         }
+    }
+
+    /// The rule for the Content-Type of the reply.
+    pub fn reply_rule(&self) -> ReplyRule
+        ensures { result ≡ self.now.reply_rule }
+    {
+        self.reply_rule
     }
 
     pub(crate) fn add_scope(&mut self, scope: Scope) -> Result<(), AllocError>
@@ -129,5 +145,21 @@ impl<'a> BaseRequest<'a> {
             url,
             own_pairs,
         )
+    }
+
+    // Sends a request that was prepared from this, once, and reads its reply by the rule.
+    pub(crate) fn send_once<C: SyncHttpClient, TE: FromJson, DO: FromJson>(
+        &self,
+        alloc: Global,
+        prepared: Result<HttpRequest, RequestFault>,
+        http_client: &mut C,
+    ) -> Result<DO, RequestTokenError<C::Error, TE>>
+        requires { C.is_ready http_client.old }
+        ensures once { SendsOnce DO.meaning TE.meaning C.step
+            (λ reply. answer_of self.now.reply_rule DO.reading TE.reading (reply_of reply))
+            http_client.old prepared result http_client.new }
+        ensures ready { C.is_ready http_client.new }
+    {
+        send_once(alloc, self.reply_rule, prepared, http_client)
     }
 }

@@ -14,7 +14,7 @@ use oauth2_replies::TokenResponse;
 use oauth2_types::{AuthorizationCode, PkceCodeVerifier};
 use oauth2_urls::{RedirectUrl, TokenUrl};
 use oauth2_wire::{
-    HttpRequest, ParamText, RedirectRef, RequestFault, RequestTokenError, SyncHttpClient, send_once,
+    HttpRequest, ParamText, RedirectRef, RequestFault, RequestTokenError, SyncHttpClient,
 };
 use std::alloc::{AllocError, Global};
 use std::marker::{Model, PhantomData};
@@ -152,11 +152,11 @@ impl<'a, TE: ErrorResponse, TR: TokenResponse> CodeTokenRequest<'a, TE, TR> {
         http_client: &mut C,
     ) -> Result<TR, RequestTokenError<C::Error, TE>>
         requires { C.is_ready http_client.old }
-        ensures once { AsksOnce TR.meaning TE.meaning TR.reading TE.reading C.step
+        ensures once { AsksOnce TR.meaning TE.meaning TR.reading TE.reading C.step self.entry.base.reply_rule
             (code_configuration self.entry) self.entry.token_url http_client.old result http_client.new }
         ensures ready { C.is_ready http_client.new }
     {
         let prepared = self.prepare_request(alloc);
-        send_once(alloc, prepared, http_client)
+        self.base.send_once(alloc, prepared, http_client)
     }
 }

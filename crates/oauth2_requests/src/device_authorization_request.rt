@@ -16,9 +16,7 @@ use oauth2_codes::ErrorResponse;
 use oauth2_replies::{DeviceAuthorizationResponse, ExtraDeviceAuthorizationFields};
 use oauth2_types::Scope;
 use oauth2_urls::DeviceAuthorizationUrl;
-use oauth2_wire::{
-    HttpRequest, ParamText, RequestFault, RequestTokenError, SyncHttpClient, send_once,
-};
+use oauth2_wire::{HttpRequest, ParamText, RequestFault, RequestTokenError, SyncHttpClient};
 use std::alloc::{AllocError, Global};
 use std::marker::{Model, PhantomData};
 
@@ -117,11 +115,11 @@ impl<'a, TE: ErrorResponse> DeviceAuthorizationRequest<'a, TE> {
         http_client: &mut C,
     ) -> Result<DeviceAuthorizationResponse<EF>, RequestTokenError<C::Error, TE>>
         requires { C.is_ready http_client.old }
-        ensures once { AsksOnce (device_seen EF.meaning) TE.meaning (device_reading EF.reading) TE.reading C.step
+        ensures once { AsksOnce (device_seen EF.meaning) TE.meaning (device_reading EF.reading) TE.reading C.step self.entry.base.reply_rule
             (device_authorization_configuration self.entry) self.entry.device_authorization_url http_client.old result http_client.new }
         ensures ready { C.is_ready http_client.new }
     {
         let prepared = self.prepare_request(alloc);
-        send_once(alloc, prepared, http_client)
+        self.base.send_once(alloc, prepared, http_client)
     }
 }

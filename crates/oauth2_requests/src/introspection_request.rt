@@ -13,9 +13,7 @@ use oauth2_codes::ErrorResponse;
 use oauth2_replies::TokenIntrospectionResponse;
 use oauth2_types::AccessToken;
 use oauth2_urls::IntrospectionUrl;
-use oauth2_wire::{
-    HttpRequest, ParamText, RequestFault, RequestTokenError, SyncHttpClient, send_once,
-};
+use oauth2_wire::{HttpRequest, ParamText, RequestFault, RequestTokenError, SyncHttpClient};
 use std::alloc::{AllocError, Global};
 use std::marker::{Model, PhantomData};
 
@@ -122,11 +120,11 @@ impl<'a, TE: ErrorResponse, TIR: TokenIntrospectionResponse> IntrospectionReques
         http_client: &mut C,
     ) -> Result<TIR, RequestTokenError<C::Error, TE>>
         requires { C.is_ready http_client.old }
-        ensures once { AsksOnce TIR.meaning TE.meaning TIR.reading TE.reading C.step
+        ensures once { AsksOnce TIR.meaning TE.meaning TIR.reading TE.reading C.step self.entry.base.reply_rule
             (introspection_configuration self.entry) self.entry.introspection_url http_client.old result http_client.new }
         ensures ready { C.is_ready http_client.new }
     {
         let prepared = self.prepare_request(alloc);
-        send_once(alloc, prepared, http_client)
+        self.base.send_once(alloc, prepared, http_client)
     }
 }

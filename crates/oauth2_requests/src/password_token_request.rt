@@ -15,9 +15,7 @@ use oauth2_codes::ErrorResponse;
 use oauth2_replies::TokenResponse;
 use oauth2_types::{ResourceOwnerPassword, ResourceOwnerUsername, Scope};
 use oauth2_urls::TokenUrl;
-use oauth2_wire::{
-    HttpRequest, ParamText, RequestFault, RequestTokenError, SyncHttpClient, send_once,
-};
+use oauth2_wire::{HttpRequest, ParamText, RequestFault, RequestTokenError, SyncHttpClient};
 use std::alloc::{AllocError, Global};
 use std::marker::{Model, PhantomData};
 
@@ -135,11 +133,11 @@ impl<'a, TE: ErrorResponse, TR: TokenResponse> PasswordTokenRequest<'a, TE, TR> 
         http_client: &mut C,
     ) -> Result<TR, RequestTokenError<C::Error, TE>>
         requires { C.is_ready http_client.old }
-        ensures once { AsksOnce TR.meaning TE.meaning TR.reading TE.reading C.step
+        ensures once { AsksOnce TR.meaning TE.meaning TR.reading TE.reading C.step self.entry.base.reply_rule
             (password_configuration self.entry) self.entry.token_url http_client.old result http_client.new }
         ensures ready { C.is_ready http_client.new }
     {
         let prepared = self.prepare_request(alloc);
-        send_once(alloc, prepared, http_client)
+        self.base.send_once(alloc, prepared, http_client)
     }
 }

@@ -1,7 +1,10 @@
+use Rattle.std.proofs.Common.{ap}
 use Rattle.oauth2_wire.proofs.OneShotLemmas.{OneShot-from_SendsOnce}
+use Rattle.oauth2_requests.specs.ClientCredentials.{ClientCredentialsRequest}
 use Rattle.oauth2_requests.proofs.client_credentials_token_request.ClientCredentialsTokenRequest.request.Goals as goal
 
 pub returns-clause-once : goal.returns-clause-once
 returns-clause-once g c =
     let prepared = c.prepare_request-prepared in
-    OneShot-from_SendsOnce g.TR.FromJson.meaning g.TE.FromJson.meaning g.C.SyncHttpClient.step _ _ _ _ _ _ prepared.result prepared.ensures.ok prepared.ensures.not_http c.send_once.ensures.once
+    let once = rw (ap (λ (r : ClientCredentialsRequest). r.base.reply_rule) c.self.view_is) at c.send_once.ensures.once in
+    OneShot-from_SendsOnce g.TR.FromJson.meaning g.TE.FromJson.meaning g.C.SyncHttpClient.step _ _ _ _ _ _ prepared.result prepared.ensures.ok prepared.ensures.not_http once
