@@ -274,12 +274,12 @@ module _ {D A RE : Type 0} (meaning : D → A) (says : HttpResponse → Answer A
 
 -- the trace of every poll
 module _ {D A RE : Type 0} (meaning : D → A) (reading : Data → JsonReading A) (r : DeviceToken) (timeout max_polls : ℕ) (e : List (Event RE)) (result : Result D (PollError RE)) where
-  trace_of : Ended meaning (device_answer reading) r timeout max_polls e result → IsTraceOf (input_of r timeout max_polls (plain (device_answer reading) e)) (plain (device_answer reading) e)
+  trace_of : Ended meaning (device_answer r.base.reply_rule reading) r timeout max_polls e result → IsTraceOf (input_of r timeout max_polls (plain (device_answer r.base.reply_rule reading) e)) (plain (device_answer r.base.reply_rule reading) e)
   trace_of (inl x) = x.done
   trace_of (inr (inl x)) = x.done
   trace_of (inr (inr x)) = x.done
 
-  pub polls : r.interval ≤ max_nanos → EachRequest (IsDeviceRequest r) e → Ended meaning (device_answer reading) r timeout max_polls e result → Polls meaning reading r timeout max_polls e result
+  pub polls : r.interval ≤ max_nanos → EachRequest (IsDeviceRequest r) e → Ended meaning (device_answer r.base.reply_rule reading) r timeout max_polls e result → Polls meaning reading r timeout max_polls e result
   polls fits requests poll =
       record {
         requests = requests;

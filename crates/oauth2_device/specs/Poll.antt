@@ -18,6 +18,7 @@ use Rattle.oauth2_poll.specs.Trace as trace
 use Rattle.oauth2_poll.specs.Trace.{PollInput, Ending, IsLate, readings_in, answers_in}
 use Rattle.oauth2_poll.specs.Laws.{IsTraceOf}
 use Rattle.oauth2_poll.specs.Pacing.{SleepsArePaced, ClockIsHonest, RequestsFit}
+use Rattle.oauth2_wire.specs.declared.content_type.ReplyRule.{ReplyRule}
 use Rattle.oauth2_wire.specs.declared.error.RequestTokenError.{RequestTokenError}
 use Rattle.oauth2_wire.specs.declared.error.RequestTokenError.TheVariants as token
 use Rattle.oauth2_wire.specs.OneShot.{HttpRequest, not_http_text}
@@ -40,9 +41,9 @@ device_error response = parts_of device_error_code response
 abbrev pub PollError : Type 0 → Type 0
 PollError RE = RequestTokenError RE DeviceErrorResponse
 
--- what a reply says to a device that waits for a token
-abbrev pub device_answer : {A : Type 0} → (Data → JsonReading A) → HttpResponse → Answer A DeviceError
-device_answer reading reply = answer_of reading (error_reading device_error_code_reading) (reply_of reply)
+-- what a reply says to a device that waits for a token, by the rule for its Content-Type
+abbrev pub device_answer : {A : Type 0} → ReplyRule → (Data → JsonReading A) → HttpResponse → Answer A DeviceError
+device_answer rule reading reply = answer_of rule reading (error_reading device_error_code_reading) (reply_of reply)
 
 -- which error codes ask for patience
 abbrev pub class_of_code : DeviceErrorCode → PollAnswer
@@ -142,7 +143,8 @@ module _ {D A RE : Type 0} (meaning : D → A) (reading : Data → JsonReading A
   -- request is the one of the configuration, and sleeps and requests keep their bounds
   pub record Polls (e : List (Event RE)) (result : Result D (PollError RE)) : Type 0 where
     pub requests : EachRequest (IsDeviceRequest r) e
-    pub poll : (let says = device_answer reading in
+    pub poll : (let says = device_answer r.base.reply_rule reading in
         IsPoll meaning says (SpellsNone (serialize r.token_url.url)) (input_of r timeout max_polls (plain says e)) e result)
-    pub paced : SleepsArePaced r.interval r.max_backoff_interval (plain (device_answer reading) e)
-    pub bounded : ClockIsHonest (plain (device_answer reading) e) → RequestsFit timeout r.interval (plain (device_answer reading) e)
+    pub paced : SleepsArePaced r.interval r.max_backoff_interval (plain (device_answer r.base.reply_rule reading) e)
+    pub bounded : (let says = device_answer r.base.reply_rule reading in
+        ClockIsHonest (plain says e) → RequestsFit timeout r.interval (plain says e))

@@ -12,7 +12,7 @@ use jiff::Timestamp;
 use oauth2_replies::DeviceAuthorizationResponse;
 use oauth2_requests::BaseRequest;
 use oauth2_urls::TokenUrl;
-use oauth2_wire::{HttpRequest, ParamText, RequestFault};
+use oauth2_wire::{HttpRequest, ParamText, ReplyRule, RequestFault};
 use std::alloc::{AllocError, Global};
 use std::marker::{Model, PhantomData};
 use std::time::Duration;
@@ -132,6 +132,13 @@ impl<'a, TR, EF, T> DeviceAccessTokenRequest<'a, TR, EF, T> {
                 ("device_code", self.response.device_code().secret().as_str()),
             ],
         )
+    }
+
+    // The rule for the Content-Type of each reply.
+    pub(crate) fn reply_rule(&self) -> ReplyRule
+        ensures { result ≡ self.now.request.base.reply_rule }
+    {
+        self.base.reply_rule()
     }
 
     // The request with another clock, and the one that it had.

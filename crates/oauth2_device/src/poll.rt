@@ -5,7 +5,7 @@ ghost use Rattle.http_uri.specs.Uri.{SpellsNone};
 ghost use Rattle.url.specs.Parts.{serialize};
 ghost use Rattle.oauth2_device.specs.Events.{Event, Leads, EachRequest};
 ghost use Rattle.oauth2_device.specs.Poll.{IsDeviceRequest, Polls, device_answer, timeout_of};
-ghost use Rattle.oauth2_device.specs.private.Round.{IsTurn, IsUnprepared};
+ghost use Rattle.oauth2_device.specs.private.Round.{IsJudged, IsTurn, IsUnprepared};
 
 use crate::device_access_token_request::DeviceAccessTokenRequest;
 use crate::poll_world::PollWorld;
@@ -13,7 +13,7 @@ use crate::verdict::{PollError, Verdict, expired, judge, other};
 use oauth2_codes::DeviceCodeErrorResponse;
 use oauth2_poll::{DevicePoll, PollReady, PollSettings, PollStep};
 use oauth2_replies::TokenResponse;
-use oauth2_wire::{RequestFault, RequestTokenError};
+use oauth2_wire::{HttpResponse, RequestFault, RequestTokenError};
 use std::alloc::Global;
 use std::time::Duration;
 
@@ -99,7 +99,7 @@ impl<'a, TR: TokenResponse, EF, T> DeviceAccessTokenRequest<'a, TR, EF, T> {
         ensures turn { (e : List (Event W.Error))
             × Leads W.reads W.sends W.sleeps world.old e world.new
             × EachRequest (IsDeviceRequest self.now.request) e
-            × IsTurn TR.meaning (device_answer TR.reading)
+            × IsTurn TR.meaning (device_answer self.now.request.base.reply_rule TR.reading)
             (SpellsNone (serialize self.now.request.token_url.url)) poll.old sent e result poll.new }
         ensures ready { W.is_ready world.new }
     {
@@ -113,7 +113,7 @@ impl<'a, TR: TokenResponse, EF, T> DeviceAccessTokenRequest<'a, TR, EF, T> {
             Err(fault) => return Some(Err(unprepared(alloc, fault, sent))),
         };
         let reply = world.send(request);
-        match judge(alloc, reply) {
+        match self.judge(alloc, reply) {
             Verdict::Decided(result) => Some(result),
             Verdict::Again(answer) => match poll.answer(answer) {
                 PollStep::Sleep(duration) => {
@@ -125,6 +125,13 @@ impl<'a, TR: TokenResponse, EF, T> DeviceAccessTokenRequest<'a, TR, EF, T> {
                 }
             },
         }
+    }
+
+    // What came of the request.
+    fn judge<RE: Drop>(&self, alloc: Global, reply: Result<HttpResponse, RE>) -> Verdict<TR, RE>
+        ensures { IsJudged TR.meaning (device_answer self.now.request.base.reply_rule TR.reading) reply result }
+    {
+        judge(alloc, self.reply_rule(), reply)
     }
 }
 

@@ -7,7 +7,7 @@ ghost use Rattle.oauth2_device.specs.private.Round.{IsJudged, IsRefusal, IsVerdi
 use oauth2_codes::{DeviceCodeErrorResponse, DeviceCodeErrorResponseType};
 use oauth2_poll::PollAnswer;
 use oauth2_replies::TokenResponse;
-use oauth2_wire::{HttpResponse, RequestTokenError, endpoint_response};
+use oauth2_wire::{HttpResponse, ReplyRule, RequestTokenError, endpoint_response_with};
 use std::alloc::{AllocError, Global};
 
 /// Why a poll gave no token.
@@ -19,15 +19,16 @@ pub(crate) enum Verdict<TR, RE> {
     Decided(Result<TR, PollError<RE>>),
 }
 
-// What came of a request.
+// What came of a request, whose reply is read by this rule.
 pub(crate) fn judge<RE: Drop, TR: TokenResponse>(
     alloc: Global,
+    rule: ReplyRule,
     reply: Result<HttpResponse, RE>,
 ) -> Verdict<TR, RE>
-    ensures { IsJudged TR.meaning (device_answer TR.reading) reply result }
+    ensures { IsJudged TR.meaning (device_answer rule TR.reading) reply result }
 {
     match reply {
-        Ok(reply) => judge_answer(endpoint_response(alloc, reply)),
+        Ok(reply) => judge_answer(endpoint_response_with(alloc, rule, reply)),
         Err(_) => Verdict::Again(PollAnswer::Failed),
     }
 }

@@ -18,7 +18,7 @@ returns-then-not-timeout_fits-clause-poll g c =
       [],
       refl,
       polls g.TR.FromJson.meaning g.TR.FromJson.reading r (as_nanos c.args.timeout) c.args.max_polls [] _ interval tt
-          (too_long g.TR.FromJson.meaning (device_answer g.TR.FromJson.reading) r (as_nanos c.args.timeout) c.args.max_polls c.other.result beyond c.other.ensures),
+          (too_long g.TR.FromJson.meaning (device_answer r.base.reply_rule g.TR.FromJson.reading) r (as_nanos c.args.timeout) c.args.max_polls c.other.result beyond c.other.ensures),
     )
 
 pub returns-in_default-clause-poll : goal.returns-in_default-clause-poll
@@ -32,7 +32,7 @@ returns-in_default-clause-poll g c =
       Reading t ∷ [],
       (c.now-start.new.self, c.now-start.ensures.reads, refl),
       polls g.TR.FromJson.meaning g.TR.FromJson.reading r (as_nanos c.args.timeout) c.args.max_polls (Reading t ∷ []) _ interval tt
-          (out_of_range g.TR.FromJson.meaning (device_answer g.TR.FromJson.reading) r (as_nanos c.args.timeout) c.args.max_polls t c.other-in_default.result fits beyond c.other-in_default.ensures),
+          (out_of_range g.TR.FromJson.meaning (device_answer r.base.reply_rule g.TR.FromJson.reading) r (as_nanos c.args.timeout) c.args.max_polls t c.other-in_default.result fits beyond c.other-in_default.ensures),
     )
 
 pub rounds-init : goal.rounds-init
@@ -46,7 +46,7 @@ rounds-init g c =
       (
         Reading t ∷ [],
         (c.now-start.new.self, c.now-start.ensures.reads, refl),
-        started g.TR.FromJson.meaning (device_answer g.TR.FromJson.reading) r (as_nanos c.args.timeout) c.args.max_polls t c.in-Some.poll fits within c.requires.polls is,
+        started g.TR.FromJson.meaning (device_answer r.base.reply_rule g.TR.FromJson.reading) r (as_nanos c.args.timeout) c.args.max_polls t c.in-Some.poll fits within c.requires.polls is,
       ),
     )
 
@@ -61,7 +61,7 @@ returns-in-Some-round-clause-poll g c =
       Leads-append _ _ _ _ h.0 turn.0 _ _ h.1 turn.1,
       polls g.TR.FromJson.meaning g.TR.FromJson.reading r (as_nanos c.args.timeout) c.args.max_polls (h.0 ++ turn.0) _ interval
           (EachRequest-append _ h.0 turn.0 h.2.requests turn.2)
-          (last_round g.TR.FromJson.meaning (device_answer g.TR.FromJson.reading) r (as_nanos c.args.timeout) c.args.max_polls h.0 c.rounds.poll c.rounds.sent h.2 turn.0 c.in-Some-round.result c.round.new.poll turn.3),
+          (last_round g.TR.FromJson.meaning (device_answer r.base.reply_rule g.TR.FromJson.reading) r (as_nanos c.args.timeout) c.args.max_polls h.0 c.rounds.poll c.rounds.sent h.2 turn.0 c.in-Some-round.result c.round.new.poll turn.3),
     )
 
 pub rounds-preserved : goal.rounds-preserved
@@ -73,6 +73,6 @@ rounds-preserved g c =
       (
         h.0 ++ turn.0,
         Leads-append _ _ _ _ h.0 turn.0 _ _ h.1 turn.1,
-        next_round g.TR.FromJson.meaning (device_answer g.TR.FromJson.reading) r (as_nanos c.args.timeout) c.args.max_polls h.0 c.rounds.poll c.rounds.sent h.2 turn.0 c.round.new.poll turn.2 turn.3,
+        next_round g.TR.FromJson.meaning (device_answer r.base.reply_rule g.TR.FromJson.reading) r (as_nanos c.args.timeout) c.args.max_polls h.0 c.rounds.poll c.rounds.sent h.2 turn.0 c.round.new.poll turn.2 turn.3,
       ),
     )

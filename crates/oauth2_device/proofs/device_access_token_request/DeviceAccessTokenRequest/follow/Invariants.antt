@@ -10,7 +10,7 @@ invariant-rounds g l =
     g.W.PollWorld.is_ready l.world
     × ((e : List (Event _))
     × Leads g.W.PollWorld.reads g.W.PollWorld.sends g.W.PollWorld.sleeps l.fn.world e l.world
-    × SoFar g.TR.FromJson.meaning (device_answer g.TR.FromJson.reading) l.self.request (as_nanos l.fn.timeout) l.fn.max_polls e l.poll l.sent)
+    × SoFar g.TR.FromJson.meaning (device_answer l.self.request.base.reply_rule g.TR.FromJson.reading) l.self.request (as_nanos l.fn.timeout) l.fn.max_polls e l.poll l.sent)
 
 abbrev pub decreases-rounds : goal.decreases-rounds
 decreases-rounds g l = l.poll.polls_left

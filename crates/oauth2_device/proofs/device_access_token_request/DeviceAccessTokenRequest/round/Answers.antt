@@ -10,7 +10,7 @@ returns-in-Expired-clause-turn g c = (
   Reading c.now-now.result ∷ [],
   (c.now-now.new.self, c.now-now.ensures.reads, refl),
   tt,
-  inl (late g.TR.FromJson.meaning (device_answer g.TR.FromJson.reading) _ c.args.poll.now c.args.sent c.now-now.result c.expired.result (c.in-Expired.ensures.0 refl) c.expired.ensures),
+  inl (late g.TR.FromJson.meaning (device_answer c.args.self.now.request.base.reply_rule g.TR.FromJson.reading) _ c.args.poll.now c.args.sent c.now-now.result c.expired.result (c.in-Expired.ensures.0 refl) c.expired.ensures),
 )
 
 pub returns-in-Err-clause-turn : goal.returns-in-Err-clause-turn
@@ -19,7 +19,7 @@ returns-in-Err-clause-turn g c =
       Reading c.now-now.result ∷ [],
       (c.now-now.new.self, c.now-now.ensures.reads, refl),
       tt,
-      inl (unprepared g.TR.FromJson.meaning (device_answer g.TR.FromJson.reading) _ c.args.poll.now c.args.sent c.now-now.result before c.in-Err.fault c.unprepared.result c.prepare_request.result c.in-Err.is c.prepare_request.ensures.not_http c.unprepared.ensures),
+      inl (unprepared g.TR.FromJson.meaning (device_answer c.args.self.now.request.base.reply_rule g.TR.FromJson.reading) _ c.args.poll.now c.args.sent c.now-now.result before c.in-Err.fault c.unprepared.result c.prepare_request.result c.in-Err.is c.prepare_request.ensures.not_http c.unprepared.ensures),
     )
 
 pub returns-in-Decided-clause-turn : goal.returns-in-Decided-clause-turn
@@ -28,7 +28,7 @@ returns-in-Decided-clause-turn g c =
       Reading c.now-now.result ∷ Sent c.in-Ok.request c.send-reply.result ∷ [],
       (c.now-now.new.self, c.now-now.ensures.reads, (c.send-reply.new.self, c.send-reply.ensures.sends, refl)),
       (c.in-Ok.ensures.ok, tt),
-      decided g.TR.FromJson.meaning (device_answer g.TR.FromJson.reading) _ c.args.poll.now c.args.sent c.now-now.result before c.in-Ok.request c.send-reply.result c.in-Decided.result c.args.poll.now c.in-Decided.ensures,
+      decided g.TR.FromJson.meaning (device_answer c.args.self.now.request.base.reply_rule g.TR.FromJson.reading) _ c.args.poll.now c.args.sent c.now-now.result before c.in-Ok.request c.send-reply.result c.in-Decided.result c.args.poll.now c.in-Decided.ensures,
     )
 
 pub returns-in-Sleep-clause-turn : goal.returns-in-Sleep-clause-turn
@@ -37,7 +37,7 @@ returns-in-Sleep-clause-turn g c =
       Reading c.now-now.result ∷ Sent c.in-Ok.request c.send-reply.result ∷ Slept c.in-Sleep.duration ∷ [],
       (c.now-now.new.self, c.now-now.ensures.reads, (c.send-reply.new.self, c.send-reply.ensures.sends, (c.sleep.new.self, c.sleep.ensures.sleeps, refl))),
       (c.in-Ok.ensures.ok, tt),
-      goes_on g.TR.FromJson.meaning (device_answer g.TR.FromJson.reading) ⊥ c.args.poll.now c.args.sent c.now-now.result before c.in-Ok.request c.send-reply.result c.in-Again.answer c.in-Again.ensures c.answer.result c.answer.ensures.step c.in-Sleep.duration c.answer.new.self c.in-Sleep.is c.answer.ensures.state,
+      goes_on g.TR.FromJson.meaning (device_answer c.args.self.now.request.base.reply_rule g.TR.FromJson.reading) ⊥ c.args.poll.now c.args.sent c.now-now.result before c.in-Ok.request c.send-reply.result c.in-Again.answer c.in-Again.ensures c.answer.result c.answer.ensures.step c.in-Sleep.duration c.answer.new.self c.in-Sleep.is c.answer.ensures.state,
     )
 
 pub returns-in-Limit : goal.returns-in-Limit
@@ -48,7 +48,7 @@ returns-in-Limit g c =
         Reading c.now-now.result ∷ Sent c.in-Ok.request c.send-reply.result ∷ [],
         (c.now-now.new.self, c.now-now.ensures.reads, (c.send-reply.new.self, c.send-reply.ensures.sends, refl)),
         (c.in-Ok.ensures.ok, tt),
-        inr (at_limit g.TR.FromJson.meaning (device_answer g.TR.FromJson.reading) ⊥ c.args.poll.now c.args.sent c.now-now.result before c.in-Ok.request c.send-reply.result c.in-Again.answer c.in-Again.ensures c.answer.result c.answer.ensures.step c.other.result c.in-Limit.is c.other.ensures),
+        inr (at_limit g.TR.FromJson.meaning (device_answer c.args.self.now.request.base.reply_rule g.TR.FromJson.reading) ⊥ c.args.poll.now c.args.sent c.now-now.result before c.in-Ok.request c.send-reply.result c.in-Again.answer c.in-Again.ensures c.answer.result c.answer.ensures.step c.other.result c.in-Limit.is c.other.ensures),
       );
       ready = c.send-reply.ensures.ready;
     }
