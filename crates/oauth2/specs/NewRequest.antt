@@ -22,6 +22,7 @@ base_of client = record {
   client_secret = client.client_secret;
   scope = None;
   extra_params = [];
+  reply_rule = client.reply_rule;
 }
 
 -- an authorization request at this endpoint, whose state is one that the function may answer

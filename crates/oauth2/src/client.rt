@@ -1,6 +1,7 @@
 //! The configuration of a client.
 
 ghost use Rattle.std.specs.Prelude.{◌≡◌, Some, None, IfOk, option_copied};
+ghost use Rattle.oauth2_wire.specs.declared.content_type.ReplyRule.TheVariants.{Prefix};
 ghost use Rattle.oauth2_wire.specs.declared.request.AuthType.TheVariants.{BasicAuth};
 
 use crate::endpoint::{EndpointMaybeSet, EndpointNotSet, EndpointSet, EndpointState};
@@ -10,7 +11,7 @@ use oauth2_types::{ClientId, ClientSecret, TryClone};
 use oauth2_urls::{
     AuthUrl, DeviceAuthorizationUrl, IntrospectionUrl, RedirectUrl, RevocationUrl, TokenUrl,
 };
-use oauth2_wire::AuthType;
+use oauth2_wire::{AuthType, ReplyRule};
 use std::alloc::{AllocError, Global};
 use std::fmt;
 use std::marker::{Model, PhantomData};
@@ -66,6 +67,7 @@ struct Parts {
     client_id: ClientId,
     client_secret: Option<ClientSecret>,
     auth_type: AuthType,
+    reply_rule: ReplyRule,
     redirect_url: Option<RedirectUrl>,
 }
 
@@ -88,6 +90,7 @@ impl Parts {
             client_id: self.client_id.try_clone(alloc)?,
             client_secret: self.client_secret.try_clone(alloc)?,
             auth_type: self.auth_type,
+            reply_rule: self.reply_rule,
             redirect_url: self.redirect_url.try_clone(alloc)?,
         })
     }
@@ -149,6 +152,7 @@ where
       client_id = c.parts.client_id;
       client_secret = c.parts.client_secret;
       auth_type = c.parts.auth_type;
+      reply_rule = c.parts.reply_rule;
       redirect_url = c.parts.redirect_url;
       auth_url = c.endpoints.auth_url;
       device_authorization_url = c.endpoints.device_authorization_url;
@@ -167,12 +171,13 @@ where
 
 impl<TE, TR, TIR, RT, TRE> Client<TE, TR, TIR, RT, TRE> {
     /// A client with no secret, no redirect and no endpoint, which shows its credentials by
-    /// HTTP Basic.
+    /// HTTP Basic and reads its replies by the rule `Prefix`.
     pub fn new(client_id: ClientId) -> Self
         ensures { result ≡ record {
           client_id = client_id;
           client_secret = None;
           auth_type = BasicAuth;
+          reply_rule = Prefix;
           redirect_url = None;
           auth_url = None;
           device_authorization_url = None;
@@ -186,6 +191,7 @@ impl<TE, TR, TIR, RT, TRE> Client<TE, TR, TIR, RT, TRE> {
                 client_id,
                 client_secret: None,
                 auth_type: AuthType::BasicAuth,
+                reply_rule: ReplyRule::Prefix,
                 redirect_url: None,
             },
             endpoints: Endpoints {
@@ -213,6 +219,14 @@ where
         ensures { result ≡ record self { auth_type = auth_type } }
     {
         self.parts.auth_type = auth_type;
+        self
+    }
+
+    /// Sets the rule for the Content-Type of the replies; a revocation reads none.
+    pub fn set_reply_rule(mut self, reply_rule: ReplyRule) -> Self
+        ensures { result ≡ record self { reply_rule = reply_rule } }
+    {
+        self.parts.reply_rule = reply_rule;
         self
     }
 
@@ -251,6 +265,13 @@ where
         ensures { result.now ≡ self.now.auth_type }
     {
         &self.parts.auth_type
+    }
+
+    /// The rule for the Content-Type of the replies.
+    pub fn reply_rule(&self) -> ReplyRule
+        ensures { result ≡ self.now.reply_rule }
+    {
+        self.parts.reply_rule
     }
 
     /// The redirect.

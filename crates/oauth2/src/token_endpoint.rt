@@ -34,6 +34,7 @@ where
             self.auth_type(),
             self.client_id(),
             self.client_secret(),
+            self.reply_rule(),
         )
     }
 }
