@@ -6,6 +6,8 @@ use Rattle.serde_json.specs.Find.{as_str}
 use Rattle.oauth2_urls.specs.Addressed.{Addressed}
 use Rattle.oauth2_script.specs.declared.client_part.Auth.{Auth}
 use Rattle.oauth2_script.specs.declared.client_part.Auth.TheVariants.{Basic, Body}
+use Rattle.oauth2_script.specs.declared.client_part.Rule.{Rule}
+use Rattle.oauth2_script.specs.declared.client_part.Rule.TheVariants.{Prefix, MediaType}
 use Rattle.oauth2_script.specs.Part.{◌>>=◌, needed, optional, address}
 
 pub record Endpoints : Type 0 where
@@ -19,6 +21,7 @@ pub record Client : Type 0 where
   pub id : List ℕ
   pub secret : Option (List ℕ)
   pub auth : Auth
+  pub reply_rule : Rule
   pub redirect : Option Addressed
   pub endpoints : Endpoints
 
@@ -29,6 +32,14 @@ auth_of text =
 
 abbrev pub auth : Data → Option Auth
 auth d = as_str d >>= auth_of
+
+unfoldable pub rule_of : List ℕ → Option Rule
+rule_of text =
+    if bytes_eq text (codes "prefix") then Some Prefix
+    else (if bytes_eq text (codes "media_type") then Some MediaType else None)
+
+abbrev pub rule : Data → Option Rule
+rule d = as_str d >>= rule_of
 
 unfoldable pub endpoints : Data → Option Endpoints
 endpoints d = do
@@ -44,6 +55,14 @@ client d = do
   id ← needed as_str (codes "id") d
   secret ← optional as_str (codes "secret") d
   auth ← optional auth (codes "auth") d
+  reply_rule ← optional rule (codes "reply_rule") d
   redirect ← optional address (codes "redirect") d
   endpoints ← endpoints d
-  Some (record { id = id; secret = secret; auth = unwrap_or auth Basic; redirect = redirect; endpoints = endpoints })
+  Some (record {
+    id = id;
+    secret = secret;
+    auth = unwrap_or auth Basic;
+    reply_rule = unwrap_or reply_rule Prefix;
+    redirect = redirect;
+    endpoints = endpoints;
+  })

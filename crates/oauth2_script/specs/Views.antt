@@ -88,6 +88,7 @@ client_view c = record {
   id = c.id;
   secret = c.secret;
   auth = c.auth;
+  reply_rule = c.reply_rule;
   redirect = c.redirect;
   endpoints = endpoints_view c.endpoints;
 }

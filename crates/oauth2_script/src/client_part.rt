@@ -20,12 +20,22 @@ pub enum Auth {
     Body,
 }
 
+/// Which Content-Type values of a success are those of a JSON text.
+#[derive(Clone, Copy, Debug, PartialEq, Eq)]
+pub enum Rule {
+    /// Those that begin with `application/json`.
+    Prefix,
+    /// Those whose media type is `application/json`.
+    MediaType,
+}
+
 /// The client, with those of its endpoints that are set.
 #[derive(Drop)]
 pub struct ClientPart {
     pub id: ClientId,
     pub secret: Option<ClientSecret>,
     pub auth: Auth,
+    pub reply_rule: Rule,
     pub redirect: Option<RedirectUrl>,
     pub endpoints: Endpoints,
 }
@@ -53,6 +63,25 @@ impl Part for Auth {
         match value.as_str() {
             Some("basic") => Ok(Auth::Basic),
             Some("body") => Ok(Auth::Body),
+            _ => Err(ScriptError::Bad),
+        }
+    }
+}
+
+impl Part for Rule {
+    ghost use Rattle.oauth2_script.specs.declared.client_part.Rule.{Rule};
+
+    ghost Meaning = { Rule };
+
+    ghost meaning = { λ rule. rule };
+
+    ghost reading = { spec.rule };
+
+    #[tactic(auto, unfolding(crate::specs::Client::rule_of))]
+    fn from_value(_alloc: Global, value: &Value) -> Result<Rule, ScriptError> {
+        match value.as_str() {
+            Some("prefix") => Ok(Rule::Prefix),
+            Some("media_type") => Ok(Rule::MediaType),
             _ => Err(ScriptError::Bad),
         }
     }
@@ -98,12 +127,14 @@ impl Part for ClientPart {
         let id = needed(alloc, value, "id")?;
         let secret = optional(alloc, value, "secret")?;
         let auth = optional(alloc, value, "auth")?;
+        let reply_rule = optional(alloc, value, "reply_rule")?;
         let redirect = optional(alloc, value, "redirect")?;
         let endpoints = Endpoints::from_value(alloc, value)?;
         Ok(ClientPart {
             id,
             secret,
             auth: auth.unwrap_or(Auth::Basic),
+            reply_rule: reply_rule.unwrap_or(Rule::Prefix),
             redirect,
             endpoints,
         })

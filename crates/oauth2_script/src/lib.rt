@@ -20,7 +20,7 @@ mod urls;
 
 pub use authorize_params::AuthorizeParams;
 pub use client_credentials_params::ClientCredentialsParams;
-pub use client_part::{Auth, ClientPart, Endpoints};
+pub use client_part::{Auth, ClientPart, Endpoints, Rule};
 pub use code_params::CodeParams;
 pub use command::Command;
 pub use introspect_params::IntrospectParams;
