@@ -19,4 +19,4 @@ client_credentials_request client p url = record {
 
 abbrev pub IsClientCredentialsOutput : Settings → ClientCredentialsParams → List Reply → Output → Type 0
 IsClientCredentialsOutput client p replies o =
-    WithToken (λ url o. IsTokenExchange (client_credentials_configuration (client_credentials_request client p url)) url replies o) client.token_url o
+    WithToken (λ url o. IsTokenExchange client.reply_rule (client_credentials_configuration (client_credentials_request client p url)) url replies o) client.token_url o

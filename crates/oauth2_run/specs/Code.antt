@@ -21,4 +21,4 @@ code_request client p url = record {
 
 abbrev pub IsCodeOutput : Settings → CodeParams → List Reply → Output → Type 0
 IsCodeOutput client p replies o =
-    WithToken (λ url o. IsTokenExchange (code_configuration (code_request client p url)) url replies o) client.token_url o
+    WithToken (λ url o. IsTokenExchange client.reply_rule (code_configuration (code_request client p url)) url replies o) client.token_url o

@@ -15,6 +15,7 @@ use Rattle.oauth2_json.specs.declared.read.ParseCause.TheVariants as cause
 use Rattle.oauth2_replies.specs.Kept.{any_object}
 use Rattle.oauth2_replies.specs.Token.{Token, token_reading, own_rows}
 use Rattle.oauth2_urls.specs.Addressed.{Addressed}
+use Rattle.oauth2_wire.specs.declared.content_type.ReplyRule.{ReplyRule}
 use Rattle.oauth2_wire.specs.Expected.{Configuration}
 use Rattle.oauth2_wire.specs.OneShot.{not_http_text}
 use Rattle.oauth2_wire.specs.Reply.{Answer, accepted, refused, unread, other, ReplyView, answer_of}
@@ -97,9 +98,9 @@ token_data r = object (put_all (own_rows (string (token_code_text r.token_type))
 unfoldable pub token_json : BasicToken → List ℕ
 token_json r = compact_text (token_data r)
 
-abbrev pub token_answer : ReplyView → Answer BasicToken (ErrorParts ErrorCode)
-token_answer = answer_of (token_reading any_object token_code_reading) (error_reading error_code_reading)
+abbrev pub token_answer : ReplyRule → ReplyView → Answer BasicToken (ErrorParts ErrorCode)
+token_answer rule = answer_of rule (token_reading any_object token_code_reading) (error_reading error_code_reading)
 
 -- a request for a token
-abbrev pub IsTokenExchange : Configuration → Addressed → List Reply → Output → Type 0
-IsTokenExchange = IsExchange token_json (error_display error_code_text) token_answer
+abbrev pub IsTokenExchange : ReplyRule → Configuration → Addressed → List Reply → Output → Type 0
+IsTokenExchange rule = IsExchange token_json (error_display error_code_text) (token_answer rule)

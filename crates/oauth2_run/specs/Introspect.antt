@@ -9,6 +9,7 @@ use Rattle.oauth2_json.specs.Puts.{put_all}
 use Rattle.oauth2_replies.specs.Introspection.{Introspection, introspection_reading, own_rows}
 use Rattle.oauth2_replies.specs.Kept.{any_object}
 use Rattle.oauth2_urls.specs.Addressed.{Addressed}
+use Rattle.oauth2_wire.specs.declared.content_type.ReplyRule.{ReplyRule}
 use Rattle.oauth2_wire.specs.Expected.{Configuration}
 use Rattle.oauth2_wire.specs.Reply.{Answer, ReplyView, answer_of}
 use Rattle.oauth2.specs.NewRequest.{base_of}
@@ -39,15 +40,15 @@ introspection_data r =
 unfoldable pub introspection_json : BasicIntrospection → List ℕ
 introspection_json r = compact_text (introspection_data r)
 
-abbrev pub introspection_answer : ReplyView → Answer BasicIntrospection (ErrorParts ErrorCode)
-introspection_answer =
-    answer_of (introspection_reading any_object token_code_reading) (error_reading error_code_reading)
+abbrev pub introspection_answer : ReplyRule → ReplyView → Answer BasicIntrospection (ErrorParts ErrorCode)
+introspection_answer rule =
+    answer_of rule (introspection_reading any_object token_code_reading) (error_reading error_code_reading)
 
-abbrev pub IsIntrospected : Configuration → Addressed → List Reply → Output → Type 0
-IsIntrospected = IsExchange introspection_json (error_display error_code_text) introspection_answer
+abbrev pub IsIntrospected : ReplyRule → Configuration → Addressed → List Reply → Output → Type 0
+IsIntrospected rule = IsExchange introspection_json (error_display error_code_text) (introspection_answer rule)
 
 abbrev pub IsIntrospectOutput : Settings → IntrospectParams → List Reply → Output → Type 0
 IsIntrospectOutput client p replies o =
     WithEndpoint (codes "introspection")
-    (λ url o. IsIntrospected (introspection_configuration (introspection_request client p url)) url replies o)
+    (λ url o. IsIntrospected client.reply_rule (introspection_configuration (introspection_request client p url)) url replies o)
     client.introspection_url o

@@ -21,4 +21,4 @@ password_request client p url = record {
 
 abbrev pub IsPasswordOutput : Settings → PasswordParams → List Reply → Output → Type 0
 IsPasswordOutput client p replies o =
-    WithToken (λ url o. IsTokenExchange (password_configuration (password_request client p url)) url replies o) client.token_url o
+    WithToken (λ url o. IsTokenExchange client.reply_rule (password_configuration (password_request client p url)) url replies o) client.token_url o

@@ -20,4 +20,4 @@ refresh_request client p url = record {
 
 abbrev pub IsRefreshOutput : Settings → RefreshParams → List Reply → Output → Type 0
 IsRefreshOutput client p replies o =
-    WithToken (λ url o. IsTokenExchange (refresh_configuration (refresh_request client p url)) url replies o) client.token_url o
+    WithToken (λ url o. IsTokenExchange client.reply_rule (refresh_configuration (refresh_request client p url)) url replies o) client.token_url o

@@ -46,6 +46,8 @@ impl<'a> Extensible<'a> for ClientCredentialsRequest<'a> {
 impl TokenRequest for ClientCredentialsRequest<'_> {
     ghost use Rattle.oauth2_requests.specs.ClientCredentials.{client_credentials_configuration};
 
+    ghost reply_rule = { λ r. r.base.reply_rule };
+
     ghost configuration = { client_credentials_configuration };
 
     ghost endpoint = { λ r. r.token_url };

@@ -39,6 +39,8 @@ impl<'a> Extensible<'a> for CodeRequest<'a> {
 impl TokenRequest for CodeRequest<'_> {
     ghost use Rattle.oauth2_requests.specs.Code.{code_configuration};
 
+    ghost reply_rule = { λ r. r.base.reply_rule };
+
     ghost configuration = { code_configuration };
 
     ghost endpoint = { λ r. r.token_url };

@@ -59,7 +59,8 @@ fn ask(
 ) -> Result<RunStatus, AllocError>
     ensures { IfOk result (λ status. http_client.new.is_starved ≡ false
         → Adds (string_bytes http_client.old.lines) (string_bytes http_client.new.lines) status
-        (spec.IsIntrospected (introspection_configuration request.entry) request.entry.introspection_url (replies_of http_client.old))) }
+        (spec.IsIntrospected request.entry.base.reply_rule (introspection_configuration request.entry)
+        request.entry.introspection_url (replies_of http_client.old))) }
 {
     let end = request.request(alloc, http_client);
     show_introspection(alloc, &mut http_client.lines, &end)

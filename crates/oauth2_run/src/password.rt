@@ -38,6 +38,8 @@ impl<'a> Extensible<'a> for PasswordRequest<'a> {
 impl TokenRequest for PasswordRequest<'_> {
     ghost use Rattle.oauth2_requests.specs.Password.{password_configuration};
 
+    ghost reply_rule = { λ r. r.base.reply_rule };
+
     ghost configuration = { password_configuration };
 
     ghost endpoint = { λ r. r.token_url };

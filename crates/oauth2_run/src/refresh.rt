@@ -38,6 +38,8 @@ impl<'a> Extensible<'a> for RefreshRequest<'a> {
 impl TokenRequest for RefreshRequest<'_> {
     ghost use Rattle.oauth2_requests.specs.Refresh.{refresh_configuration};
 
+    ghost reply_rule = { λ r. r.base.reply_rule };
+
     ghost configuration = { refresh_configuration };
 
     ghost endpoint = { λ r. r.token_url };

@@ -5,6 +5,7 @@ mod bad_scripts;
 mod exchanges;
 mod exits;
 mod presented_tokens;
+mod reply_rules;
 mod rust_crate;
 mod streams;
 mod support;

@@ -14,8 +14,11 @@ use std::alloc::{AllocError, Global};
 /// A request for a token.
 pub trait TokenRequest: Sized {
     ghost use Rattle.oauth2_urls.specs.Addressed.{Addressed};
+    ghost use Rattle.oauth2_wire.specs.declared.content_type.ReplyRule.{ReplyRule};
     ghost use Rattle.oauth2_wire.specs.Expected.{Configuration};
     ghost use Rattle.oauth2_run.specs.private.Asked.{AsksForToken};
+
+    ghost reply_rule: { Self → ReplyRule };
 
     ghost configuration: { Self → Configuration };
 
@@ -26,7 +29,7 @@ pub trait TokenRequest: Sized {
         alloc: Global,
         http_client: &mut ScriptedClient,
     ) -> Result<BasicTokenResponse, Fault>
-        ensures { AsksForToken (configuration self) (endpoint self) http_client.old result http_client.new };
+        ensures { AsksForToken (reply_rule self) (configuration self) (endpoint self) http_client.old result http_client.new };
 }
 
 /// Sends the request, and shows what came of it.
@@ -37,7 +40,7 @@ pub fn exchange<T: TokenRequest + Drop>(
 ) -> Result<RunStatus, AllocError>
     ensures { IfOk result (λ status. http_client.new.is_starved ≡ false
         → Adds (string_bytes http_client.old.lines) (string_bytes http_client.new.lines) status
-        (IsTokenExchange (T.configuration request) (T.endpoint request) (replies_of http_client.old))) }
+        (IsTokenExchange (T.reply_rule request) (T.configuration request) (T.endpoint request) (replies_of http_client.old))) }
 {
     let end = request.send(alloc, http_client);
     show_token(alloc, &mut http_client.lines, &end)

@@ -5,6 +5,7 @@ use Rattle.url.specs.Parts.{serialize}
 use Rattle.oauth2_codes.specs.ErrorCodes.{error_code}
 use Rattle.oauth2_codes.specs.ErrorResponse.{parts_of}
 use Rattle.oauth2_urls.specs.Addressed.{Addressed}
+use Rattle.oauth2_wire.specs.declared.content_type.ReplyRule.{ReplyRule}
 use Rattle.oauth2_wire.specs.Expected.{Configuration}
 use Rattle.oauth2_wire.specs.OneShot.{OneShot}
 use Rattle.oauth2_wire.specs.Reply.{Answer, ReplyView, reply_of}
@@ -24,5 +25,5 @@ Asks meaning error_meaning says c endpoint old result new =
     (λ request. IsRequestOf c (serialize endpoint.url) (view_of request)) (SpellsNone (serialize endpoint.url)) old result new
 
 -- for a token
-abbrev pub AsksForToken : Configuration → Addressed → ScriptedClient → Result TokenSeen Fault → ScriptedClient → Type 0
-AsksForToken = Asks token_meaning (parts_of error_code) token_answer
+abbrev pub AsksForToken : ReplyRule → Configuration → Addressed → ScriptedClient → Result TokenSeen Fault → ScriptedClient → Type 0
+AsksForToken rule = Asks token_meaning (parts_of error_code) (token_answer rule)

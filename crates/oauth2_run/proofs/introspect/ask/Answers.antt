@@ -13,7 +13,7 @@ pub returns : goal.returns
 returns c =
     IfOk-weaker c.show_introspection.result _ _
     (λ status printed. λ fed.
-    exchange_told introspection_meaning (parts_of error_code) introspection_json (error_display error_code_text) introspection_answer
+    exchange_told introspection_meaning (parts_of error_code) introspection_json (error_display error_code_text) (introspection_answer c.args.request.base.reply_rule)
     (introspection_configuration c.args.request) c.args.request.introspection_url c.args.http_client.now c.request-end.new.http_client
     (string_bytes c.show_introspection.new.lines) status c.request-end.result c.request-end.ensures.once fed printed)
     c.show_introspection.ensures

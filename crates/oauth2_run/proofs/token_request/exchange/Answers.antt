@@ -11,7 +11,7 @@ pub returns : goal.returns
 returns g c =
     IfOk-weaker c.show_token.result _ _
     (λ status printed. λ fed.
-    exchange_told token_meaning (parts_of error_code) token_json (error_display error_code_text) token_answer
+    exchange_told token_meaning (parts_of error_code) token_json (error_display error_code_text) (token_answer (g.T.TokenRequest.reply_rule c.args.request))
     (g.T.TokenRequest.configuration c.args.request) (g.T.TokenRequest.endpoint c.args.request) c.args.http_client.now c.send-end.new.http_client
     (string_bytes c.show_token.new.lines) status c.send-end.result c.send-end.ensures fed printed)
     c.show_token.ensures
