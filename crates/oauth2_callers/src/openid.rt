@@ -1,22 +1,14 @@
 //! A login with OpenID Connect (Core 1.0, section 3.1), as an application has it in a crate of its
 //! own: the provider's `id_token` beside the access token, and a `nonce` in the login's URL.
 
-ghost use Rattle.std.specs.Prelude.{◌≡◌, ◌↔◌, Some, Ok, Err, IfOk, IfErr, codes, true, false, option_and_then, string_bytes};
+ghost use Rattle.std.specs.Prelude.{◌≡◌, ◌↔◌, Some, None, Err, IfOk, IfErr, true, false, string_bytes};
 ghost use Rattle.rand_core.specs.Stream.{Stream};
-ghost use Rattle.serde_json.specs.Find.{as_str, get_member};
 ghost use Rattle.url.specs.Parser.{IsOutOfRoom};
-ghost use Rattle.url.specs.Parts.{serialize};
 ghost use Rattle.oauth2_types.specs.Digest.{digest_eq};
 ghost use Rattle.oauth2_types.specs.Pkce.{IsRandomText};
 ghost use Rattle.oauth2_urls.specs.Addressed.{Addressed};
-ghost use Rattle.oauth2_wire.specs.OneShot.{HttpRequest};
-ghost use Rattle.oauth2_wire.specs.Reply.{HttpResponse, accepted, answer_of, reply_of};
-ghost use Rattle.oauth2_wire.specs.Request.{IsRequestOf, view_of};
-ghost use Rattle.oauth2_requests.specs.Base.{configuration_of};
-ghost use Rattle.oauth2_requests.specs.Code.{code_pairs};
 ghost use Rattle.oauth2_requests.specs.Query.{ExtendsQuery};
-ghost use Rattle.oauth2.specs.NewRequest.{base_of};
-ghost use Rattle.oauth2_callers.specs.Login.{openid_pairs};
+ghost use Rattle.oauth2_callers.specs.Login.{IsAnsweredBy, id_token_in, openid_pairs};
 
 use crate::application::{IdentityTokenResponse, id_token};
 use oauth2::basic::{
@@ -127,15 +119,14 @@ pub fn finish_login<C: SyncHttpClient>(
     ensures same_state { IfOk result (λ _. digest_eq state login.state ≡ true) }
     ensures other_state { (result ≡ Err LoginError.OtherState) ↔ (digest_eq state login.state ≡ false) }
     ensures unsent { digest_eq state login.state ≡ false → http_client.new ≡ http_client.old }
-    ensures id_token { IfOk result (λ text. (request : HttpRequest)
-        × ((endpoint : Addressed) × (client.now.token_url ≡ Some endpoint)
-        × IsRequestOf (configuration_of (base_of client.now) (code_pairs (string_bytes code) (Some login.verifier)) client.now.redirect_url)
-        (serialize endpoint.url) (view_of request))
-        × (reply : HttpResponse) × C.step http_client.old request (Ok reply) http_client.new
-        × (token : ⟦<IdentityTokenResponse as FromJson>⟧.Meaning)
-        × (answer_of ⟦<IdentityTokenResponse as FromJson>⟧.reading ⟦<BasicErrorResponse as FromJson>⟧.reading (reply_of reply)
-        ≡ accepted token)
-        × (option_and_then as_str (get_member (codes "id_token") token.extra_fields) ≡ Some (string_bytes text))) }
+    ensures id_token { IfOk result (λ text. (response : ⟦<IdentityTokenResponse as FromJson>⟧.Meaning)
+        × IsAnsweredBy ⟦<IdentityTokenResponse as FromJson>⟧.reading ⟦<BasicErrorResponse as FromJson>⟧.reading C.step
+        client.now login.verifier (string_bytes code) http_client.old response http_client.new
+        × (id_token_in response.extra_fields ≡ Some (string_bytes text))) }
+    ensures no_id_token { result ≡ Err LoginError.NoIdToken → (response : ⟦<IdentityTokenResponse as FromJson>⟧.Meaning)
+        × IsAnsweredBy ⟦<IdentityTokenResponse as FromJson>⟧.reading ⟦<BasicErrorResponse as FromJson>⟧.reading C.step
+        client.now login.verifier (string_bytes code) http_client.old response http_client.new
+        × (id_token_in response.extra_fields ≡ None) }
     ensures ready { C.is_ready http_client.new }
 {
     if state != login.state {
@@ -157,13 +148,10 @@ fn exchanged<C: SyncHttpClient>(
     code: String,
 ) -> Result<IdentityTokenResponse, BasicRequestTokenError<C::Error>>
     requires { C.is_ready http_client.old }
-    ensures token { IfOk result (λ token. (request : HttpRequest)
-        × ((endpoint : Addressed) × (client.now.token_url ≡ Some endpoint)
-        × IsRequestOf (configuration_of (base_of client.now) (code_pairs (string_bytes code) (Some verifier)) client.now.redirect_url)
-        (serialize endpoint.url) (view_of request))
-        × (reply : HttpResponse) × C.step http_client.old request (Ok reply) http_client.new
-        × (answer_of ⟦<IdentityTokenResponse as FromJson>⟧.reading ⟦<BasicErrorResponse as FromJson>⟧.reading (reply_of reply)
-        ≡ accepted (⟦<IdentityTokenResponse as FromJson>⟧.meaning token))) }
+    ensures token { IfOk result (λ token. IsAnsweredBy
+        ⟦<IdentityTokenResponse as FromJson>⟧.reading ⟦<BasicErrorResponse as FromJson>⟧.reading C.step
+        client.now verifier (string_bytes code) http_client.old
+        (⟦<IdentityTokenResponse as FromJson>⟧.meaning token) http_client.new) }
     ensures ready { C.is_ready http_client.new }
 {
     client

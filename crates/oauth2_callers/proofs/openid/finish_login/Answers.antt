@@ -4,4 +4,7 @@ use Rattle.oauth2_callers.proofs.openid.finish_login.Goals as goal
 pub returns-in-Some-clause-id_token : goal.returns-in-Some-clause-id_token
 returns-in-Some-clause-id_token g c =
     let read = c.in_ok-token.ensures.token in
-    (read.0, read.1, read.2, read.3, _, read.4, search rules)
+    (_, read, search rules)
+
+pub returns-clause-no_id_token : goal.returns-clause-no_id_token
+returns-clause-no_id_token g c = λ none. (_, c.in_ok-token.ensures.token, search rules)
