@@ -1,5 +1,6 @@
 pub mod Settings
 pub mod NewRequest
+pub mod CodeFlow
 pub use Rattle.oauth2_types.specs.Digest
 pub use Rattle.oauth2_types.specs.Pkce
 pub use Rattle.oauth2_urls.specs.Addressed

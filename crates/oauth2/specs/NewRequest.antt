@@ -25,21 +25,22 @@ base_of client = record {
   reply_rule = client.reply_rule;
 }
 
--- an authorization request at this endpoint, whose state is one that the function may answer
--- (RFC 6749, section 4.1.1)
+-- an authorization request at this endpoint with this state (RFC 6749, section 4.1.1)
+abbrev pub new_authorization : Settings → Addressed → List ℕ → Authorization
+new_authorization client url state = record {
+  auth_url = url;
+  client_id = client.client_id;
+  state = state;
+  response_type = codes "code";
+  pkce_challenge = None;
+  redirect_url = client.redirect_url;
+  scopes = [];
+  extra_params = [];
+}
+
+-- such a request, whose state is one that the function may answer
 abbrev pub IsAuthorization : (List ℕ → Type 0) → Settings → Addressed → Authorization → Type 0
-IsAuthorization IsState client url r =
-    IsState r.state
-    × (r ≡ record {
-      auth_url = url;
-      client_id = client.client_id;
-      state = r.state;
-      response_type = codes "code";
-      pkce_challenge = None;
-      redirect_url = client.redirect_url;
-      scopes = [];
-      extra_params = [];
-    })
+IsAuthorization IsState client url r = IsState r.state × (r ≡ new_authorization client url r.state)
 
 -- the exchange of a code (RFC 6749, section 4.1.3)
 abbrev pub new_code_request : Settings → Addressed → List ℕ → CodeRequest

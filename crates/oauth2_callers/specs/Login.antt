@@ -1,8 +1,20 @@
 -- The pairs of a login.
-use Rattle.std.specs.Prelude.{ℕ, List, [], ◌∷◌, ◌++◌, codes, option_map}
+use Rattle.std.specs.Prelude.{◌≡◌, ℕ, List, [], ◌∷◌, ◌++◌, codes, Option, Some, Result, Ok, option_and_then, option_map}
+use Rattle.serde_json.specs.Data.{Data, Members}
+use Rattle.serde_json.specs.Find.{as_str, get_member}
+use Rattle.url.specs.Parts.{serialize}
+use Rattle.oauth2_json.specs.Reading.{Reading}
+use Rattle.oauth2_types.specs.Pkce.{sha256_challenge}
+use Rattle.oauth2_urls.specs.Addressed.{Addressed}
 use Rattle.oauth2_wire.specs.Pairs.{Pair}
 use Rattle.oauth2_wire.specs.Expected.{optional_pair}
+use Rattle.oauth2_wire.specs.OneShot.{HttpRequest}
+use Rattle.oauth2_wire.specs.Reply.{HttpResponse, accepted, answer_of, reply_of}
+use Rattle.oauth2_wire.specs.Request.{IsRequestOf, view_of}
 use Rattle.oauth2_wire.specs.Texts.{given_text}
+use Rattle.oauth2_requests.specs.Base.{configuration_of}
+use Rattle.oauth2_requests.specs.Code.{code_pairs}
+use Rattle.oauth2.specs.NewRequest.{base_of}
 use Rattle.oauth2.specs.Settings.{Settings}
 
 -- what a login sends for a client and a state (RFC 6749, section 4.1.1)
@@ -13,3 +25,34 @@ login_pairs client state =
     ∷ (codes "state", state)
     ∷ []
     ++ optional_pair (codes "redirect_uri") (option_map given_text client.redirect_url)
+
+-- what a login with OpenID Connect sends for a client, a state, a verifier and a nonce (RFC 7636,
+-- section 4.3; OpenID Connect Core 1.0, section 3.1.2.1)
+abbrev pub openid_pairs : Settings → List ℕ → List ℕ → List ℕ → List Pair
+openid_pairs client state verifier nonce =
+    (codes "response_type", codes "code")
+    ∷ (codes "client_id", client.client_id)
+    ∷ (codes "state", state)
+    ∷ (codes "code_challenge", (sha256_challenge verifier).text)
+    ∷ (codes "code_challenge_method", codes "S256")
+    ∷ []
+    ++ optional_pair (codes "redirect_uri") (option_map given_text client.redirect_url)
+    ++ (codes "scope", codes "openid")
+    ∷ (codes "nonce", nonce)
+    ∷ []
+
+-- the text of the ID token among the members of a response that the standard of OAuth does not name
+-- (OpenID Connect Core 1.0, section 3.1.3.3)
+abbrev pub id_token_in : Members → Option (List ℕ)
+id_token_in members = option_and_then as_str (get_member (codes "id_token") members)
+
+module _ {A E RE C : Type 0} where
+  -- the HTTP client made one step, with the request for this code and this verifier, and its reply
+  -- reads to this response
+  abbrev pub IsAnsweredBy : (Data → Reading A) → (Data → Reading E) → (C → HttpRequest → Result HttpResponse RE → C → Type 0) → Settings → List ℕ → List ℕ → C → A → C → Type 0
+  IsAnsweredBy reading error_reading step client verifier code before response after =
+      (request : HttpRequest)
+      × ((endpoint : Addressed) × (client.token_url ≡ Some endpoint)
+      × IsRequestOf (configuration_of (base_of client) (code_pairs code (Some verifier)) client.redirect_url) (serialize endpoint.url) (view_of request))
+      × (reply : HttpResponse) × step before request (Ok reply) after
+      × (answer_of reading error_reading (reply_of reply) ≡ accepted response)

@@ -6,6 +6,7 @@ mod authorization;
 mod client;
 mod example;
 mod exchange;
+mod openid;
 mod own_extra_fields;
 
 pub use application::{
@@ -21,4 +22,5 @@ pub use example::{TokenOnlyClient, new_client, token_for_code};
 pub use exchange::{
     code_request, lacks_token_url, password_token, refresh_request, with_all_scopes,
 };
+pub use openid::{Login, LoginError, OpenIdClient, finish_login, start_login};
 pub use own_extra_fields::{ExtExpiresIn, IdToken, IdentityFields};

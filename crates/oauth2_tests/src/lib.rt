@@ -7,6 +7,8 @@ mod applications;
 #[cfg(test)]
 mod clients;
 #[cfg(test)]
+mod code_flow;
+#[cfg(test)]
 mod constant_generator;
 #[cfg(test)]
 mod pkce;

@@ -1,0 +1,59 @@
+-- A login by a code with its verifier: the URL that leads the user away, and the request that
+-- follows when the user is back (RFC 6749, section 4.1; RFC 7636).
+use Rattle.std.specs.Prelude.{◌≡◌, ℕ, List, codes, Option, Some}
+use Rattle.http_uri.specs.Uri.{SpellsNone}
+use Rattle.url.specs.Parser.{IsOutOfRoom}
+use Rattle.url.specs.Parts.{serialize}
+use Rattle.oauth2_types.specs.Pkce.{Accepts, sha256_challenge}
+use Rattle.oauth2_urls.specs.Addressed.{Addressed}
+use Rattle.oauth2_wire.specs.ByName.{read_by_name}
+use Rattle.oauth2_wire.specs.Pairs.{Pair}
+use Rattle.oauth2_wire.specs.declared.request.RequestFault.{RequestFault}
+use Rattle.oauth2_wire.specs.declared.request.RequestFault.TheVariants as fault
+use Rattle.oauth2_requests.specs.Authorization.{Authorization}
+use Rattle.oauth2_requests.specs.Code.{CodeRequest}
+use Rattle.oauth2.specs.declared.flow.CodeFlowError.{CodeFlowError}
+use Rattle.oauth2.specs.declared.flow.CodeFlowError.TheVariants.{Url, NotHttp, Memory}
+use Rattle.oauth2.specs.NewRequest.{new_authorization, new_code_request}
+use Rattle.oauth2.specs.Settings.{Settings}
+
+-- the request for the authorization URL: with the verifier's challenge, and nothing else set
+-- (RFC 7636, section 4.3)
+abbrev pub flow_authorization : Settings → Addressed → List ℕ → List ℕ → Authorization
+flow_authorization client url state verifier =
+    record (new_authorization client url state) { pkce_challenge = Some (sha256_challenge verifier) }
+
+-- the exchange of the code: with the verifier, and nothing else set (RFC 7636, section 4.5)
+abbrev pub flow_exchange : Settings → Addressed → List ℕ → List ℕ → CodeRequest
+flow_exchange client url verifier code =
+    record (new_code_request client url code) { pkce_verifier = Some verifier }
+
+-- a server that reads these pairs of the URL's query and then these pairs of the request by their
+-- names finds a challenge, its method and the verifier, each once, and the verifier passes its
+-- check by the method `S256` (RFC 7636, section 4.6)
+abbrev pub PassesCheck : List ℕ → List Pair → List Pair → Type 0
+PassesCheck verifier query body =
+    (challenge : List ℕ)
+    × (read_by_name (codes "code_challenge") query ≡ Some challenge)
+    × (read_by_name (codes "code_challenge_method") query ≡ Some (codes "S256"))
+    × (read_by_name (codes "code_verifier") body ≡ Some verifier)
+    × Accepts (record { text = challenge; method = codes "S256" }) verifier
+
+-- the cause of an error: the URL has no room, or that of the token endpoint is no HTTP target; want
+-- of memory has none that a contract can name
+abbrev pub IsCauseOf : Settings → CodeFlowError → Type 0
+IsCauseOf client (Url error) = IsOutOfRoom error
+IsCauseOf client NotHttp =
+    (endpoint : Addressed) × (client.token_url ≡ Some endpoint) × SpellsNone (serialize endpoint.url)
+IsCauseOf client Memory = Unit
+
+-- why the request could not be built, as an error of the whole
+abbrev pub flow_error_of : RequestFault → CodeFlowError
+flow_error_of fault.NotHttp = NotHttp
+flow_error_of fault.Memory = Memory
+
+-- the text of an error
+abbrev pub flow_error_text : CodeFlowError → Option (List ℕ)
+flow_error_text (Url _) = Some (codes "no room for the authorization URL")
+flow_error_text NotHttp = Some (codes "endpoint URL is not an HTTP target")
+flow_error_text Memory = Some (codes "Out of memory")

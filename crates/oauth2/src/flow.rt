@@ -1,0 +1,184 @@
+//! A login by a code with its verifier (RFC 6749, section 4.1; RFC 7636).
+
+ghost use Rattle.std.specs.Prelude.{◌≡◌, Some, IfOk, IfErr, IsTrue};
+ghost use Rattle.url.specs.Parts.{serialize};
+ghost use Rattle.oauth2_types.specs.Pkce.{HasValidLength};
+ghost use Rattle.oauth2_urls.specs.Addressed.{Addressed};
+ghost use Rattle.oauth2_wire.specs.ByName.{avoid_own_names};
+ghost use Rattle.oauth2_wire.specs.Pairs.{form};
+ghost use Rattle.oauth2_wire.specs.Request.{IsRequestOf, view_of};
+ghost use Rattle.oauth2_requests.specs.Authorization.{query_pairs};
+ghost use Rattle.oauth2_requests.specs.Code.{code_configuration};
+ghost use Rattle.oauth2_requests.specs.Query.{ExtendsQuery, query_form};
+ghost use Rattle.oauth2.specs.CodeFlow.{IsCauseOf, PassesCheck, flow_authorization, flow_error_of, flow_exchange};
+
+use crate::client::Client;
+use crate::endpoint::{EndpointSet, EndpointState};
+use oauth2_types::{AuthorizationCode, CsrfToken, PkceCodeChallenge, PkceCodeVerifier};
+use oauth2_wire::{HttpRequest, RequestFault};
+use std::alloc::{AllocError, Global};
+use std::fmt;
+use url::{ParseError, Url};
+
+/// A login from its URL to the exchange of its code.
+///
+/// It has no `Debug`: the URL and the request hold secrets as they are sent.
+#[derive(Drop)]
+pub struct CodeFlow {
+    /// The URL to send the user to.
+    pub url: Url,
+    /// The state that the user has to come back with.
+    pub state: CsrfToken,
+    /// The request to send to the token endpoint then.
+    pub request: HttpRequest,
+}
+
+/// Why a login could not be made.
+#[derive(Clone, Copy, Debug, PartialEq, Eq)]
+pub enum CodeFlowError {
+    /// There was no room for the authorization URL.
+    Url(ParseError),
+    /// The token endpoint's URL is not an HTTP target.
+    NotHttp,
+    /// Memory ran out.
+    Memory,
+}
+
+impl fmt::Display for CodeFlowError {
+    ghost use Rattle.oauth2.specs.CodeFlow.{flow_error_text};
+
+    ghost output = { flow_error_text };
+
+    fn fmt<W: fmt::Write>(&self, f: &mut fmt::Formatter<W>) -> fmt::Result {
+        match self {
+            CodeFlowError::Url(_) => f.write_str("no room for the authorization URL"),
+            CodeFlowError::NotHttp => f.write_str("endpoint URL is not an HTTP target"),
+            CodeFlowError::Memory => f.write_str("Out of memory"),
+        }
+    }
+}
+
+impl std::error::Error for CodeFlowError {}
+
+impl From<AllocError> for CodeFlowError {
+    ghost use Rattle.std.specs.Prelude.{◌≡◌};
+    ghost use Rattle.oauth2.specs.declared.flow.CodeFlowError.TheVariants.{Memory};
+
+    ghost from_gives = { λ _ e. e ≡ Memory };
+
+    fn from(_: AllocError) -> CodeFlowError {
+        CodeFlowError::Memory
+    }
+}
+
+impl From<ParseError> for CodeFlowError {
+    ghost use Rattle.std.specs.Prelude.{◌≡◌};
+    ghost use Rattle.oauth2.specs.declared.flow.CodeFlowError.TheVariants.{Url};
+
+    ghost from_gives = { λ error e. e ≡ Url error };
+
+    fn from(error: ParseError) -> CodeFlowError {
+        CodeFlowError::Url(error)
+    }
+}
+
+impl From<RequestFault> for CodeFlowError {
+    ghost use Rattle.std.specs.Prelude.{◌≡◌};
+    ghost use Rattle.oauth2.specs.CodeFlow.{flow_error_of};
+
+    ghost from_gives = { λ fault e. e ≡ flow_error_of fault };
+
+    fn from(fault: RequestFault) -> CodeFlowError {
+        match fault {
+            RequestFault::NotHttp => CodeFlowError::NotHttp,
+            RequestFault::Memory => CodeFlowError::Memory,
+        }
+    }
+}
+
+/// The URL and the request of one login, whose challenge is made of the verifier by `S256`.
+///
+/// For the two ends of a login at once, as a test or a bridge between two steps wants them; an
+/// application whose user is away meanwhile keeps state and verifier and makes each at its time.
+pub fn code_flow<TE, TR, TIR, RT, TRE, D, I, R>(
+    alloc: Global,
+    client: &Client<TE, TR, TIR, RT, TRE, EndpointSet, D, I, R, EndpointSet>,
+    state: CsrfToken,
+    verifier: PkceCodeVerifier,
+    code: AuthorizationCode,
+) -> Result<CodeFlow, CodeFlowError>
+where
+    D: EndpointState,
+    I: EndpointState,
+    R: EndpointState,
+    requires { HasValidLength verifier }
+    ensures state { IfOk result (λ flow. flow.state ≡ state) }
+    ensures url { IfOk result (λ flow. (endpoint : Addressed) × (client.now.auth_url ≡ Some endpoint)
+        × ExtendsQuery endpoint.url flow.url (query_pairs (flow_authorization client.now endpoint state verifier))) }
+    ensures request { IfOk result (λ flow. (endpoint : Addressed) × (client.now.token_url ≡ Some endpoint)
+        × IsRequestOf (code_configuration (flow_exchange client.now endpoint verifier code))
+        (serialize endpoint.url) (view_of flow.request)) }
+
+    // What a server reads from the bytes that are sent.
+    ensures check { IfOk result (λ flow. (endpoint : Addressed) × (client.now.auth_url ≡ Some endpoint)
+        × (IsTrue (avoid_own_names (query_form endpoint.url))
+        → PassesCheck verifier (query_form flow.url) (form (view_of flow.request).body))) }
+    ensures refusal { IfErr result (IsCauseOf client.now) }
+{
+    let (url, state) = login_url(alloc, client, state, &verifier)?;
+    let request = exchange(alloc, client, verifier, code)?;
+    Ok(CodeFlow {
+        url,
+        state,
+        request,
+    })
+}
+
+// The URL of a login, and its state.
+fn login_url<TE, TR, TIR, RT, TRE, D, I, R, T>(
+    alloc: Global,
+    client: &Client<TE, TR, TIR, RT, TRE, EndpointSet, D, I, R, T>,
+    state: CsrfToken,
+    verifier: &PkceCodeVerifier,
+) -> Result<(Url, CsrfToken), CodeFlowError>
+where
+    D: EndpointState,
+    I: EndpointState,
+    R: EndpointState,
+    T: EndpointState,
+    requires { HasValidLength verifier.now }
+    ensures state { IfOk result (λ r. r.1 ≡ state) }
+    ensures url { IfOk result (λ r. (endpoint : Addressed) × (client.now.auth_url ≡ Some endpoint)
+        × ExtendsQuery endpoint.url r.0 (query_pairs (flow_authorization client.now endpoint state verifier.now))) }
+    ensures refusal { IfErr result (IsCauseOf client.now) }
+{
+    let challenge = PkceCodeChallenge::from_code_verifier_sha256(alloc, verifier)?;
+    let login = client
+        .authorize_url(alloc, move || state)
+        .set_pkce_challenge(challenge)
+        .url(alloc)?;
+    Ok(login)
+}
+
+// The request for the code of a login.
+fn exchange<TE, TR, TIR, RT, TRE, A, D, I, R>(
+    alloc: Global,
+    client: &Client<TE, TR, TIR, RT, TRE, A, D, I, R, EndpointSet>,
+    verifier: PkceCodeVerifier,
+    code: AuthorizationCode,
+) -> Result<HttpRequest, RequestFault>
+where
+    A: EndpointState,
+    D: EndpointState,
+    I: EndpointState,
+    R: EndpointState,
+    ensures request { IfOk result (λ request. (endpoint : Addressed) × (client.now.token_url ≡ Some endpoint)
+        × IsRequestOf (code_configuration (flow_exchange client.now endpoint verifier code))
+        (serialize endpoint.url) (view_of request)) }
+    ensures refusal { IfErr result (λ fault. IsCauseOf client.now (flow_error_of fault)) }
+{
+    client
+        .exchange_code(alloc, code)
+        .set_pkce_verifier(verifier)
+        .prepare_request(alloc)
+}

@@ -1,0 +1,151 @@
+//! A login from its URL to the exchange of its code, at once and in the two steps of an application.
+
+use crate::constant_generator::ConstantGenerator;
+use crate::support::{is_text, text};
+use oauth2::http::Response;
+use oauth2::{
+    AuthUrl, AuthorizationCode, Client, ClientId, ClientSecret, CodeFlow, CodeFlowError, CsrfToken,
+    HttpResponse, PkceCodeVerifier, TokenUrl, code_flow,
+};
+use oauth2_callers::{
+    CannedClient, CodeClient, LoginError, OpenIdClient, finish_login, start_login,
+};
+use std::process::Abort;
+
+const AUTH: &str = "https://example.com/auth";
+
+const TOKEN: &str = "https://example.com/token";
+
+/// The verifier of RFC 7636, appendix B.
+const VERIFIER: &str = "dBjftJeZ4CVP-mB92K27uhbUJU1p1r_wW1gFWFOEjXk";
+
+fn auth_url(rt: &(impl Abort + AllocGlobal), url: &str) -> AuthUrl {
+    AuthUrl::new(rt.alloc(), text(rt, url)).expect(rt, "a URL")
+}
+
+fn token_url(rt: &(impl Abort + AllocGlobal), url: &str) -> TokenUrl {
+    TokenUrl::new(rt.alloc(), text(rt, url)).expect(rt, "a URL")
+}
+
+fn client(rt: &(impl Abort + AllocGlobal), auth: &str, token: &str) -> CodeClient {
+    Client::new(ClientId::new(text(rt, "aaa")))
+        .set_client_secret(ClientSecret::new(text(rt, "bbb")))
+        .set_auth_uri(auth_url(rt, auth))
+        .set_token_uri(token_url(rt, token))
+}
+
+/// The login at these endpoints.
+fn login(
+    rt: &(impl Abort + AllocGlobal),
+    auth: &str,
+    token: &str,
+) -> Result<CodeFlow, CodeFlowError> {
+    let verifier = PkceCodeVerifier::new(text(rt, VERIFIER));
+    assert!(rt; verifier.has_valid_length());
+    code_flow(
+        rt.alloc(),
+        &client(rt, auth, token),
+        CsrfToken::new(text(rt, "csrf_token")),
+        verifier,
+        AuthorizationCode::new(text(rt, "ccc")),
+    )
+}
+
+/// The login at this endpoint has this URL.
+fn leads_to(rt: &(impl Abort + AllocGlobal), auth: &str, url: &str) {
+    let flow = login(rt, auth, TOKEN).expect(rt, "a login");
+    is_text(rt, flow.url.as_str(), url);
+    is_text(rt, flow.state.secret().as_str(), "csrf_token");
+    let body =
+        "grant_type=authorization_code&code=ccc&code_verifier=dBjftJeZ4CVP-mB92K27uhbUJU1p1r_wW1gFWFOEjXk";
+    assert_eq!(rt; flow.request.body().as_slice(), body.as_bytes());
+}
+
+#[test]
+fn joined_login(rt: HostRuntime) {
+    leads_to(
+        &rt,
+        AUTH,
+        "https://example.com/auth?response_type=code&client_id=aaa&state=csrf_token\
+         &code_challenge=E9Melhoa2OwvFrEMTJguCHaoeK1t8URWbuGJSstw-cM&code_challenge_method=S256",
+    );
+}
+
+/// A challenge of the endpoint's own stays, so the query has two, and no server reads the name.
+#[test]
+fn joined_login_beside_another_challenge(rt: HostRuntime) {
+    leads_to(
+        &rt,
+        "https://example.com/auth?code_challenge=x",
+        "https://example.com/auth?code_challenge=x&response_type=code&client_id=aaa&state=csrf_token\
+         &code_challenge=E9Melhoa2OwvFrEMTJguCHaoeK1t8URWbuGJSstw-cM&code_challenge_method=S256",
+    );
+}
+
+#[test]
+fn joined_login_without_a_target(rt: HostRuntime) {
+    let error = login(&rt, AUTH, "data:text/plain,hello")
+        .err()
+        .expect(&rt, "a refusal");
+    assert_eq!(rt; error, CodeFlowError::NotHttp);
+    let shown = format!(in rt.alloc(); "{error}").expect(&rt, "a text");
+    is_text(&rt, shown.as_str(), "endpoint URL is not an HTTP target");
+}
+
+fn open_id_client(rt: &(impl Abort + AllocGlobal)) -> OpenIdClient {
+    Client::new(ClientId::new(text(rt, "aaa")))
+        .set_auth_uri(auth_url(rt, AUTH))
+        .set_token_uri(token_url(rt, TOKEN))
+}
+
+fn reply(rt: &(impl Abort + AllocGlobal), body: &str) -> HttpResponse {
+    Response::new(
+        rt.alloc(),
+        body.as_bytes().to_vec(rt.alloc()).expect(rt, "a body"),
+    )
+}
+
+/// What a login ends with whose user comes back with this state and whose reply is this.
+fn ends(
+    rt: &(impl Abort + AllocGlobal),
+    state: &str,
+    body: &str,
+) -> Result<String, LoginError<oauth2_callers::CannedError>> {
+    let client = open_id_client(rt);
+    let mut rng = ConstantGenerator(0);
+    let (url, login) = start_login(rt.alloc(), &client, &mut rng, "n-0S6_WzA2Mj").expect(
+        rt, "a login",
+    );
+    is_text(
+        rt,
+        url.as_str(),
+        "https://example.com/auth?response_type=code&client_id=aaa&state=AAAAAAAAAAAAAAAAAAAAAA\
+         &code_challenge=DwBzhbb51LfusnSGBa_hqYSgo7-j8BTQnip4TOnlzRo&code_challenge_method=S256&scope=openid&nonce=n-0S6_WzA2Mj",
+    );
+    let mut http_client = CannedClient::new(reply(rt, body));
+    finish_login(
+        rt.alloc(),
+        &client,
+        &mut http_client,
+        login,
+        CsrfToken::new(text(rt, state)),
+        text(rt, "ccc"),
+    )
+}
+
+const STATE: &str = "AAAAAAAAAAAAAAAAAAAAAA";
+
+#[test]
+fn open_id_login(rt: HostRuntime) {
+    let body = r#"{"access_token":"a","token_type":"bearer","id_token":"x.y.z"}"#;
+    let id_token = ends(&rt, STATE, body).expect(&rt, "an ID token");
+    is_text(&rt, id_token.as_str(), "x.y.z");
+    assert!(rt; matches!(ends(&rt, "B", body), Err(LoginError::OtherState)));
+}
+
+#[test]
+fn open_id_login_without_id_token(rt: HostRuntime) {
+    let body = r#"{"access_token":"a","token_type":"bearer"}"#;
+    assert!(rt; matches!(ends(&rt, STATE, body), Err(LoginError::NoIdToken)));
+    assert!(rt; matches!(ends(&rt, STATE, "{}"), Err(LoginError::Token(_))));
+}
