@@ -8,6 +8,7 @@ mod colorful_fields;
 mod colorful_token;
 mod colorful_token_type;
 mod custom_error;
+mod kept;
 
 pub use client::{
     ColorfulClient, ColorfulErrorResponse, ColorfulIntrospectionResponse, ColorfulTokenResponse,
@@ -20,3 +21,7 @@ pub use colorful_fields::ColorfulFields;
 pub use colorful_token::ColorfulRevocableToken;
 pub use colorful_token_type::ColorfulTokenType;
 pub use custom_error::CustomErrorResponse;
+pub use kept::{
+    codes_value, error_value, fields_are_kept, introspection_value, reread, restored_token,
+    stored_token,
+};
