@@ -1,17 +1,15 @@
 //! Responses with extra fields of a user's own.
 
-use crate::colorful::{ColorfulFields, ColorfulTokenType, RawFields};
 use crate::support::{is_kept, is_refused, is_rewritten, read, text};
 use oauth2::basic::{BasicTokenResponse, BasicTokenType};
 use oauth2::{
     AccessToken, DeviceAuthorizationResponse, ExtraFields, ParseCause, StandardTokenResponse,
     ToJson, WriteError,
 };
+use oauth2_own_types::ColorfulTokenResponse;
 use std::process::Abort;
 
-type ColorfulToken = StandardTokenResponse<ColorfulFields, ColorfulTokenType>;
-
-type RawToken = StandardTokenResponse<RawFields, BasicTokenType>;
+type RawToken = StandardTokenResponse<ExtraFields, BasicTokenType>;
 
 #[test]
 fn extra_fields_are_read_last(rt: HostRuntime) {
@@ -32,13 +30,13 @@ fn extra_fields_are_read_last(rt: HostRuntime) {
             ParseCause::OutOfRange,
         ),
     ] {
-        is_refused::<ColorfulToken>(&rt, body, member, cause);
+        is_refused::<ColorfulTokenResponse>(&rt, body, member, cause);
     }
 }
 
 #[test]
 fn extra_fields_are_written_beside(rt: HostRuntime) {
-    is_rewritten::<ColorfulToken>(
+    is_rewritten::<ColorfulTokenResponse>(
         &rt,
         "{\"access_token\":\"12/34\",\"token_type\":\"GREEN\",\"shape\":\"round\",\"height\":12}",
         "{\"access_token\":\"12/34\",\"height\":12,\"shape\":\"round\",\"token_type\":\"green\"}",
@@ -52,7 +50,7 @@ fn extra_fields_are_written_beside(rt: HostRuntime) {
 
 #[test]
 fn extra_fields_of_a_device_response(rt: HostRuntime) {
-    is_rewritten::<DeviceAuthorizationResponse<RawFields>>(
+    is_rewritten::<DeviceAuthorizationResponse<ExtraFields>>(
         &rt,
         "{\"device_code\":\"d\",\"user_code\":\"u\",\"verification_url\":\"https://v/\",\"expires_in\":1,\"z\":[]}",
         "{\"device_code\":\"d\",\"expires_in\":1,\"interval\":5,\"user_code\":\"u\",\"verification_uri\":\"https://v/\",\"z\":[]}",
@@ -84,7 +82,7 @@ fn members_that_are_left_are_kept(rt: HostRuntime) {
 
 /// A token response with these extra fields.
 fn with_raw(rt: &(impl Abort + AllocGlobal), fields: &str) -> RawToken {
-    let extra_fields = read::<RawFields>(rt, fields);
+    let extra_fields = read::<ExtraFields>(rt, fields);
     let access_token = AccessToken::new(text(rt, "t"));
     StandardTokenResponse::new(access_token, BasicTokenType::Bearer, extra_fields)
 }

@@ -2,8 +2,6 @@
 #![tactic(auto)]
 
 #[cfg(test)]
-mod colorful;
-#[cfg(test)]
 mod device_response;
 #[cfg(test)]
 mod error_response;

@@ -1,5 +1,5 @@
-//! Tests of texts, secrets, challenges, URLs, clients and an application, through the names of
-//! `oauth2`.
+//! Tests of texts, secrets, challenges, URLs, clients, an application and types of a user's own,
+//! through the names of `oauth2`.
 #![tactic(auto)]
 
 #[cfg(test)]
@@ -10,6 +10,8 @@ mod clients;
 mod code_flow;
 #[cfg(test)]
 mod constant_generator;
+#[cfg(test)]
+mod own_types;
 #[cfg(test)]
 mod pkce;
 #[cfg(test)]

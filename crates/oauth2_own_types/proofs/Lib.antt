@@ -1,0 +1,2 @@
+pub mod EqualRequests
+pub mod ReadBack

@@ -1,0 +1,5 @@
+pub mod Colors
+pub mod ColorErrors
+pub mod CustomError
+pub mod Fields
+pub mod Asked

@@ -1,0 +1,128 @@
+//! A client of a server with types of its own: token types, extra fields, error codes, an error
+//! response and a kind of tokens to revoke.
+
+use crate::support::{is_text, text};
+use oauth2::http::response::Parts;
+use oauth2::http::{Response, StatusCode};
+use oauth2::{
+    AuthorizationCode, ClientId, ClientSecret, DeviceAuthorizationUrl, HttpResponse,
+    IntrospectionUrl, RequestTokenError, RevocationUrl, TokenResponse, TokenUrl,
+};
+use oauth2_callers::{CannedClient, CannedError};
+use oauth2_own_types::{
+    ColorfulClient, ColorfulErrorResponse, ColorfulErrorResponseType, ColorfulRevocableToken,
+    ColorfulTokenResponse, ColorfulTokenType, colorful_client, custom_error_client, reread,
+    restored_token, revocation, stored_token, token_for_code, token_or_custom_error,
+};
+use std::fmt::Display;
+use std::process::Abort;
+
+type Answer = Result<ColorfulTokenResponse, RequestTokenError<CannedError, ColorfulErrorResponse>>;
+
+fn token_url(rt: &(impl Abort + AllocGlobal)) -> TokenUrl {
+    TokenUrl::new(rt.alloc(), text(rt, "https://example.com/token")).expect(rt, "a URL")
+}
+
+fn client(rt: &(impl Abort + AllocGlobal)) -> ColorfulClient {
+    let alloc = rt.alloc();
+    let device = DeviceAuthorizationUrl::new(alloc, text(rt, "https://example.com/device"));
+    let introspection = IntrospectionUrl::new(alloc, text(rt, "https://example.com/introspect"));
+    let revocation = RevocationUrl::new(alloc, text(rt, "https://example.com/revoke"));
+    colorful_client(
+        ClientId::new(text(rt, "aaa")),
+        device.expect(rt, "a URL"),
+        introspection.expect(rt, "a URL"),
+        revocation.expect(rt, "a URL"),
+        token_url(rt),
+    )
+    .set_client_secret(ClientSecret::new(text(rt, "bbb")))
+}
+
+fn reply(rt: &(impl Abort + AllocGlobal), status: u16, body: &str) -> HttpResponse {
+    let mut head = Parts::new(rt.alloc());
+    head.status = StatusCode::from_u16(status).expect(rt, "a status");
+    let body = body.as_bytes().to_vec(rt.alloc()).expect(rt, "a body");
+    Response::from_parts(head, body)
+}
+
+fn is_displayed_as<T: Display>(rt: &(impl Abort + AllocGlobal), value: &T, wanted: &str) {
+    let shown = format!(in rt.alloc(); "{value}").expect(rt, "a text");
+    is_text(rt, shown.as_str(), wanted);
+}
+
+/// The token for a code, of a server that replies like this.
+fn answer(rt: &(impl Abort + AllocGlobal), status: u16, body: &str) -> Answer {
+    let client = client(rt);
+    let mut http_client = CannedClient::new(reply(rt, status, body));
+    let code = AuthorizationCode::new(text(rt, "ccc"));
+    token_for_code(rt.alloc(), &client, &mut http_client, code)
+}
+
+const TOKEN: &str = r#"{"access_token":"12/34","height":12,"shape":"round","token_type":"green"}"#;
+
+fn token(rt: &(impl Abort + AllocGlobal)) -> ColorfulTokenResponse {
+    answer(rt, 200, TOKEN).expect(rt, "a token")
+}
+
+fn tells(rt: &(impl Abort + AllocGlobal), token: &ColorfulTokenResponse) {
+    assert!(rt; *token.token_type() == ColorfulTokenType::Green);
+    let fields = token.extra_fields();
+    assert_eq!(rt; fields.height, 12);
+    assert_eq!(rt; fields.shape.as_deref(), Some("round"));
+}
+
+#[test]
+fn token_with_a_color(rt: HostRuntime) {
+    let token = token(&rt);
+    tells(&rt, &token);
+}
+
+#[test]
+fn token_that_is_kept(rt: HostRuntime) {
+    let token = token(&rt);
+    let kept = stored_token(rt.alloc(), &token).expect(&rt, "a text");
+    is_text(&rt, kept.as_str(), TOKEN);
+    let restored = restored_token(rt.alloc(), kept.as_str()).expect(&rt, "a token");
+    tells(&rt, &restored);
+}
+
+#[test]
+fn token_that_is_read_again(rt: HostRuntime) {
+    let token = token(&rt);
+    let again = reread(rt.alloc(), &token).expect(&rt, "a token");
+    tells(&rt, &again);
+}
+
+#[test]
+fn error_code_of_ones_own(rt: HostRuntime) {
+    let body = r#"{"error":"too_light","error_description":"color is too light"}"#;
+    let Err(RequestTokenError::ServerResponse(response)) = answer(&rt, 400, body) else {
+        panic!(rt; "no error response");
+    };
+    assert!(rt; *response.error() == ColorfulErrorResponseType::TooLight);
+    is_displayed_as(&rt, &response, "too_light: color is too light");
+}
+
+#[test]
+fn error_response_of_ones_own(rt: HostRuntime) {
+    let client = custom_error_client(ClientId::new(text(&rt, "aaa")), token_url(&rt));
+    let body = r#"{"custom_error":"non-compliant"}"#;
+    let mut http_client = CannedClient::new(reply(&rt, 400, body));
+    let answer = token_or_custom_error(rt.alloc(), &client, &mut http_client);
+    let error = answer.err().expect(&rt, "an error");
+    is_displayed_as(&rt, &error, "Server returned error response: non-compliant");
+}
+
+#[test]
+fn revocation_of_a_red_token(rt: HostRuntime) {
+    let client = client(&rt);
+    let token = ColorfulRevocableToken(text(&rt, "colorful_token_123"));
+    let request = revocation(rt.alloc(), &client, token)
+        .expect(&rt, "an endpoint")
+        .prepare_request(rt.alloc())
+        .expect(&rt, "a request");
+    assert_eq!(rt;
+        request.body().as_slice(),
+        b"token=colorful_token_123&token_type_hint=red_token".as_slice()
+    );
+}
