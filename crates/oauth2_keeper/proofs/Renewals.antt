@@ -1,6 +1,6 @@
 -- The request of a keeper is that of its configuration.
-use Rattle.std.proofs.Common.{◌≡◌, ℕ, List, Option, Some, None, Result, Ok, Err, subst, sym, ap, ◌∙◌, refl, inl, inr}
-use Rattle.std.specs.Prelude.{ℤ, true, false, IsTrue}
+use Rattle.std.proofs.Common.{rules, ◌≡◌, ℕ, List, Option, Some, None, Result, Ok, Err, subst, sym, ap, ◌∙◌, refl, inl, inr}
+use Rattle.std.specs.Prelude.{ℤ, true, false, IsTrue, IsSomeAnd, option_map}
 use Rattle.oauth2_urls.specs.Addressed.{Addressed}
 use Rattle.oauth2_wire.specs.declared.error.RequestTokenError.{RequestTokenError}
 use Rattle.oauth2_wire.specs.Expected.{Configuration}
@@ -8,7 +8,7 @@ use Rattle.oauth2_requests.specs.Base.{configuration_of}
 use Rattle.oauth2_requests.specs.ClientCredentials.{ClientCredentialsRequest, client_credentials_configuration}
 use Rattle.oauth2_requests.specs.Refresh.{RefreshRequest, refresh_configuration}
 use Rattle.oauth2.specs.NewRequest.{base_of, new_client_credentials_request, new_refresh_request}
-use Rattle.oauth2_keeper.specs.Keeper.{Keeper, Given, Renews, Calls, grant_pairs, renewal, is_good, accepted, failed}
+use Rattle.oauth2_keeper.specs.Keeper.{Keeper, AcceptedToken, Given, Renews, Calls, grant_pairs, renewal, is_good, accepted, failed}
 use Rattle.oauth2_keeper.specs.private.Settled.{Settles}
 
 module _ {D T RE C : Type 0} (asks : Configuration → Addressed → C → Result D (RequestTokenError RE T) → C → Type 0) (keeper : Keeper) (before : C) (answer : Result D (RequestTokenError RE T)) (after : C) where
@@ -33,3 +33,8 @@ module _ {D T RE C : Type 0} (asks : Configuration → Addressed → C → Resul
   settled (Err fault) renews (Ok done) kept is = absurd is
   settled (Err fault) renews (Err error) kept is =
       (failed, (stale, (error, refl, inl (subst (λ e. Renews asks keeper before (Err e) after) (sym is.0) renews))), is.1)
+
+-- a token that was got is the kept one
+pub kept_text : (kept : Option AcceptedToken) (text : List ℕ) → option_map (λ token. token.access_token) kept ≡ Some text → IsSomeAnd kept (λ token. text ≡ token.access_token)
+kept_text None text is = search (rules, is)
+kept_text (Some token) text is = search (rules, is)

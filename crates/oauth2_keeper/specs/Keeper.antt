@@ -1,5 +1,5 @@
 -- What a keeper of an access token keeps, and what a call of it does.
-use Rattle.std.specs.Prelude.{◌≡◌, ◌⊎◌, ℕ, ℤ, pos, ◌+ℤ◌, int_le, Bool, true, false, IsTrue, List, Option, Some, None, unwrap_or, Result, Ok, Err}
+use Rattle.std.specs.Prelude.{◌≡◌, ◌⊎◌, ℕ, ℤ, pos, ◌+ℤ◌, int_le, Bool, true, false, IsTrue, List, Option, Some, None, unwrap_or, IsSomeAnd, Result, Ok, Err}
 use Rattle.std.specs.Option.{option_or}
 use Rattle.oauth2_urls.specs.Addressed.{Addressed}
 use Rattle.oauth2_wire.specs.declared.error.RequestTokenError.{RequestTokenError}
@@ -48,11 +48,16 @@ pub record Given : Type 0 where
   pub expires_in : Option ℕ
   pub refresh_token : Option (List ℕ)
 
+-- the token of a reply that was accepted at a moment, by the lifetime where it tells none
+abbrev pub accepted_token : ℕ → ℤ → Given → AcceptedToken
+accepted_token life now given =
+    record { access_token = given.access_token; accepted_at = now; lifetime = unwrap_or given.expires_in life }
+
 -- what is kept of a reply that was accepted at a moment: its token; its refresh token takes the
 -- old one's place where there is one (RFC 6749, section 6)
 abbrev pub accept : Keeper → ℤ → Given → Keeper
 accept keeper now given = record keeper {
-  token = Some (record { access_token = given.access_token; accepted_at = now; lifetime = unwrap_or given.expires_in keeper.life });
+  token = Some (accepted_token keeper.life now given);
   refresh_token = option_or given.refresh_token keeper.refresh_token;
 }
 
@@ -102,6 +107,12 @@ module _ {D T RE C : Type 0} (asks : Configuration → Addressed → C → Resul
     abbrev pub Calls : Keeper → ℤ → C → Result Unit (RequestTokenError RE T) → C → Keeper → Type 0
     Calls keeper now before result after kept =
         (outcome : Outcome) × IsOutcome keeper now before result after outcome × (kept ≡ kept_after keeper now outcome)
+
+    -- a call at a moment that answers the kept token, whose text `text` reads
+    abbrev pub Answers : {A : Type 0} → (A → List ℕ) → Keeper → ℤ → C → Result A (RequestTokenError RE T) → C → Keeper → Type 0
+    Answers text keeper now before (Ok token) after kept =
+        Calls keeper now before (Ok tt) after kept × IsSomeAnd kept.token (λ accepted. text token ≡ accepted.access_token)
+    Answers text keeper now before (Err error) after kept = Calls keeper now before (Err error) after kept × (kept ≡ keeper)
 
 -- what a token response tells, by what its type says of it
 abbrev pub given_by : {D : Type 0} → (D → List ℕ) → (D → Option ℕ) → (D → Option (List ℕ)) → D → Given

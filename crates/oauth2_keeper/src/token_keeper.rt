@@ -3,7 +3,7 @@
 ghost use Rattle.std.specs.Prelude.{◌≡◌, Some, None, IsSome, IfOk, IfSome, OnOk, OnErr, option_copied, option_map};
 ghost use Rattle.std.specs.Duration.{as_nanos};
 ghost use Rattle.oauth2_requests.specs.Once.{AsksOnce};
-ghost use Rattle.oauth2_keeper.specs.Keeper.{given_by, is_good, accept, Renews, Calls};
+ghost use Rattle.oauth2_keeper.specs.Keeper.{Keeper, given_by, is_good, accept, Renews, Calls, Answers};
 ghost use Rattle.oauth2_keeper.specs.private.Settled.{Settles};
 
 use crate::given::Given;
@@ -162,6 +162,27 @@ where
         }
         let answer = self.ask(alloc, http_client);
         self.settle(alloc, now, answer)
+    }
+
+    /// The kept token after `keep_good`, or that call's fault. What is kept afterwards is what
+    /// `keep_good` says; where a caller's contract has to name it, it calls `keep_good` and `get`.
+    pub fn token<C: SyncHttpClient>(
+        &mut self,
+        alloc: Global,
+        now: Timestamp,
+        http_client: &mut C,
+    ) -> Result<&AccessToken, RequestTokenError<C::Error, TE>>
+        requires { C.is_ready http_client.old }
+        ensures call { (kept : Keeper)
+            × Answers (AsksOnce TR.meaning TE.meaning TR.reading TE.reading C.step)
+            (given_by TR.access_token TR.expires_in TR.refresh_token) (λ token. token.now)
+            self.old now.nanosecond http_client.old result http_client.new kept }
+        ensures ready { C.is_ready http_client.new }
+    {
+        match self.keep_good(alloc, now, http_client) {
+            Ok(()) => Ok(self.get().unwrap()),
+            Err(error) => Err(error),
+        }
     }
 
     // Asks for another token.
