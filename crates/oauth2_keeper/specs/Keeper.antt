@@ -108,11 +108,11 @@ module _ {D T RE C : Type 0} (asks : Configuration → Addressed → C → Resul
     Calls keeper now before result after kept =
         (outcome : Outcome) × IsOutcome keeper now before result after outcome × (kept ≡ kept_after keeper now outcome)
 
-    -- a call at a moment that answers the kept token, whose text `text` reads
-    abbrev pub Answers : {A : Type 0} → (A → List ℕ) → Keeper → ℤ → C → Result A (RequestTokenError RE T) → C → Keeper → Type 0
-    Answers text keeper now before (Ok token) after kept =
-        Calls keeper now before (Ok tt) after kept × IsSomeAnd kept.token (λ accepted. text token ≡ accepted.access_token)
-    Answers text keeper now before (Err error) after kept = Calls keeper now before (Err error) after kept × (kept ≡ keeper)
+    -- a call at a moment whose answer is one that the text of the kept token may give
+    abbrev pub Answers : {A : Type 0} → (List ℕ → A → Type 0) → Keeper → ℤ → C → Result A (RequestTokenError RE T) → C → Keeper → Type 0
+    Answers Gives keeper now before (Ok value) after kept =
+        Calls keeper now before (Ok tt) after kept × IsSomeAnd kept.token (λ token. Gives token.access_token value)
+    Answers Gives keeper now before (Err error) after kept = Calls keeper now before (Err error) after kept × (kept ≡ keeper)
 
 -- what a token response tells, by what its type says of it
 abbrev pub given_by : {D : Type 0} → (D → List ℕ) → (D → Option ℕ) → (D → Option (List ℕ)) → D → Given

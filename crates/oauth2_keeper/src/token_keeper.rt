@@ -2,6 +2,7 @@
 
 ghost use Rattle.std.specs.Prelude.{◌≡◌, Some, None, IsSome, IfOk, IfSome, OnOk, OnErr, option_copied, option_map};
 ghost use Rattle.std.specs.Duration.{as_nanos};
+ghost use Rattle.std.specs.Fn.{FnOnceReturnsAt};
 ghost use Rattle.oauth2_requests.specs.Once.{AsksOnce};
 ghost use Rattle.oauth2_keeper.specs.Keeper.{Keeper, given_by, is_good, accept, Renews, Calls, Answers};
 ghost use Rattle.oauth2_keeper.specs.private.Settled.{Settles};
@@ -175,12 +176,36 @@ where
         requires { C.is_ready http_client.old }
         ensures call { (kept : Keeper)
             × Answers (AsksOnce TR.meaning TE.meaning TR.reading TE.reading C.step)
-            (given_by TR.access_token TR.expires_in TR.refresh_token) (λ token. token.now)
+            (given_by TR.access_token TR.expires_in TR.refresh_token) (λ text token. token.now ≡ text)
             self.old now.nanosecond http_client.old result http_client.new kept }
         ensures ready { C.is_ready http_client.new }
     {
         match self.keep_good(alloc, now, http_client) {
             Ok(()) => Ok(self.get().unwrap()),
+            Err(error) => Err(error),
+        }
+    }
+
+    /// What `read` makes of the kept token after `keep_good`, or that call's fault.
+    pub fn with_token<C: SyncHttpClient, F: FnOnce(&AccessToken) -> V, V>(
+        &mut self,
+        alloc: Global,
+        now: Timestamp,
+        http_client: &mut C,
+        read: F,
+    ) -> Result<V, RequestTokenError<C::Error, TE>>
+    where
+        F: Drop,
+        requires ready { C.is_ready http_client.old }
+        requires read { F.IsAlwaysCallable read }
+        ensures call { Answers (AsksOnce TR.meaning TE.meaning TR.reading TE.reading C.step)
+            (given_by TR.access_token TR.expires_in TR.refresh_token)
+            (λ text value. FnOnceReturnsAt F.FnOnce read text value)
+            self.old now.nanosecond http_client.old result http_client.new self.new }
+        ensures ready { C.is_ready http_client.new }
+    {
+        match self.keep_good(alloc, now, http_client) {
+            Ok(()) => Ok(read(self.get().unwrap())),
             Err(error) => Err(error),
         }
     }
