@@ -1,6 +1,6 @@
 -- The request of a keeper is that of its configuration.
 use Rattle.std.proofs.Common.{rules, ◌≡◌, ℕ, List, Option, Some, None, Result, Ok, Err, subst, sym, ap, ◌∙◌, refl, inl, inr}
-use Rattle.std.specs.Prelude.{ℤ, true, false, IsTrue, IsSomeAnd, option_map}
+use Rattle.std.specs.Prelude.{ℤ, false, IsSomeAnd, option_map}
 use Rattle.oauth2_urls.specs.Addressed.{Addressed}
 use Rattle.oauth2_wire.specs.declared.error.RequestTokenError.{RequestTokenError}
 use Rattle.oauth2_wire.specs.Expected.{Configuration}

@@ -1,12 +1,12 @@
 -- The laws of many calls, by induction over their list.
-use Rattle.std.proofs.Common.{rules, ◌≡◌, ℕ, List, [], ◌∷◌, ◌++◌, Option, Some, None, Result, Ok, Err, subst, sym, ap, ◌∙◌, refl}
-use Rattle.std.specs.Prelude.{ℤ, true, false, IsTrue, map, drop, if◌then◌else◌, option_map, unwrap_or}
+use Rattle.std.proofs.Common.{rules, ◌≡◌, List, [], ◌∷◌, ◌++◌, Option, Some, None, Result, ap, ◌∙◌, refl}
+use Rattle.std.specs.Prelude.{ℤ, map}
 use Rattle.std.specs.Option.{option_or}
 use Rattle.oauth2_urls.specs.Addressed.{Addressed}
 use Rattle.oauth2_wire.specs.declared.error.RequestTokenError.{RequestTokenError}
 use Rattle.oauth2_wire.specs.Expected.{Configuration}
-use Rattle.oauth2_keeper.specs.Keeper.{Keeper, AcceptedToken, Given, Outcome, quiet, accepted, failed, is_good, kept_after, accepted_token, IsOutcome}
-use Rattle.oauth2_keeper.specs.Runs.{Call, Runs, keeps_last, last_token, last_refresh_token, accepted_by, given_refresh_token, calls_at, outcome_at, replies_of, reply_of, request_outcome, EachRunKeepsTheLast, EachRunIsItsReplies}
+use Rattle.oauth2_keeper.specs.Keeper.{Keeper, Given, Outcome, quiet, accepted, failed, kept_after, IsOutcome}
+use Rattle.oauth2_keeper.specs.Runs.{Call, keeps_last, calls_at, replies_of, reply_of, EachRunKeepsTheLast, EachRunIsItsReplies}
 
 pub option_or-assoc : {X : Type 0} (a b c : Option X) → option_or a (option_or b c) ≡ option_or (option_or a b) c
 option_or-assoc None b c = refl

@@ -1,5 +1,5 @@
 -- A keeper over many calls.
-use Rattle.std.specs.Prelude.{◌≡◌, ℕ, ℤ, List, [], ◌∷◌, ◌++◌, map, drop, Option, Some, None, option_map, unwrap_or, Result, if◌then◌else◌}
+use Rattle.std.specs.Prelude.{◌≡◌, ℕ, ℤ, List, [], ◌∷◌, ◌++◌, map, drop, Option, Some, None, option_map, Result, if◌then◌else◌}
 use Rattle.std.specs.Option.{option_or}
 use Rattle.oauth2_urls.specs.Addressed.{Addressed}
 use Rattle.oauth2_wire.specs.declared.error.RequestTokenError.{RequestTokenError}

@@ -8,4 +8,4 @@ mod laws;
 mod token_keeper;
 
 pub use laws::{each_run_is_its_replies, each_run_keeps_the_last};
-pub use token_keeper::TokenKeeper;
+pub use token_keeper::{BasicTokenKeeper, TokenKeeper};

@@ -10,9 +10,13 @@ ghost use Rattle.oauth2_keeper.specs.private.Settled.{Settles};
 use crate::given::Given;
 use crate::kept_token::KeptToken;
 use jiff::Timestamp;
+use oauth2::basic::{
+    BasicErrorResponse, BasicRevocationErrorResponse, BasicTokenIntrospectionResponse,
+    BasicTokenResponse,
+};
 use oauth2::{
-    AccessToken, Client, EndpointSet, EndpointState, ErrorResponse, RefreshToken,
-    RequestTokenError, SyncHttpClient, TokenResponse,
+    AccessToken, Client, EndpointNotSet, EndpointSet, EndpointState, ErrorResponse, RefreshToken,
+    RequestTokenError, StandardRevocableToken, SyncHttpClient, TokenResponse,
 };
 use std::alloc::{AllocError, Global};
 use std::marker::Model;
@@ -36,6 +40,27 @@ where
     token: Option<KeptToken>,
     refresh_token: Option<RefreshToken>,
 }
+
+/// A keeper for a server that uses no extension, for a `BasicClient` whose other endpoints are in
+/// these states.
+pub type BasicTokenKeeper<
+    'a,
+    A = EndpointNotSet,
+    D = EndpointNotSet,
+    I = EndpointNotSet,
+    R = EndpointNotSet,
+> = TokenKeeper<
+    'a,
+    BasicErrorResponse,
+    BasicTokenResponse,
+    BasicTokenIntrospectionResponse,
+    StandardRevocableToken,
+    BasicRevocationErrorResponse,
+    A,
+    D,
+    I,
+    R,
+>;
 
 impl<'a, TE, TR, TIR, RT, TRE, A, D, I, R> Model
     for TokenKeeper<'a, TE, TR, TIR, RT, TRE, A, D, I, R>
@@ -165,8 +190,8 @@ where
         self.settle(alloc, now, answer)
     }
 
-    /// The kept token after `keep_good`, or that call's fault. What is kept afterwards is what
-    /// `keep_good` says; where a caller's contract has to name it, it calls `keep_good` and `get`.
+    /// The kept token after `keep_good`, or that call's fault. This contract leaves open what is kept
+    /// afterwards; that of `with_token`, or of `keep_good` and `get`, says it too.
     pub fn token<C: SyncHttpClient>(
         &mut self,
         alloc: Global,

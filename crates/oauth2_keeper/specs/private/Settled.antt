@@ -1,5 +1,5 @@
 -- What the answer to a keeper's request leaves.
-use Rattle.std.specs.Prelude.{◌≡◌, ◌⊎◌, ℤ, true, Result, Ok, Err}
+use Rattle.std.specs.Prelude.{◌≡◌, ℤ, true, Result, Ok, Err}
 use Rattle.oauth2_wire.specs.declared.error.RequestTokenError.{RequestTokenError}
 use Rattle.oauth2_wire.specs.declared.error.RequestTokenError.TheVariants.{Memory}
 use Rattle.oauth2_keeper.specs.Keeper.{Keeper, Given, accept}
