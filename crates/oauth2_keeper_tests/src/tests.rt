@@ -108,7 +108,7 @@ struct Run<'a> {
 }
 
 /// A keeper without margin, and of no lifetime where a reply tells none.
-fn run<'a>(replies: &'a [(u16, &'a str)]) -> Run<'a> {
+fn replying<'a>(replies: &'a [(u16, &'a str)]) -> Run<'a> {
     Run {
         token_url: "https://example.com/token",
         refresh_token: None,
@@ -132,7 +132,9 @@ fn client(rt: &(impl Abort + AllocGlobal), token_url: &str) -> KeeperClient {
 /// The calls of a run do and answer this, one after another.
 fn does(rt: &(impl Abort + AllocGlobal), run: Run<'_>, calls: &[Call<'_>]) {
     let client = client(rt, run.token_url);
-    let refresh_token = run.refresh_token.map(|token| RefreshToken::new(text(rt, token)));
+    let refresh_token = run
+        .refresh_token
+        .map(|token| RefreshToken::new(text(rt, token)));
     let mut keeper: BasicTokenKeeper<'_> = TokenKeeper::new(
         &client,
         refresh_token,
@@ -229,7 +231,7 @@ fn a_token_is_kept_refreshed_and_kept_after_a_fault(rt: HostRuntime) {
     let kept_keeper = Run {
         margin: seconds(10),
         life: seconds(60),
-        ..run(&[HUNDRED_SECONDS, NEITHER, REFUSED])
+        ..replying(&[HUNDRED_SECONDS, NEITHER, REFUSED])
     };
     does(
         &rt,
@@ -250,13 +252,13 @@ fn a_lifetime_ends(rt: HostRuntime) {
     // No lifetime at all.
     does(
         &rt,
-        run(&[NO_TIME, NO_TIME]),
+        replying(&[NO_TIME, NO_TIME]),
         &[asked(5, "u3"), kept(5, "u3"), asked(6, "u3")],
     );
     // A lifetime to its last nanosecond.
     does(
         &rt,
-        run(&[ONE_SECOND, TEN_SECONDS]),
+        replying(&[ONE_SECOND, TEN_SECONDS]),
         &[
             asked(0, "u1"),
             kept(1, "u1"),
@@ -268,7 +270,7 @@ fn a_lifetime_ends(rt: HostRuntime) {
     // The keeper's own, where the reply tells none, and not where it tells one of 0.
     let own = Run {
         life: seconds(60),
-        ..run(&[NEITHER, OF_NULL, NO_TIME, NO_TIME])
+        ..replying(&[NEITHER, OF_NULL, NO_TIME, NO_TIME])
     };
     does(
         &rt,
@@ -285,7 +287,7 @@ fn a_lifetime_ends(rt: HostRuntime) {
     // The keeper's own of 0.
     does(
         &rt,
-        run(&[NEITHER, NEITHER]),
+        replying(&[NEITHER, NEITHER]),
         &[asked(0, "t2"), kept(0, "t2"), asked_at(0, 1, "t2")],
     );
 }
@@ -295,7 +297,7 @@ fn a_margin_is_left(rt: HostRuntime) {
     // One nanosecond of margin.
     let one = Run {
         margin: Duration::from_nanos(1),
-        ..run(&[ONE_SECOND, ONE_SECOND])
+        ..replying(&[ONE_SECOND, ONE_SECOND])
     };
     does(
         &rt,
@@ -309,7 +311,7 @@ fn a_margin_is_left(rt: HostRuntime) {
     // A margin of the whole lifetime, and one past it: the token is answered and asked for anew.
     let whole = Run {
         margin: seconds(10),
-        ..run(&[TEN_SECONDS, TEN_SECONDS, NO_TIME, NO_TIME])
+        ..replying(&[TEN_SECONDS, TEN_SECONDS, NO_TIME, NO_TIME])
     };
     does(
         &rt,
@@ -325,12 +327,12 @@ fn a_margin_is_left(rt: HostRuntime) {
     // The greatest margin passes the greatest lifetime by less than a second.
     let greatest = Run {
         margin: Duration::MAX,
-        ..run(&[FOREVER, FOREVER])
+        ..replying(&[FOREVER, FOREVER])
     };
     does(&rt, greatest, &[asked(0, "u4"), asked(0, "u4")]);
     let less = Run {
         margin: seconds(18_446_744_073_709_551_615),
-        ..run(&[FOREVER, FOREVER])
+        ..replying(&[FOREVER, FOREVER])
     };
     does(
         &rt,
@@ -343,7 +345,7 @@ fn a_margin_is_left(rt: HostRuntime) {
 fn moments_fall_and_lie_before_1970(rt: HostRuntime) {
     does(
         &rt,
-        run(&[TEN_SECONDS, ONE_SECOND]),
+        replying(&[TEN_SECONDS, ONE_SECOND]),
         &[
             asked(100, "u2"),
             kept(50, "u2"),
@@ -355,8 +357,13 @@ fn moments_fall_and_lie_before_1970(rt: HostRuntime) {
     );
     does(
         &rt,
-        run(&[TEN_SECONDS, ONE_SECOND]),
-        &[asked(-15, "u2"), kept(-5, "u2"), asked(-4, "u1"), kept(-3, "u1")],
+        replying(&[TEN_SECONDS, ONE_SECOND]),
+        &[
+            asked(-15, "u2"),
+            kept(-5, "u2"),
+            asked(-4, "u1"),
+            kept(-3, "u1"),
+        ],
     );
 }
 
@@ -367,13 +374,13 @@ fn no_sum_stops_at_the_last_moment(rt: HostRuntime) {
     // A token of the first moment is good at the last.
     does(
         &rt,
-        run(&[FOREVER, FOREVER]),
+        replying(&[FOREVER, FOREVER]),
         &[asked(first, "u4"), kept(last, "u4")],
     );
     // Margin and lifetime both pass the last moment.
     let both = Run {
         margin: seconds(200),
-        ..run(&[HUNDRED_SECONDS, TEN_SECONDS])
+        ..replying(&[HUNDRED_SECONDS, TEN_SECONDS])
     };
     does(
         &rt,
@@ -382,7 +389,7 @@ fn no_sum_stops_at_the_last_moment(rt: HostRuntime) {
     );
     let within = Run {
         margin: seconds(50),
-        ..run(&[HUNDRED_SECONDS])
+        ..replying(&[HUNDRED_SECONDS])
     };
     does(&rt, within, &[asked(last, "t1"), kept(last, "t1")]);
 }
@@ -391,7 +398,7 @@ fn no_sum_stops_at_the_last_moment(rt: HostRuntime) {
 fn a_refresh_token_is_the_last_one_given(rt: HostRuntime) {
     let given = Run {
         refresh_token: Some("r0"),
-        ..run(&[NEITHER, HUNDRED_SECONDS, NEITHER, NO_REFRESH, NEITHER])
+        ..replying(&[NEITHER, HUNDRED_SECONDS, NEITHER, NO_REFRESH, NEITHER])
     };
     does(
         &rt,
@@ -408,7 +415,7 @@ fn a_refresh_token_is_the_last_one_given(rt: HostRuntime) {
     // An empty one is sent.
     let empty = Run {
         refresh_token: Some(""),
-        ..run(&[NEITHER])
+        ..replying(&[NEITHER])
     };
     does(&rt, empty, &[refreshed(0, REFRESH_EMPTY, "t2")]);
 }
@@ -418,13 +425,13 @@ fn a_fault_changes_nothing(rt: HostRuntime) {
     // No token yet.
     does(
         &rt,
-        run(&[REFUSED, NEITHER]),
+        replying(&[REFUSED, NEITHER]),
         &[failed(0, OWN, INVALID_GRANT), asked(0, "t2")],
     );
     // A refused refresh grant is not followed by another.
     let refused = Run {
         refresh_token: Some("r0"),
-        ..run(&[REFUSED, NEITHER])
+        ..replying(&[REFUSED, NEITHER])
     };
     does(
         &rt,
@@ -437,7 +444,7 @@ fn a_fault_changes_nothing(rt: HostRuntime) {
     // A reply that does not read, an error of the client.
     does(
         &rt,
-        run(&[HUNDRED_SECONDS, UNREAD]),
+        replying(&[HUNDRED_SECONDS, UNREAD]),
         &[
             asked(0, "t1"),
             failed(101, REFRESH, "Failed to parse server response"),
@@ -448,7 +455,7 @@ fn a_fault_changes_nothing(rt: HostRuntime) {
     // An endpoint to which nothing can be sent.
     let no_target = Run {
         token_url: "data:text/plain,hello",
-        ..run(&[NEITHER])
+        ..replying(&[NEITHER])
     };
     does(
         &rt,
