@@ -5,6 +5,8 @@ pub mod Replies
 pub mod AuthorizeParams
 pub mod ClientCredentialsParams
 pub mod CodeParams
+pub mod DeviceAuthorizationParams
+pub mod DevicePollParams
 pub mod IntrospectParams
 pub mod PasswordParams
 pub mod RefreshParams
