@@ -8,6 +8,7 @@ pub mod CodeParams
 pub mod DeviceAuthorizationParams
 pub mod DevicePollParams
 pub mod IntrospectParams
+pub mod KeeperParams
 pub mod PasswordParams
 pub mod RefreshParams
 pub mod RevokeParams

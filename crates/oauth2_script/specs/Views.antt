@@ -16,6 +16,7 @@ use Rattle.oauth2_script.specs.DevicePollParams as device_poll_spec
 use Rattle.oauth2_script.specs.IntrospectParams as introspect_spec
 use Rattle.oauth2_script.specs.RevokeParams as revoke_spec
 use Rattle.oauth2_script.specs.AuthorizeParams as authorize_spec
+use Rattle.oauth2_script.specs.KeeperParams as keeper_spec
 use Rattle.oauth2_script.specs.declared.code_params.CodeParams.{CodeParams}
 use Rattle.oauth2_script.specs.declared.refresh_params.RefreshParams.{RefreshParams}
 use Rattle.oauth2_script.specs.declared.password_params.PasswordParams.{PasswordParams}
@@ -25,10 +26,11 @@ use Rattle.oauth2_script.specs.declared.device_poll_params.DevicePollParams.{Dev
 use Rattle.oauth2_script.specs.declared.introspect_params.IntrospectParams.{IntrospectParams}
 use Rattle.oauth2_script.specs.declared.revoke_params.RevokeParams.{RevokeParams}
 use Rattle.oauth2_script.specs.declared.authorize_params.AuthorizeParams.{AuthorizeParams}
+use Rattle.oauth2_script.specs.declared.keeper_params.KeeperParams.{KeeperParams}
 use Rattle.oauth2_script.specs.declared.client_part.ClientPart.{ClientPart}
 use Rattle.oauth2_script.specs.declared.client_part.Endpoints.{Endpoints}
 use Rattle.oauth2_script.specs.declared.command.Command.{Command}
-use Rattle.oauth2_script.specs.declared.command.Command.TheVariants.{Code, Refresh, Password, ClientCredentials, Introspect, Revoke, DeviceAuthorization, DevicePoll, Authorize}
+use Rattle.oauth2_script.specs.declared.command.Command.TheVariants.{Code, Refresh, Password, ClientCredentials, Introspect, Revoke, DeviceAuthorization, DevicePoll, Authorize, Keeper}
 use Rattle.oauth2_script.specs.declared.reply.HttpReply.{HttpReply}
 use Rattle.oauth2_script.specs.declared.reply.Reply.{Reply}
 use Rattle.oauth2_script.specs.declared.reply.Reply.TheVariants.{Replied, Failed}
@@ -102,6 +104,13 @@ authorize_view p = record {
   extra = map (λ e. (string_bytes e.0, string_bytes e.1)) p.extra.items;
 }
 
+abbrev pub keeper_view : KeeperParams → keeper_spec.KeeperParams
+keeper_view p = record {
+  margin = as_nanos p.margin;
+  life = as_nanos p.life;
+  refresh = p.refresh;
+}
+
 abbrev pub endpoints_view : Endpoints → client_spec.Endpoints
 endpoints_view e = record { auth = e.auth; token = e.token; device = e.device; introspection = e.introspection; revocation = e.revocation }
 
@@ -135,6 +144,7 @@ command_view (Revoke p) = command_spec.revoke (revoke_view p)
 command_view (DeviceAuthorization p) = command_spec.device_authorization (device_authorization_view p)
 command_view (DevicePoll p) = command_spec.device_poll (device_poll_view p)
 command_view (Authorize p) = command_spec.authorize (authorize_view p)
+command_view (Keeper p) = command_spec.keeper (keeper_view p)
 
 abbrev pub script_view : Script → script_spec.Script
 script_view s = record {

@@ -11,6 +11,7 @@ use crate::code_params::CodeParams;
 use crate::device_authorization_params::DeviceAuthorizationParams;
 use crate::device_poll_params::DevicePollParams;
 use crate::introspect_params::IntrospectParams;
+use crate::keeper_params::KeeperParams;
 use crate::part::Part;
 use crate::password_params::PasswordParams;
 use crate::refresh_params::RefreshParams;
@@ -31,6 +32,7 @@ pub enum Command {
     DeviceAuthorization(DeviceAuthorizationParams),
     DevicePoll(DevicePollParams),
     Authorize(AuthorizeParams),
+    Keeper(KeeperParams),
 }
 
 /// The command of this name, with these parameters.
@@ -52,6 +54,7 @@ pub fn command_of(alloc: Global, name: &str, params: &Value) -> Result<Command, 
         "client_credentials" => Ok(Command::ClientCredentials(ClientCredentialsParams::from_value(
             alloc, params,
         )?)),
+        "keeper" => Ok(Command::Keeper(KeeperParams::from_value(alloc, params)?)),
         _ => Err(ScriptError::Bad),
     }
 }
