@@ -5,7 +5,7 @@ ghost use Rattle.std.specs.Duration.{as_nanos};
 ghost use Rattle.std.specs.Fn.{FnOnceReturnsAt};
 ghost use Rattle.oauth2_requests.specs.Once.{AsksOnce};
 ghost use Rattle.oauth2_keeper.specs.Keeper.{Keeper, given_by, is_good, accept, Renews, Calls, Answers};
-ghost use Rattle.oauth2_keeper.specs.private.Settled.{Settles};
+ghost use Rattle.oauth2_keeper.specs.private.Settled.{Settles, RenewsAndSettles};
 
 use crate::given::Given;
 use crate::kept_token::KeptToken;
@@ -186,8 +186,7 @@ where
         if self.is_good(now) {
             return Ok(());
         }
-        let answer = self.ask(alloc, http_client);
-        self.settle(alloc, now, answer)
+        self.renew(alloc, now, http_client)
     }
 
     /// The kept token after `keep_good`, or that call's fault. This contract leaves open what is kept
@@ -235,6 +234,23 @@ where
         }
     }
 
+    // Asks for another token, and keeps it.
+    fn renew<C: SyncHttpClient>(
+        &mut self,
+        alloc: Global,
+        now: Timestamp,
+        http_client: &mut C,
+    ) -> Result<(), RequestTokenError<C::Error, TE>>
+        requires { C.is_ready http_client.old }
+        ensures settles { RenewsAndSettles (AsksOnce TR.meaning TE.meaning TR.reading TE.reading C.step)
+            (given_by TR.access_token TR.expires_in TR.refresh_token)
+            self.old now.nanosecond http_client.old result http_client.new self.new }
+        ensures ready { C.is_ready http_client.new }
+    {
+        let answer = self.ask(alloc, http_client);
+        self.settle(alloc, now, answer)
+    }
+
     // Asks for another token.
     fn ask<C: SyncHttpClient>(
         &self,
@@ -276,7 +292,7 @@ where
                 }
                 Err(AllocError) => Err(RequestTokenError::Memory { sent: true }),
             },
-            Err(error) => Err(error),
+            Err(fault) => Err(fault),
         }
     }
 }

@@ -8,4 +8,4 @@ pub returns-clause-call : goal.returns-clause-call
 returns-clause-call g c =
     settled (AsksOnce g.TR.FromJson.meaning g.TE.FromJson.meaning g.TR.FromJson.reading g.TE.FromJson.reading g.C.SyncHttpClient.step)
     (given_by g.TR.TokenResponse.access_token g.TR.TokenResponse.expires_in g.TR.TokenResponse.refresh_token) c.args.self.now c.args.now.nanosecond (search rules) _ _
-    c.ask-answer.result c.ask-answer.ensures.once c.settle.result _ c.settle.ensures
+    c.renew.ensures.settles.0 c.renew.ensures.settles.1 c.renew.result _ c.renew.ensures.settles.2
