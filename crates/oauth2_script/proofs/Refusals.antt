@@ -1,5 +1,5 @@
 -- What follows from a refusal.
-use Rattle.std.proofs.Common.{◌≡◌, Option, Some, None, Result, Ok, Err, refl}
+use Rattle.std.proofs.Common.{◌≡◌, Option, Result, Ok, Err, refl}
 use Rattle.std.specs.Prelude.{IsErrAnd}
 use Rattle.oauth2_script.specs.Part.{◌>>=◌}
 use Rattle.oauth2_script.specs.Gives.{Refuses, Gives}

@@ -5,7 +5,10 @@ use Rattle.serde_json.specs.Data.{Data}
 use Rattle.oauth2_script.specs.AuthorizeParams.{AuthorizeParams, authorize_params}
 use Rattle.oauth2_script.specs.ClientCredentialsParams.{ClientCredentialsParams, client_credentials_params}
 use Rattle.oauth2_script.specs.CodeParams.{CodeParams, code_params}
+use Rattle.oauth2_script.specs.DeviceAuthorizationParams.{DeviceAuthorizationParams, device_authorization_params}
+use Rattle.oauth2_script.specs.DevicePollParams.{DevicePollParams, device_poll_params}
 use Rattle.oauth2_script.specs.IntrospectParams.{IntrospectParams, introspect_params}
+use Rattle.oauth2_script.specs.KeeperParams.{KeeperParams, keeper_params}
 use Rattle.oauth2_script.specs.PasswordParams.{PasswordParams, password_params}
 use Rattle.oauth2_script.specs.RefreshParams.{RefreshParams, refresh_params}
 use Rattle.oauth2_script.specs.RevokeParams.{RevokeParams, revoke_params}
@@ -17,7 +20,10 @@ pub data Command : Type 0 where
   client_credentials : ClientCredentialsParams → Command
   introspect : IntrospectParams → Command
   revoke : RevokeParams → Command
+  device_authorization : DeviceAuthorizationParams → Command
+  device_poll : DevicePollParams → Command
   authorize : AuthorizeParams → Command
+  keeper : KeeperParams → Command
 
 unfoldable pub command_of : List ℕ → Data → Option Command
 command_of name params =
@@ -27,5 +33,8 @@ command_of name params =
     else (if bytes_eq name (codes "client_credentials") then option_map client_credentials (client_credentials_params params)
     else (if bytes_eq name (codes "introspect") then option_map introspect (introspect_params params)
     else (if bytes_eq name (codes "revoke") then option_map revoke (revoke_params params)
+    else (if bytes_eq name (codes "device_authorization") then option_map device_authorization (device_authorization_params params)
+    else (if bytes_eq name (codes "device_poll") then option_map device_poll (device_poll_params params)
     else (if bytes_eq name (codes "authorize") then option_map authorize (authorize_params params)
-    else None))))))
+    else (if bytes_eq name (codes "keeper") then option_map keeper (keeper_params params)
+    else None)))))))))

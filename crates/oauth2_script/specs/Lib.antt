@@ -5,7 +5,10 @@ pub mod Replies
 pub mod AuthorizeParams
 pub mod ClientCredentialsParams
 pub mod CodeParams
+pub mod DeviceAuthorizationParams
+pub mod DevicePollParams
 pub mod IntrospectParams
+pub mod KeeperParams
 pub mod PasswordParams
 pub mod RefreshParams
 pub mod RevokeParams

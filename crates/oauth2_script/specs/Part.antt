@@ -1,5 +1,5 @@
 -- The parts of a script: which JSON value says what. What a value does not say is `None`.
-use Rattle.std.specs.Prelude.{ℕ, List, [], ◌∷◌, ℤ, pos, negsuc, ◌&&◌, Option, Some, None, option_map, option_and_then, Ok, Err, length, nat_le, if◌then◌else◌}
+use Rattle.std.specs.Prelude.{ℕ, zero, suc, ◌*◌, List, [], ◌∷◌, ℤ, pos, negsuc, ◌*ℤ◌, ◌&&◌, Option, Some, None, option_map, option_and_then, Ok, Err, length, nat_le, if◌then◌else◌}
 use Rattle.std.specs.Int.Signed.{le_z}
 use Rattle.std.specs.List.{list_all}
 use Rattle.http_header.specs.Token.{is_value_byte}
@@ -90,3 +90,19 @@ second_of z = if le_z (negsuc 377705023200) z && le_z z (pos 253402207200) then 
 
 abbrev pub second : Data → Option ℤ
 second d = option_and_then as_i64 (as_number d) >>= second_of
+
+-- the same in nanoseconds
+abbrev pub moment : Data → Option ℤ
+moment d = option_map (λ z. z *ℤ pos 1_000_000_000) (second d)
+
+-- whole seconds, in nanoseconds
+abbrev pub duration : Data → Option ℕ
+duration d = option_map (λ n. n * 1_000_000_000) (option_and_then as_u64 (as_number d))
+
+-- how many, at least one
+abbrev pub count_of : ℕ → Option ℕ
+count_of zero = None
+count_of (suc n) = Some (suc n)
+
+abbrev pub count : Data → Option ℕ
+count d = option_and_then as_u64 (as_number d) >>= count_of

@@ -4,11 +4,12 @@ use Rattle.std.specs.Str.{is_utf8}
 use Rattle.serde_json.specs.Data.{Data, object, no_members}
 use Rattle.serde_json.specs.Find.{get, as_str, as_object}
 use Rattle.serde_json.specs.Read.{read}
-use Rattle.oauth2_script.specs.Part.{◌>>=◌, needed, listed, second}
+use Rattle.oauth2_script.specs.Part.{◌>>=◌, needed, listed, moment}
 use Rattle.oauth2_script.specs.Client.{Client, client}
 use Rattle.oauth2_script.specs.Command.{Command, command_of}
 use Rattle.oauth2_script.specs.Replies.{Reply, reply}
 
+-- the readings of its clock in nanoseconds since 1970
 pub record Script : Type 0 where
   pub client : Client
   pub command : Command
@@ -24,7 +25,7 @@ unfoldable pub script_of : Data → Option Script
 script_of d = do
   name ← needed as_str (codes "command") d
   replies ← listed reply (codes "replies") d
-  readings ← listed second (codes "readings") d
+  readings ← listed moment (codes "readings") d
   params ← object_or_empty (get (codes "params") d)
   command ← command_of name params
   client ← needed client (codes "client") d

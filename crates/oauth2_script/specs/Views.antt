@@ -1,5 +1,8 @@
 -- What contracts see of the values that the code holds.
 use Rattle.std.specs.Prelude.{map, option_map, string_bytes}
+use Rattle.std.specs.Duration.{as_nanos}
+use Rattle.std.specs.Int.NonZero.{non_zero_u64_get}
+use Rattle.oauth2_replies.specs.Device.{device_seen}
 use Rattle.oauth2_script.specs.Client as client_spec
 use Rattle.oauth2_script.specs.Command as command_spec
 use Rattle.oauth2_script.specs.Replies as replies_spec
@@ -8,20 +11,26 @@ use Rattle.oauth2_script.specs.CodeParams as code_spec
 use Rattle.oauth2_script.specs.RefreshParams as refresh_spec
 use Rattle.oauth2_script.specs.PasswordParams as password_spec
 use Rattle.oauth2_script.specs.ClientCredentialsParams as client_credentials_spec
+use Rattle.oauth2_script.specs.DeviceAuthorizationParams as device_authorization_spec
+use Rattle.oauth2_script.specs.DevicePollParams as device_poll_spec
 use Rattle.oauth2_script.specs.IntrospectParams as introspect_spec
 use Rattle.oauth2_script.specs.RevokeParams as revoke_spec
 use Rattle.oauth2_script.specs.AuthorizeParams as authorize_spec
+use Rattle.oauth2_script.specs.KeeperParams as keeper_spec
 use Rattle.oauth2_script.specs.declared.code_params.CodeParams.{CodeParams}
 use Rattle.oauth2_script.specs.declared.refresh_params.RefreshParams.{RefreshParams}
 use Rattle.oauth2_script.specs.declared.password_params.PasswordParams.{PasswordParams}
 use Rattle.oauth2_script.specs.declared.client_credentials_params.ClientCredentialsParams.{ClientCredentialsParams}
+use Rattle.oauth2_script.specs.declared.device_authorization_params.DeviceAuthorizationParams.{DeviceAuthorizationParams}
+use Rattle.oauth2_script.specs.declared.device_poll_params.DevicePollParams.{DevicePollParams}
 use Rattle.oauth2_script.specs.declared.introspect_params.IntrospectParams.{IntrospectParams}
 use Rattle.oauth2_script.specs.declared.revoke_params.RevokeParams.{RevokeParams}
 use Rattle.oauth2_script.specs.declared.authorize_params.AuthorizeParams.{AuthorizeParams}
+use Rattle.oauth2_script.specs.declared.keeper_params.KeeperParams.{KeeperParams}
 use Rattle.oauth2_script.specs.declared.client_part.ClientPart.{ClientPart}
 use Rattle.oauth2_script.specs.declared.client_part.Endpoints.{Endpoints}
 use Rattle.oauth2_script.specs.declared.command.Command.{Command}
-use Rattle.oauth2_script.specs.declared.command.Command.TheVariants.{Code, Refresh, Password, ClientCredentials, Introspect, Revoke, Authorize}
+use Rattle.oauth2_script.specs.declared.command.Command.TheVariants.{Code, Refresh, Password, ClientCredentials, Introspect, Revoke, DeviceAuthorization, DevicePoll, Authorize, Keeper}
 use Rattle.oauth2_script.specs.declared.reply.HttpReply.{HttpReply}
 use Rattle.oauth2_script.specs.declared.reply.Reply.{Reply}
 use Rattle.oauth2_script.specs.declared.reply.Reply.TheVariants.{Replied, Failed}
@@ -56,6 +65,21 @@ client_credentials_view p = record {
   extra = map (λ e. (string_bytes e.0, string_bytes e.1)) p.extra.items;
 }
 
+abbrev pub device_authorization_view : DeviceAuthorizationParams → device_authorization_spec.DeviceAuthorizationParams
+device_authorization_view p = record {
+  scopes = p.scopes.items;
+  extra = map (λ e. (string_bytes e.0, string_bytes e.1)) p.extra.items;
+}
+
+abbrev pub device_poll_view : DevicePollParams → device_poll_spec.DevicePollParams
+device_poll_view p = record {
+  device = device_seen (λ _. tt) p.device;
+  max_polls = non_zero_u64_get p.max_polls;
+  timeout = option_map as_nanos p.timeout;
+  cap = option_map as_nanos p.cap;
+  extra = map (λ e. (string_bytes e.0, string_bytes e.1)) p.extra.items;
+}
+
 abbrev pub introspect_view : IntrospectParams → introspect_spec.IntrospectParams
 introspect_view p = record {
   token = p.token;
@@ -78,6 +102,13 @@ authorize_view p = record {
   response_type = p.response_type;
   scopes = p.scopes.items;
   extra = map (λ e. (string_bytes e.0, string_bytes e.1)) p.extra.items;
+}
+
+abbrev pub keeper_view : KeeperParams → keeper_spec.KeeperParams
+keeper_view p = record {
+  margin = as_nanos p.margin;
+  life = as_nanos p.life;
+  refresh = p.refresh;
 }
 
 abbrev pub endpoints_view : Endpoints → client_spec.Endpoints
@@ -111,12 +142,15 @@ command_view (Password p) = command_spec.password (password_view p)
 command_view (ClientCredentials p) = command_spec.client_credentials (client_credentials_view p)
 command_view (Introspect p) = command_spec.introspect (introspect_view p)
 command_view (Revoke p) = command_spec.revoke (revoke_view p)
+command_view (DeviceAuthorization p) = command_spec.device_authorization (device_authorization_view p)
+command_view (DevicePoll p) = command_spec.device_poll (device_poll_view p)
 command_view (Authorize p) = command_spec.authorize (authorize_view p)
+command_view (Keeper p) = command_spec.keeper (keeper_view p)
 
 abbrev pub script_view : Script → script_spec.Script
 script_view s = record {
   client = client_view s.client;
   command = command_view s.command;
   replies = map reply_view s.replies.items;
-  readings = map (λ r. r.0) s.readings.items;
+  readings = map (λ t. t.nanosecond) s.readings.items;
 }

@@ -8,7 +8,10 @@ ghost use Rattle.oauth2_script.specs.Views.{command_view};
 use crate::authorize_params::AuthorizeParams;
 use crate::client_credentials_params::ClientCredentialsParams;
 use crate::code_params::CodeParams;
+use crate::device_authorization_params::DeviceAuthorizationParams;
+use crate::device_poll_params::DevicePollParams;
 use crate::introspect_params::IntrospectParams;
+use crate::keeper_params::KeeperParams;
 use crate::part::Part;
 use crate::password_params::PasswordParams;
 use crate::refresh_params::RefreshParams;
@@ -26,7 +29,10 @@ pub enum Command {
     ClientCredentials(ClientCredentialsParams),
     Introspect(IntrospectParams),
     Revoke(RevokeParams),
+    DeviceAuthorization(DeviceAuthorizationParams),
+    DevicePoll(DevicePollParams),
     Authorize(AuthorizeParams),
+    Keeper(KeeperParams),
 }
 
 /// The command of this name, with these parameters.
@@ -40,10 +46,15 @@ pub fn command_of(alloc: Global, name: &str, params: &Value) -> Result<Command, 
         "password" => Ok(Command::Password(PasswordParams::from_value(alloc, params)?)),
         "introspect" => Ok(Command::Introspect(IntrospectParams::from_value(alloc, params)?)),
         "revoke" => Ok(Command::Revoke(RevokeParams::from_value(alloc, params)?)),
+        "device_authorization" => Ok(Command::DeviceAuthorization(
+            DeviceAuthorizationParams::from_value(alloc, params)?,
+        )),
+        "device_poll" => Ok(Command::DevicePoll(DevicePollParams::from_value(alloc, params)?)),
         "authorize" => Ok(Command::Authorize(AuthorizeParams::from_value(alloc, params)?)),
         "client_credentials" => Ok(Command::ClientCredentials(ClientCredentialsParams::from_value(
             alloc, params,
         )?)),
+        "keeper" => Ok(Command::Keeper(KeeperParams::from_value(alloc, params)?)),
         _ => Err(ScriptError::Bad),
     }
 }

@@ -1,6 +1,8 @@
 //! The other kinds of values that stand in scripts.
 
-ghost use Rattle.std.specs.Prelude.{ℕ, ℤ, List, string_bytes};
+ghost use Rattle.std.specs.Prelude.{ℕ, ℤ, pos, ◌*ℤ◌, List, string_bytes, option_map};
+ghost use Rattle.std.specs.Duration.{as_nanos};
+ghost use Rattle.std.specs.Int.NonZero.{non_zero_u64_get};
 ghost use Rattle.serde_json.specs.View.{items_view};
 ghost use Rattle.oauth2_types.specs.Pkce.{Challenge};
 ghost use Rattle.oauth2_script.specs.Part as spec;
@@ -10,9 +12,12 @@ use crate::part::Part;
 use crate::script_error::ScriptError;
 use http::StatusCode;
 use http_header::HeaderValue;
+use jiff::Timestamp;
 use oauth2_types::{PkceCodeChallenge, PkceCodeVerifier};
 use serde_json::Value;
 use std::alloc::Global;
+use std::num::NonZeroU64;
+use std::time::Duration;
 
 fn two_texts(alloc: Global, values: &[Value]) -> Result<(String, String), ScriptError>
     ensures { Gives (λ p. (string_bytes p.0, string_bytes p.1)) result
@@ -106,23 +111,54 @@ impl Part for StatusCode {
     }
 }
 
-/// Whole seconds since 1970, inside the range of `jiff`.
-#[derive(Clone, Copy)]
-pub struct Second(pub i64);
+fn moment_at(second: i64) -> Result<Timestamp, ScriptError>
+    ensures { Gives (λ t. t.nanosecond) result
+        (option_map (λ z. z *ℤ pos 1_000_000_000) (spec.second_of second)) }
+{
+    match Timestamp::from_second(second) {
+        Ok(moment) => Ok(moment),
+        Err(_) => Err(ScriptError::Bad),
+    }
+}
 
-impl Part for Second {
+/// Whole seconds since 1970, inside the range of `jiff`.
+impl Part for Timestamp {
     ghost Meaning = { ℤ };
 
-    ghost meaning = { λ s. s.0 };
+    ghost meaning = { λ t. t.nanosecond };
 
-    ghost reading = { spec.second };
+    ghost reading = { spec.moment };
 
-    fn from_value(_alloc: Global, value: &Value) -> Result<Second, ScriptError> {
+    fn from_value(_alloc: Global, value: &Value) -> Result<Timestamp, ScriptError> {
         let second = value.as_i64().ok_or(ScriptError::Bad)?;
-        if -377_705_023_201 <= second && second <= 253_402_207_200 {
-            Ok(Second(second))
-        } else {
-            Err(ScriptError::Bad)
-        }
+        moment_at(second)
+    }
+}
+
+/// Whole seconds.
+impl Part for Duration {
+    ghost Meaning = { ℕ };
+
+    ghost meaning = { as_nanos };
+
+    ghost reading = { spec.duration };
+
+    fn from_value(_alloc: Global, value: &Value) -> Result<Duration, ScriptError> {
+        let seconds = value.as_u64().ok_or(ScriptError::Bad)?;
+        Ok(Duration::from_secs(seconds))
+    }
+}
+
+/// How many, at least one.
+impl Part for NonZeroU64 {
+    ghost Meaning = { ℕ };
+
+    ghost meaning = { non_zero_u64_get };
+
+    ghost reading = { spec.count };
+
+    fn from_value(_alloc: Global, value: &Value) -> Result<NonZeroU64, ScriptError> {
+        let number = value.as_u64().ok_or(ScriptError::Bad)?;
+        NonZeroU64::new(number).ok_or(ScriptError::Bad)
     }
 }

@@ -9,10 +9,10 @@ ghost use Rattle.oauth2_script.specs.Views.{script_view};
 
 use crate::client_part::ClientPart;
 use crate::command::{Command, command_of};
-use crate::kinds::Second;
 use crate::part::{listed, needed};
 use crate::reply::Reply;
 use crate::script_error::ScriptError;
+use jiff::Timestamp;
 use serde_json::{Map, Value};
 use std::alloc::Global;
 use std::collections::VecDeque;
@@ -24,7 +24,8 @@ pub struct Script {
     pub command: Command,
     /// One for each call, in order; after the last the client fails.
     pub replies: VecDeque<Reply>,
-    pub readings: Vec<Second>,
+    /// What the clock shows, in turn.
+    pub readings: Vec<Timestamp>,
 }
 
 fn params_of<'v>(params: Option<&'v Value>, empty: &'v Value) -> Result<&'v Value, ScriptError>

@@ -1,4 +1,3 @@
-use Rattle.std.proofs.Common.{◌≡◌, refl, rules}
 use Rattle.std.proofs.lemmas.Iterator.Adapters.{option_map_id}
 use Rattle.serde_json.specs.View.{view}
 use Rattle.oauth2_script.specs.Client.{endpoints}

@@ -1,0 +1,89 @@
+-- A keeper over many calls.
+use Rattle.std.specs.Prelude.{◌≡◌, ℕ, ℤ, List, [], ◌∷◌, ◌++◌, map, drop, Option, Some, None, option_map, Result, if◌then◌else◌}
+use Rattle.std.specs.Option.{option_or}
+use Rattle.oauth2_urls.specs.Addressed.{Addressed}
+use Rattle.oauth2_wire.specs.declared.error.RequestTokenError.{RequestTokenError}
+use Rattle.oauth2_wire.specs.Expected.{Configuration}
+use Rattle.oauth2_keeper.specs.Keeper.{AcceptedToken, Keeper, Given, Outcome, quiet, accepted, failed, is_good, kept_after, accepted_token, IsOutcome}
+
+-- a call: its moment, and what came of it
+pub record Call : Type 0 where
+  pub now : ℤ
+  pub outcome : Outcome
+
+-- calls one after another, from what is kept and the client's state before the first to those after
+-- the last
+module _ {D T RE C : Type 0} (asks : Configuration → Addressed → C → Result D (RequestTokenError RE T) → C → Type 0) (told : D → Given) where
+  abbrev pub Runs : Keeper → C → List Call → C → Keeper → Type 0
+  Runs keeper before [] after kept = (after ≡ before) × (kept ≡ keeper)
+  Runs keeper before (call ∷ calls) after kept =
+      (result : Result Unit (RequestTokenError RE T)) × (middle : C)
+      × IsOutcome asks told keeper call.now before result middle call.outcome
+      × Runs (kept_after keeper call.now call.outcome) middle calls after kept
+
+-- the reply that a call accepted
+abbrev pub accepted_by : Outcome → Option Given
+accepted_by quiet = None
+accepted_by (accepted given) = Some given
+accepted_by failed = None
+
+-- the token of the last call that accepted a reply
+abbrev pub last_token : ℕ → List Call → Option AcceptedToken
+last_token life [] = None
+last_token life (call ∷ calls) = option_or (last_token life calls) (option_map (accepted_token life call.now) (accepted_by call.outcome))
+
+-- the refresh token of the last accepted reply that gave one
+abbrev pub given_refresh_token : Option Given → Option (List ℕ)
+given_refresh_token None = None
+given_refresh_token (Some given) = given.refresh_token
+
+abbrev pub last_refresh_token : List Call → Option (List ℕ)
+last_refresh_token [] = None
+last_refresh_token (call ∷ calls) = option_or (last_refresh_token calls) (given_refresh_token (accepted_by call.outcome))
+
+-- what is kept after calls, where each but the last accepted reply is forgotten
+abbrev pub keeps_last : Keeper → List Call → Keeper
+keeps_last keeper calls = record keeper {
+  token = option_or (last_token keeper.life calls) keeper.token;
+  refresh_token = option_or (last_refresh_token calls) keeper.refresh_token;
+}
+
+-- the replies to the requests of calls, in order; of one that failed there is none
+abbrev pub reply_of : Outcome → List (Option Given)
+reply_of quiet = []
+reply_of (accepted given) = Some given ∷ []
+reply_of failed = None ∷ []
+
+abbrev pub replies_of : List Call → List (Option Given)
+replies_of [] = []
+replies_of (call ∷ calls) = reply_of call.outcome ++ replies_of calls
+
+-- what comes of a request, by the first of the replies to come
+abbrev pub request_outcome : List (Option Given) → Outcome
+request_outcome [] = failed
+request_outcome (None ∷ replies) = failed
+request_outcome (Some given ∷ replies) = accepted given
+
+-- what comes of a call, by what is kept and the replies to come
+abbrev pub outcome_at : Keeper → ℤ → List (Option Given) → Outcome
+outcome_at keeper now replies = if is_good keeper now then quiet else request_outcome replies
+
+-- the calls at these moments, where these are the replies to their requests
+abbrev pub calls_at : Keeper → List ℤ → List (Option Given) → List Call
+calls_at keeper [] replies = []
+calls_at keeper (now ∷ moments) replies =
+    let outcome = outcome_at keeper now replies in
+    record { now = now; outcome = outcome }
+    ∷ calls_at (kept_after keeper now outcome) moments (if is_good keeper now then replies else drop 1 replies)
+
+module _ {D T RE C : Type 0} (asks : Configuration → Addressed → C → Result D (RequestTokenError RE T) → C → Type 0) (told : D → Given) where
+  -- the kept token is that of the last accepted reply, the refresh token that of the last accepted
+  -- reply that gave one, at first the one that the keeper was made with
+  abbrev pub EachRunKeepsTheLast : Type 0
+  EachRunKeepsTheLast = (keeper kept : Keeper) (before after : C) (calls : List Call) → Runs asks told keeper before calls after kept → kept ≡ keeps_last keeper calls
+
+  -- which calls ask is a function of the moments and of the replies
+  abbrev pub EachRunIsItsReplies : Type 0
+  EachRunIsItsReplies =
+      (keeper kept : Keeper) (before after : C) (calls : List Call) → Runs asks told keeper before calls after kept
+      → calls ≡ calls_at keeper (map (λ call. call.now) calls) (replies_of calls)

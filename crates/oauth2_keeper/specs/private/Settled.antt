@@ -1,0 +1,21 @@
+-- What the answer to a keeper's request leaves.
+use Rattle.std.specs.Prelude.{◌≡◌, ℤ, true, Result, Ok, Err}
+use Rattle.oauth2_wire.specs.declared.error.RequestTokenError.{RequestTokenError}
+use Rattle.oauth2_wire.specs.declared.error.RequestTokenError.TheVariants.{Memory}
+use Rattle.oauth2_wire.specs.Expected.{Configuration}
+use Rattle.oauth2_urls.specs.Addressed.{Addressed}
+use Rattle.oauth2_keeper.specs.Keeper.{Keeper, Given, accept, Renews}
+
+module _ {D T RE : Type 0} (told : D → Given) where
+  -- from what was kept before to the result and what is kept after
+  abbrev pub Settles : Keeper → ℤ → Result D (RequestTokenError RE T) → Result Unit (RequestTokenError RE T) → Keeper → Type 0
+  Settles before now (Ok reply) (Ok done) after = after ≡ accept before now (told reply)
+  Settles before now (Ok reply) (Err error) after = (error ≡ Memory true) × (after ≡ before)
+  Settles before now (Err fault) (Ok done) after = ⊥
+  Settles before now (Err fault) (Err error) after = (error ≡ fault) × (after ≡ before)
+
+module _ {D T RE C : Type 0} (asks : Configuration → Addressed → C → Result D (RequestTokenError RE T) → C → Type 0) (told : D → Given) where
+  -- another token is asked for, and what the answer leaves
+  abbrev pub RenewsAndSettles : Keeper → ℤ → C → Result Unit (RequestTokenError RE T) → C → Keeper → Type 0
+  RenewsAndSettles keeper now before result after kept =
+      (answer : Result D (RequestTokenError RE T)) × Renews asks keeper before answer after × Settles told keeper now answer result kept

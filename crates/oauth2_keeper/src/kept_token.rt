@@ -1,0 +1,48 @@
+//! A token that was accepted, and how long it is good.
+
+ghost use Rattle.std.specs.Prelude.{◌≡◌, ◌+ℤ◌, pos};
+ghost use Rattle.std.specs.Duration.{as_nanos};
+ghost use Rattle.oauth2_keeper.specs.Keeper.{is_good_at};
+
+use jiff::Timestamp;
+use oauth2_types::AccessToken;
+use std::marker::Model;
+use std::time::Duration;
+
+/// An access token, the moment of the call that got it, and its lifetime.
+#[derive(Drop)]
+pub(crate) struct KeptToken {
+    pub(crate) access_token: AccessToken,
+    pub(crate) accepted_at: Timestamp,
+    pub(crate) lifetime: Duration,
+}
+
+impl Model for KeptToken {
+    ghost use Rattle.std.specs.Duration.{as_nanos};
+    ghost use Rattle.oauth2_keeper.specs.Keeper.{AcceptedToken};
+
+    ghost Value = { AcceptedToken };
+
+    ghost view = { λ k. record {
+      access_token = k.access_token;
+      accepted_at = k.accepted_at.nanosecond;
+      lifetime = as_nanos k.lifetime;
+    } };
+}
+
+impl KeptToken {
+    // Whether the token is good at a moment.
+    pub(crate) fn is_good(&self, margin: Duration, now: Timestamp) -> bool
+        ensures { result ≡ is_good_at (as_nanos margin) now.nanosecond self.now }
+    {
+        nanosecond_after(now, margin) <= nanosecond_after(self.accepted_at, self.lifetime)
+    }
+}
+
+// So long after a moment, in nanoseconds since 1970. The sum is always there: a moment has less than
+// 2^69 nanoseconds, a duration less than 2^94.
+fn nanosecond_after(moment: Timestamp, duration: Duration) -> i128
+    ensures { result ≡ moment.nanosecond +ℤ pos (as_nanos duration) }
+{
+    moment.as_nanosecond() + duration.as_nanos() as i128
+}

@@ -1,0 +1,23 @@
+//! What a keeper keeps over many calls.
+
+ghost use Rattle.oauth2_requests.specs.Once.{AsksOnce};
+ghost use Rattle.oauth2_keeper.specs.Keeper.{given_by};
+ghost use Rattle.oauth2_keeper.specs.Runs.{EachRunKeepsTheLast, EachRunIsItsReplies};
+
+use oauth2::{ErrorResponse, SyncHttpClient, TokenResponse};
+
+/// After any calls, in order, the kept token is that of the last accepted reply, and the refresh
+/// token that of the last accepted reply that gave one, at first the one given.
+#[tactic(auto, using(crate::proofs::RunLaws::keeps_the_last))]
+pub fn each_run_keeps_the_last<C: SyncHttpClient, TE: ErrorResponse, TR: TokenResponse>()
+    ensures { EachRunKeepsTheLast (AsksOnce TR.meaning TE.meaning TR.reading TE.reading C.step)
+        (given_by TR.access_token TR.expires_in TR.refresh_token) }
+{}
+
+/// Which of any calls ask, and so what is kept after each, is a function of their moments and of the
+/// replies to their requests.
+#[tactic(auto, using(crate::proofs::RunLaws::is_its_replies))]
+pub fn each_run_is_its_replies<C: SyncHttpClient, TE: ErrorResponse, TR: TokenResponse>()
+    ensures { EachRunIsItsReplies (AsksOnce TR.meaning TE.meaning TR.reading TE.reading C.step)
+        (given_by TR.access_token TR.expires_in TR.refresh_token) }
+{}

@@ -1,0 +1,15 @@
+-- The parameters of the command `device_authorization`.
+use Rattle.std.specs.Prelude.{ℕ, List, Option, Some, codes}
+use Rattle.serde_json.specs.Data.{Data}
+use Rattle.serde_json.specs.Find.{as_str}
+use Rattle.oauth2_script.specs.Part.{◌>>=◌, listed, pair}
+
+pub record DeviceAuthorizationParams : Type 0 where
+  pub scopes : List (List ℕ)
+  pub extra : List (List ℕ × List ℕ)
+
+unfoldable pub device_authorization_params : Data → Option DeviceAuthorizationParams
+device_authorization_params d = do
+  scopes ← listed as_str (codes "scopes") d
+  extra ← listed pair (codes "extra") d
+  Some (record { scopes = scopes; extra = extra })

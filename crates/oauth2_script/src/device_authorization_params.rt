@@ -1,0 +1,33 @@
+//! The parameters of the command `device_authorization`.
+
+ghost use Rattle.oauth2_script.specs.DeviceAuthorizationParams as spec;
+
+use crate::part::{Part, listed};
+use crate::script_error::ScriptError;
+use oauth2_types::Scope;
+use serde_json::Value;
+use std::alloc::Global;
+
+/// What a device's request for its codes takes.
+#[derive(Drop)]
+pub struct DeviceAuthorizationParams {
+    pub scopes: Vec<Scope>,
+    pub extra: Vec<(String, String)>,
+}
+
+impl Part for DeviceAuthorizationParams {
+    ghost use Rattle.oauth2_script.specs.Views.{device_authorization_view};
+
+    ghost Meaning = { spec.DeviceAuthorizationParams };
+
+    ghost meaning = { device_authorization_view };
+
+    ghost reading = { spec.device_authorization_params };
+
+    #[tactic(auto, unfolding(crate::specs::DeviceAuthorizationParams::device_authorization_params))]
+    fn from_value(alloc: Global, value: &Value) -> Result<DeviceAuthorizationParams, ScriptError> {
+        let scopes = listed(alloc, value, "scopes")?;
+        let extra = listed(alloc, value, "extra")?;
+        Ok(DeviceAuthorizationParams { scopes, extra })
+    }
+}
