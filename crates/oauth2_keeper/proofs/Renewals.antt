@@ -2,6 +2,7 @@
 use Rattle.std.proofs.Common.{rules, ◌≡◌, ℕ, List, Option, Some, None, Result, Ok, Err, subst, sym, ap, ◌∙◌, refl, inl, inr}
 use Rattle.std.specs.Prelude.{ℤ, false, IsSomeAnd, option_map}
 use Rattle.oauth2_urls.specs.Addressed.{Addressed}
+use Rattle.oauth2_wire.specs.declared.content_type.ReplyRule.{ReplyRule}
 use Rattle.oauth2_wire.specs.declared.error.RequestTokenError.{RequestTokenError}
 use Rattle.oauth2_wire.specs.Expected.{Configuration}
 use Rattle.oauth2_requests.specs.Base.{configuration_of}
@@ -11,20 +12,22 @@ use Rattle.oauth2.specs.NewRequest.{base_of, new_client_credentials_request, new
 use Rattle.oauth2_keeper.specs.Keeper.{Keeper, AcceptedToken, Given, Renews, Calls, grant_pairs, renewal, is_good, accepted, failed}
 use Rattle.oauth2_keeper.specs.private.Settled.{Settles}
 
-module _ {D T RE C : Type 0} (asks : Configuration → Addressed → C → Result D (RequestTokenError RE T) → C → Type 0) (keeper : Keeper) (before : C) (answer : Result D (RequestTokenError RE T)) (after : C) where
+module _ {D T RE C : Type 0} (asks : ReplyRule → Configuration → Addressed → C → Result D (RequestTokenError RE T) → C → Type 0) (keeper : Keeper) (before : C) (answer : Result D (RequestTokenError RE T)) (after : C) where
   pub by_refresh_token : (r : RefreshRequest) → keeper.refresh_token ≡ Some r.refresh_token → keeper.client.token_url ≡ Some r.token_url
-      → r ≡ new_refresh_request keeper.client r.token_url r.refresh_token → asks (refresh_configuration r) r.token_url before answer after → Renews asks keeper before answer after
+      → r ≡ new_refresh_request keeper.client r.token_url r.refresh_token → asks r.base.reply_rule (refresh_configuration r) r.token_url before answer after → Renews asks keeper before answer after
   by_refresh_token r there url new asked =
       let grant : configuration_of (base_of keeper.client) (grant_pairs (Some r.refresh_token)) None ≡ renewal keeper = ap (λ o. configuration_of (base_of keeper.client) (grant_pairs o) None) (sym there) in
-      (r.token_url, url, subst (λ configuration. asks configuration r.token_url before answer after) (ap refresh_configuration new ∙ grant) asked)
+      let same = subst (λ s. asks s.base.reply_rule (refresh_configuration s) r.token_url before answer after) new asked in
+      (r.token_url, url, subst (λ configuration. asks keeper.client.reply_rule configuration r.token_url before answer after) grant same)
 
   pub by_client_credentials : (r : ClientCredentialsRequest) → keeper.refresh_token ≡ None → keeper.client.token_url ≡ Some r.token_url
-      → r ≡ new_client_credentials_request keeper.client r.token_url → asks (client_credentials_configuration r) r.token_url before answer after → Renews asks keeper before answer after
+      → r ≡ new_client_credentials_request keeper.client r.token_url → asks r.base.reply_rule (client_credentials_configuration r) r.token_url before answer after → Renews asks keeper before answer after
   by_client_credentials r none url new asked =
       let grant : configuration_of (base_of keeper.client) (grant_pairs None) None ≡ renewal keeper = ap (λ o. configuration_of (base_of keeper.client) (grant_pairs o) None) (sym none) in
-      (r.token_url, url, subst (λ configuration. asks configuration r.token_url before answer after) (ap client_credentials_configuration new ∙ grant) asked)
+      let same = subst (λ s. asks s.base.reply_rule (client_credentials_configuration s) r.token_url before answer after) new asked in
+      (r.token_url, url, subst (λ configuration. asks keeper.client.reply_rule configuration r.token_url before answer after) grant same)
 
-module _ {D T RE C : Type 0} (asks : Configuration → Addressed → C → Result D (RequestTokenError RE T) → C → Type 0) (told : D → Given) (keeper : Keeper) (now : ℤ) (stale : is_good keeper now ≡ false) (before after : C) where
+module _ {D T RE C : Type 0} (asks : ReplyRule → Configuration → Addressed → C → Result D (RequestTokenError RE T) → C → Type 0) (told : D → Given) (keeper : Keeper) (now : ℤ) (stale : is_good keeper now ≡ false) (before after : C) where
   -- the answer to the request, and what it leaves, are what the call does
   pub settled : (answer : Result D (RequestTokenError RE T)) → Renews asks keeper before answer after → (result : Result Unit (RequestTokenError RE T)) (kept : Keeper)
       → Settles told keeper now answer result kept → Calls asks told keeper now before result after kept

@@ -2,6 +2,7 @@
 use Rattle.std.specs.Prelude.{◌≡◌, ◌⊎◌, ℕ, ℤ, pos, ◌+ℤ◌, int_le, Bool, true, false, IsTrue, List, Option, Some, None, unwrap_or, IsSomeAnd, Result, Ok, Err}
 use Rattle.std.specs.Option.{option_or}
 use Rattle.oauth2_urls.specs.Addressed.{Addressed}
+use Rattle.oauth2_wire.specs.declared.content_type.ReplyRule.{ReplyRule}
 use Rattle.oauth2_wire.specs.declared.error.RequestTokenError.{RequestTokenError}
 use Rattle.oauth2_wire.specs.declared.error.RequestTokenError.TheVariants.{Memory}
 use Rattle.oauth2_wire.specs.Pairs.{Pair}
@@ -83,11 +84,12 @@ kept_after keeper now quiet = keeper
 kept_after keeper now (accepted given) = accept keeper now given
 kept_after keeper now failed = keeper
 
-module _ {D T RE C : Type 0} (asks : Configuration → Addressed → C → Result D (RequestTokenError RE T) → C → Type 0) where
+module _ {D T RE C : Type 0} (asks : ReplyRule → Configuration → Addressed → C → Result D (RequestTokenError RE T) → C → Type 0) where
   -- another token is asked for, at the client's token endpoint
   abbrev pub Renews : Keeper → C → Result D (RequestTokenError RE T) → C → Type 0
   Renews keeper before answer after =
-      (endpoint : Addressed) × (keeper.client.token_url ≡ Some endpoint) × asks (renewal keeper) endpoint before answer after
+      (endpoint : Addressed) × (keeper.client.token_url ≡ Some endpoint)
+      × asks keeper.client.reply_rule (renewal keeper) endpoint before answer after
 
   -- the error is the request's, or memory ran out while its reply was copied
   abbrev pub FailsWith : Keeper → C → RequestTokenError RE T → C → Type 0
