@@ -8,6 +8,7 @@ use Rattle.oauth2_codes.specs.ErrorResponse.{ErrorParts, parts_of, error_reading
 use Rattle.oauth2_replies.specs.Device.{DeviceAuthorization, device_seen, device_reading}
 use Rattle.oauth2_replies.specs.Introspection.{Introspection, introspection_seen, introspection_reading}
 use Rattle.oauth2_replies.specs.Token.{Token, token_seen, token_reading}
+use Rattle.oauth2_wire.specs.declared.content_type.ReplyRule.{ReplyRule}
 use Rattle.oauth2_wire.specs.declared.error.RequestTokenError.{RequestTokenError}
 use Rattle.oauth2_wire.specs.Expected.{Configuration}
 use Rattle.oauth2_wire.specs.OneShot.{HttpRequest}
@@ -56,26 +57,27 @@ colorful_error_reading d = response_reading error_reading d
 
 -- ---- one request and its answer
 
-module _ {RE C : Type 0} (step : C → HttpRequest → Result HttpResponse RE → C → Type 0) (configuration : Configuration) (endpoint : Addressed) (before : C) where
+module _ {RE C : Type 0} (step : C → HttpRequest → Result HttpResponse RE → C → Type 0) (rule : ReplyRule) (configuration : Configuration) (endpoint : Addressed) (before : C) where
   -- for a token
   abbrev pub AsksForToken : Result ColorfulToken (RequestTokenError RE ColorfulError) → C → Type 0
   AsksForToken result after =
-      AsksOnce colorful_token_seen colorful_error_seen colorful_token_reading colorful_error_reading step configuration endpoint before result after
+      AsksOnce colorful_token_seen colorful_error_seen colorful_token_reading colorful_error_reading step rule configuration endpoint before result after
 
   -- the same where an error response is not the standard's
   abbrev pub AsksForCustomToken : Result ColorfulToken (RequestTokenError RE CustomErrorResponse) → C → Type 0
   AsksForCustomToken result after =
-      AsksOnce colorful_token_seen custom_seen colorful_token_reading custom_reading step configuration endpoint before result after
+      AsksOnce colorful_token_seen custom_seen colorful_token_reading custom_reading step rule configuration endpoint before result after
 
   abbrev pub AsksForIntrospection : Result ColorfulIntrospection (RequestTokenError RE ColorfulError) → C → Type 0
   AsksForIntrospection result after =
-      AsksOnce colorful_introspection_seen colorful_error_seen colorful_introspection_reading colorful_error_reading step configuration endpoint before result after
+      AsksOnce colorful_introspection_seen colorful_error_seen colorful_introspection_reading colorful_error_reading step rule configuration endpoint before result after
 
   -- for the codes of a device
   abbrev pub AsksForCodes : Result (DeviceAuthorization ColorfulFields) (RequestTokenError RE ColorfulError) → C → Type 0
   AsksForCodes result after =
-      AsksOnce (device_seen fields_seen) colorful_error_seen (device_reading fields_reading) colorful_error_reading step configuration endpoint before result after
+      AsksOnce (device_seen fields_seen) colorful_error_seen (device_reading fields_reading) colorful_error_reading step rule configuration endpoint before result after
 
+module _ {RE C : Type 0} (step : C → HttpRequest → Result HttpResponse RE → C → Type 0) (configuration : Configuration) (endpoint : Addressed) (before : C) where
   -- for a revocation
   abbrev pub AsksForRevocation : Result Unit (RequestTokenError RE ColorfulError) → C → Type 0
   AsksForRevocation result after =

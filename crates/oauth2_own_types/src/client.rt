@@ -3,6 +3,7 @@
 
 ghost use Rattle.std.specs.Prelude.{◌≡◌, Some, None, codes, string_bytes, IfSome, IsOkAnd, IsSome, List};
 ghost use Rattle.oauth2_urls.specs.Addressed.{Addressed};
+ghost use Rattle.oauth2_wire.specs.declared.content_type.ReplyRule.TheVariants.{Prefix};
 ghost use Rattle.oauth2_wire.specs.declared.request.AuthType.TheVariants.{BasicAuth};
 ghost use Rattle.oauth2_requests.specs.ClientCredentials.{client_credentials_configuration};
 ghost use Rattle.oauth2_requests.specs.Code.{code_configuration};
@@ -82,6 +83,7 @@ pub fn colorful_client(
       client_id = id;
       client_secret = None;
       auth_type = BasicAuth;
+      reply_rule = Prefix;
       redirect_url = None;
       auth_url = None;
       device_authorization_url = Some device_authorization;
@@ -115,7 +117,8 @@ pub fn token_for_code<C: SyncHttpClient>(
 ) -> Result<ColorfulTokenResponse, RequestTokenError<C::Error, ColorfulErrorResponse>>
     requires { C.is_ready http_client.old }
     ensures once { (endpoint : Addressed) × (client.now.token_url ≡ Some endpoint)
-        × AsksForToken C.step (code_configuration (new_code_request client.now endpoint code))
+        × AsksForToken C.step client.now.reply_rule
+        (code_configuration (new_code_request client.now endpoint code))
         endpoint http_client.old result http_client.new }
     ensures ready { C.is_ready http_client.new }
 {
@@ -133,7 +136,8 @@ pub fn token_for_refresh_token<C: SyncHttpClient>(
 ) -> Result<ColorfulTokenResponse, RequestTokenError<C::Error, ColorfulErrorResponse>>
     requires { C.is_ready http_client.old }
     ensures once { (endpoint : Addressed) × (client.now.token_url ≡ Some endpoint)
-        × AsksForToken C.step (refresh_configuration (new_refresh_request client.now endpoint refresh_token.now))
+        × AsksForToken C.step client.now.reply_rule
+        (refresh_configuration (new_refresh_request client.now endpoint refresh_token.now))
         endpoint http_client.old result http_client.new }
     ensures ready { C.is_ready http_client.new }
 {
@@ -152,7 +156,8 @@ pub fn token_for_password<C: SyncHttpClient>(
 ) -> Result<ColorfulTokenResponse, RequestTokenError<C::Error, ColorfulErrorResponse>>
     requires { C.is_ready http_client.old }
     ensures once { (endpoint : Addressed) × (client.now.token_url ≡ Some endpoint)
-        × AsksForToken C.step (password_configuration (new_password_request client.now endpoint username.now password.now))
+        × AsksForToken C.step client.now.reply_rule
+        (password_configuration (new_password_request client.now endpoint username.now password.now))
         endpoint http_client.old result http_client.new }
     ensures ready { C.is_ready http_client.new }
 {
@@ -169,7 +174,8 @@ pub fn token_of_its_own<C: SyncHttpClient>(
 ) -> Result<ColorfulTokenResponse, RequestTokenError<C::Error, ColorfulErrorResponse>>
     requires { C.is_ready http_client.old }
     ensures once { (endpoint : Addressed) × (client.now.token_url ≡ Some endpoint)
-        × AsksForToken C.step (client_credentials_configuration (new_client_credentials_request client.now endpoint))
+        × AsksForToken C.step client.now.reply_rule
+        (client_credentials_configuration (new_client_credentials_request client.now endpoint))
         endpoint http_client.old result http_client.new }
     ensures ready { C.is_ready http_client.new }
 {
@@ -186,7 +192,8 @@ pub fn token_or_custom_error<C: SyncHttpClient>(
 ) -> Result<ColorfulTokenResponse, RequestTokenError<C::Error, CustomErrorResponse>>
     requires { C.is_ready http_client.old }
     ensures once { (endpoint : Addressed) × (client.now.token_url ≡ Some endpoint)
-        × AsksForCustomToken C.step (client_credentials_configuration (new_client_credentials_request client.now endpoint))
+        × AsksForCustomToken C.step client.now.reply_rule
+        (client_credentials_configuration (new_client_credentials_request client.now endpoint))
         endpoint http_client.old result http_client.new }
     ensures ready { C.is_ready http_client.new }
 {
@@ -204,7 +211,8 @@ pub fn introspection<C: SyncHttpClient>(
 ) -> Result<ColorfulIntrospectionResponse, RequestTokenError<C::Error, ColorfulErrorResponse>>
     requires { C.is_ready http_client.old }
     ensures once { (endpoint : Addressed) × (client.now.introspection_url ≡ Some endpoint)
-        × AsksForIntrospection C.step (introspection_configuration (new_introspection_request client.now endpoint token.now))
+        × AsksForIntrospection C.step client.now.reply_rule
+        (introspection_configuration (new_introspection_request client.now endpoint token.now))
         endpoint http_client.old result http_client.new }
     ensures ready { C.is_ready http_client.new }
 {
@@ -252,7 +260,8 @@ pub fn device_codes<C: SyncHttpClient>(
 >
     requires { C.is_ready http_client.old }
     ensures once { (endpoint : Addressed) × (client.now.device_authorization_url ≡ Some endpoint)
-        × AsksForCodes C.step (device_authorization_configuration (new_device_request client.now endpoint))
+        × AsksForCodes C.step client.now.reply_rule
+        (device_authorization_configuration (new_device_request client.now endpoint))
         endpoint http_client.old result http_client.new }
     ensures ready { C.is_ready http_client.new }
 {
