@@ -1,6 +1,10 @@
 -- An answer that was accepted was asked for once.
-use Rattle.std.proofs.Common.{◌≡◌, ℕ, List, Ok, Err, inl, inr, subst}
-use Rattle.std.specs.Prelude.{Result, IfOk}
+use Rattle.std.proofs.Common.{◌≡◌, ℕ, List, Option, Some, None, Ok, Err, inl, inr, ap, subst}
+use Rattle.std.specs.Prelude.{Result, IfOk, IfSome, IfNone}
+use Rattle.oauth2.specs.NewRequest.{new_code_request}
+use Rattle.oauth2.specs.Settings.{Settings}
+use Rattle.oauth2_requests.specs.Code.{CodeRequest}
+use Rattle.oauth2_urls.specs.Addressed.{Addressed}
 use Rattle.oauth2_wire.specs.Reply.{HttpResponse, Answer, accepted}
 use Rattle.oauth2_wire.specs.OneShot.{HttpRequest, OneShot}
 use Rattle.oauth2_wire.specs.Request.{RequestView, IsRequestOf}
@@ -19,3 +23,9 @@ module _ {D A T E RE C : Type 0} (meaning : D → A) (error_meaning : T → E) (
 -- the request of an equal configuration
 pub IsRequestOf-equal : {R : Type 0} (configuration : R → Configuration) (a b : R) (url : List ℕ) (v : RequestView) → a ≡ b → IsRequestOf (configuration a) url v → IsRequestOf (configuration b) url v
 IsRequestOf-equal configuration a b url v a_is_b is = subst (λ r. IsRequestOf (configuration r) url v) a_is_b is
+
+-- the exchange of a code that a client started reads its reply by the client's rule
+pub rule-started : (client : Settings) (code : List ℕ) (url : Option Addressed) (started : CodeRequest)
+    → IfSome url (λ u. started ≡ new_code_request client u code) → IfNone url ⊥ → started.base.reply_rule ≡ client.reply_rule
+rule-started client code (Some u) started there missing = ap (λ (r : CodeRequest). r.base.reply_rule) there
+rule-started client code None started there missing = absurd missing

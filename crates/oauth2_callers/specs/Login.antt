@@ -55,4 +55,4 @@ module _ {A E RE C : Type 0} where
       × ((endpoint : Addressed) × (client.token_url ≡ Some endpoint)
       × IsRequestOf (configuration_of (base_of client) (code_pairs code (Some verifier)) client.redirect_url) (serialize endpoint.url) (view_of request))
       × (reply : HttpResponse) × step before request (Ok reply) after
-      × (answer_of reading error_reading (reply_of reply) ≡ accepted response)
+      × (answer_of client.reply_rule reading error_reading (reply_of reply) ≡ accepted response)

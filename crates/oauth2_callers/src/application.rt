@@ -129,7 +129,8 @@ pub fn token_response<C: SyncHttpClient>(
     ensures token { IfOk result (λ token. (request : HttpRequest)
         × IsRequestOf (code_configuration started.entry) (serialize started.entry.token_url.url) (view_of request)
         × (reply : HttpResponse) × C.step http_client.old request (Ok reply) http_client.new
-        × (answer_of ⟦<IdentityTokenResponse as FromJson>⟧.reading ⟦<BasicErrorResponse as FromJson>⟧.reading (reply_of reply)
+        × (answer_of started.entry.base.reply_rule ⟦<IdentityTokenResponse as FromJson>⟧.reading
+        ⟦<BasicErrorResponse as FromJson>⟧.reading (reply_of reply)
         ≡ accepted (⟦<IdentityTokenResponse as FromJson>⟧.meaning token))) }
     ensures ready { C.is_ready http_client.new }
 {
@@ -150,7 +151,8 @@ where
     ensures id_token { IfOk result (λ id_token. (request : HttpRequest) × (reply : HttpResponse)
         × C.step http_client.old request (Ok reply) http_client.new
         × (token : ⟦<IdentityTokenResponse as FromJson>⟧.Meaning)
-        × (answer_of ⟦<IdentityTokenResponse as FromJson>⟧.reading ⟦<BasicErrorResponse as FromJson>⟧.reading (reply_of reply)
+        × (answer_of client.now.reply_rule ⟦<IdentityTokenResponse as FromJson>⟧.reading
+        ⟦<BasicErrorResponse as FromJson>⟧.reading (reply_of reply)
         ≡ accepted token)
         × (option_map string_bytes id_token
         ≡ option_and_then as_str (get_member (codes "id_token") token.extra_fields))) }

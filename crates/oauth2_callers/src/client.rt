@@ -1,6 +1,7 @@
 //! Clients that are made, read and copied.
 
 ghost use Rattle.std.specs.Prelude.{◌≡◌, Some, None, IfOk};
+ghost use Rattle.oauth2_wire.specs.declared.content_type.ReplyRule.TheVariants.{Prefix};
 ghost use Rattle.oauth2_wire.specs.declared.request.AuthType.TheVariants.{RequestBody, BasicAuth};
 
 use oauth2::basic::BasicClient;
@@ -37,6 +38,7 @@ pub fn code_client(
       client_id = id;
       client_secret = Some secret;
       auth_type = RequestBody;
+      reply_rule = Prefix;
       redirect_url = Some redirect;
       auth_url = Some auth;
       device_authorization_url = None;

@@ -62,7 +62,8 @@ pub fn token_for_code<C: SyncHttpClient>(
         × IsRequestOf (configuration_of (base_of client.now) (code_pairs (string_bytes code) None) client.now.redirect_url)
         (serialize endpoint.url) (view_of request))
         × (reply : HttpResponse) × C.step http_client.old request (Ok reply) http_client.new
-        × (answer_of ⟦<BasicTokenResponse as FromJson>⟧.reading ⟦<BasicErrorResponse as FromJson>⟧.reading (reply_of reply)
+        × (answer_of client.now.reply_rule ⟦<BasicTokenResponse as FromJson>⟧.reading
+        ⟦<BasicErrorResponse as FromJson>⟧.reading (reply_of reply)
         ≡ accepted (⟦<BasicTokenResponse as FromJson>⟧.meaning token))) }
     ensures ready { C.is_ready http_client.new }
 {

@@ -98,7 +98,8 @@ pub fn password_token<F: FnMut(HttpRequest) -> Result<HttpResponse, ()>>(
         × IsRequestOf (configuration_of (base_of client.now) (password_pairs username.now password.now) None)
         (serialize endpoint.url) (view_of request))
         × (reply : HttpResponse) × F.step http_client.old request (Ok reply) http_client.new
-        × (answer_of ⟦<BasicTokenResponse as FromJson>⟧.reading ⟦<BasicErrorResponse as FromJson>⟧.reading (reply_of reply)
+        × (answer_of client.now.reply_rule ⟦<BasicTokenResponse as FromJson>⟧.reading
+        ⟦<BasicErrorResponse as FromJson>⟧.reading (reply_of reply)
         ≡ accepted (⟦<BasicTokenResponse as FromJson>⟧.meaning token))) }
 {
     client

@@ -6,6 +6,8 @@ mod callers;
 pub use callers::{DeviceClient, device_token, poll_within};
 
 #[cfg(test)]
+mod rule_tests;
+#[cfg(test)]
 mod tests;
 #[cfg(test)]
 mod world_tests;

@@ -4,7 +4,7 @@ use crate::support::{is_text, text};
 use oauth2::basic::BasicClient;
 use oauth2::{
     AuthUrl, AuthorizationRequest, Client, ClientId, ClientSecret, CsrfToken, EndpointMaybeSet,
-    EndpointNotSet, EndpointSet, TokenUrl, TryClone,
+    EndpointNotSet, EndpointSet, ReplyRule, TokenUrl, TryClone,
 };
 use std::process::Abort;
 
@@ -48,6 +48,21 @@ fn copy_tells(rt: &(impl Abort + AllocGlobal), client: &CodeClient) {
 fn copies(rt: HostRuntime) {
     let client = client(&rt);
     copy_tells(&rt, &client);
+}
+
+/// The client and its copy have this rule.
+fn has_rule(rt: &(impl Abort + AllocGlobal), client: &CodeClient, rule: ReplyRule) {
+    assert_eq!(rt; client.reply_rule(), rule);
+    let copy = client.try_clone(rt.alloc()).expect(rt, "a copy");
+    assert_eq!(rt; copy.reply_rule(), rule);
+}
+
+#[test]
+fn rules_for_replies(rt: HostRuntime) {
+    let client = client(&rt);
+    has_rule(&rt, &client, ReplyRule::Prefix);
+    let client = client.set_reply_rule(ReplyRule::MediaType);
+    has_rule(&rt, &client, ReplyRule::MediaType);
 }
 
 #[test]

@@ -17,6 +17,8 @@ mod param_buffers;
 #[cfg(test)]
 mod replies;
 #[cfg(test)]
+mod reply_rules;
+#[cfg(test)]
 mod support;
 #[cfg(test)]
 mod views;

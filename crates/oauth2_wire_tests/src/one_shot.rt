@@ -5,7 +5,7 @@ use oauth2::basic::BasicRequestTokenError;
 use oauth2::http::response::Parts;
 use oauth2::http::{Request, Response, StatusCode};
 use oauth2::{
-    FnClient, HttpRequest, HttpResponse, RequestFault, RequestTokenError,
+    FnClient, HttpRequest, HttpResponse, ReplyRule, RequestFault, RequestTokenError,
     RevocationErrorResponseType, StandardErrorResponse, SyncHttpClient, send_once,
     send_once_status_only,
 };
@@ -52,7 +52,7 @@ fn sends(
         status,
         calls: 0,
     };
-    let answer: TextResult = send_once(rt.alloc(), prepared, &mut client);
+    let answer: TextResult = send_once(rt.alloc(), ReplyRule::Prefix, prepared, &mut client);
     assert_eq!(rt; client.calls, calls);
     says(rt, answer, wanted);
 }
