@@ -1,7 +1,7 @@
 //! A client of a server with a token type, extra fields, error codes and a kind of tokens of its own,
 //! and each of its requests.
 
-ghost use Rattle.std.specs.Prelude.{◌≡◌, Some, None, codes, string_bytes, IfSome, IsOkAnd, IsSome, List};
+ghost use Rattle.std.specs.Prelude.{◌≡◌, Some, None, codes, string_bytes, IfSome, IsErrAnd, IsOkAnd, IsSome, List};
 ghost use Rattle.oauth2_urls.specs.Addressed.{Addressed};
 ghost use Rattle.oauth2_wire.specs.declared.content_type.ReplyRule.TheVariants.{Prefix};
 ghost use Rattle.oauth2_wire.specs.declared.request.AuthType.TheVariants.{BasicAuth};
@@ -12,15 +12,15 @@ ghost use Rattle.oauth2_requests.specs.Password.{password_configuration};
 ghost use Rattle.oauth2_requests.specs.Refresh.{refresh_configuration};
 ghost use Rattle.oauth2_requests.specs.TokenIntrospection.{introspection_configuration};
 ghost use Rattle.oauth2_requests.specs.TokenRevocation.{revocation_configuration};
+ghost use Rattle.oauth2_wire.specs.ConfigurationError.{IsInsecureUrl};
 ghost use Rattle.oauth2_device.specs.Events.{Event, Leads};
 ghost use Rattle.oauth2.specs.NewRequest.{IsHttps, new_client_credentials_request, new_code_request, new_device_request, new_device_token_request, new_introspection_request, new_password_request, new_refresh_request, new_revocation_request};
-ghost use Rattle.oauth2_own_types.specs.Asked.{AsksForToken, AsksForCustomToken, AsksForIntrospection, AsksForCodes, AsksForRevocation, PollsForToken};
+ghost use Rattle.oauth2_own_types.specs.Asked.{AsksForToken, AsksForIntrospection, AsksForCodes, AsksForRevocation, PollsForToken};
 
 use crate::colorful_error::ColorfulErrorResponseType;
 use crate::colorful_fields::ColorfulFields;
 use crate::colorful_token::ColorfulRevocableToken;
 use crate::colorful_token_type::ColorfulTokenType;
-use crate::custom_error::CustomErrorResponse;
 use oauth2::{
     AccessToken, AuthorizationCode, Client, ClientId, ConfigurationError,
     DeviceAuthorizationResponse, DeviceAuthorizationUrl, DeviceCodeErrorResponse, EndpointNotSet,
@@ -57,20 +57,6 @@ pub type ColorfulClient = Client<
     EndpointSet,
 >;
 
-/// A client of a server whose error responses are not the standard's.
-pub type CustomErrorClient = Client<
-    CustomErrorResponse,
-    ColorfulTokenResponse,
-    ColorfulIntrospectionResponse,
-    ColorfulRevocableToken,
-    CustomErrorResponse,
-    EndpointNotSet,
-    EndpointNotSet,
-    EndpointNotSet,
-    EndpointNotSet,
-    EndpointSet,
->;
-
 /// A client without a secret.
 pub fn colorful_client(
     id: ClientId,
@@ -97,15 +83,6 @@ pub fn colorful_client(
         .set_introspection_url(introspection)
         .set_revocation_url(revocation)
         .set_token_uri(token)
-}
-
-/// A client without a secret.
-pub fn custom_error_client(id: ClientId, token: TokenUrl) -> CustomErrorClient
-    ensures id { result.client_id ≡ id }
-    ensures secret { result.client_secret ≡ None }
-    ensures url { result.token_url ≡ Some token }
-{
-    Client::new(id).set_token_uri(token)
 }
 
 /// The token for a code.
@@ -184,24 +161,6 @@ pub fn token_of_its_own<C: SyncHttpClient>(
         .request(alloc, http_client)
 }
 
-/// The client's own token, of a server whose error responses are not the standard's.
-pub fn token_or_custom_error<C: SyncHttpClient>(
-    alloc: Global,
-    client: &CustomErrorClient,
-    http_client: &mut C,
-) -> Result<ColorfulTokenResponse, RequestTokenError<C::Error, CustomErrorResponse>>
-    requires { C.is_ready http_client.old }
-    ensures once { (endpoint : Addressed) × (client.now.token_url ≡ Some endpoint)
-        × AsksForCustomToken C.step client.now.reply_rule
-        (client_credentials_configuration (new_client_credentials_request client.now endpoint))
-        endpoint http_client.old result http_client.new }
-    ensures ready { C.is_ready http_client.new }
-{
-    client
-        .exchange_client_credentials(alloc)
-        .request(alloc, http_client)
-}
-
 /// What a token is worth.
 pub fn introspection<C: SyncHttpClient>(
     alloc: Global,
@@ -231,6 +190,8 @@ pub fn revocation(
     ensures there { IsSome client.now.revocation_url }
     ensures started { IfSome client.now.revocation_url (λ url. IsHttps url → IsOkAnd result
         (λ r. r ≡ new_revocation_request client.now url (string_bytes token.0) (Some (codes "red_token")))) }
+    ensures insecure { IfSome client.now.revocation_url (λ url. ¬ (IsHttps url)
+        → IsErrAnd result (IsInsecureUrl (codes "revocation"))) }
 {
     client.revoke_token(alloc, token)
 }

@@ -87,8 +87,8 @@ pub fn codes_value(
 }
 
 /// The value to keep for an error response, which reads back.
-pub fn error_value(alloc: Global, response: &ColorfulErrorResponse) -> Result<Value, WriteError>
-    ensures { IfOk result (λ value. colorful_error_reading (view value) ≡ Ok (colorful_error_seen response.now)) }
+pub fn error_value(alloc: Global, error: &ColorfulErrorResponse) -> Result<Value, WriteError>
+    ensures { IfOk result (λ value. colorful_error_reading (view value) ≡ Ok (colorful_error_seen error.now)) }
 {
-    response.to_json(alloc)
+    error.to_json(alloc)
 }

@@ -1,6 +1,6 @@
 use Rattle.oauth2_requests.specs.ClientCredentials.{client_credentials_configuration}
 use Rattle.oauth2_own_types.proofs.EqualRequests.{AsksOnce-equal}
-use Rattle.oauth2_own_types.proofs.client.token_or_custom_error.Goals as goal
+use Rattle.oauth2_own_types.proofs.custom_client.token_or_custom_error.Goals as goal
 
 pub returns-clause-once : goal.returns-clause-once
 returns-clause-once g c =
