@@ -2,6 +2,7 @@
 
 ghost use Rattle.std.specs.Prelude.{◌≡◌, Some, None};
 ghost use Rattle.oauth2_urls.specs.Addressed.{Addressed};
+ghost use Rattle.oauth2_wire.specs.declared.content_type.ReplyRule.TheVariants.{Prefix};
 ghost use Rattle.oauth2_wire.specs.declared.request.AuthType.TheVariants.{BasicAuth};
 ghost use Rattle.oauth2_requests.specs.ClientCredentials.{client_credentials_configuration};
 ghost use Rattle.oauth2.specs.NewRequest.{new_client_credentials_request};
@@ -35,6 +36,7 @@ pub fn custom_error_client(id: ClientId, token: TokenUrl) -> CustomErrorClient
       client_id = id;
       client_secret = None;
       auth_type = BasicAuth;
+      reply_rule = Prefix;
       redirect_url = None;
       auth_url = None;
       device_authorization_url = None;
@@ -54,7 +56,8 @@ pub fn token_or_custom_error<C: SyncHttpClient>(
 ) -> Result<ColorfulTokenResponse, RequestTokenError<C::Error, CustomErrorResponse>>
     requires { C.is_ready http_client.old }
     ensures once { (endpoint : Addressed) × (client.now.token_url ≡ Some endpoint)
-        × AsksForCustomToken C.step client.now.reply_rule (client_credentials_configuration (new_client_credentials_request client.now endpoint))
+        × AsksForCustomToken C.step client.now.reply_rule
+        (client_credentials_configuration (new_client_credentials_request client.now endpoint))
         endpoint http_client.old result http_client.new }
     ensures ready { C.is_ready http_client.new }
 {

@@ -9,13 +9,13 @@ use Rattle.oauth2_callers.proofs.openid.exchanged.Goals as goal
 pub returns-clause-token : goal.returns-clause-token
 returns-clause-token g c =
     let started = c.exchange_code in
-    let asked = c.set_pkce_verifier.ensures
-    ∙ ap {A = CodeRequest} (λ r. record r { pkce_verifier = Some c.args.verifier }) started.ensures.new
-    ∙ ap (flow_exchange c.args.client.now started.result.token_url c.args.verifier) c.new.ensures in
+    let set = c.set_pkce_verifier.ensures ∙ ap {A = CodeRequest} (λ r. record r { pkce_verifier = Some c.args.verifier }) started.ensures.new in
+    let once = rw (ap (λ (r : CodeRequest). r.base.reply_rule) set) at c.request.ensures.once in
+    let asked = set ∙ ap (flow_exchange c.args.client.now started.result.token_url c.args.verifier) c.new.ensures in
     IfOk-from_OneShot _ _ g.C.SyncHttpClient.step _ _ _ _ _ _
     (λ r is. (
       started.result.token_url,
       started.ensures.url,
       subst (λ a. IsRequestOf (code_configuration a) (serialize a.token_url.url) (view_of r)) asked is,
     ))
-    c.request.result c.request.ensures.once
+    c.request.result once
