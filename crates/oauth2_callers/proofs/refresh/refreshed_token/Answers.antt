@@ -1,0 +1,8 @@
+use Rattle.oauth2_requests.specs.Refresh.{refresh_configuration}
+use Rattle.oauth2_callers.proofs.Once.{AsksAt-equal}
+use Rattle.oauth2_callers.proofs.refresh.refreshed_token.Goals as goal
+
+pub returns-clause-once : goal.returns-clause-once
+returns-clause-once g c =
+    let started = c.exchange_refresh_token in
+    (started.result.token_url, started.ensures.url, AsksAt-equal _ _ g.C.SyncHttpClient.step _ _ _ _ refresh_configuration (λ r. r.token_url) started.result _ started.ensures.new c.request.ensures.once)
