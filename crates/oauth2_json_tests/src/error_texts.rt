@@ -54,6 +54,14 @@ fn texts_of_read_errors(rt: HostRuntime) {
 }
 
 #[test]
+fn fault_under_an_outer_name(rt: HostRuntime) {
+    let inner = ReadError::at(rt.alloc(), "inner", ParseCause::WrongType);
+    is_error(&rt, &inner, "inner: of the wrong type");
+    let outer = inner.under(rt.alloc(), "outer");
+    is_error(&rt, &outer, "outer: of the wrong type");
+}
+
+#[test]
 fn texts_of_write_errors(rt: HostRuntime) {
     for (error, wanted) in [
         (WriteError::Memory, "out of memory"),

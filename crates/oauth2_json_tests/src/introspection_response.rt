@@ -44,8 +44,11 @@ fn audience_of_one_is_written_as_a_list(rt: HostRuntime) {
 
 #[test]
 fn copy_of_an_introspection_response_is_written_alike(rt: HostRuntime) {
-    let written =
-        "{\"active\":true,\"aud\":[\"audience\"],\"client_id\":\"aaa\",\"exp\":3,\"iat\":1,\"iss\":\"issuer\",\"jti\":\"identifier\",\"nbf\":2,\"scope\":\"read write\",\"sub\":\"subject\",\"token_type\":\"bearer\",\"username\":\"demo\"}";
+    let written = concat!(
+        "{\"active\":true,\"aud\":[\"audience\"],\"client_id\":\"aaa\",\"exp\":3,\"iat\":1,",
+        "\"iss\":\"issuer\",\"jti\":\"identifier\",\"nbf\":2,\"scope\":\"read write\",",
+        "\"sub\":\"subject\",\"token_type\":\"bearer\",\"username\":\"demo\"}",
+    );
     copy_is_kept::<BasicTokenIntrospectionResponse>(&rt, written);
 }
 

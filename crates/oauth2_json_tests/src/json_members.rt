@@ -204,6 +204,35 @@ fn are_joined(rt: &(impl Abort + AllocGlobal), found: Option<Value>, wanted: &st
 }
 
 #[test]
+fn members_that_are_there(rt: HostRuntime) {
+    let seven = Some(parsed(&rt, "7"));
+    let read = members::number_or(rt.alloc(), "interval", 5, seven).expect(&rt, "a number");
+    assert_eq!(rt; read, 7);
+    let word = Some(parsed(&rt, "\"x\""));
+    let read = members::optional::<String>(rt.alloc(), "c", word).expect(&rt, "a text or none");
+    assert!(rt; read.as_deref() == Some("x"));
+    let word = Some(parsed(&rt, "\"x\""));
+    let read = members::present::<String>(rt.alloc(), "c", word).expect(&rt, "a text or none");
+    assert!(rt; read.as_deref() == Some("x"));
+}
+
+#[test]
+fn codes_and_lists_that_are_there(rt: HostRuntime) {
+    let mac = Some(parsed(&rt, "\"MAC\""));
+    let read = members::present_lowered::<BasicTokenType>(rt.alloc(), "token_type", mac).expect(
+        &rt,
+        "a token type or none",
+    );
+    assert!(rt; read == Some(BasicTokenType::Mac));
+    let words = Some(parsed(&rt, "[\"x\",\"y\"]"));
+    let read = members::optional_texts(rt.alloc(), "c", words)
+        .expect(&rt, "texts or none")
+        .expect(&rt, "texts");
+    let joined = read.concat(rt.alloc()).expect(&rt, "a text");
+    assert_eq!(rt; joined.as_str(), "xy");
+}
+
+#[test]
 fn absent_members(rt: HostRuntime) {
     let none = members::optional::<String>(rt.alloc(), "c", None).expect(&rt, "a text or none");
     assert!(rt; none.is_none());

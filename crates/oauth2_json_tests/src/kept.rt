@@ -1,13 +1,17 @@
-//! Texts, URLs, codes and challenges: each reads to a value that is written as the text.
+//! Texts, URLs, codes, challenges and extra fields: each reads to a value that is written as the
+//! text.
 
-use crate::support::{is_kept, is_refused};
-use oauth2::basic::{BasicErrorResponseType, BasicTokenType};
+use crate::support::{copy_is_kept, is_kept, is_refused, is_rewritten};
+use oauth2::basic::{
+    BasicErrorResponse, BasicErrorResponseType, BasicRevocationErrorResponse, BasicTokenType,
+};
 use oauth2::{
     AccessToken, AuthUrl, AuthorizationCode, ClientId, ClientSecret, CsrfToken,
-    DeviceAuthorizationUrl, DeviceCode, DeviceCodeErrorResponseType, EndUserVerificationUrl,
-    IntrospectionUrl, ParseCause, PkceCodeChallenge, PkceCodeChallengeMethod, PkceCodeVerifier,
-    RedirectUrl, RefreshToken, ResourceOwnerUsername, ResponseType, RevocationErrorResponseType,
-    RevocationUrl, Scope, TokenUrl, UserCode, VerificationUriComplete,
+    DeviceAuthorizationUrl, DeviceCode, DeviceCodeErrorResponse, DeviceCodeErrorResponseType,
+    EmptyExtraDeviceAuthorizationFields, EmptyExtraTokenFields, EndUserVerificationUrl,
+    ExtraFields, IntrospectionUrl, ParseCause, PkceCodeChallenge, PkceCodeChallengeMethod,
+    PkceCodeVerifier, RedirectUrl, RefreshToken, ResourceOwnerUsername, ResponseType,
+    RevocationErrorResponseType, RevocationUrl, Scope, TokenUrl, UserCode, VerificationUriComplete,
 };
 
 const TEXT: &str = "\"a \\\"b\\\"\"";
@@ -63,6 +67,37 @@ fn codes_are_kept(rt: HostRuntime) {
         is_kept::<DeviceCodeErrorResponseType>(&rt, text);
         is_kept::<RevocationErrorResponseType>(&rt, text);
     }
+}
+
+#[test]
+fn copies_of_codes_are_written_alike(rt: HostRuntime) {
+    for text in [
+        "\"slow_down\"",
+        "\"unsupported_token_type\"",
+        "\"invalid_grant\"",
+        "\"x\"",
+    ] {
+        copy_is_kept::<BasicErrorResponseType>(&rt, text);
+        copy_is_kept::<DeviceCodeErrorResponseType>(&rt, text);
+        copy_is_kept::<RevocationErrorResponseType>(&rt, text);
+    }
+}
+
+#[test]
+fn copies_of_error_responses_are_written_alike(rt: HostRuntime) {
+    let text = "{\"error\":\"slow_down\",\"error_description\":\"d\",\"error_uri\":\"u\"}";
+    copy_is_kept::<BasicErrorResponse>(&rt, text);
+    copy_is_kept::<BasicRevocationErrorResponse>(&rt, text);
+    copy_is_kept::<DeviceCodeErrorResponse>(&rt, text);
+}
+
+#[test]
+fn copies_of_extra_fields_are_written_alike(rt: HostRuntime) {
+    copy_is_kept::<EmptyExtraTokenFields>(&rt, "{}");
+    copy_is_kept::<EmptyExtraDeviceAuthorizationFields>(&rt, "{}");
+    copy_is_kept::<ExtraFields>(&rt, "{\"a\":[1,null,\"x\"],\"b\":{\"c\":true}}");
+    is_rewritten::<EmptyExtraTokenFields>(&rt, "{\"a\":1}", "{}");
+    is_rewritten::<EmptyExtraDeviceAuthorizationFields>(&rt, "{\"a\":1}", "{}");
 }
 
 #[test]

@@ -250,6 +250,49 @@ fn the_limit_is_reached(rt: HostRuntime) {
 }
 
 #[test]
+fn a_clock_falls(rt: HostRuntime) {
+    let poll = Poll {
+        timeout: Some(2),
+        max_polls: 3,
+        readings: &[10, 5, 3, 3],
+        replies: &[PENDING, PENDING, PENDING],
+        ..WAITING
+    };
+    let seen = [
+        Seen::Reading(10),
+        Seen::Reading(5),
+        ASK,
+        slept(1),
+        Seen::Reading(3),
+        ASK,
+        slept(1),
+        Seen::Reading(3),
+        ASK,
+    ];
+    fails(&rt, poll, &seen, "Other error: polling limit reached");
+}
+
+#[test]
+fn a_clock_stands_still(rt: HostRuntime) {
+    let poll = Poll {
+        timeout: Some(0),
+        max_polls: 2,
+        readings: &[0],
+        replies: &[PENDING, PENDING],
+        ..WAITING
+    };
+    let seen = [
+        Seen::Reading(0),
+        Seen::Reading(0),
+        ASK,
+        slept(1),
+        Seen::Reading(0),
+        ASK,
+    ];
+    fails(&rt, poll, &seen, "Other error: polling limit reached");
+}
+
+#[test]
 fn a_timeout_is_no_duration(rt: HostRuntime) {
     let given = Poll {
         timeout: Some(9_223_372_036_854_775_808),

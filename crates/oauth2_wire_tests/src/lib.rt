@@ -3,13 +3,21 @@
 #![tactic(auto)]
 
 #[cfg(test)]
+mod added_scopes;
+#[cfg(test)]
 mod basic_headers;
 #[cfg(test)]
 mod endpoint_requests;
 #[cfg(test)]
 mod error_texts;
 #[cfg(test)]
+mod every_request;
+#[cfg(test)]
 mod form_encoding;
+#[cfg(test)]
+mod hostile_replies;
+#[cfg(test)]
+mod hostile_texts;
 #[cfg(test)]
 mod one_shot;
 #[cfg(test)]

@@ -13,8 +13,8 @@ use std::process::Abort;
 
 type RevocationError = RequestTokenError<u8, StandardErrorResponse<RevocationErrorResponseType>>;
 
-fn body_of(rt: &(impl Abort + AllocGlobal), text: &str) -> Vec<u8> {
-    text.as_bytes().to_vec(rt.alloc()).expect(rt, "a body")
+fn body_of(rt: &(impl Abort + AllocGlobal), bytes: &[u8]) -> Vec<u8> {
+    bytes.to_vec(rt.alloc()).expect(rt, "a body")
 }
 
 fn value_of(rt: &(impl Abort + AllocGlobal), bytes: &[u8]) -> HeaderValue {
@@ -29,11 +29,11 @@ fn head_of(rt: &(impl Abort + AllocGlobal), status: u16) -> Parts {
 }
 
 /// A reply with these values of Content-Type.
-fn reply_of(
+pub fn reply_of(
     rt: &(impl Abort + AllocGlobal),
     status: u16,
     types: &[&[u8]],
-    body: &str,
+    body: &[u8],
 ) -> HttpResponse {
     let mut head = head_of(rt, status);
     for bytes in types {
@@ -54,7 +54,7 @@ fn answers(
     body: &str,
     wanted: &str,
 ) {
-    let reply = reply_of(rt, status, types, body);
+    let reply = reply_of(rt, status, types, body.as_bytes());
     let answer: Result<String, BasicRequestTokenError<u8>> = endpoint_response(rt.alloc(), reply);
     match answer {
         Ok(text) => is_text(rt, text.as_str(), wanted),
@@ -155,7 +155,7 @@ fn bodies_of_failures(rt: HostRuntime) {
 /// The same where the status alone tells a success.
 fn answers_by_status(rt: &(impl Abort + AllocGlobal), status: u16, body: &str, wanted: &str) {
     let types = [b"application/octet-stream".as_slice()];
-    let reply = reply_of(rt, status, &types, body);
+    let reply = reply_of(rt, status, &types, body.as_bytes());
     let answer: Result<(), RevocationError> = endpoint_response_status_only(rt.alloc(), reply);
     match answer {
         Ok(()) => is_text(rt, "done", wanted),

@@ -3,6 +3,8 @@
 use crate::run::run_script;
 use crate::status::RunStatus;
 use crate::tests::support::{COMMAND, REPLY, REQUEST, SCRIPT, TOKEN, check};
+use std::alloc::Global;
+use std::process::Abort;
 use std::test::Fail;
 
 /// What stands in place of the command.
@@ -82,7 +84,13 @@ const BAD_EDITS: [(&str, &str); 44] = [
     ),
     (
         "\"code\":\"ccc\"",
-        "\"code\":\"ccc\",\"verifier\":\"aaaaaaaaaaaaaaaaaaaaaaaaaaaaaaaaaaaaaaaaaaaaaaaaaaaaaaaaaaaaaaaaaaaaaaaaaaaaaaaaaaaaaaaaaaaaaaaaaaaaaaaaaaaaaaaaaaaaaaaaaaaaaaaaa\"",
+        concat!(
+            "\"code\":\"ccc\",\"verifier\":\"",
+            "aaaaaaaaaaaaaaaaaaaaaaaaaaaaaaaaaaaaaaaaaaa",
+            "aaaaaaaaaaaaaaaaaaaaaaaaaaaaaaaaaaaaaaaaaaa",
+            "aaaaaaaaaaaaaaaaaaaaaaaaaaaaaaaaaaaaaaaaaaa",
+            "\"",
+        ),
     ),
     ("\"code\":\"ccc\"", "\"code\":\"ccc\",\"extra\":{}"),
     (
@@ -120,7 +128,14 @@ const BAD_EDITS: [(&str, &str); 44] = [
     ("\"command\"", "\"x\":\"\\ud800\",\"command\""),
     (
         "\"command\"",
-        "\"x\":[[[[[[[[[[[[[[[[[[[[[[[[[[[[[[[[[[[[[[[[[[[[[[[[[[[[[[[[[[[[[[[[[[[[[[[[[[[[[[[[[[[[[[[[[[[[[[[[[[[[[[[[[[[[[[[[[[[[[[[[[[[[[[[]]]]]]]]]]]]]]]]]]]]]]]]]]]]]]]]]]]]]]]]]]]]]]]]]]]]]]]]]]]]]]]]]]]]]]]]]]]]]]]]]]]]]]]]]]]]]]]]]]]]]]]]]]]]]]]]]]]]]]]]]]]]]]],\"command\"",
+        concat!(
+            "\"x\":",
+            "[[[[[[[[[[[[[[[[[[[[[[[[[[[[[[[[[[[[[[[[[[[[[[[[[[[[[[[[[[[[[[[",
+            "[[[[[[[[[[[[[[[[[[[[[[[[[[[[[[[[[[[[[[[[[[[[[[[[[[[[[[[[[[[[[[[[",
+            "]]]]]]]]]]]]]]]]]]]]]]]]]]]]]]]]]]]]]]]]]]]]]]]]]]]]]]]]]]]]]]]",
+            "]]]]]]]]]]]]]]]]]]]]]]]]]]]]]]]]]]]]]]]]]]]]]]]]]]]]]]]]]]]]]]]]",
+            ",\"command\"",
+        ),
     ),
 ];
 
@@ -164,7 +179,14 @@ fn inputs_that_are_no_script(rt: HostRuntime) -> Result<(), Fail> {
 const KEPT_MEMBERS: [&str; 3] = [
     "\"x\":1e300,\"command\"",
     "\"x\":\"\\ud83d\\ude00\",\"command\"",
-    "\"x\":[[[[[[[[[[[[[[[[[[[[[[[[[[[[[[[[[[[[[[[[[[[[[[[[[[[[[[[[[[[[[[[[[[[[[[[[[[[[[[[[[[[[[[[[[[[[[[[[[[[[[[[[[[[[[[[[[[[[[[[[[[[[[[]]]]]]]]]]]]]]]]]]]]]]]]]]]]]]]]]]]]]]]]]]]]]]]]]]]]]]]]]]]]]]]]]]]]]]]]]]]]]]]]]]]]]]]]]]]]]]]]]]]]]]]]]]]]]]]]]]]]]]]]]]]]]],\"command\"",
+    concat!(
+        "\"x\":",
+        "[[[[[[[[[[[[[[[[[[[[[[[[[[[[[[[[[[[[[[[[[[[[[[[[[[[[[[[[[[[[[[[",
+        "[[[[[[[[[[[[[[[[[[[[[[[[[[[[[[[[[[[[[[[[[[[[[[[[[[[[[[[[[[[[[[[",
+        "]]]]]]]]]]]]]]]]]]]]]]]]]]]]]]]]]]]]]]]]]]]]]]]]]]]]]]]]]]]]]]]",
+        "]]]]]]]]]]]]]]]]]]]]]]]]]]]]]]]]]]]]]]]]]]]]]]]]]]]]]]]]]]]]]]]",
+        ",\"command\"",
+    ),
 ];
 
 #[test]
@@ -179,6 +201,207 @@ fn members_that_nobody_reads(rt: HostRuntime) -> Result<(), Fail> {
             RunStatus::Answered,
             lines.as_str(),
         )?;
+    }
+    Ok(())
+}
+
+/// The script is a bad one.
+fn is_bad(rt: &impl Abort, alloc: Global, script: &str) -> Result<(), Fail> {
+    check(rt, alloc, script, RunStatus::BadScript, "bad script\n")
+}
+
+/// A command, the parameters that it needs beside one, and the name of that one, which is a text.
+const TEXT_PARAMS: [(&str, &str, &str); 14] = [
+    ("code", "", "code"),
+    ("code", "\"code\":\"c\",", "verifier"),
+    ("code", "\"code\":\"c\",", "redirect"),
+    ("refresh", "", "refresh_token"),
+    ("password", "\"password\":\"p\",", "username"),
+    ("password", "\"username\":\"u\",", "password"),
+    ("introspect", "", "token"),
+    ("introspect", "\"token\":\"t\",", "hint"),
+    ("revoke", "", "token"),
+    ("revoke", "\"token\":\"t\",", "kind"),
+    ("authorize", "", "state"),
+    ("authorize", "\"state\":\"s\",", "verifier"),
+    ("authorize", "\"state\":\"s\",", "redirect"),
+    ("authorize", "\"state\":\"s\",", "response_type"),
+];
+
+#[test]
+fn params_that_are_no_texts(rt: HostRuntime) -> Result<(), Fail> {
+    for (command, others, name) in TEXT_PARAMS {
+        for value in ["null", "true", "1", "[\"a\"]", "{}"] {
+            let command = format!(in rt.alloc();
+                "\"command\":\"{command}\",\"params\":{{{others}\"{name}\":{value}}}",
+            )?;
+            let script = SCRIPT.replace(rt.alloc(), COMMAND, command.as_str())?;
+            is_bad(&rt, rt.alloc(), script.as_str())?;
+        }
+    }
+    Ok(())
+}
+
+/// A command, the parameters that it needs, and the name of a list.
+const LIST_PARAMS: [(&str, &str, &str); 11] = [
+    ("code", "\"code\":\"c\",", "extra"),
+    ("refresh", "\"refresh_token\":\"r\",", "scopes"),
+    ("refresh", "\"refresh_token\":\"r\",", "extra"),
+    (
+        "password",
+        "\"username\":\"u\",\"password\":\"p\",",
+        "scopes",
+    ),
+    (
+        "password",
+        "\"username\":\"u\",\"password\":\"p\",",
+        "extra",
+    ),
+    ("client_credentials", "", "scopes"),
+    ("client_credentials", "", "extra"),
+    ("introspect", "\"token\":\"t\",", "extra"),
+    ("revoke", "\"token\":\"t\",", "extra"),
+    ("authorize", "\"state\":\"s\",", "scopes"),
+    ("authorize", "\"state\":\"s\",", "extra"),
+];
+
+/// What is neither a list of texts nor one of pairs of texts.
+const NO_LISTS: [&str; 10] = [
+    "null",
+    "\"a\"",
+    "{}",
+    "[null]",
+    "[1]",
+    "[[]]",
+    "[[\"a\"]]",
+    "[[\"a\",1]]",
+    "[[\"a\",null]]",
+    "[[\"a\",\"b\",\"c\"]]",
+];
+
+#[test]
+fn params_that_are_no_lists(rt: HostRuntime) -> Result<(), Fail> {
+    for (command, others, name) in LIST_PARAMS {
+        for value in NO_LISTS {
+            let command = format!(in rt.alloc();
+                "\"command\":\"{command}\",\"params\":{{{others}\"{name}\":{value}}}",
+            )?;
+            let script = SCRIPT.replace(rt.alloc(), COMMAND, command.as_str())?;
+            is_bad(&rt, rt.alloc(), script.as_str())?;
+        }
+    }
+    Ok(())
+}
+
+#[test]
+fn members_of_the_client(rt: HostRuntime) -> Result<(), Fail> {
+    for name in [
+        "redirect",
+        "auth_url",
+        "device_url",
+        "introspection_url",
+        "revocation_url",
+    ] {
+        for value in ["null", "1", "\"\"", "\"/token\"", "\"https://\"", "[]"] {
+            let secret = format!(in rt.alloc(); "\"secret\":\"bbb\",\"{name}\":{value}")?;
+            let script = SCRIPT.replace(rt.alloc(), "\"secret\":\"bbb\"", secret.as_str())?;
+            is_bad(&rt, rt.alloc(), script.as_str())?;
+        }
+    }
+    Ok(())
+}
+
+/// What stands in place of the replies, or of the one reply.
+const BAD_REPLIES: [&str; 24] = [
+    "[null]",
+    "[1]",
+    "[[]]",
+    "[{}]",
+    "[{\"body\":\"\"}]",
+    "[{\"status\":200}]",
+    "[{\"status\":-200,\"body\":\"\"}]",
+    "[{\"status\":0,\"body\":\"\"}]",
+    "[{\"status\":65736,\"body\":\"\"}]",
+    "[{\"status\":18446744073709551815,\"body\":\"\"}]",
+    "[{\"status\":2e2,\"body\":\"\"}]",
+    "[{\"status\":\"200\",\"body\":\"\"}]",
+    "[{\"status\":200,\"body\":null}]",
+    "[{\"status\":200,\"body\":{}}]",
+    "[{\"status\":200,\"body\":\"\",\"content_type\":1}]",
+    "[{\"status\":200,\"body\":\"\",\"content_type\":\"\\u0000\"}]",
+    "[{\"status\":200,\"body\":\"\",\"content_type\":\"\\u007f\"}]",
+    "[{\"status\":200,\"body\":\"\",\"content_type\":\"a\\r\\n b\"}]",
+    "[{\"status\":200,\"body\":\"\",\"fail\":false}]",
+    "[{\"fail\":1}]",
+    "[{\"fail\":\"true\"}]",
+    "[{\"fail\":true},{\"status\":99,\"body\":\"\"}]",
+    "\"\"",
+    "1",
+];
+
+#[test]
+fn bad_replies(rt: HostRuntime) -> Result<(), Fail> {
+    for replies in BAD_REPLIES {
+        let list = format!(in rt.alloc(); "[{REPLY}]")?;
+        let script = SCRIPT.replace(rt.alloc(), list.as_str(), replies)?;
+        is_bad(&rt, rt.alloc(), script.as_str())?;
+    }
+    Ok(())
+}
+
+#[test]
+fn bad_readings(rt: HostRuntime) -> Result<(), Fail> {
+    for readings in [
+        "{}",
+        "1",
+        "[null]",
+        "[\"0\"]",
+        "[[]]",
+        "[0,0.5]",
+        "[-0]",
+        "[0,1e300]",
+    ] {
+        let members = format!(in rt.alloc(); "\"readings\":{readings},\"command\"")?;
+        let script = SCRIPT.replace(rt.alloc(), "\"command\"", members.as_str())?;
+        is_bad(&rt, rt.alloc(), script.as_str())?;
+    }
+    Ok(())
+}
+
+/// A needed member that the script lacks, an endpoint that is no text, and verifiers of 42 and of
+/// 129 characters in a login.
+const MORE_BAD_EDITS: [(&str, &str); 5] = [
+    ("\"client\"", "\"x\""),
+    ("\"https://example.com/token\"", "null"),
+    (
+        COMMAND,
+        "\"command\":\"password\",\"params\":{\"password\":\"p\"}",
+    ),
+    (
+        COMMAND,
+        concat!(
+            "\"command\":\"authorize\",\"params\":{\"state\":\"s\",\"verifier\":\"",
+            "aaaaaaaaaaaaaaaaaaaaaaaaaaaaaaaaaaaaaaaaaa",
+            "\"}",
+        ),
+    ),
+    (
+        COMMAND,
+        concat!(
+            "\"command\":\"authorize\",\"params\":{\"state\":\"s\",\"verifier\":\"",
+            "aaaaaaaaaaaaaaaaaaaaaaaaaaaaaaaaaaaaaaaaaaa",
+            "aaaaaaaaaaaaaaaaaaaaaaaaaaaaaaaaaaaaaaaaaaa",
+            "aaaaaaaaaaaaaaaaaaaaaaaaaaaaaaaaaaaaaaaaaaa",
+            "\"}",
+        ),
+    ),
+];
+
+#[test]
+fn more_edited_bad_scripts(rt: HostRuntime) -> Result<(), Fail> {
+    for (old, new) in MORE_BAD_EDITS {
+        let script = SCRIPT.replace(rt.alloc(), old, new)?;
+        is_bad(&rt, rt.alloc(), script.as_str())?;
     }
     Ok(())
 }

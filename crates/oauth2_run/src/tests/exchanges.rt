@@ -134,7 +134,10 @@ const CODE_EXCHANGES: [(&str, &str, RunStatus, &str, &str); 20] = [
     ),
     (
         REPLY,
-        "{\"status\":200,\"body\":\"{\\\"access_token\\\":\\\"t\\\",\\\"token_type\\\":\\\"BEARER\\\",\\\"scope\\\":\\\"\\\",\\\"expires_in\\\":null}\"}",
+        concat!(
+            "{\"status\":200,\"body\":\"{\\\"access_token\\\":\\\"t\\\",\\\"token_type\\\":\\\"BEARER\\\",",
+            "\\\"scope\\\":\\\"\\\",\\\"expires_in\\\":null}\"}",
+        ),
         RunStatus::Answered,
         REQUEST,
         "answer ok {\"access_token\":\"t\",\"scope\":\"\",\"token_type\":\"bearer\"}\n",

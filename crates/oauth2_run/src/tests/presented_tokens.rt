@@ -27,7 +27,10 @@ const INTROSPECTIONS: [(&str, RunStatus, &str); 8] = [
         "request POST https://introspection/url\nauthorization Basic YWFhOmJiYg==\nbody \"token=t\"\nbasic \"aaa\" \"bbb\"\npair \"token\" \"t\"\nanswer ok {\"active\":true}\n",
     ),
     (
-        "{\"client\":{\"id\":\"aaa\",\"secret\":\"bbb\"},\"command\":\"introspect\",\"params\":{\"token\":\"t\"},\"replies\":[{\"status\":200,\"body\":\"{\\\"active\\\":true}\"}]}",
+        concat!(
+            "{\"client\":{\"id\":\"aaa\",\"secret\":\"bbb\"},\"command\":\"introspect\",\"params\":{\"token\":\"t\"},",
+            "\"replies\":[{\"status\":200,\"body\":\"{\\\"active\\\":true}\"}]}",
+        ),
         RunStatus::Fault,
         "answer fault \"No introspection endpoint URL specified\"\n",
     ),
@@ -61,7 +64,10 @@ const REVOCATIONS: [(&str, RunStatus, &str); 9] = [
         "answer fault \"Scheme for revocation endpoint URL must be HTTPS\"\n",
     ),
     (
-        "{\"client\":{\"id\":\"aaa\",\"secret\":\"bbb\"},\"command\":\"revoke\",\"params\":{\"token\":\"t\"},\"replies\":[{\"status\":200,\"body\":\"\"}]}",
+        concat!(
+            "{\"client\":{\"id\":\"aaa\",\"secret\":\"bbb\"},\"command\":\"revoke\",\"params\":{\"token\":\"t\"},",
+            "\"replies\":[{\"status\":200,\"body\":\"\"}]}",
+        ),
         RunStatus::Fault,
         "answer fault \"No revocation endpoint URL specified\"\n",
     ),
@@ -76,7 +82,10 @@ const REVOCATIONS: [(&str, RunStatus, &str); 9] = [
         "request POST https://revocation/url\nauthorization Basic YWFhOmJiYg==\nbody \"token=t&token_type_hint=access_token\"\nbasic \"aaa\" \"bbb\"\npair \"token\" \"t\"\npair \"token_type_hint\" \"access_token\"\nanswer fault \"Other error: server returned empty error response\"\n",
     ),
     (
-        "{\"client\":{\"id\":\"aaa\",\"secret\":\"bbb\",\"revocation_url\":\"HTTPS://revocation/url\"},\"command\":\"revoke\",\"params\":{\"token\":\"t\"},\"replies\":[{\"status\":200,\"body\":\"\"}]}",
+        concat!(
+            "{\"client\":{\"id\":\"aaa\",\"secret\":\"bbb\",\"revocation_url\":\"HTTPS://revocation/url\"},",
+            "\"command\":\"revoke\",\"params\":{\"token\":\"t\"},\"replies\":[{\"status\":200,\"body\":\"\"}]}",
+        ),
         RunStatus::Answered,
         "request POST https://revocation/url\nauthorization Basic YWFhOmJiYg==\nbody \"token=t&token_type_hint=access_token\"\nbasic \"aaa\" \"bbb\"\npair \"token\" \"t\"\npair \"token_type_hint\" \"access_token\"\nanswer ok null\n",
     ),

@@ -3,7 +3,7 @@
 use crate::input::MOST_READS;
 use crate::run::run_script;
 use crate::status::{RunFault, RunStatus};
-use crate::tests::support::{REQUEST, SCRIPT};
+use crate::tests::support::{REQUEST, SCRIPT, TOKEN};
 use std::io;
 use std::io::{Error, ErrorKind, Read, Write};
 use std::test::Fail;
@@ -105,7 +105,8 @@ fn reads_fail(rt: HostRuntime) -> Result<(), Fail> {
 
 #[test]
 fn writes_fail(rt: HostRuntime) -> Result<(), Fail> {
-    for at in 1..=REQUEST.len() {
+    let whole = REQUEST.len().saturating_add(TOKEN.len());
+    for at in 1..=whole {
         let mut input = SCRIPT.as_bytes();
         let mut writer = FailingWriter {
             taken: Vec::new(rt.alloc()),
@@ -115,6 +116,46 @@ fn writes_fail(rt: HostRuntime) -> Result<(), Fail> {
         let result = run_script(rt.alloc(), &mut input, &mut writer);
         assert_eq!(rt; result, Err(RunFault::Write));
         assert_eq!(rt; writer.writes, at);
+    }
+    Ok(())
+}
+
+/// A writer that fails at the first write after the last, so at none.
+#[test]
+fn writes_end(rt: HostRuntime) -> Result<(), Fail> {
+    let whole = REQUEST.len().saturating_add(TOKEN.len());
+    let mut input = SCRIPT.as_bytes();
+    let mut writer = FailingWriter {
+        taken: Vec::new(rt.alloc()),
+        writes: 0,
+        fails_at: whole.saturating_add(1),
+    };
+    let result = run_script(rt.alloc(), &mut input, &mut writer);
+    assert_eq!(rt; result, Ok(RunStatus::Answered));
+    assert_eq!(rt; writer.writes, whole);
+    Ok(())
+}
+
+/// Takes no byte, however often it is called.
+#[derive(Drop)]
+struct FullWriter;
+
+impl Write for FullWriter {
+    fn write(&mut self, _buf: &[u8]) -> io::Result<usize> {
+        Ok(0)
+    }
+
+    fn flush(&mut self) -> io::Result<()> {
+        Ok(())
+    }
+}
+
+#[test]
+fn nothing_is_taken(rt: HostRuntime) -> Result<(), Fail> {
+    for input in [SCRIPT, "{}"] {
+        let mut input = input.as_bytes();
+        let result = run_script(rt.alloc(), &mut input, &mut FullWriter);
+        assert_eq!(rt; result, Err(RunFault::Write));
     }
     Ok(())
 }

@@ -1,0 +1,33 @@
+//! A refresh that is sent.
+
+ghost use Rattle.std.specs.Prelude.{◌≡◌, Some};
+ghost use Rattle.oauth2_urls.specs.Addressed.{Addressed};
+ghost use Rattle.oauth2_requests.specs.Once.{AsksOnce};
+ghost use Rattle.oauth2_requests.specs.Refresh.{refresh_configuration};
+ghost use Rattle.oauth2.specs.NewRequest.{new_refresh_request};
+
+use crate::client::CodeClient;
+use oauth2::basic::{BasicErrorResponse, BasicRequestTokenError, BasicTokenResponse};
+use oauth2::{FromJson, RefreshToken, SyncHttpClient};
+use std::alloc::Global;
+
+/// A new token for a refresh token: the client is called once, with the request for this refresh
+/// token, and the answer is what its reply says; or it is not called at all.
+pub fn refreshed_token<C: SyncHttpClient>(
+    alloc: Global,
+    client: &CodeClient,
+    http_client: &mut C,
+    token: &RefreshToken,
+) -> Result<BasicTokenResponse, BasicRequestTokenError<C::Error>>
+    requires { C.is_ready http_client.old }
+    ensures once { (endpoint : Addressed) × (client.now.token_url ≡ Some endpoint)
+        × AsksOnce ⟦<BasicTokenResponse as FromJson>⟧.meaning ⟦<BasicErrorResponse as FromJson>⟧.meaning
+        ⟦<BasicTokenResponse as FromJson>⟧.reading ⟦<BasicErrorResponse as FromJson>⟧.reading C.step
+        client.now.reply_rule (refresh_configuration (new_refresh_request client.now endpoint token.now)) endpoint
+        http_client.old result http_client.new }
+    ensures ready { C.is_ready http_client.new }
+{
+    client
+        .exchange_refresh_token(alloc, token)
+        .request(alloc, http_client)
+}

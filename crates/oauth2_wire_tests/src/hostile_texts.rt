@@ -1,0 +1,204 @@
+//! Identifiers, secrets and parameters of odd characters, in each kind of request.
+
+use crate::basic_headers::every_character;
+use crate::every_request::{
+    WholeClient, access_token, client, code, device, password, refresh_token, username,
+};
+use crate::support::is_text;
+use crate::views::{shows_basic, view_of};
+use oauth2::{AuthType, HttpRequest, StandardRevocableToken};
+use std::process::Abort;
+
+/// A parameter of the caller's: its name and its value.
+type Extra<'a> = (&'a str, &'a str);
+
+fn code_request(
+    rt: &(impl Abort + AllocGlobal),
+    client: &WholeClient,
+    (name, value): Extra<'_>,
+) -> HttpRequest {
+    client
+        .exchange_code(rt.alloc(), code(rt))
+        .add_extra_param(name.into(), value.into())
+        .expect(rt, "a parameter")
+        .prepare_request(rt.alloc())
+        .expect(rt, "a request")
+}
+
+fn refresh_request(
+    rt: &(impl Abort + AllocGlobal),
+    client: &WholeClient,
+    (name, value): Extra<'_>,
+) -> HttpRequest {
+    client
+        .exchange_refresh_token(rt.alloc(), &refresh_token(rt))
+        .add_extra_param(name.into(), value.into())
+        .expect(rt, "a parameter")
+        .prepare_request(rt.alloc())
+        .expect(rt, "a request")
+}
+
+fn password_request(
+    rt: &(impl Abort + AllocGlobal),
+    client: &WholeClient,
+    (name, value): Extra<'_>,
+) -> HttpRequest {
+    client
+        .exchange_password(rt.alloc(), &username(rt), &password(rt))
+        .add_extra_param(name.into(), value.into())
+        .expect(rt, "a parameter")
+        .prepare_request(rt.alloc())
+        .expect(rt, "a request")
+}
+
+fn client_credentials_request(
+    rt: &(impl Abort + AllocGlobal),
+    client: &WholeClient,
+    (name, value): Extra<'_>,
+) -> HttpRequest {
+    client
+        .exchange_client_credentials(rt.alloc())
+        .add_extra_param(name.into(), value.into())
+        .expect(rt, "a parameter")
+        .prepare_request(rt.alloc())
+        .expect(rt, "a request")
+}
+
+fn introspection_request(
+    rt: &(impl Abort + AllocGlobal),
+    client: &WholeClient,
+    (name, value): Extra<'_>,
+) -> HttpRequest {
+    client
+        .introspect(rt.alloc(), &access_token(rt))
+        .add_extra_param(name.into(), value.into())
+        .expect(rt, "a parameter")
+        .prepare_request(rt.alloc())
+        .expect(rt, "a request")
+}
+
+fn revocation_request(
+    rt: &(impl Abort + AllocGlobal),
+    client: &WholeClient,
+    (name, value): Extra<'_>,
+) -> HttpRequest {
+    client
+        .revoke_token(rt.alloc(), StandardRevocableToken::from(access_token(rt)))
+        .expect(rt, "an endpoint")
+        .add_extra_param(name.into(), value.into())
+        .expect(rt, "a parameter")
+        .prepare_request(rt.alloc())
+        .expect(rt, "a request")
+}
+
+fn device_request(
+    rt: &(impl Abort + AllocGlobal),
+    client: &WholeClient,
+    (name, value): Extra<'_>,
+) -> HttpRequest {
+    client
+        .exchange_device_code(rt.alloc())
+        .add_extra_param(name.into(), value.into())
+        .expect(rt, "a parameter")
+        .prepare_request(rt.alloc())
+        .expect(rt, "a request")
+}
+
+fn device_token_request(
+    rt: &(impl Abort + AllocGlobal),
+    client: &WholeClient,
+    (name, value): Extra<'_>,
+) -> HttpRequest {
+    client
+        .exchange_device_access_token(rt.alloc(), &device(rt))
+        .add_extra_param(name.into(), value.into())
+        .expect(rt, "a parameter")
+        .prepare_request(rt.alloc())
+        .expect(rt, "a request")
+}
+
+/// A request of each kind, with one parameter of the caller's.
+fn each_request(
+    rt: &(impl Abort + AllocGlobal),
+    client: &WholeClient,
+    extra: Extra<'_>,
+) -> Vec<HttpRequest> {
+    vec![in rt.alloc();
+        code_request(rt, client, extra),
+        refresh_request(rt, client, extra),
+        password_request(rt, client, extra),
+        client_credentials_request(rt, client, extra),
+        introspection_request(rt, client, extra),
+        revocation_request(rt, client, extra),
+        device_request(rt, client, extra),
+        device_token_request(rt, client, extra),
+    ]
+    .expect(rt, "a list")
+}
+
+/// The bodies of the requests, where the credentials go into the header.
+const BODIES: [&str; 8] = [
+    "grant_type=authorization_code&code=c&%00=%7E",
+    "grant_type=refresh_token&refresh_token=r&%00=%7E",
+    "grant_type=password&username=u&password=p&%00=%7E",
+    "grant_type=client_credentials&%00=%7E",
+    "token=t&%00=%7E",
+    "token=t&token_type_hint=access_token&%00=%7E",
+    "%00=%7E",
+    "grant_type=urn%3Aietf%3Aparams%3Aoauth%3Agrant-type%3Adevice_code&device_code=d&%00=%7E",
+];
+
+#[test]
+fn name_of_the_character_0(rt: HostRuntime) {
+    let client = client(&rt, "aaa", "bbb");
+    let requests = each_request(&rt, &client, ("\0", "~"));
+    assert_eq!(rt; requests.len(), BODIES.len());
+    for (request, body) in requests.iter().zip(BODIES) {
+        assert_eq!(rt; request.body().as_slice(), body.as_bytes());
+    }
+}
+
+/// The server reads this as the last of the pairs.
+fn has_last_pair(rt: &impl Abort, form: &[(String, String)], name: &str, value: &str) {
+    let (read_name, read_value) = form.last().expect(rt, "a pair");
+    is_text(rt, read_name.as_str(), name);
+    is_text(rt, read_value.as_str(), value);
+}
+
+#[test]
+fn every_character_in_the_header(rt: HostRuntime) {
+    let every = every_character(&rt);
+    let every = every.as_str();
+    let client = client(&rt, every, every);
+    for request in each_request(&rt, &client, (every, every)) {
+        let view = view_of(&rt, &request);
+        has_last_pair(&rt, view.form.as_slice(), every, every);
+        shows_basic(&rt, view, every, every);
+    }
+}
+
+/// The one value that the server reads under a name.
+fn is_read_by_name(rt: &impl Abort, form: &[(String, String)], name: &str, value: &str) {
+    let mut times = 0u8;
+    for (read_name, read_value) in form {
+        if read_name.as_str() == name {
+            is_text(rt, read_value.as_str(), value);
+            times = times.saturating_add(1);
+        }
+    }
+    assert_eq!(rt; times, 1, "{name}");
+}
+
+#[test]
+fn every_character_in_the_body(rt: HostRuntime) {
+    let every = every_character(&rt);
+    let every = every.as_str();
+    let client = client(&rt, every, every).set_auth_type(AuthType::RequestBody);
+    for request in each_request(&rt, &client, (every, every)) {
+        let view = view_of(&rt, &request);
+        assert!(rt; view.basic.is_none());
+        is_read_by_name(&rt, view.form.as_slice(), "client_id", every);
+        is_read_by_name(&rt, view.form.as_slice(), "client_secret", every);
+        has_last_pair(&rt, view.form.as_slice(), every, every);
+    }
+}
