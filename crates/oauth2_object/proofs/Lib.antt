@@ -1,0 +1,3 @@
+pub mod Conversions
+pub mod Turns
+pub mod Taking

@@ -1,0 +1,27 @@
+-- The members of an object, wherever they are held.
+use Rattle.std.specs.Prelude.{ℕ, List, [], ◌∷◌, map, Option, option_map}
+use Rattle.serde_json.specs.Data.{Data, Members, no_members}
+use Rattle.serde_json.specs.View.{view, members_view}
+use Rattle.oauth2_json.specs.Members.{put_some}
+use Rattle.oauth2_object.specs.declared.member.Member.{Member}
+use Rattle.oauth2_object.specs.declared.object.Object.{Object}
+use Rattle.oauth2_object.specs.declared.object.Source.{Source}
+use Rattle.oauth2_object.specs.declared.object.Source.TheVariants.{Map, List as Listed}
+
+-- The members go in one after another, so the last value of a name stays; one that was taken is none.
+abbrev pub put_each : List (List ℕ × Option Data) → Members → Members
+put_each [] ms = ms
+put_each (e ∷ es) ms = put_each es (put_some e.0 e.1 ms)
+
+abbrev pub entry_of : Member → List ℕ × Option Data
+entry_of m = (m.name.now, option_map view m.value)
+
+abbrev pub members_in : List Member → Members
+members_in list = put_each (map entry_of list) no_members
+
+abbrev pub source_members : Source → Members
+source_members (Map m) = members_view m.entries
+source_members (Listed list) = members_in list.items
+
+unfoldable pub object_members : Object → Members
+object_members o = source_members o.source
