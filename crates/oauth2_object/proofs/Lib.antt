@@ -1,3 +1,4 @@
 pub mod Conversions
-pub mod Turns
+pub mod Keeping
 pub mod Taking
+pub mod Turns

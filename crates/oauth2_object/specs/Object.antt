@@ -1,8 +1,12 @@
 -- The members of an object, wherever they are held.
-use Rattle.std.specs.Prelude.{ℕ, List, [], ◌∷◌, map, Option, option_map}
+use Rattle.std.specs.Prelude.{◌≡◌, ℕ, List, [], ◌∷◌, map, Bool, true, false, ◌||◌, Option, option_map, Result, Ok, Err}
+use Rattle.std.specs.Str.{bytes_eq}
 use Rattle.serde_json.specs.Data.{Data, Members, no_members}
+use Rattle.serde_json.specs.Find.{get_member}
 use Rattle.serde_json.specs.View.{view, members_view}
 use Rattle.oauth2_json.specs.Members.{put_some}
+use Rattle.oauth2_json.specs.Reading.{Reading, ErrsAs}
+use Rattle.oauth2_json.specs.declared.read.ReadError.{ReadError}
 use Rattle.oauth2_object.specs.declared.member.Member.{Member}
 use Rattle.oauth2_object.specs.declared.object.Object.{Object}
 use Rattle.oauth2_object.specs.declared.object.Source.{Source}
@@ -25,3 +29,20 @@ source_members (Listed list) = members_in list.items
 
 unfoldable pub object_members : Object → Members
 object_members o = source_members o.source
+
+-- ---- of all the members those of some names, and the others where they are kept too
+
+abbrev pub has_name : List ℕ → List (List ℕ) → Bool
+has_name name [] = false
+has_name name (k ∷ ks) = bytes_eq k name || has_name name ks
+
+abbrev pub Keeps : List (List ℕ) → Bool → Members → Members → Type 0
+Keeps names with_others all kept =
+    ((name : List ℕ) → has_name name names ≡ true → get_member name kept ≡ get_member name all)
+    × (with_others ≡ true → kept ≡ all)
+
+-- what a function returned, seen by `meaning`, keeps these of the members that the reading gives,
+-- unless memory ran out
+abbrev pub KeptAs : {T : Type 0} → (T → Members) → List (List ℕ) → Bool → Result T ReadError → Reading Members → Type 0
+KeptAs meaning names with_others (Ok t) expected = (all : Members) × (expected ≡ Ok all) × Keeps names with_others all (meaning t)
+KeptAs meaning names with_others (Err e) expected = ErrsAs e expected

@@ -1,6 +1,6 @@
 //! The members of an object, that a value or a text holds.
 
-ghost use Rattle.std.specs.Prelude.{◌≡◌, IfOk, option_map};
+ghost use Rattle.std.specs.Prelude.{◌≡◌, IfOk, map, option_map};
 ghost use Rattle.serde_json.specs.Data.{object};
 ghost use Rattle.serde_json.specs.Find.{get_member};
 ghost use Rattle.serde_json.specs.Read.{read};
@@ -8,7 +8,7 @@ ghost use Rattle.serde_json.specs.View.{view, members_view};
 ghost use Rattle.oauth2_json.specs.Body.{body_reading, value_reading};
 ghost use Rattle.oauth2_json.specs.Members.{members_of_object, without};
 ghost use Rattle.oauth2_json.specs.Reading.{ReadsAs};
-ghost use Rattle.oauth2_object.specs.Object.{object_members, members_in};
+ghost use Rattle.oauth2_object.specs.Object.{object_members, KeptAs};
 
 use crate::member::{self, Member};
 use crate::text;
@@ -41,16 +41,20 @@ impl<'a> Object<'a> {
         })
     }
 
-    /// The members of the object that a whole body is; their names stay in the body.
+    /// The members of the object that a whole body is: those of these names, and the others where
+    /// they are kept too. Their names stay in the body.
     pub fn of_body(
         alloc: Global,
         bytes: &'a [u8],
         scratch: &'a mut Scratch,
+        names: &[&str],
+        keeps_others: bool,
     ) -> Result<Object<'a>, ReadError>
-        ensures { ReadsAs object_members result (body_reading members_of_object bytes.now) }
+        ensures { KeptAs object_members (map (λ k. k.now) names.now) keeps_others result
+            (body_reading members_of_object bytes.now) }
     {
         match std::str::from_utf8(bytes) {
-            Ok(text) => of_text(alloc, text, scratch),
+            Ok(text) => of_text(alloc, text, scratch, names, keeps_others),
             Err(_) => Err(ReadError::whole(alloc, ParseCause::NotJson)),
         }
     }
@@ -83,13 +87,16 @@ fn of_text<'a>(
     alloc: Global,
     text: &'a str,
     scratch: &'a mut Scratch,
+    names: &[&str],
+    keeps_others: bool,
 ) -> Result<Object<'a>, ReadError>
-    ensures { ReadsAs object_members result (value_reading members_of_object (read text.now)) }
+    ensures { KeptAs object_members (map (λ k. k.now) names.now) keeps_others result
+        (value_reading members_of_object (read text.now)) }
 {
     let mut reader = Reader::new(text, scratch)?;
     match reader.next() {
         Some(Token::BeginObject) => {
-            let list = text::to_end(alloc, &mut reader)?;
+            let list = text::to_end(alloc, &mut reader, names, keeps_others)?;
             Ok(Object {
                 source: Source::List(list),
             })
