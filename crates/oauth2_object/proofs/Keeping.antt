@@ -1,7 +1,7 @@
 -- Of all the members those of some names, and the others where they are kept too.
 use Rattle.std.proofs.Common.{◌≡◌, ℕ, List, Bool, true, false, true≢false, ◌||◌, bytes_eq, Option, Some, None, option_map, Result, Ok, Err, cond, subst, refl, sym, ap, ◌∙◌}
 use Rattle.std.proofs.lemmas.Slice.Eq.{bytes_eq-Decides}
-use Rattle.serde_json.specs.Data.{Data, Members, object, put}
+use Rattle.serde_json.specs.Data.{Data, Members, no_members, object, put}
 use Rattle.serde_json.specs.Find.{get_member}
 use Rattle.serde_json.proofs.Views.{get_member-put}
 use Rattle.std.specs.Str.{is_utf8}
@@ -23,7 +23,7 @@ put_at false q k d kept all is h = pass_put q k d kept is ∙ h ∙ sym (pass_pu
 
 -- a member that is kept
 pub keeps_put : (names : List (List ℕ)) (b : Bool) (k : List ℕ) (d : Data) (all kept : Members) → Keeps names b all kept → Keeps names b (put k d all) (put k d kept)
-keeps_put names b k d all kept h = (λ q there. put_at (bytes_eq q k) q k d kept all refl (h.0 q there), λ e. ap (put k d) (h.1 e))
+keeps_put names b k d all kept h = record { own = λ q there. put_at (bytes_eq q k) q k d kept all refl (h.own q there); rest = λ e. ap (put k d) (h.rest e) }
 
 differs : (c : Bool) (q k : List ℕ) (names : List (List ℕ)) → bytes_eq q k ≡ c → has_name q names ≡ true → has_name k names ≡ false → c ≡ false
 differs true q k names is there absent = absurd (true≢false (sym there ∙ ap (λ n. has_name n names) ((bytes_eq-Decides q k).0 is) ∙ absent))
@@ -35,15 +35,16 @@ neither false b h = (refl, h)
 
 -- a member that is not
 pub keeps_past : (names : List (List ℕ)) (b : Bool) (k : List ℕ) (d : Data) (all kept : Members) → b || has_name k names ≡ false → Keeps names b all kept → Keeps names b (put k d all) kept
-keeps_past names b k d all kept no h =
-    let apart = neither b (has_name k names) no in (
-      λ q there. h.0 q there ∙ sym (pass_put q k d all (differs (bytes_eq q k) q k names refl there apart.1)),
-      λ e. absurd (true≢false (sym e ∙ apart.0)),
-    )
+keeps_past names b k d all kept unwanted h =
+    let apart = neither b (has_name k names) unwanted in
+    record {
+      own = λ q there. h.own q there ∙ sym (pass_put q k d all (differs (bytes_eq q k) q k names refl there apart.1));
+      rest = λ e. absurd (true≢false (sym e ∙ apart.0));
+    }
 
 -- all are kept
 pub kept_all : (names : List (List ℕ)) (b : Bool) (result : Result Object ReadError) (r : Reading Members) → ReadsAs object_members result r → KeptAs object_members names b result r
-kept_all names b (Ok o) r h = (object_members o, h, (λ q there. refl, λ e. refl))
+kept_all names b (Ok o) r h = (object_members o, h, record { own = λ q there. refl; rest = λ e. refl })
 kept_all names b (Err e) r h = h
 
 pub passed : {A B : Type 0} (o : Option (A × B)) (b : B) → option_map (λ p. p.1) o ≡ Some b → (a : A) × (o ≡ Some (a, b))
@@ -55,6 +56,14 @@ pub others_kept : {E : Type 0} (reading : Data → Reading E) (own : List (List 
     → reading (object (others own kept)) ≡ reading (object (others own all))
 others_kept reading own true all kept same any = ap (λ ms. reading (object (others own ms))) (same refl)
 others_kept reading own false all kept same any = any refl (others own kept) (others own all)
+
+pub passed_none : {A B : Type 0} (o : Option (A × B)) → option_map (λ p. p.1) o ≡ None → o ≡ None
+passed_none None h = refl
+passed_none (Some p) h = absurd (cc)
+
+-- none at first
+pub keeps_none : (names : List (List ℕ)) (b : Bool) (kept : Members) → kept ≡ no_members → Keeps names b no_members kept
+keeps_none names b kept h = record { own = λ q there. ap (get_member q) h; rest = λ e. h }
 
 -- ---- a whole body
 

@@ -36,10 +36,9 @@ abbrev pub has_name : List ℕ → List (List ℕ) → Bool
 has_name name [] = false
 has_name name (k ∷ ks) = bytes_eq k name || has_name name ks
 
-abbrev pub Keeps : List (List ℕ) → Bool → Members → Members → Type 0
-Keeps names with_others all kept =
-    ((name : List ℕ) → has_name name names ≡ true → get_member name kept ≡ get_member name all)
-    × (with_others ≡ true → kept ≡ all)
+pub record Keeps (names : List (List ℕ)) (with_others : Bool) (all kept : Members) : Type 0 where
+  pub own : (name : List ℕ) → has_name name names ≡ true → get_member name kept ≡ get_member name all
+  pub rest : with_others ≡ true → kept ≡ all
 
 -- what a function returned, seen by `meaning`, keeps these of the members that the reading gives,
 -- unless memory ran out

@@ -1,6 +1,6 @@
 //! Values that a text holds, as `serde_json` has them.
 
-ghost use Rattle.std.specs.Prelude.{◌≡◌, option_map};
+ghost use Rattle.std.specs.Prelude.{◌≡◌, true, option_map};
 ghost use Rattle.json.specs.Value.{value_view, items_view as texts_view, members_view as named_view};
 ghost use Rattle.serde_json.specs.Data.{no_members};
 ghost use Rattle.serde_json.specs.Read.{of_json, of_items, of_members};
@@ -33,7 +33,8 @@ pub(crate) fn owned(alloc: Global, value: &json::Value<'_>) -> Result<Value, Rea
 
 /// Whether that text is a value; only a number and what holds one may be none.
 pub(crate) fn pass(alloc: Global, value: &json::Value<'_>) -> Result<(), ReadError>
-    ensures { ReadsAs (λ _. tt) result (or_not_json (option_map (λ _. tt) (of_json (value_view value.now)))) }
+    ensures { ReadsAs (λ _. true) result
+        (or_not_json (option_map (λ _. true) (of_json (value_view value.now)))) }
 {
     match value {
         json::Value::Null | json::Value::Bool(_) | json::Value::String(_) => Ok(()),

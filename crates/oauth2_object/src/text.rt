@@ -1,6 +1,6 @@
 //! The members of an object as a text tells them.
 
-ghost use Rattle.std.specs.Prelude.{◌≡◌, ◌<◌, length, map, option_map, OnOk};
+ghost use Rattle.std.specs.Prelude.{◌≡◌, ◌<◌, ◌||◌, length, map, option_map, OnOk};
 ghost use Rattle.json.specs.Json.{read_key, value, members};
 ghost use Rattle.serde_json.specs.Data.{no_members};
 ghost use Rattle.serde_json.specs.Read.{of_json, of_members, converted};
@@ -50,7 +50,7 @@ fn to_brace<'a>(
 {
     let mut list = Vec::new(alloc);
     'members: while let Some(name) = next_name(alloc, reader)? {
-        if keeps_others || has_name(names, name) {
+        if is_kept(name, names, keeps_others) {
             let value = next_value(alloc, reader)?;
             list.push(Member {
                 name,
@@ -63,9 +63,12 @@ fn to_brace<'a>(
     Ok(list)
 }
 
-fn has_name(names: &[&str], name: &str) -> bool
-    ensures { result ≡ has_name name.now (map (λ k. k.now) names.now) }
+fn is_kept(name: &str, names: &[&str], keeps_others: bool) -> bool
+    ensures { result ≡ (keeps_others || has_name name.now (map (λ k. k.now) names.now)) }
 {
+    if keeps_others {
+        return true;
+    }
     for own in names {
         if *own == name {
             return true;

@@ -20,4 +20,5 @@ unfolding object_members
 returns-in_ok-list-in-Some-BeginObject c =
     let r = c.next.new.self in
     let first : tokens c.args.text.now ≡ Token.begin_object ∷ r = sym c.in_ok-reader.ensures.ok ∙ c.in-Some-BeginObject.ensures.value ∙ ap (λ t. token_of t ∷ r) c.in-Some-BeginObject.field-0-is in
-    opened c.args.text.now r first ∙ c.in_ok-list-in-Some-BeginObject.ensures
+    let e = c.in_ok-list-in-Some-BeginObject.ensures in
+    (e.0, opened c.args.text.now r first ∙ e.1, e.2)
