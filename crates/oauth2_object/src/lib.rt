@@ -7,4 +7,5 @@ mod number;
 mod object;
 mod text;
 
+pub use json::Scratch;
 pub use object::Object;
