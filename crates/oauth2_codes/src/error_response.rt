@@ -1,12 +1,16 @@
 //! Error responses (RFC 6749, section 5.2).
 
 ghost use Rattle.std.specs.Prelude.{◌≡◌};
+ghost use Rattle.oauth2_json.specs.Reading.{ReadsAs};
+ghost use Rattle.oauth2_object.specs.Object.{object_members};
+ghost use Rattle.oauth2_codes.specs.ErrorResponse.{parts_of, error_row};
 
 use crate::basic_error::BasicErrorResponseType;
 use crate::device_error::DeviceCodeErrorResponseType;
 use crate::error_traits::{ErrorResponse, ErrorResponseType};
 use crate::revocation_error::RevocationErrorResponseType;
 use oauth2_json::{FromJson, ReadError, ToJson, WriteError, members};
+use oauth2_object::{Object, Scratch};
 use oauth2_types::TryClone;
 use serde_json::{Map, Value};
 use std::alloc::{AllocError, Global};
@@ -68,18 +72,35 @@ impl<T: FromJson + Drop> FromJson for StandardErrorResponse<T> {
 
     ghost reading = { error_reading T.reading };
 
-    #[tactic(auto, using(oauth2_json::proofs::Objects::member_facts))]
     fn from_json(alloc: Global, value: Value) -> Result<StandardErrorResponse<T>, ReadError> {
-        let mut members = members::of_object(alloc, value)?;
-        let error = members::take(&mut members, "error");
-        let error_description = members::take(&mut members, "error_description");
-        let error_uri = members::take(&mut members, "error_uri");
-        Ok(StandardErrorResponse {
-            error: members::needed(alloc, "error", error)?,
-            error_description: members::optional(alloc, "error_description", error_description)?,
-            error_uri: members::optional(alloc, "error_uri", error_uri)?,
-        })
+        let members = Object::of_value(alloc, value)?;
+        from_members(alloc, members)
     }
+
+    fn from_body(alloc: Global, bytes: &[u8]) -> Result<StandardErrorResponse<T>, ReadError> {
+        let mut scratch = Scratch::new(alloc);
+        let names = ["error", "error_description", "error_uri"];
+        let members = Object::of_body(alloc, bytes, &mut scratch, &names, false)?;
+        from_members(alloc, members)
+    }
+}
+
+#[tactic(auto, using(oauth2_json::proofs::Objects::member_facts))]
+fn from_members<T: FromJson + Drop>(
+    alloc: Global,
+    mut members: Object<'_>,
+) -> Result<StandardErrorResponse<T>, ReadError>
+    ensures { ReadsAs (parts_of T.meaning) result
+        (error_row T.reading (object_members members.entry)) }
+{
+    let error = members.take("error");
+    let error_description = members.take("error_description");
+    let error_uri = members.take("error_uri");
+    Ok(StandardErrorResponse {
+        error: members::needed(alloc, "error", error)?,
+        error_description: members::optional(alloc, "error_description", error_description)?,
+        error_uri: members::optional(alloc, "error_uri", error_uri)?,
+    })
 }
 
 impl<T: FromJson + ToJson> StandardErrorResponse<T> {

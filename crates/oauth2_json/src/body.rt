@@ -8,23 +8,15 @@ ghost use Rattle.oauth2_json.specs.Body.{body_reading};
 ghost use Rattle.oauth2_json.specs.Reading.{ReadsAs};
 ghost use Rattle.oauth2_json.specs.Writing.{RefusesAs};
 
-use crate::read::{FromJson, ParseCause, ReadError};
+use crate::read::{FromJson, ReadError};
 use crate::write::{ToJson, WriteError};
-use serde_json::Value;
 use std::alloc::Global;
 
 /// Reads one whole JSON value.
 pub fn read_body<T: FromJson>(alloc: Global, bytes: &[u8]) -> Result<T, ReadError>
     ensures { ReadsAs T.meaning result (body_reading T.reading bytes.now) }
 {
-    match Value::from_slice(alloc, bytes) {
-        Ok(value) => T::from_json(alloc, value),
-        Err(error) => if error.is_memory() {
-            Err(ReadError::Memory)
-        } else {
-            Err(ReadError::whole(alloc, ParseCause::NotJson))
-        },
-    }
+    T::from_body(alloc, bytes)
 }
 
 /// The compact text of what is written.

@@ -147,8 +147,10 @@ impl ReadError {
 
 /// A type that JSON values read to.
 pub trait FromJson {
+    ghost use Rattle.std.specs.Prelude.{◌≡◌, false};
+    ghost use Rattle.oauth2_json.specs.Body.{body_reading};
     ghost use Rattle.oauth2_json.specs.Reading.{Reading, ReadsAs};
-    ghost use Rattle.serde_json.specs.Data.{Data};
+    ghost use Rattle.serde_json.specs.Data.{Data, Members, object};
     ghost use Rattle.serde_json.specs.View.{view};
 
     /// What contracts see of a record: its texts as bytes, wherever they lie in memory.
@@ -161,4 +163,25 @@ pub trait FromJson {
 
     fn from_json(alloc: Global, value: Value) -> Result<Self, ReadError>
         ensures { ReadsAs meaning result (reading (view value)) };
+
+    /// Reads the one JSON value that a whole body is; a type may do so without a `Value`.
+    fn from_body(alloc: Global, bytes: &[u8]) -> Result<Self, ReadError>
+        ensures { ReadsAs meaning result (body_reading reading bytes.now) }
+    {
+        match Value::from_slice(alloc, bytes) {
+            Ok(value) => Self::from_json(alloc, value),
+            Err(error) => if error.is_memory() {
+                Err(ReadError::Memory)
+            } else {
+                Err(ReadError::whole(alloc, ParseCause::NotJson))
+            },
+        }
+    }
+
+    /// Whether an object's members matter; extra fields of which none is kept say no.
+    fn reads_members() -> bool
+        ensures { result ≡ false → (a b : Members) → reading (object a) ≡ reading (object b) }
+    {
+        true
+    }
 }

@@ -49,6 +49,15 @@ fn extra_fields_are_written_beside(rt: HostRuntime) {
 }
 
 #[test]
+fn members_left_are_extra_fields(rt: HostRuntime) {
+    is_rewritten::<RawToken>(
+        &rt,
+        "{\"z\":1,\"token_type\":\"Bearer\",\"y\":{\"b\":[\"\\u0061\",{\"c\":null}],\"a\":-1},\"access_token\":\"t\",\"z\":true}",
+        "{\"access_token\":\"t\",\"token_type\":\"bearer\",\"y\":{\"a\":-1,\"b\":[\"a\",{\"c\":null}]},\"z\":true}",
+    );
+}
+
+#[test]
 fn extra_fields_of_a_device_response(rt: HostRuntime) {
     is_rewritten::<DeviceAuthorizationResponse<ExtraFields>>(
         &rt,

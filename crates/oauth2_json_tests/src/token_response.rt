@@ -48,6 +48,30 @@ fn first_fault_of_a_token_response(rt: HostRuntime) {
 }
 
 #[test]
+fn members_that_nobody_reads(rt: HostRuntime) {
+    for (more, is_read) in [
+        ("{\"y\":[1,{\"z\":null}],\"y\":-0.5e3}", true),
+        ("\"\\ud83d\\ude00\"", true),
+        ("\"\\ud83d\"", false),
+        ("1e999", false),
+        ("[{\"y\":-1e999}]", false),
+        ("01", false),
+    ] {
+        let body = format!(in rt.alloc();
+            "{{\"access_token\":\"a\",\"x\":{more},\"token_type\":\"mac\",\"access_token\":\"t\"}}"
+        );
+        let body = body.expect(&rt, "a text");
+        if is_read {
+            // The last member of a name counts.
+            let token = read::<BasicTokenResponse>(&rt, body.as_str());
+            assert_eq!(rt; token.access_token().secret().as_str(), "t");
+        } else {
+            is_refused::<BasicTokenResponse>(&rt, body.as_str(), "", ParseCause::NotJson);
+        }
+    }
+}
+
+#[test]
 fn copy_of_a_token_response_is_written_alike(rt: HostRuntime) {
     let written =
         "{\"access_token\":\"t\",\"expires_in\":1,\"refresh_token\":\"r\",\"scope\":\"read write\",\"token_type\":\"bearer\"}";

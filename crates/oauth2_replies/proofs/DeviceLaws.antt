@@ -1,5 +1,5 @@
 -- A device authorization response reads back.
-use Rattle.std.proofs.Common.{◌≡◌, ℕ, List, false, Option, Some, None, option_map, Result, Ok, Err, IfOk, codes, refl, sym, ◌∙◌, subst, [], ◌∷◌}
+use Rattle.std.proofs.Common.{◌≡◌, ℕ, List, Bool, false, Option, Some, None, option_map, Result, Ok, Err, IfOk, codes, refl, sym, ◌∙◌, subst, [], ◌∷◌}
 use Rattle.serde_json.specs.Data.{Data, Members, null, boolean, number, unsigned, string, array, object}
 use Rattle.serde_json.specs.Find.{get_member}
 use Rattle.url.specs.Parser.{Parsed, parse_url}
@@ -14,6 +14,8 @@ use Rattle.oauth2_json.specs.Values.{url}
 use Rattle.oauth2_json.specs.Puts.{put_all}
 use Rattle.oauth2_json.proofs.Puts.{found, rest}
 use Rattle.oauth2_json.proofs.Objects.{get_member-others, beside_taken, optional-text}
+use Rattle.oauth2_object.specs.Object.{Keeps}
+use Rattle.oauth2_object.proofs.Keeping.{others_kept}
 use Rattle.oauth2_replies.specs.Kept.{AreFieldsKept}
 use Rattle.oauth2_replies.specs.Device.{DeviceAuthorization, device_authorization, device_seen, own_names, own_rows, address_reading, device_row, device_reading, device_writing}
 use Rattle.oauth2_replies.specs.private.Address.{IsAddress}
@@ -42,6 +44,20 @@ read_in_turn er d ms h = paired device_authorization _ _ _ _ _ _ _ ∙ rw (
   get_member-others (codes "verification_uri_complete") (codes "device_code" ∷ codes "user_code" ∷ codes "verification_uri" ∷ codes "verification_url" ∷ []) ms refl,
   get_member-others (codes "expires_in") (codes "device_code" ∷ codes "user_code" ∷ codes "verification_uri" ∷ codes "verification_url" ∷ codes "verification_uri_complete" ∷ []) ms refl,
   get_member-others (codes "interval") (codes "device_code" ∷ codes "user_code" ∷ codes "verification_uri" ∷ codes "verification_url" ∷ codes "verification_uri_complete" ∷ codes "expires_in" ∷ []) ms refl,
+) refl
+
+-- what is kept of the members reads as all of them
+pub kept_rows : {E : Type 0} (er : Data → Reading E) (b : Bool) (all kept : Members) → Keeps own_names b all kept → (b ≡ false → (x y : Members) → er (object x) ≡ er (object y))
+    → in_turn er kept ≡ device_row er all
+kept_rows er b all kept k any = read_in_turn er (object kept) kept refl ∙ rw (
+  k.own (codes "device_code") refl,
+  k.own (codes "user_code") refl,
+  k.own (codes "verification_uri") refl,
+  k.own (codes "verification_url") refl,
+  k.own (codes "verification_uri_complete") refl,
+  k.own (codes "expires_in") refl,
+  k.own (codes "interval") refl,
+  others_kept er own_names b all kept k.rest any,
 ) refl
 
 -- ---- the URL

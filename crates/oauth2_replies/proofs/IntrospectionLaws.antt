@@ -1,5 +1,5 @@
 -- An introspection response reads back.
-use Rattle.std.proofs.Common.{◌≡◌, ℕ, List, false, Option, Some, None, IfSome, option_map, Ok, Err, codes, refl, ◌∙◌, [], ◌∷◌}
+use Rattle.std.proofs.Common.{◌≡◌, ℕ, List, Bool, false, Option, Some, None, IfSome, option_map, Ok, Err, codes, refl, ◌∙◌, [], ◌∷◌}
 use Rattle.serde_json.specs.Data.{Data, Members, boolean, string, array, object}
 use Rattle.serde_json.specs.Find.{get_member}
 use Rattle.oauth2_json.specs.Reading.{Reading, ◌⊛◌}
@@ -12,6 +12,8 @@ use Rattle.oauth2_json.proofs.Puts.{found, rest}
 use Rattle.oauth2_json.proofs.Objects.{get_member-others, beside_taken, optional-text}
 use Rattle.oauth2_json.proofs.Lists.{optional-texts}
 use Rattle.oauth2_json.proofs.Optionals.{optional-words, optional-instant}
+use Rattle.oauth2_object.specs.Object.{Keeps}
+use Rattle.oauth2_object.proofs.Keeping.{others_kept}
 use Rattle.oauth2_replies.specs.Kept.{IsTypeKept, AreScopesKept}
 use Rattle.oauth2_replies.specs.Introspection.{Introspection, introspection, introspection_seen, own_names, own_rows, introspection_row, introspection_reading, introspection_writing, IsIntrospectionKept}
 use Rattle.oauth2_replies.specs.private.Groups.{quadruple}
@@ -50,6 +52,25 @@ read_in_turn er tr d ms h = grouped introspection _ _ _ _ _ _ _ _ _ _ _ _ _ ∙ 
   get_member-others (codes "aud") (codes "active" ∷ codes "scope" ∷ codes "client_id" ∷ codes "username" ∷ codes "token_type" ∷ codes "exp" ∷ codes "iat" ∷ codes "nbf" ∷ codes "sub" ∷ []) ms refl,
   get_member-others (codes "iss") (codes "active" ∷ codes "scope" ∷ codes "client_id" ∷ codes "username" ∷ codes "token_type" ∷ codes "exp" ∷ codes "iat" ∷ codes "nbf" ∷ codes "sub" ∷ codes "aud" ∷ []) ms refl,
   get_member-others (codes "jti") (codes "active" ∷ codes "scope" ∷ codes "client_id" ∷ codes "username" ∷ codes "token_type" ∷ codes "exp" ∷ codes "iat" ∷ codes "nbf" ∷ codes "sub" ∷ codes "aud" ∷ codes "iss" ∷ []) ms refl,
+) refl
+
+-- what is kept of the members reads as all of them
+pub kept_rows : {E T : Type 0} (er : Data → Reading E) (tr : Data → Reading T) (b : Bool) (all kept : Members) → Keeps own_names b all kept → (b ≡ false → (x y : Members) → er (object x) ≡ er (object y))
+    → in_turn er tr kept ≡ introspection_row er tr all
+kept_rows er tr b all kept k any = read_in_turn er tr (object kept) kept refl ∙ rw (
+  k.own (codes "active") refl,
+  k.own (codes "scope") refl,
+  k.own (codes "client_id") refl,
+  k.own (codes "username") refl,
+  k.own (codes "token_type") refl,
+  k.own (codes "exp") refl,
+  k.own (codes "iat") refl,
+  k.own (codes "nbf") refl,
+  k.own (codes "sub") refl,
+  k.own (codes "aud") refl,
+  k.own (codes "iss") refl,
+  k.own (codes "jti") refl,
+  others_kept er own_names b all kept k.rest any,
 ) refl
 
 -- a token type that may be absent, written and read

@@ -1,5 +1,5 @@
 -- A token response reads back.
-use Rattle.std.proofs.Common.{◌≡◌, ℕ, List, map, Some, option_map, Ok, Err, codes, false, refl, ◌∙◌, [], ◌∷◌}
+use Rattle.std.proofs.Common.{◌≡◌, ℕ, List, Bool, map, Some, option_map, Ok, Err, codes, false, refl, ◌∙◌, [], ◌∷◌}
 use Rattle.std.specs.Char.{to_ascii_lowercase}
 use Rattle.serde_json.specs.Data.{Data, Members, number, unsigned, string, object}
 use Rattle.serde_json.specs.Find.{get_member}
@@ -11,6 +11,8 @@ use Rattle.oauth2_json.specs.Puts.{put_all}
 use Rattle.oauth2_json.proofs.Puts.{found, rest}
 use Rattle.oauth2_json.proofs.Objects.{get_member-others, beside_taken, optional-text, optional-number}
 use Rattle.oauth2_json.proofs.Optionals.{optional-words}
+use Rattle.oauth2_object.specs.Object.{Keeps}
+use Rattle.oauth2_object.proofs.Keeping.{others_kept}
 use Rattle.oauth2_replies.specs.Kept.{AreScopesKept}
 use Rattle.oauth2_replies.specs.Token.{Token, token, token_seen, own_names, own_rows, token_row, token_reading, token_writing, IsTokenKept}
 use Rattle.oauth2_replies.specs.private.Groups.{pair, triple}
@@ -35,6 +37,18 @@ read_in_turn er tr d ms h = grouped token _ _ _ _ _ _ ∙ rw (
   get_member-others (codes "expires_in") (codes "access_token" ∷ codes "token_type" ∷ []) ms refl,
   get_member-others (codes "refresh_token") (codes "access_token" ∷ codes "token_type" ∷ codes "expires_in" ∷ []) ms refl,
   get_member-others (codes "scope") (codes "access_token" ∷ codes "token_type" ∷ codes "expires_in" ∷ codes "refresh_token" ∷ []) ms refl,
+) refl
+
+-- what is kept of the members reads as all of them
+pub kept_rows : {E T : Type 0} (er : Data → Reading E) (tr : Data → Reading T) (b : Bool) (all kept : Members) → Keeps own_names b all kept → (b ≡ false → (x y : Members) → er (object x) ≡ er (object y))
+    → in_turn er tr kept ≡ token_row er tr all
+kept_rows er tr b all kept k any = read_in_turn er tr (object kept) kept refl ∙ rw (
+  k.own (codes "access_token") refl,
+  k.own (codes "token_type") refl,
+  k.own (codes "expires_in") refl,
+  k.own (codes "refresh_token") refl,
+  k.own (codes "scope") refl,
+  others_kept er own_names b all kept k.rest any,
 ) refl
 
 -- what was put beside the extra members is found again

@@ -189,6 +189,10 @@ impl FromJson for EmptyExtraDeviceAuthorizationFields {
         drop(members::of_object(alloc, value)?);
         Ok(EmptyExtraDeviceAuthorizationFields {})
     }
+
+    fn reads_members() -> bool {
+        false
+    }
 }
 
 impl ToJson for EmptyExtraDeviceAuthorizationFields {

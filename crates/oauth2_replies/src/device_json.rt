@@ -7,6 +7,7 @@ ghost use Rattle.oauth2_json.specs.Reading.{ReadsAs};
 ghost use Rattle.oauth2_json.specs.Members.{others};
 ghost use Rattle.oauth2_json.specs.Writing.{WritesAs};
 ghost use Rattle.oauth2_json.specs.Puts.{put_all};
+ghost use Rattle.oauth2_object.specs.Object.{object_members};
 ghost use Rattle.oauth2_replies.specs.Kept.{AreFieldsKept};
 ghost use Rattle.oauth2_replies.specs.Device.{DeviceAuthorization, device_seen, device_reading, device_writing, own_rows, address_reading};
 ghost use Rattle.oauth2_replies.specs.private.Address.{IsAddress};
@@ -17,6 +18,7 @@ use crate::device::{
     Addresses, Codes, DeviceAuthorizationResponse, ExtraDeviceAuthorizationFields, Times,
 };
 use oauth2_json::{FromJson, ReadError, ToJson, WriteError, members};
+use oauth2_object::{Object, Scratch};
 use oauth2_types::VerificationUriComplete;
 use oauth2_urls::EndUserVerificationUrl;
 use serde_json::{Map, Value};
@@ -34,7 +36,25 @@ impl<EF: ExtraDeviceAuthorizationFields + Drop> FromJson for DeviceAuthorization
         alloc: Global,
         value: Value,
     ) -> Result<DeviceAuthorizationResponse<EF>, ReadError> {
-        let members = members::of_object(alloc, value)?;
+        let members = Object::of_value(alloc, value)?;
+        from_members(alloc, members)
+    }
+
+    fn from_body(
+        alloc: Global,
+        bytes: &[u8],
+    ) -> Result<DeviceAuthorizationResponse<EF>, ReadError> {
+        let mut scratch = Scratch::new(alloc);
+        let names = [
+            "device_code",
+            "user_code",
+            "verification_uri",
+            "verification_url",
+            "verification_uri_complete",
+            "expires_in",
+            "interval",
+        ];
+        let members = Object::of_body(alloc, bytes, &mut scratch, &names, EF::reads_members())?;
         from_members(alloc, members)
     }
 }
@@ -53,15 +73,15 @@ fn verification_uri(
 }
 
 #[tactic(auto, unfolding(crate::specs::private::DeviceRows::codes_reading))]
-fn take_codes(alloc: Global, members: &mut Map<String, Value>) -> Result<Codes, ReadError>
+fn take_codes(alloc: Global, members: &mut Object<'_>) -> Result<Codes, ReadError>
     ensures read { ReadsAs (λ c. pair c.device_code c.user_code) result
-        (codes_reading (members_view members.old.entries)) }
-    ensures rest { IfOk result (λ _. members_view members.new.entries
-        ≡ others code_names (members_view members.old.entries)) }
+        (codes_reading (object_members members.old)) }
+    ensures rest { IfOk result (λ _. object_members members.new
+        ≡ others code_names (object_members members.old)) }
 {
-    let device_code = members::take(members, "device_code");
+    let device_code = members.take("device_code");
     let device_code = members::needed(alloc, "device_code", device_code)?;
-    let user_code = members::take(members, "user_code");
+    let user_code = members.take("user_code");
     let user_code = members::needed(alloc, "user_code", user_code)?;
     Ok(Codes {
         device_code,
@@ -70,17 +90,17 @@ fn take_codes(alloc: Global, members: &mut Map<String, Value>) -> Result<Codes, 
 }
 
 #[tactic(auto, unfolding(crate::specs::private::DeviceRows::addresses_reading))]
-fn take_addresses(alloc: Global, members: &mut Map<String, Value>) -> Result<Addresses, ReadError>
+fn take_addresses(alloc: Global, members: &mut Object<'_>) -> Result<Addresses, ReadError>
     ensures read { ReadsAs (λ a. pair a.verification_uri a.verification_uri_complete) result
-        (addresses_reading (members_view members.old.entries)) }
+        (addresses_reading (object_members members.old)) }
     ensures address { IfOk result (λ a. IsAddress a.verification_uri) }
-    ensures rest { IfOk result (λ _. members_view members.new.entries
-        ≡ others address_names (members_view members.old.entries)) }
+    ensures rest { IfOk result (λ _. object_members members.new
+        ≡ others address_names (object_members members.old)) }
 {
-    let uri = members::take(members, "verification_uri");
-    let url = members::take(members, "verification_url");
+    let uri = members.take("verification_uri");
+    let url = members.take("verification_url");
     let verification_uri = verification_uri(alloc, uri, url)?;
-    let complete = members::take(members, "verification_uri_complete");
+    let complete = members.take("verification_uri_complete");
     let verification_uri_complete = members::optional(
         alloc,
         "verification_uri_complete",
@@ -93,15 +113,15 @@ fn take_addresses(alloc: Global, members: &mut Map<String, Value>) -> Result<Add
 }
 
 #[tactic(auto, unfolding(crate::specs::private::DeviceRows::times_reading))]
-fn take_times(alloc: Global, members: &mut Map<String, Value>) -> Result<Times, ReadError>
+fn take_times(alloc: Global, members: &mut Object<'_>) -> Result<Times, ReadError>
     ensures read { ReadsAs (λ t. pair t.expires_in t.interval) result
-        (times_reading (members_view members.old.entries)) }
-    ensures rest { IfOk result (λ _. members_view members.new.entries
-        ≡ others time_names (members_view members.old.entries)) }
+        (times_reading (object_members members.old)) }
+    ensures rest { IfOk result (λ _. object_members members.new
+        ≡ others time_names (object_members members.old)) }
 {
-    let expires_in = members::take(members, "expires_in");
+    let expires_in = members.take("expires_in");
     let expires_in = members::needed_number(alloc, "expires_in", expires_in)?;
-    let interval = members::take(members, "interval");
+    let interval = members.take("interval");
     let interval = members::number_or(alloc, "interval", 5, interval)?;
     Ok(Times {
         expires_in,
@@ -112,14 +132,14 @@ fn take_times(alloc: Global, members: &mut Map<String, Value>) -> Result<Times, 
 /// The own members, pair by pair, and what is left of the others.
 fn from_members<EF: ExtraDeviceAuthorizationFields + Drop>(
     alloc: Global,
-    mut members: Map<String, Value>,
+    mut members: Object<'_>,
 ) -> Result<DeviceAuthorizationResponse<EF>, ReadError>
-    ensures { ReadsAs (device_seen EF.meaning) result (in_turn EF.reading (members_view members.entries)) }
+    ensures { ReadsAs (device_seen EF.meaning) result (in_turn EF.reading (object_members members.entry)) }
 {
     let codes = take_codes(alloc, &mut members)?;
     let addresses = take_addresses(alloc, &mut members)?;
     let times = take_times(alloc, &mut members)?;
-    let extra_fields = EF::from_json(alloc, Value::Object(members))?;
+    let extra_fields = EF::from_json(alloc, members.into_value(alloc)?)?;
     Ok(DeviceAuthorizationResponse {
         device_code: codes.device_code,
         user_code: codes.user_code,

@@ -7,6 +7,7 @@ ghost use Rattle.oauth2_json.specs.Reading.{ReadsAs};
 ghost use Rattle.oauth2_json.specs.Members.{others};
 ghost use Rattle.oauth2_json.specs.Writing.{WritesAs};
 ghost use Rattle.oauth2_json.specs.Puts.{put_all};
+ghost use Rattle.oauth2_object.specs.Object.{object_members};
 ghost use Rattle.oauth2_replies.specs.Introspection.{Introspection, introspection_seen, introspection_reading, introspection_writing, own_rows, IsIntrospectionKept};
 ghost use Rattle.oauth2_replies.specs.private.Groups.{quadruple};
 ghost use Rattle.oauth2_replies.specs.private.IntrospectionRows.{grant_names, grant_reading, grant_rows, validity_names, validity_reading, validity_rows, claims_names, claims_reading, claims_rows, in_turn, AreInstants};
@@ -16,6 +17,7 @@ use crate::scopes;
 use crate::token::ExtraTokenFields;
 use oauth2_codes::TokenType;
 use oauth2_json::{FromJson, ReadError, ToJson, WriteError, members};
+use oauth2_object::{Object, Scratch};
 use oauth2_types::ClientId;
 use serde_json::{Map, Value};
 use std::alloc::{AllocError, Global};
@@ -33,26 +35,49 @@ impl<EF: ExtraTokenFields + Drop, TT: TokenType + Drop> FromJson
         alloc: Global,
         value: Value,
     ) -> Result<StandardTokenIntrospectionResponse<EF, TT>, ReadError> {
-        let members = members::of_object(alloc, value)?;
+        let members = Object::of_value(alloc, value)?;
+        from_members(alloc, members)
+    }
+
+    fn from_body(
+        alloc: Global,
+        bytes: &[u8],
+    ) -> Result<StandardTokenIntrospectionResponse<EF, TT>, ReadError> {
+        let mut scratch = Scratch::new(alloc);
+        let names = [
+            "active",
+            "scope",
+            "client_id",
+            "username",
+            "token_type",
+            "exp",
+            "iat",
+            "nbf",
+            "sub",
+            "aud",
+            "iss",
+            "jti",
+        ];
+        let members = Object::of_body(alloc, bytes, &mut scratch, &names, EF::reads_members())?;
         from_members(alloc, members)
     }
 }
 
 #[tactic(auto, unfolding(crate::specs::private::IntrospectionRows::grant_reading))]
-fn take_grant(alloc: Global, members: &mut Map<String, Value>) -> Result<Grant, ReadError>
+fn take_grant(alloc: Global, members: &mut Object<'_>) -> Result<Grant, ReadError>
     ensures read { ReadsAs (λ g. quadruple g.active (option_map (λ list. list.items) g.scopes)
         g.client_id (option_map string_bytes g.username))
-        result (grant_reading (members_view members.old.entries)) }
-    ensures rest { IfOk result (λ _. members_view members.new.entries
-        ≡ others grant_names (members_view members.old.entries)) }
+        result (grant_reading (object_members members.old)) }
+    ensures rest { IfOk result (λ _. object_members members.new
+        ≡ others grant_names (object_members members.old)) }
 {
-    let active = members::take(members, "active");
+    let active = members.take("active");
     let active = members::needed_flag(alloc, "active", active)?;
-    let scopes = members::take(members, "scope");
+    let scopes = members.take("scope");
     let scopes = members::optional_words(alloc, "scope", scopes)?;
-    let client_id = members::take(members, "client_id");
+    let client_id = members.take("client_id");
     let client_id = members::optional(alloc, "client_id", client_id)?;
-    let username = members::take(members, "username");
+    let username = members.take("username");
     let username = members::optional(alloc, "username", username)?;
     Ok(Grant {
         active,
@@ -65,22 +90,22 @@ fn take_grant(alloc: Global, members: &mut Map<String, Value>) -> Result<Grant, 
 #[tactic(auto, unfolding(crate::specs::private::IntrospectionRows::validity_reading))]
 fn take_validity<TT: TokenType + Drop>(
     alloc: Global,
-    members: &mut Map<String, Value>,
+    members: &mut Object<'_>,
 ) -> Result<Validity<TT>, ReadError>
     ensures read { ReadsAs (λ v. quadruple (option_map TT.meaning v.token_type)
         (option_map (λ time. time.nanosecond) v.exp) (option_map (λ time. time.nanosecond) v.iat)
         (option_map (λ time. time.nanosecond) v.nbf))
-        result (validity_reading TT.reading (members_view members.old.entries)) }
-    ensures rest { IfOk result (λ _. members_view members.new.entries
-        ≡ others validity_names (members_view members.old.entries)) }
+        result (validity_reading TT.reading (object_members members.old)) }
+    ensures rest { IfOk result (λ _. object_members members.new
+        ≡ others validity_names (object_members members.old)) }
 {
-    let token_type = members::take(members, "token_type");
+    let token_type = members.take("token_type");
     let token_type = members::present_lowered(alloc, "token_type", token_type)?;
-    let exp = members::take(members, "exp");
+    let exp = members.take("exp");
     let exp = members::optional_time(alloc, "exp", exp)?;
-    let iat = members::take(members, "iat");
+    let iat = members.take("iat");
     let iat = members::optional_time(alloc, "iat", iat)?;
-    let nbf = members::take(members, "nbf");
+    let nbf = members.take("nbf");
     let nbf = members::optional_time(alloc, "nbf", nbf)?;
     Ok(Validity {
         token_type,
@@ -91,21 +116,21 @@ fn take_validity<TT: TokenType + Drop>(
 }
 
 #[tactic(auto, unfolding(crate::specs::private::IntrospectionRows::claims_reading))]
-fn take_claims(alloc: Global, members: &mut Map<String, Value>) -> Result<Claims, ReadError>
+fn take_claims(alloc: Global, members: &mut Object<'_>) -> Result<Claims, ReadError>
     ensures read { ReadsAs (λ c. quadruple (option_map string_bytes c.sub)
         (option_map (λ list. map string_bytes list.items) c.aud)
         (option_map string_bytes c.iss) (option_map string_bytes c.jti))
-        result (claims_reading (members_view members.old.entries)) }
-    ensures rest { IfOk result (λ _. members_view members.new.entries
-        ≡ others claims_names (members_view members.old.entries)) }
+        result (claims_reading (object_members members.old)) }
+    ensures rest { IfOk result (λ _. object_members members.new
+        ≡ others claims_names (object_members members.old)) }
 {
-    let sub = members::take(members, "sub");
+    let sub = members.take("sub");
     let sub = members::optional(alloc, "sub", sub)?;
-    let aud = members::take(members, "aud");
+    let aud = members.take("aud");
     let aud = members::optional_texts(alloc, "aud", aud)?;
-    let iss = members::take(members, "iss");
+    let iss = members.take("iss");
     let iss = members::optional(alloc, "iss", iss)?;
-    let jti = members::take(members, "jti");
+    let jti = members.take("jti");
     let jti = members::optional(alloc, "jti", jti)?;
     Ok(Claims { sub, aud, iss, jti })
 }
@@ -113,15 +138,15 @@ fn take_claims(alloc: Global, members: &mut Map<String, Value>) -> Result<Claims
 /// The own members, group by group, and what is left of the others.
 fn from_members<EF: ExtraTokenFields + Drop, TT: TokenType + Drop>(
     alloc: Global,
-    mut members: Map<String, Value>,
+    mut members: Object<'_>,
 ) -> Result<StandardTokenIntrospectionResponse<EF, TT>, ReadError>
     ensures { ReadsAs (introspection_seen EF.meaning TT.meaning) result
-        (in_turn EF.reading TT.reading (members_view members.entries)) }
+        (in_turn EF.reading TT.reading (object_members members.entry)) }
 {
     let grant = take_grant(alloc, &mut members)?;
     let validity = take_validity::<TT>(alloc, &mut members)?;
     let claims = take_claims(alloc, &mut members)?;
-    let extra_fields = EF::from_json(alloc, Value::Object(members))?;
+    let extra_fields = EF::from_json(alloc, members.into_value(alloc)?)?;
     Ok(StandardTokenIntrospectionResponse {
         active: grant.active,
         scopes: grant.scopes,

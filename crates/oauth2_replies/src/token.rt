@@ -223,6 +223,10 @@ impl FromJson for EmptyExtraTokenFields {
         drop(members::of_object(alloc, value)?);
         Ok(EmptyExtraTokenFields {})
     }
+
+    fn reads_members() -> bool {
+        false
+    }
 }
 
 impl ToJson for EmptyExtraTokenFields {

@@ -7,6 +7,7 @@ ghost use Rattle.oauth2_json.specs.Reading.{ReadsAs};
 ghost use Rattle.oauth2_json.specs.Members.{others};
 ghost use Rattle.oauth2_json.specs.Writing.{WritesAs};
 ghost use Rattle.oauth2_json.specs.Puts.{put_all};
+ghost use Rattle.oauth2_object.specs.Object.{object_members};
 ghost use Rattle.oauth2_replies.specs.Token.{Token, token_seen, token_reading, token_writing, own_rows, IsTokenKept};
 ghost use Rattle.oauth2_replies.specs.private.Groups.{pair, triple};
 ghost use Rattle.oauth2_replies.specs.private.TokenRows.{credential_names, credential_reading, terms_names, terms_reading, in_turn};
@@ -15,6 +16,7 @@ use crate::scopes;
 use crate::token::{ExtraTokenFields, StandardTokenResponse};
 use oauth2_codes::TokenType;
 use oauth2_json::{FromJson, ReadError, ToJson, WriteError, members};
+use oauth2_object::{Object, Scratch};
 use oauth2_types::{AccessToken, RefreshToken, Scope};
 use serde_json::{Map, Value};
 use std::alloc::{AllocError, Global};
@@ -27,7 +29,20 @@ impl<EF: ExtraTokenFields + Drop, TT: TokenType + Drop> FromJson for StandardTok
     ghost reading = { token_reading EF.reading TT.reading };
 
     fn from_json(alloc: Global, value: Value) -> Result<StandardTokenResponse<EF, TT>, ReadError> {
-        let members = members::of_object(alloc, value)?;
+        let members = Object::of_value(alloc, value)?;
+        from_members(alloc, members)
+    }
+
+    fn from_body(alloc: Global, bytes: &[u8]) -> Result<StandardTokenResponse<EF, TT>, ReadError> {
+        let mut scratch = Scratch::new(alloc);
+        let names = [
+            "access_token",
+            "token_type",
+            "expires_in",
+            "refresh_token",
+            "scope",
+        ];
+        let members = Object::of_body(alloc, bytes, &mut scratch, &names, EF::reads_members())?;
         from_members(alloc, members)
     }
 }
@@ -50,16 +65,16 @@ struct Terms {
 #[tactic(auto, unfolding(crate::specs::private::TokenRows::credential_reading))]
 fn take_credential<TT: TokenType + Drop>(
     alloc: Global,
-    members: &mut Map<String, Value>,
+    members: &mut Object<'_>,
 ) -> Result<Credential<TT>, ReadError>
     ensures read { ReadsAs (λ c. pair c.access_token (TT.meaning c.token_type)) result
-        (credential_reading TT.reading (members_view members.old.entries)) }
-    ensures rest { IfOk result (λ _. members_view members.new.entries
-        ≡ others credential_names (members_view members.old.entries)) }
+        (credential_reading TT.reading (object_members members.old)) }
+    ensures rest { IfOk result (λ _. object_members members.new
+        ≡ others credential_names (object_members members.old)) }
 {
-    let access_token = members::take(members, "access_token");
+    let access_token = members.take("access_token");
     let access_token = members::needed(alloc, "access_token", access_token)?;
-    let token_type = members::take(members, "token_type");
+    let token_type = members.take("token_type");
     let token_type = members::needed_lowered(alloc, "token_type", token_type)?;
     Ok(Credential {
         access_token,
@@ -68,17 +83,17 @@ fn take_credential<TT: TokenType + Drop>(
 }
 
 #[tactic(auto, unfolding(crate::specs::private::TokenRows::terms_reading))]
-fn take_terms(alloc: Global, members: &mut Map<String, Value>) -> Result<Terms, ReadError>
+fn take_terms(alloc: Global, members: &mut Object<'_>) -> Result<Terms, ReadError>
     ensures read { ReadsAs (λ t. triple t.expires_in t.refresh_token (option_map (λ list. list.items) t.scopes)) result
-        (terms_reading (members_view members.old.entries)) }
-    ensures rest { IfOk result (λ _. members_view members.new.entries
-        ≡ others terms_names (members_view members.old.entries)) }
+        (terms_reading (object_members members.old)) }
+    ensures rest { IfOk result (λ _. object_members members.new
+        ≡ others terms_names (object_members members.old)) }
 {
-    let expires_in = members::take(members, "expires_in");
+    let expires_in = members.take("expires_in");
     let expires_in = members::optional_number(alloc, "expires_in", expires_in)?;
-    let refresh_token = members::take(members, "refresh_token");
+    let refresh_token = members.take("refresh_token");
     let refresh_token = members::optional(alloc, "refresh_token", refresh_token)?;
-    let scopes = members::take(members, "scope");
+    let scopes = members.take("scope");
     let scopes = members::optional_words(alloc, "scope", scopes)?;
     Ok(Terms {
         expires_in,
@@ -90,14 +105,14 @@ fn take_terms(alloc: Global, members: &mut Map<String, Value>) -> Result<Terms, 
 /// The own members, group by group, and what is left of the others.
 fn from_members<EF: ExtraTokenFields + Drop, TT: TokenType + Drop>(
     alloc: Global,
-    mut members: Map<String, Value>,
+    mut members: Object<'_>,
 ) -> Result<StandardTokenResponse<EF, TT>, ReadError>
     ensures { ReadsAs (token_seen EF.meaning TT.meaning) result
-        (in_turn EF.reading TT.reading (members_view members.entries)) }
+        (in_turn EF.reading TT.reading (object_members members.entry)) }
 {
     let credential = take_credential::<TT>(alloc, &mut members)?;
     let terms = take_terms(alloc, &mut members)?;
-    let extra_fields = EF::from_json(alloc, Value::Object(members))?;
+    let extra_fields = EF::from_json(alloc, members.into_value(alloc)?)?;
     Ok(StandardTokenResponse {
         access_token: credential.access_token,
         token_type: credential.token_type,

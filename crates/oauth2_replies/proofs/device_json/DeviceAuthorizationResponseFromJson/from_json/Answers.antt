@@ -1,6 +1,7 @@
 use Rattle.std.proofs.Common.{subst}
-use Rattle.serde_json.specs.View.{view, members_view}
+use Rattle.serde_json.specs.View.{view}
 use Rattle.oauth2_json.specs.Reading.{ReadsAs}
+use Rattle.oauth2_object.specs.Object.{object_members}
 use Rattle.oauth2_replies.specs.Device.{device_seen}
 use Rattle.oauth2_replies.proofs.DeviceLaws.{read_in_turn}
 use Rattle.oauth2_replies.proofs.device_json.DeviceAuthorizationResponseFromJson.from_json.Goals as goal
@@ -8,4 +9,4 @@ use Rattle.oauth2_replies.proofs.device_json.DeviceAuthorizationResponseFromJson
 pub returns : goal.returns
 returns g c =
     let E = g.EF.FromJson in
-    subst (λ w. ReadsAs (device_seen E.meaning) c.from_members.result w) (read_in_turn E.reading (view c.args.value) (members_view c.in_ok-members.members.entries) c.in_ok-members.ensures) c.from_members.ensures
+    subst (λ w. ReadsAs (device_seen E.meaning) c.from_members.result w) (read_in_turn E.reading (view c.args.value) (object_members c.in_ok-members.members) c.in_ok-members.ensures) c.from_members.ensures

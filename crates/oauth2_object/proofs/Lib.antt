@@ -1,0 +1,4 @@
+pub mod Conversions
+pub mod Keeping
+pub mod Taking
+pub mod Turns

@@ -1,0 +1,119 @@
+//! The members of an object, that a value or a text holds.
+
+ghost use Rattle.std.specs.Prelude.{◌≡◌, IfOk, map, option_map};
+ghost use Rattle.serde_json.specs.Data.{object};
+ghost use Rattle.serde_json.specs.Find.{get_member};
+ghost use Rattle.serde_json.specs.Read.{read};
+ghost use Rattle.serde_json.specs.View.{view, members_view};
+ghost use Rattle.oauth2_json.specs.Body.{body_reading, value_reading};
+ghost use Rattle.oauth2_json.specs.Members.{members_of_object, without};
+ghost use Rattle.oauth2_json.specs.Reading.{ReadsAs};
+ghost use Rattle.oauth2_object.specs.Object.{object_members, KeptAs};
+
+use crate::member::{self, Member};
+use crate::text;
+use json::{Reader, Scratch, Token};
+use oauth2_json::{ParseCause, ReadError, members};
+use serde_json::{Map, Value};
+use std::alloc::{AllocError, Global};
+
+#[derive(Drop)]
+pub(crate) enum Source<'a> {
+    Map(Map<String, Value>),
+    List(Vec<Member<'a>>),
+}
+
+/// The members of an object, out of which they are taken by name.
+#[derive(Drop)]
+pub struct Object<'a> {
+    source: Source<'a>,
+}
+
+impl<'a> Object<'a> {
+    /// The members of a value that is an object.
+    #[tactic(auto, unfolding(crate::specs::Object::object_members))]
+    pub fn of_value(alloc: Global, value: Value) -> Result<Object<'a>, ReadError>
+        ensures { ReadsAs object_members result (members_of_object (view value)) }
+    {
+        let map = members::of_object(alloc, value)?;
+        Ok(Object {
+            source: Source::Map(map),
+        })
+    }
+
+    /// The members of the object that a whole body is: those of these names, and the others where
+    /// they are kept too. Their names stay in the body.
+    pub fn of_body(
+        alloc: Global,
+        bytes: &'a [u8],
+        scratch: &'a mut Scratch,
+        names: &[&str],
+        keeps_others: bool,
+    ) -> Result<Object<'a>, ReadError>
+        ensures { KeptAs object_members (map (λ k. k.now) names.now) keeps_others result
+            (body_reading members_of_object bytes.now) }
+    {
+        match std::str::from_utf8(bytes) {
+            Ok(text) => of_text(alloc, text, scratch, names, keeps_others),
+            Err(_) => Err(ReadError::whole(alloc, ParseCause::NotJson)),
+        }
+    }
+
+    /// Takes the member out.
+    #[tactic(auto, unfolding(crate::specs::Object::object_members))]
+    pub fn take(&mut self, name: &str) -> Option<Value>
+        ensures found { option_map view result ≡ get_member name.now (object_members self.old) }
+        ensures rest { object_members self.new ≡ without name.now (object_members self.old) }
+    {
+        match &mut self.source {
+            Source::Map(map) => members::take(map, name),
+            Source::List(list) => member::take(list, name),
+        }
+    }
+
+    /// The members that are left, as a value.
+    #[tactic(auto, unfolding(crate::specs::Object::object_members))]
+    pub fn into_value(self, alloc: Global) -> Result<Value, AllocError>
+        ensures { IfOk result (λ v. view v ≡ object (object_members self.entry)) }
+    {
+        match self.source {
+            Source::Map(map) => Ok(Value::Object(map)),
+            Source::List(list) => Ok(Value::Object(member::map_of(alloc, list)?)),
+        }
+    }
+}
+
+fn of_text<'a>(
+    alloc: Global,
+    text: &'a str,
+    scratch: &'a mut Scratch,
+    names: &[&str],
+    keeps_others: bool,
+) -> Result<Object<'a>, ReadError>
+    ensures { KeptAs object_members (map (λ k. k.now) names.now) keeps_others result
+        (value_reading members_of_object (read text.now)) }
+{
+    let mut reader = Reader::new(text, scratch)?;
+    match reader.next() {
+        Some(Token::BeginObject) => {
+            let list = text::to_end(alloc, &mut reader, names, keeps_others)?;
+            Ok(Object {
+                source: Source::List(list),
+            })
+        }
+        _ => through_value(alloc, text),
+    }
+}
+
+fn through_value<'a>(alloc: Global, text: &str) -> Result<Object<'a>, ReadError>
+    ensures { ReadsAs object_members result (value_reading members_of_object (read text.now)) }
+{
+    match Value::from_str(alloc, text) {
+        Ok(value) => Object::of_value(alloc, value),
+        Err(error) => if error.is_memory() {
+            Err(ReadError::Memory)
+        } else {
+            Err(ReadError::whole(alloc, ParseCause::NotJson))
+        },
+    }
+}
