@@ -1,13 +1,22 @@
 //! Authorization URLs.
 
-ghost use Rattle.std.specs.Prelude.{◌≡◌, ◌↔◌, ◌++◌, ◌∷◌, [], codes, Some, None, IfOk, IfErr, IsSome, IsTrue};
+ghost use Rattle.std.specs.Prelude.{◌≡◌, ◌↔◌, ◌++◌, ◌∷◌, [], codes, Some, None, IfOk, IfErr, IfSome, IsSome, IsTrue};
 ghost use Rattle.url.specs.Parser.{IsOutOfRoom};
+ghost use Rattle.url.specs.Parts.{serialize};
 ghost use Rattle.oauth2_urls.specs.Addressed.{Addressed};
-ghost use Rattle.oauth2_requests.specs.Query.{ExtendsQuery};
+ghost use Rattle.oauth2_types.specs.Pkce.{HasValidLength};
+ghost use Rattle.oauth2_wire.specs.Pairs.{form};
+ghost use Rattle.oauth2_wire.specs.Request.{IsRequestOf, view_of};
+ghost use Rattle.oauth2_requests.specs.Code.{code_configuration};
+ghost use Rattle.oauth2_requests.specs.Query.{ExtendsQuery, query_form};
+ghost use Rattle.oauth2.specs.CodeFlow.{PassesCheck, flow_exchange};
 ghost use Rattle.oauth2_callers.specs.Login.{login_pairs};
 
 use crate::client::{CodeClient, PlainClient};
-use oauth2::{CsrfToken, EndpointMaybeSet, EndpointSet, ParamText, PkceCodeChallenge};
+use oauth2::{
+    AuthorizationCode, CodeFlow, CodeFlowError, CsrfToken, EndpointMaybeSet, EndpointSet,
+    ParamText, PkceCodeChallenge, PkceCodeVerifier, code_flow,
+};
 use std::alloc::Global;
 use url::{ParseError, Url};
 
@@ -58,4 +67,24 @@ pub fn challenged_login(
         .add_extra_param(ParamText::Borrowed("nonce"), ParamText::Borrowed(nonce))?;
     let (url, _) = request.url(alloc)?;
     Ok(url)
+}
+
+/// Both ends of a login whose endpoint's URL has no query, so that none of its own can hide what is
+/// sent: a server that reads by name finds a verifier that passes its check.
+pub fn checked_login(
+    alloc: Global,
+    client: &CodeClient,
+    state: CsrfToken,
+    verifier: PkceCodeVerifier,
+    code: AuthorizationCode,
+) -> Result<CodeFlow, CodeFlowError>
+    requires length { HasValidLength verifier }
+    requires no_query { IfSome client.now.auth_url (λ endpoint. endpoint.url.query ≡ None) }
+    ensures state { IfOk result (λ flow. flow.state ≡ state) }
+    ensures request { IfOk result (λ flow. (endpoint : Addressed) × (client.now.token_url ≡ Some endpoint)
+        × IsRequestOf (code_configuration (flow_exchange client.now endpoint verifier code))
+        (serialize endpoint.url) (view_of flow.request)) }
+    ensures check { IfOk result (λ flow. PassesCheck verifier (query_form flow.url) (form (view_of flow.request).body)) }
+{
+    code_flow(alloc, client, state, verifier, code)
 }

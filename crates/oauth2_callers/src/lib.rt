@@ -17,7 +17,7 @@ pub use application::{
     CannedClient, CannedError, IdentityClient, IdentityTokenResponse, canned_id_token, id_token,
     id_token_for_code, identity_client, own_token, token_response,
 };
-pub use authorization::{challenged_login, login_url, login_url_if_set};
+pub use authorization::{challenged_login, checked_login, login_url, login_url_if_set};
 pub use client::{
     CodeClient, PlainClient, TokenClient, code_client, copy_of, every_endpoint, token_client,
     token_url,
