@@ -66,7 +66,7 @@ module _ {D A T E : Type 0} (meaning : D → A) (error_meaning : T → E) (json 
   abbrev IsJudged : Result D (RequestTokenError NoReply T) → Output → Type 0
   IsJudged result o = (shown result ≡ o) ⊎ ((sent : Bool) × (result ≡ Err (Memory sent)))
 
-  judged : (view : ReplyView) (result : Result D (RequestTokenError NoReply T)) → ReplyShows meaning error_meaning (says view) result
+  pub judged : (view : ReplyView) (result : Result D (RequestTokenError NoReply T)) → ReplyShows meaning error_meaning (says view) result
       → IsJudged result (answer_output json text (says view))
   judged view (Ok answer) h = inl (rw h refl)
   judged view (Err (ServerResponse e)) h = inl (rw h refl)

@@ -4,3 +4,5 @@ pub mod Results
 pub mod Exchanges
 pub mod Commands
 pub mod Scopes
+pub mod Polls
+pub mod Sleeps

@@ -12,9 +12,11 @@ use Rattle.oauth2_json.specs.Members.{put_some}
 use Rattle.oauth2_json.specs.Puts.{Row, put_all}
 use Rattle.oauth2_json.specs.Values.{second_data, second_of, text_items}
 use Rattle.oauth2_json.specs.Words.{joined}
+use Rattle.oauth2_replies.specs.Device.{own_rows as device_rows}
 use Rattle.oauth2_replies.specs.Introspection.{own_rows as introspection_rows}
 use Rattle.oauth2_replies.specs.Token.{own_rows as token_rows}
 use Rattle.oauth2_run.specs.Exchange.{BasicToken, token_data}
+use Rattle.oauth2_run.specs.DeviceAuthorization.{BasicDevice, device_data}
 use Rattle.oauth2_run.specs.Introspect.{BasicIntrospection, introspection_data}
 
 or_false : (a b : Bool) → a ≡ false → b ≡ false → (a || b) ≡ false
@@ -88,6 +90,12 @@ token_data-no_float r =
     let free : AreFree (token_rows (string (token_code_text r.token_type)) r) =
     (refl, (refl, (numbers_free r.expires_in, (texts_free (λ s. s) r.refresh_token, (texts_free joined r.scopes, tt))))) in
     put_all-no_float (token_rows (string (token_code_text r.token_type)) r) no_members free refl
+
+pub device_data-no_float : (r : BasicDevice) → has_float (device_data r) ≡ false
+unfolding device_data
+device_data-no_float r =
+    let free : AreFree (device_rows r) = (refl, (refl, (refl, (tt, (texts_free (λ s. s) r.verification_uri_complete, (refl, (refl, tt))))))) in
+    put_all-no_float (device_rows r) no_members free refl
 
 pub introspection_data-no_float : (r : BasicIntrospection) → has_float (introspection_data r) ≡ false
 unfolding introspection_data

@@ -5,11 +5,12 @@ use Rattle.std.specs.declared.alloc.Global.{Global}
 use Rattle.serde_json.specs.Data.{Data, string, object, no_members}
 use Rattle.serde_json.specs.Written.{has_float, compact_text}
 use Rattle.oauth2_codes.specs.Codes.{token_code, token_code_text}
-use Rattle.oauth2_codes.specs.ErrorCodes.{error_code, error_code_text, revocation_error_code, revocation_error_code_text}
+use Rattle.oauth2_codes.specs.ErrorCodes.{error_code, error_code_text, device_error_code, device_error_code_text, revocation_error_code, revocation_error_code_text}
 use Rattle.oauth2_codes.specs.ErrorResponse.{error_text, parts_of}
 use Rattle.oauth2_json.specs.Writing.{Writing}
 use Rattle.oauth2_json.specs.declared.read.ParseFault.{ParseFault}
 use Rattle.oauth2_codes.specs.declared.token_type.BasicTokenType.{BasicTokenType}
+use Rattle.oauth2_replies.specs.Device.{device_writing}
 use Rattle.oauth2_replies.specs.Introspection.{introspection_writing}
 use Rattle.oauth2_replies.specs.Token.{token_writing}
 use Rattle.oauth2_wire.specs.Display.{configuration_text, fault_text}
@@ -18,14 +19,16 @@ use Rattle.oauth2_wire.specs.declared.error.ConfigurationError.TheVariants.{Miss
 use Rattle.oauth2_wire.specs.declared.error.RequestTokenError.{RequestTokenError}
 use Rattle.oauth2_wire.specs.declared.error.RequestTokenError.TheVariants.{ServerResponse, Request, Parse, Other, Memory}
 use Rattle.oauth2_run.specs.Exchange.{token_data, token_json, error_display}
+use Rattle.oauth2_run.specs.DeviceAuthorization.{device_data, device_json}
 use Rattle.oauth2_run.specs.Introspect.{introspection_data, introspection_json}
 use Rattle.oauth2_run.specs.Lines.{fault_line}
 use Rattle.oauth2_run.specs.private.Added.{Prints}
 use Rattle.oauth2_run.specs.private.Results.{configuration_output, fault_output}
 use Rattle.oauth2_run.specs.private.Results.{TokenSeen, token_meaning, token_text, IntrospectionSeen, introspection_meaning, introspection_text}
+use Rattle.oauth2_run.specs.private.Results.{DeviceSeen, device_meaning, device_text, DeviceErrorResponse, device_error_seen}
 use Rattle.oauth2_run.specs.private.Results.{ErrorResponse, error_seen, RevocationErrorResponse, revocation_error_seen}
 use Rattle.oauth2_run.specs.declared.replay.NoReply.{NoReply}
-use Rattle.oauth2_run.proofs.NoFloats.{token_data-no_float, introspection_data-no_float}
+use Rattle.oauth2_run.proofs.NoFloats.{token_data-no_float, device_data-no_float, introspection_data-no_float}
 use Rattle.oauth2_run.specs.declared.status.RunStatus.TheVariants as status
 
 module _ {T : Type 0} (display : T → Option (List ℕ)) (text : T → List ℕ) (shows : (e : T) → display e ≡ Some (text e)) where
@@ -63,6 +66,13 @@ introspection_written-data r = by_type r.token_type refl
     by_type None e = rw e refl
     by_type (Some k) e = rw e refl
 
+abbrev device_written : DeviceSeen → Writing
+device_written r = device_writing (λ _. Ok (object no_members)) r
+
+device_written-data : (r : DeviceSeen) → device_written r ≡ Ok (device_data (device_meaning r))
+unfolding device_data
+device_written-data r = refl
+
 free_of : (written : Writing) (d : Data) → written ≡ Ok d → has_float d ≡ false → IsOkAnd written (λ d. has_float d ≡ false)
 free_of written d e free = rw e free
 
@@ -73,6 +83,13 @@ pub introspection_free : (r : IntrospectionSeen) → IsOkAnd (introspection_writ
 introspection_free r =
     free_of (introspection_written r) (introspection_data (introspection_meaning r)) (introspection_written-data r)
     (introspection_data-no_float (introspection_meaning r))
+
+pub device_free : (r : DeviceSeen) → IsOkAnd (device_written r) (λ d. has_float d ≡ false)
+device_free r = free_of (device_written r) (device_data (device_meaning r)) (device_written-data r) (device_data-no_float (device_meaning r))
+
+pub device_shown : (r : DeviceSeen) (s : List ℕ) → ((d : Data) → device_written r ≡ Ok d → s ≡ compact_text d) → s ≡ device_text r
+unfolding device_json
+device_shown r s shows = shows (device_data (device_meaning r)) (device_written-data r)
 
 pub token_shown : (t : TokenSeen) (s : List ℕ) → ((d : Data) → token_written t ≡ Ok d → s ≡ compact_text d) → s ≡ token_text t
 unfolding token_json
@@ -86,6 +103,11 @@ introspection_shown r s shows = shows (introspection_data (introspection_meaning
 pub error_told : (e : ErrorResponse) → error_text (Some (error_code_text (error_code e.error))) (parts_of (λ t. t) e) ≡ Some (error_seen e)
 unfolding error_display
 error_told e = refl
+
+pub device_error_told : (e : DeviceErrorResponse)
+    → error_text (Some (device_error_code_text (device_error_code e.error))) (parts_of (λ t. t) e) ≡ Some (device_error_seen e)
+unfolding error_display
+device_error_told e = refl
 
 pub revocation_error_told : (e : RevocationErrorResponse)
     → error_text (Some (revocation_error_code_text (revocation_error_code e.error))) (parts_of (λ t. t) e) ≡ Some (revocation_error_seen e)

@@ -6,6 +6,9 @@ pub mod Exchange
 pub mod Authorize
 pub mod ClientCredentials
 pub mod Code
+pub mod Clock
+pub mod DeviceAuthorization
+pub mod DevicePoll
 pub mod Introspect
 pub mod Password
 pub mod Refresh

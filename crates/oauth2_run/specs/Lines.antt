@@ -1,5 +1,6 @@
 -- The lines that a run writes.
-use Rattle.std.specs.Prelude.{ℕ, List, [], ◌++◌, map, Option, Some, None, option_map, codes}
+use Rattle.std.specs.Prelude.{ℕ, ◌-◌, ◌/◌, ◌%◌, List, [], ◌++◌, length, replicate, map, Option, Some, None, option_map, codes}
+use Rattle.std.specs.Fmt.{decimal}
 use Rattle.std.specs.List.{flat_map}
 use Rattle.std.specs.Str.Lossy.{utf8_lossy}
 use Rattle.form_urlencoded.specs.Form.{extend_pairs}
@@ -47,6 +48,17 @@ expected_lines c target =
     request_line (codes "POST") target ++ authorization_line (authorization_text (expected_basic c))
     ++ body_line (extend_pairs [] (expected_pairs c))
     ++ basic_line (option_map shown_pair (expected_basic c)) ++ pair_lines (map shown_pair (expected_pairs c))
+
+-- ---- of a sleep
+
+-- with zeros in front
+abbrev pub nine_digits : ℕ → List ℕ
+nine_digits n = replicate (9 - length (decimal n)) 48 ++ decimal n
+
+-- its whole seconds, and the nanoseconds beyond
+unfoldable pub sleep_line : ℕ → List ℕ
+sleep_line nanos =
+    line (codes "sleep " ++ decimal (nanos / 1_000_000_000) ++ codes "." ++ nine_digits (nanos % 1_000_000_000))
 
 -- ---- of an end
 

@@ -6,3 +6,4 @@ pub mod Extra
 pub mod Replay
 pub mod RequestLines
 pub mod Results
+pub mod World

@@ -7,6 +7,7 @@ ghost use Rattle.oauth2_run.specs.Exchange.{cause_name, unread_line};
 ghost use Rattle.oauth2_run.specs.Lines.{line};
 ghost use Rattle.oauth2_run.specs.private.Added.{Prints};
 ghost use Rattle.oauth2_run.specs.private.Results.{token_output, introspection_output, revocation_output};
+ghost use Rattle.oauth2_run.specs.private.Results.{device_authorization_output, poll_output};
 ghost use Rattle.oauth2_run.specs.private.Results.{configuration_output, fault_output};
 
 use crate::lines::{print_answer, print_fault, quoted};
@@ -17,13 +18,17 @@ use oauth2::basic::{
     BasicTokenResponse,
 };
 use oauth2::{
-    ConfigurationError, ParseCause, ParseFault, RequestTokenError, ToJson, WriteError, compact,
+    ConfigurationError, DeviceCodeErrorResponse, ParseCause, ParseFault, RequestTokenError,
+    StandardDeviceAuthorizationResponse, ToJson, WriteError, compact,
 };
 use std::alloc::{AllocError, Global};
 use std::fmt::Display;
 
 /// Why a run has no answer of the server.
 pub type Fault = RequestTokenError<NoReply, BasicErrorResponse>;
+
+/// Why a poll gave no token.
+pub type DeviceFault = RequestTokenError<NoReply, DeviceCodeErrorResponse>;
 
 /// Why a token is not revoked.
 pub type RevocationFault = RequestTokenError<NoReply, BasicRevocationErrorResponse>;
@@ -130,6 +135,44 @@ pub fn show_token(
 ) -> Result<RunStatus, AllocError>
     ensures { IfOk result (λ status. Prints (string_bytes lines.old) (string_bytes lines.new) status
         (token_output end.now)) }
+{
+    match end {
+        Ok(token) => {
+            let json = json_of(alloc, token)?;
+            print_answer(lines, json.as_str())?;
+            Ok(RunStatus::Answered)
+        }
+        Err(fault) => show_fault(alloc, lines, fault),
+    }
+}
+
+/// The end of a device's request for its codes.
+pub fn show_device_authorization(
+    alloc: Global,
+    lines: &mut String,
+    end: &Result<StandardDeviceAuthorizationResponse, Fault>,
+) -> Result<RunStatus, AllocError>
+    ensures { IfOk result (λ status. Prints (string_bytes lines.old) (string_bytes lines.new) status
+        (device_authorization_output end.now)) }
+{
+    match end {
+        Ok(response) => {
+            let json = json_of(alloc, response)?;
+            print_answer(lines, json.as_str())?;
+            Ok(RunStatus::Answered)
+        }
+        Err(fault) => show_fault(alloc, lines, fault),
+    }
+}
+
+/// The end of a poll for a device's token.
+pub fn show_poll(
+    alloc: Global,
+    lines: &mut String,
+    end: &Result<BasicTokenResponse, DeviceFault>,
+) -> Result<RunStatus, AllocError>
+    ensures { IfOk result (λ status. Prints (string_bytes lines.old) (string_bytes lines.new) status
+        (poll_output end.now)) }
 {
     match end {
         Ok(token) => {

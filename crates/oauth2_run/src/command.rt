@@ -10,12 +10,14 @@ use crate::authorize::run_authorize;
 use crate::client::ScriptClient;
 use crate::client_credentials::run_client_credentials;
 use crate::code::run_code;
+use crate::device_authorization::run_device_authorization;
+use crate::device_poll::run_device_poll;
 use crate::introspect::run_introspect;
 use crate::password::run_password;
 use crate::refresh::run_refresh;
-use crate::replay::ScriptedClient;
 use crate::revoke::run_revoke;
 use crate::status::RunStatus;
+use crate::world::ScriptedWorld;
 use oauth2_script::Command;
 use std::alloc::{AllocError, Global};
 
@@ -24,12 +26,13 @@ pub fn run_command(
     alloc: Global,
     client: &ScriptClient,
     command: Command,
-    http_client: &mut ScriptedClient,
+    world: &mut ScriptedWorld,
 ) -> Result<RunStatus, AllocError>
-    ensures { IfOk result (λ status. http_client.new.is_starved ≡ false
-        → Adds (string_bytes http_client.old.lines) (string_bytes http_client.new.lines) status
-        (IsCommandOutput client.now (replies_of http_client.old) (command_view command))) }
+    ensures { IfOk result (λ status. world.new.http_client.is_starved ≡ false
+        → Adds (string_bytes world.old.http_client.lines) (string_bytes world.new.http_client.lines) status
+        (IsCommandOutput client.now world.old.clock (replies_of world.old.http_client) (command_view command))) }
 {
+    let http_client = &mut world.http_client;
     match command {
         Command::Code(params) => run_code(alloc, client, params, http_client),
         Command::Refresh(params) => run_refresh(alloc, client, params, http_client),
@@ -42,6 +45,13 @@ pub fn run_command(
         ),
         Command::Introspect(params) => run_introspect(alloc, client, params, http_client),
         Command::Revoke(params) => run_revoke(alloc, client, params, http_client),
+        Command::DeviceAuthorization(params) => run_device_authorization(
+            alloc,
+            client,
+            params,
+            http_client,
+        ),
+        Command::DevicePoll(params) => run_device_poll(alloc, client, params, world),
         Command::Authorize(params) => run_authorize(alloc, client, params, &mut http_client.lines),
     }
 }

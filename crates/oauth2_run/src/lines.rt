@@ -1,6 +1,7 @@
 //! The lines that a run writes.
 
 ghost use Rattle.std.specs.Prelude.{◌≡◌, ◌++◌, string_bytes, IfOk, OnOk, map, option_map, option_copied};
+ghost use Rattle.std.specs.Duration.{as_nanos};
 ghost use Rattle.oauth2_wire.specs.Request.{view_of, authorization_of};
 ghost use Rattle.oauth2_wire.specs.ServerView.{pair_texts};
 ghost use Rattle.oauth2_run.specs.Lines as spec;
@@ -10,6 +11,7 @@ use http_header::{AUTHORIZATION, HeaderValue};
 use oauth2::{HttpRequest, ViewError, server_view};
 use serde_json::Value;
 use std::alloc::{AllocError, Global};
+use std::time::Duration;
 
 /// A text as JSON writes it.
 #[tactic(auto, unfolding(crate::specs::Lines::quoted))]
@@ -146,6 +148,17 @@ pub fn print_request(
     print_body(alloc, lines, request.body())?;
     print_view(alloc, lines, request)?;
     Ok(())
+}
+
+/// The line of a sleep.
+#[tactic(auto, unfolding(crate::specs::Lines::sleep_line))]
+pub fn print_sleep(lines: &mut String, duration: Duration) -> Result<(), AllocError>
+    ensures { OnOk result (string_bytes lines.new ≡ string_bytes lines.old
+        ++ spec.sleep_line (as_nanos duration)) }
+{
+    let seconds = duration.as_secs();
+    let nanos = duration.subsec_nanos();
+    writeln!(lines, "sleep {seconds}.{nanos:09}")
 }
 
 #[tactic(auto, unfolding(crate::specs::Lines::answer_line))]

@@ -5,8 +5,11 @@ mod answer;
 mod authorize;
 mod client;
 mod client_credentials;
+mod clock;
 mod code;
 mod command;
+mod device_authorization;
+mod device_poll;
 mod extra;
 mod input;
 mod introspect;
@@ -20,6 +23,7 @@ mod status;
 #[cfg(test)]
 mod tests;
 mod token_request;
+mod world;
 
 use run::run_script;
 use status::exit_of;

@@ -7,10 +7,12 @@ ghost use Rattle.oauth2_run.specs.Run.{IsScriptOutput, IsOutputOf};
 ghost use Rattle.oauth2_script.specs.Views.{script_view};
 
 use crate::client::client_of;
+use crate::clock::ScriptedClock;
 use crate::command::run_command;
 use crate::input::{Source, read_input};
 use crate::replay::ScriptedClient;
 use crate::status::{RunFault, RunStatus};
+use crate::world::ScriptedWorld;
 use oauth2_script::{Script, ScriptError, script_in};
 use std::alloc::{AllocError, Global};
 use std::io::{Read, Write};
@@ -23,15 +25,19 @@ fn run_lines(alloc: Global, script: Script) -> Result<(String, RunStatus), Alloc
         client,
         command,
         replies,
-        readings: _,
+        readings,
     } = script;
-    let mut http_client = ScriptedClient {
-        alloc,
-        replies,
-        lines: String::new(alloc),
-        is_starved: false,
+    let mut world = ScriptedWorld {
+        http_client: ScriptedClient {
+            alloc,
+            replies,
+            lines: String::new(alloc),
+            is_starved: false,
+        },
+        clock: ScriptedClock::new(readings),
     };
-    let status = run_command(alloc, &client_of(client), command, &mut http_client)?;
+    let status = run_command(alloc, &client_of(client), command, &mut world)?;
+    let http_client = world.http_client;
     if http_client.is_starved {
         return Err(AllocError);
     }

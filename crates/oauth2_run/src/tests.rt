@@ -2,6 +2,7 @@
 
 mod authorization_urls;
 mod bad_scripts;
+mod devices;
 mod exchanges;
 mod exits;
 mod presented_tokens;

@@ -1,13 +1,16 @@
 -- What a run shows of the result of a request.
 use Rattle.std.specs.Prelude.{ℕ, List, Result, Ok, Err, string_bytes, codes}
 use Rattle.oauth2_codes.specs.Codes.{token_code}
-use Rattle.oauth2_codes.specs.ErrorCodes.{error_code, error_code_text, revocation_error_code, revocation_error_code_text}
+use Rattle.oauth2_codes.specs.ErrorCodes.{error_code, error_code_text, device_error_code, revocation_error_code, revocation_error_code_text}
 use Rattle.oauth2_codes.specs.ErrorResponse.{parts_of}
 use Rattle.oauth2_json.specs.Reading.{fault_of}
 use Rattle.oauth2_codes.specs.declared.basic_error.BasicErrorResponseType.{BasicErrorResponseType}
+use Rattle.oauth2_codes.specs.declared.device_error.DeviceCodeErrorResponseType.{DeviceCodeErrorResponseType}
 use Rattle.oauth2_codes.specs.declared.error_response.StandardErrorResponse.{StandardErrorResponse}
 use Rattle.oauth2_codes.specs.declared.revocation_error.RevocationErrorResponseType.{RevocationErrorResponseType}
 use Rattle.oauth2_codes.specs.declared.token_type.BasicTokenType.{BasicTokenType}
+use Rattle.oauth2_replies.specs.Device.{DeviceAuthorization, device_seen}
+use Rattle.oauth2_replies.specs.declared.device.EmptyExtraDeviceAuthorizationFields.{EmptyExtraDeviceAuthorizationFields}
 use Rattle.oauth2_replies.specs.Introspection.{Introspection, introspection_seen}
 use Rattle.oauth2_replies.specs.Token.{Token, token_seen}
 use Rattle.oauth2_replies.specs.declared.token.EmptyExtraTokenFields.{EmptyExtraTokenFields}
@@ -16,6 +19,8 @@ use Rattle.oauth2_wire.specs.declared.error.ConfigurationError.TheVariants.{Miss
 use Rattle.oauth2_wire.specs.declared.error.RequestTokenError.{RequestTokenError}
 use Rattle.oauth2_wire.specs.declared.error.RequestTokenError.TheVariants.{ServerResponse, Request, Parse, Other, Memory}
 use Rattle.oauth2_run.specs.Client.{missing}
+use Rattle.oauth2_run.specs.DeviceAuthorization.{BasicDevice, device_json}
+use Rattle.oauth2_run.specs.DevicePoll.{device_error_display}
 use Rattle.oauth2_run.specs.Exchange.{BasicToken, not_read, refused_text, other_text, token_json, error_display}
 use Rattle.oauth2_run.specs.Introspect.{BasicIntrospection, introspection_json}
 use Rattle.oauth2_run.specs.Revoke.{insecure}
@@ -57,6 +62,30 @@ token_text t = token_json (token_meaning t)
 
 abbrev pub token_output : Result TokenSeen Fault → Output
 token_output result = end_output error_seen token_text result
+
+abbrev pub DeviceSeen : Type 0
+DeviceSeen = DeviceAuthorization EmptyExtraDeviceAuthorizationFields
+
+abbrev pub device_meaning : DeviceSeen → BasicDevice
+device_meaning r = device_seen (λ _. tt) r
+
+abbrev pub device_text : DeviceSeen → List ℕ
+device_text r = device_json (device_meaning r)
+
+abbrev pub device_authorization_output : Result DeviceSeen Fault → Output
+device_authorization_output result = end_output error_seen device_text result
+
+abbrev pub DeviceErrorResponse : Type 0
+DeviceErrorResponse = StandardErrorResponse DeviceCodeErrorResponseType
+
+abbrev pub DeviceFault : Type 0
+DeviceFault = RequestTokenError NoReply DeviceErrorResponse
+
+abbrev pub device_error_seen : DeviceErrorResponse → List ℕ
+device_error_seen e = device_error_display (parts_of device_error_code e)
+
+abbrev pub poll_output : Result TokenSeen DeviceFault → Output
+poll_output result = end_output device_error_seen token_text result
 
 abbrev pub IntrospectionSeen : Type 0
 IntrospectionSeen = Introspection EmptyExtraTokenFields BasicTokenType

@@ -8,7 +8,7 @@ use std::process::Abort;
 use std::test::Fail;
 
 /// What stands in place of the command.
-const BAD_COMMANDS: [&str; 13] = [
+const BAD_COMMANDS: [&str; 28] = [
     "\"command\":\"refresh\",\"params\":{}",
     "\"command\":\"refresh\",\"params\":{\"refresh_token\":\"r\",\"scopes\":[1]}",
     "\"command\":\"refresh\",\"params\":{\"refresh_token\":\"r\",\"scopes\":null}",
@@ -22,6 +22,21 @@ const BAD_COMMANDS: [&str; 13] = [
     "\"command\":\"revoke\",\"params\":{\"kind\":\"access\"}",
     "\"command\":\"revoke\",\"params\":{\"token\":\"t\",\"kind\":\"refresh_token\"}",
     "\"command\":\"revoke\",\"params\":{\"token\":\"t\",\"kind\":null}",
+    "\"command\":\"device_authorization\",\"params\":{\"scopes\":\"a\"}",
+    "\"command\":\"device_poll\",\"params\":{\"max_polls\":5}",
+    "\"command\":\"device_poll\",\"params\":{\"device\":{\"device_code\":\"12345\",\"user_code\":\"abcde\",\"verification_uri\":\"https://verify/here\",\"expires_in\":2,\"interval\":1}}",
+    "\"command\":\"device_poll\",\"params\":{\"device\":{\"device_code\":\"12345\",\"user_code\":\"abcde\",\"verification_uri\":\"https://verify/here\",\"expires_in\":2,\"interval\":1},\"max_polls\":0}",
+    "\"command\":\"device_poll\",\"params\":{\"device\":{\"device_code\":\"12345\",\"user_code\":\"abcde\",\"verification_uri\":\"https://verify/here\",\"expires_in\":2,\"interval\":1},\"max_polls\":-1}",
+    "\"command\":\"device_poll\",\"params\":{\"device\":{\"device_code\":\"12345\",\"user_code\":\"abcde\",\"verification_uri\":\"https://verify/here\",\"expires_in\":2,\"interval\":1},\"max_polls\":1.0}",
+    "\"command\":\"device_poll\",\"params\":{\"device\":{\"device_code\":\"12345\",\"user_code\":\"abcde\",\"verification_uri\":\"https://verify/here\",\"expires_in\":2,\"interval\":1},\"max_polls\":5,\"timeout\":null}",
+    "\"command\":\"device_poll\",\"params\":{\"device\":{\"device_code\":\"12345\",\"user_code\":\"abcde\",\"verification_uri\":\"https://verify/here\",\"expires_in\":2,\"interval\":1},\"max_polls\":5,\"timeout\":-1}",
+    "\"command\":\"device_poll\",\"params\":{\"device\":{\"device_code\":\"12345\",\"user_code\":\"abcde\",\"verification_uri\":\"https://verify/here\",\"expires_in\":2,\"interval\":1},\"max_polls\":5,\"timeout\":1.5}",
+    "\"command\":\"device_poll\",\"params\":{\"device\":{\"device_code\":\"12345\",\"user_code\":\"abcde\",\"verification_uri\":\"https://verify/here\",\"expires_in\":2,\"interval\":1},\"max_polls\":5,\"cap\":\"1\"}",
+    "\"command\":\"device_poll\",\"params\":{\"device\":{\"device_code\":\"12345\",\"user_code\":\"abcde\",\"verification_uri\":\"https://verify/here\",\"expires_in\":2,\"interval\":1},\"max_polls\":5,\"extra\":[[\"a\"]]}",
+    "\"command\":\"device_poll\",\"params\":{\"device\":[],\"max_polls\":5}",
+    "\"command\":\"device_poll\",\"params\":{\"device\":{\"device_code\":\"12345\",\"verification_uri\":\"https://verify/here\",\"expires_in\":2,\"interval\":1},\"max_polls\":5}",
+    "\"command\":\"device_poll\",\"params\":{\"device\":{\"device_code\":\"12345\",\"user_code\":\"abcde\",\"verification_uri\":\"x\",\"expires_in\":2,\"interval\":1},\"max_polls\":5}",
+    "\"command\":\"device_poll\",\"params\":{\"device\":{\"device_code\":\"12345\",\"user_code\":\"abcde\",\"verification_uri\":\"https://verify/here\",\"expires_in\":2,\"verification_url\":\"https://v/\",\"interval\":1},\"max_polls\":5}",
 ];
 
 #[test]

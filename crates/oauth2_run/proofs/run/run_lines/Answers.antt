@@ -1,5 +1,6 @@
-use Rattle.std.proofs.Common.{◌≡◌, string_bytes}
+use Rattle.std.proofs.Common.{◌≡◌, map, string_bytes}
 use Rattle.oauth2_run.specs.Client.{settings_of}
+use Rattle.oauth2_run.specs.Clock.{new_clock}
 use Rattle.oauth2_script.specs.Views.{client_view}
 use Rattle.oauth2_run.proofs.Commands.{Shows-from_Adds}
 use Rattle.oauth2_run.proofs.run.run_lines.Goals as goal
@@ -7,5 +8,6 @@ use Rattle.oauth2_run.proofs.run.run_lines.Goals as goal
 pub returns : goal.returns
 returns c =
     let is : c.client_of.result ≡ settings_of (client_view c.args.script.client) = c.client_of.ensures in
-    Shows-from_Adds (string_bytes c.new.result) (string_bytes c.run_command-2.new.http_client.lines) c.in_ok-status.status _ c.new.ensures.bytes
-    (rw is at c.in_ok-status.ensures c.if-http_client.false)
+    let clock : c.new-2.result ≡ new_clock (map (λ t. t.nanosecond) c.args.script.readings.items) = c.new-2.ensures in
+    Shows-from_Adds (string_bytes c.new.result) (string_bytes c.run_command-2.new.world.http_client.lines) c.in_ok-status.status _ c.new.ensures.bytes
+    (rw (is, clock) at c.in_ok-status.ensures c.if-http_client.false)
