@@ -48,7 +48,7 @@ fn to_brace<'a>(
         reader.new result (or_not_json (converted (λ ms. of_members ms no_members)
         (members (value 126) (length reader.old) reader.old))) }
 {
-    let mut list = Vec::new(alloc);
+    let mut list = Vec::with_capacity(alloc, names.len())?;
     'members: while let Some(name) = next_name(alloc, reader)? {
         if is_kept(name, names, keeps_others) {
             let value = next_value(alloc, reader)?;

@@ -14,12 +14,12 @@ use Rattle.oauth2_object.proofs.text.to_brace.Goals as goal
 
 pub members-init : goal.members-init
 members-init c =
-    (length c.args.reader.now, omega arith, no_members, refl, keeps_none (map (λ k. k.now) c.args.names.now) c.args.keeps_others (members_in c.new-list.result.items) (ap members_in c.new-list.ensures.items))
+    (length c.args.reader.now, omega arith, no_members, refl, keeps_none (map (λ k. k.now) c.args.names.now) c.args.keeps_others (members_in c.in_ok-list.list.items) (ap members_in c.in_ok-list.ensures.items))
 
 pub returns-in_err-name : goal.returns-in_err-name
 returns-in_err-name c =
     let l = c.members in
-    let p = err_from_is_err_and c.from_residual.result c.from_residual.ensures.1 in
+    let p = err_from_is_err_and c.from_residual-in_err-name.result c.from_residual-in_err-name.ensures.1 in
     rw (p.1, p.2) (refused_all c.in_err-name.field-0.0 (read_key l.reader) _ c.in_err-name.ensures (λ e. l.invariant.3 ∙ key_refused (value 126) l.invariant.2 l.invariant.0 l.reader e))
 
 pub returns-in_err-value : goal.returns-in_err-value
@@ -31,8 +31,8 @@ returns-in_err-value c =
     let p = err_from_is_err_and c.from_residual-in_err-value.result c.from_residual-in_err-value.ensures.1 in
     rw (p.1, p.2) (refused_all c.in_err-value.field-0.0 (converted of_json (value 126 s)) _ c.in_err-value.ensures.read (λ e. l.invariant.3 ∙ member_refused (value 126) l.invariant.2 l.invariant.0 k l.reader s named e))
 
-pub members-preserved-in-Continue-branch-4 : goal.members-preserved-in-Continue-branch-4
-members-preserved-in-Continue-branch-4 c =
+pub members-preserved-in-Continue-branch-5 : goal.members-preserved-in-Continue-branch-5
+members-preserved-in-Continue-branch-5 c =
     let l = c.members in
     let n = l.invariant.0 in
     let all = l.invariant.2 in
@@ -60,7 +60,7 @@ returns-in_err-pass_value c =
     let named : read_key l.reader ≡ Some (Some k, s) = or_none _ _ c.in_ok-name.ensures ∙ ap (λ o. Some (option_map (λ b. b.now) o, s)) c.in-Some.is in
     let p = err_from_is_err_and c.from_residual-in_err-pass_value.result c.from_residual-in_err-pass_value.ensures.1 in
     rw (p.1, p.2) (refused_all c.in_err-pass_value.field-0.0 (option_map (λ q. q.1) (converted of_json (value 126 s))) _ c.in_err-pass_value.ensures.read
-        (λ e. l.invariant.3 ∙ member_refused (value 126) l.invariant.2 l.invariant.0 k l.reader s named (passed_none (converted of_json (value 126 s)) e)))
+    (λ e. l.invariant.3 ∙ member_refused (value 126) l.invariant.2 l.invariant.0 k l.reader s named (passed_none (converted of_json (value 126 s)) e)))
 
 pub members-preserved : goal.members-preserved
 members-preserved c =
