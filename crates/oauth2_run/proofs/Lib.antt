@@ -4,3 +4,4 @@ pub mod Results
 pub mod Exchanges
 pub mod Commands
 pub mod Scopes
+pub mod Kept

@@ -7,6 +7,7 @@ pub mod Authorize
 pub mod ClientCredentials
 pub mod Code
 pub mod Introspect
+pub mod Keeper
 pub mod Password
 pub mod Refresh
 pub mod Revoke

@@ -1,36 +1,40 @@
 -- What a run over an input writes, and how it ends.
-use Rattle.std.specs.Prelude.{◌≡◌, ℕ, List, Option, Some, None, codes}
+use Rattle.std.specs.Prelude.{◌≡◌, ℕ, ℤ, List, Option, Some, None, codes}
 use Rattle.oauth2.specs.Settings.{Settings}
 use Rattle.oauth2_run.specs.Authorize.{IsAuthorizeOutput}
 use Rattle.oauth2_run.specs.ClientCredentials.{IsClientCredentialsOutput}
 use Rattle.oauth2_run.specs.Code.{IsCodeOutput}
 use Rattle.oauth2_run.specs.Introspect.{IsIntrospectOutput}
+use Rattle.oauth2_run.specs.Keeper.{IsKeeperOutput}
 use Rattle.oauth2_run.specs.Password.{IsPasswordOutput}
 use Rattle.oauth2_run.specs.Refresh.{IsRefreshOutput}
 use Rattle.oauth2_run.specs.Revoke.{IsRevokeOutput}
 use Rattle.oauth2_run.specs.Lines.{line}
 use Rattle.oauth2_run.specs.Out.{Output}
-use Rattle.oauth2_script.specs.Command.{Command, code, refresh, password, client_credentials, introspect, revoke, authorize}
+use Rattle.oauth2_script.specs.Command.{Command, code, refresh, password, client_credentials, introspect, revoke, authorize, device_authorization, device_poll, keeper}
 use Rattle.oauth2_script.specs.Script.{Script, script_in}
 use Rattle.oauth2_run.specs.Client.{settings_of}
 use Rattle.oauth2_script.specs.Replies.{Reply}
 use Rattle.oauth2_run.specs.declared.status.RunStatus.TheVariants as status
 
-abbrev pub IsCommandOutput : Settings → List Reply → Command → Output → Type 0
-IsCommandOutput client replies (code p) o = IsCodeOutput client p replies o
-IsCommandOutput client replies (refresh p) o = IsRefreshOutput client p replies o
-IsCommandOutput client replies (password p) o = IsPasswordOutput client p replies o
-IsCommandOutput client replies (client_credentials p) o = IsClientCredentialsOutput client p replies o
-IsCommandOutput client replies (introspect p) o = IsIntrospectOutput client p replies o
-IsCommandOutput client replies (revoke p) o = IsRevokeOutput client p replies o
-IsCommandOutput client replies (authorize p) o = IsAuthorizeOutput client p o
+abbrev pub IsCommandOutput : Settings → List ℤ → List Reply → Command → Output → Type 0
+IsCommandOutput client moments replies (code p) o = IsCodeOutput client p replies o
+IsCommandOutput client moments replies (refresh p) o = IsRefreshOutput client p replies o
+IsCommandOutput client moments replies (password p) o = IsPasswordOutput client p replies o
+IsCommandOutput client moments replies (client_credentials p) o = IsClientCredentialsOutput client p replies o
+IsCommandOutput client moments replies (introspect p) o = IsIntrospectOutput client p replies o
+IsCommandOutput client moments replies (revoke p) o = IsRevokeOutput client p replies o
+IsCommandOutput client moments replies (authorize p) o = IsAuthorizeOutput client p o
+IsCommandOutput client moments replies (keeper p) o = IsKeeperOutput client p moments replies o
+IsCommandOutput client moments replies (device_authorization p) o = ⊥
+IsCommandOutput client moments replies (device_poll p) o = ⊥
 
 abbrev pub bad_script : Output
 bad_script = record { lines = line (codes "bad script"); status = status.BadScript }
 
 abbrev pub IsScriptOutput : Option Script → Output → Type 0
 IsScriptOutput None o = o ≡ bad_script
-IsScriptOutput (Some s) o = IsCommandOutput (settings_of s.client) s.replies s.command o
+IsScriptOutput (Some s) o = IsCommandOutput (settings_of s.client) s.readings s.replies s.command o
 
 -- a function of the input but for the target, which is the one that its URL's text has
 unfoldable pub IsOutputOf : List ℕ → Output → Type 0

@@ -10,6 +10,7 @@ mod command;
 mod extra;
 mod input;
 mod introspect;
+mod keeper;
 mod lines;
 mod password;
 mod refresh;

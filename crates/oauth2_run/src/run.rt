@@ -23,7 +23,7 @@ fn run_lines(alloc: Global, script: Script) -> Result<(String, RunStatus), Alloc
         client,
         command,
         replies,
-        readings: _,
+        readings,
     } = script;
     let mut http_client = ScriptedClient {
         alloc,
@@ -31,7 +31,13 @@ fn run_lines(alloc: Global, script: Script) -> Result<(String, RunStatus), Alloc
         lines: String::new(alloc),
         is_starved: false,
     };
-    let status = run_command(alloc, &client_of(client), command, &mut http_client)?;
+    let status = run_command(
+        alloc,
+        &client_of(client),
+        command,
+        readings.as_slice(),
+        &mut http_client,
+    )?;
     if http_client.is_starved {
         return Err(AllocError);
     }

@@ -4,6 +4,7 @@ mod authorization_urls;
 mod bad_scripts;
 mod exchanges;
 mod exits;
+mod kept_tokens;
 mod presented_tokens;
 mod rust_crate;
 mod streams;
