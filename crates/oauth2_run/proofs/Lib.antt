@@ -6,3 +6,4 @@ pub mod Commands
 pub mod Scopes
 pub mod Polls
 pub mod Sleeps
+pub mod Kept

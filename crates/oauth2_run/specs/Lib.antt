@@ -10,6 +10,7 @@ pub mod Clock
 pub mod DeviceAuthorization
 pub mod DevicePoll
 pub mod Introspect
+pub mod Keeper
 pub mod Password
 pub mod Refresh
 pub mod Revoke

@@ -8,12 +8,13 @@ use Rattle.oauth2_run.specs.Clock.{Clock, new_clock}
 use Rattle.oauth2_run.specs.DeviceAuthorization.{IsDeviceAuthorizationOutput}
 use Rattle.oauth2_run.specs.DevicePoll.{IsDevicePollOutput}
 use Rattle.oauth2_run.specs.Introspect.{IsIntrospectOutput}
+use Rattle.oauth2_run.specs.Keeper.{IsKeeperOutput}
 use Rattle.oauth2_run.specs.Password.{IsPasswordOutput}
 use Rattle.oauth2_run.specs.Refresh.{IsRefreshOutput}
 use Rattle.oauth2_run.specs.Revoke.{IsRevokeOutput}
 use Rattle.oauth2_run.specs.Lines.{line}
 use Rattle.oauth2_run.specs.Out.{Output}
-use Rattle.oauth2_script.specs.Command.{Command, code, refresh, password, client_credentials, introspect, revoke, device_authorization, device_poll, authorize}
+use Rattle.oauth2_script.specs.Command.{Command, code, refresh, password, client_credentials, introspect, revoke, device_authorization, device_poll, keeper, authorize}
 use Rattle.oauth2_script.specs.Script.{Script, script_in}
 use Rattle.oauth2_run.specs.Client.{settings_of}
 use Rattle.oauth2_script.specs.Replies.{Reply}
@@ -28,6 +29,7 @@ IsCommandOutput client clock replies (introspect p) o = IsIntrospectOutput clien
 IsCommandOutput client clock replies (revoke p) o = IsRevokeOutput client p replies o
 IsCommandOutput client clock replies (device_authorization p) o = IsDeviceAuthorizationOutput client p replies o
 IsCommandOutput client clock replies (device_poll p) o = IsDevicePollOutput client p clock replies o
+IsCommandOutput client clock replies (keeper p) o = IsKeeperOutput client p clock.moments replies o
 IsCommandOutput client clock replies (authorize p) o = IsAuthorizeOutput client p o
 
 abbrev pub bad_script : Output

@@ -3,6 +3,7 @@ pub mod Added
 pub mod Asked
 pub mod Authorize
 pub mod Extra
+pub mod Kept
 pub mod Replay
 pub mod RequestLines
 pub mod Results

@@ -96,8 +96,8 @@ fn print_parse_fault(
     print_unread(alloc, lines, fault.member.as_str(), cause)
 }
 
-// The fault of a request, where the server's error is shown as some text.
-fn show_fault<T: Display>(
+/// The fault of a request, where the server's error is shown as some text.
+pub fn show_fault<T: Display>(
     alloc: Global,
     lines: &mut String,
     fault: &RequestTokenError<NoReply, T>,

@@ -47,4 +47,11 @@ impl ScriptedClock {
         }
         self.last
     }
+
+    /// What it has still to show, in order.
+    pub fn moments(&mut self) -> &[Timestamp]
+        ensures { map (λ t. t.nanosecond) result.now ≡ self.old.moments }
+    {
+        self.moments.make_contiguous()
+    }
 }

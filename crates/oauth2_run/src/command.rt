@@ -13,6 +13,7 @@ use crate::code::run_code;
 use crate::device_authorization::run_device_authorization;
 use crate::device_poll::run_device_poll;
 use crate::introspect::run_introspect;
+use crate::keeper::run_keeper;
 use crate::password::run_password;
 use crate::refresh::run_refresh;
 use crate::revoke::run_revoke;
@@ -52,6 +53,13 @@ pub fn run_command(
             http_client,
         ),
         Command::DevicePoll(params) => run_device_poll(alloc, client, params, world),
+        Command::Keeper(params) => run_keeper(
+            alloc,
+            client,
+            params,
+            world.clock.moments(),
+            http_client,
+        ),
         Command::Authorize(params) => run_authorize(alloc, client, params, &mut http_client.lines),
     }
 }

@@ -13,6 +13,7 @@ mod device_poll;
 mod extra;
 mod input;
 mod introspect;
+mod keeper;
 mod lines;
 mod password;
 mod refresh;
