@@ -17,7 +17,7 @@ use Rattle.oauth2_keeper.specs.Keeper.{Keeper, AcceptedToken, Given, Outcome, qu
 use Rattle.oauth2.specs.Settings.{Settings}
 use Rattle.oauth2_script.specs.KeeperParams.{KeeperParams}
 use Rattle.oauth2_script.specs.Replies.{Reply}
-use Rattle.oauth2_run.specs.Client.{WithToken}
+use Rattle.oauth2_run.specs.Client.{WithEndpoint, WithToken, missing}
 use Rattle.oauth2_run.specs.Exchange.{other_text, token_answer}
 use Rattle.oauth2_run.specs.Keeper.{Standing, IsCall, IsRenewal, IsSentAt, AreCalls, IsKeeperOutput, given_in, kept_after_reply, renewal_output, both, joined, nothing}
 use Rattle.oauth2_run.specs.Lines.{expected_lines, quoted}
@@ -247,3 +247,8 @@ keeper_told client made url there is p moments replies old new s adds =
     let same : made ≡ client = is ∙ ap (λ (o : Option Addressed). record client { token_url = o }) (sym there) in
     let own : Adds old new s (AreKept client p moments replies) = subst (λ (c : Settings). Adds old new s (AreKept c p moments replies)) same adds in
     subst (λ (o : Option Addressed). Adds old new s (WithToken (λ url o. AreKept client p moments replies o) o)) (sym there) own
+
+-- there is no endpoint of this name
+pub unset_told : (name : List ℕ) (IsOut : Addressed → Output → Type 0) (url : Option Addressed) → url ≡ None → (old new : List ℕ) (s : RunStatus) → Prints old new s (missing name) → Adds old new s (WithEndpoint name IsOut url)
+unset_told name IsOut url none old new s printed =
+    subst (λ (u : Option Addressed). Adds old new s (WithEndpoint name IsOut u)) (sym none) (missing name, refl, printed.0, printed.1)

@@ -1,7 +1,8 @@
 //! The command `keeper`: a keeper of the client's token, called at each reading in turn.
 
-ghost use Rattle.std.specs.Prelude.{◌≡◌, Some, false, string_bytes, IfOk, map};
+ghost use Rattle.std.specs.Prelude.{◌≡◌, Some, false, string_bytes, codes, IfOk, map};
 ghost use Rattle.oauth2_run.specs.Keeper as spec;
+ghost use Rattle.oauth2_run.specs.Client.{missing};
 ghost use Rattle.oauth2_run.specs.Lines.{quoted};
 ghost use Rattle.oauth2_run.specs.Out.{Output, answered};
 ghost use Rattle.oauth2_run.specs.private.Added.{Adds, Prints};
@@ -133,6 +134,15 @@ fn show_new_keeper(
     show_calls(alloc, &mut keeper, readings, http_client)
 }
 
+// The client has no token endpoint.
+fn show_no_endpoint(alloc: Global, lines: &mut String) -> Result<RunStatus, AllocError>
+    ensures { IfOk result (λ status. Prints (string_bytes lines.old) (string_bytes lines.new) status
+        (missing (codes "token"))) }
+{
+    let error = ConfigurationError::MissingUrl("token");
+    show_configuration_error(alloc, lines, &error)
+}
+
 /// Keeps a token, and shows what came of the call at each reading.
 pub fn run_keeper(
     alloc: Global,
@@ -152,8 +162,7 @@ pub fn run_keeper(
         }
         None => {
             drop(params);
-            let error = ConfigurationError::MissingUrl("token");
-            show_configuration_error(alloc, &mut http_client.lines, &error)
+            show_no_endpoint(alloc, &mut http_client.lines)
         }
     }
 }
