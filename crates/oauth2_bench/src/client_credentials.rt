@@ -93,7 +93,8 @@ fn ask(
     http_client: &mut CannedClient,
 ) -> Result<BasicTokenResponse, RequestTokenError<AllocError, BasicErrorResponse>>
     ensures { IfOk result (λ token.
-        answer_of request.entry.base.reply_rule ⟦<BasicTokenResponse as FromJson>⟧.reading ⟦<BasicErrorResponse as FromJson>⟧.reading
+        answer_of request.entry.base.reply_rule ⟦<BasicTokenResponse as FromJson>⟧.reading
+        ⟦<BasicErrorResponse as FromJson>⟧.reading
         (canned_reply (string_bytes http_client.old.body))
         ≡ accepted (⟦<BasicTokenResponse as FromJson>⟧.meaning token)) }
 {

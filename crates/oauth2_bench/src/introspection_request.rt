@@ -46,7 +46,8 @@ fn introspect(
     http_client: &mut CannedClient,
 ) -> Result<BasicTokenIntrospectionResponse, RequestTokenError<AllocError, BasicErrorResponse>>
     ensures { IfOk result (λ answer.
-        answer_of client.now.reply_rule ⟦<BasicTokenIntrospectionResponse as FromJson>⟧.reading ⟦<BasicErrorResponse as FromJson>⟧.reading
+        answer_of client.now.reply_rule ⟦<BasicTokenIntrospectionResponse as FromJson>⟧.reading
+        ⟦<BasicErrorResponse as FromJson>⟧.reading
         (canned_reply (string_bytes http_client.old.body))
         ≡ accepted (⟦<BasicTokenIntrospectionResponse as FromJson>⟧.meaning answer)) }
 {

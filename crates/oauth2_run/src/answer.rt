@@ -156,8 +156,8 @@ pub fn show_device_authorization(
         (device_authorization_output end.now)) }
 {
     match end {
-        Ok(response) => {
-            let json = json_of(alloc, response)?;
+        Ok(device) => {
+            let json = json_of(alloc, device)?;
             print_answer(lines, json.as_str())?;
             Ok(RunStatus::Answered)
         }

@@ -90,7 +90,8 @@ fn show_calls(
     http_client: &mut ScriptedClient,
 ) -> Result<RunStatus, AllocError>
     ensures { IfOk result (λ status. http_client.new.is_starved ≡ false
-        → (o : Output) × spec.AreCalls (standing keeper.old http_client.old) (map (λ t. t.nanosecond) readings.now) o (standing keeper.new http_client.new)
+        → (o : Output) × spec.AreCalls (standing keeper.old http_client.old)
+        (map (λ t. t.nanosecond) readings.now) o (standing keeper.new http_client.new)
         × Prints (string_bytes http_client.old.lines) (string_bytes http_client.new.lines) status o) }
 {
     let mut status = RunStatus::Answered;
