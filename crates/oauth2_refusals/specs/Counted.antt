@@ -1,5 +1,5 @@
 -- A client that counts its calls and has one reply to give.
-use Rattle.std.specs.Prelude.{◌≡◌, ◌+◌, ◌-◌, ◌^◌, ℕ, min, Option, None, Some, Result, Ok, Err, ⊤, if◌then◌else◌}
+use Rattle.std.specs.Prelude.{◌≡◌, ◌+◌, ◌-◌, ◌^◌, min, Option, None, Some, Result, Ok, Err, ⊤, if◌then◌else◌}
 use Rattle.oauth2_wire.specs.OneShot.{HttpRequest}
 use Rattle.oauth2_wire.specs.Reply.{HttpResponse}
 use Rattle.oauth2_wire.specs.declared.error.RequestTokenError.{RequestTokenError}

@@ -1,6 +1,4 @@
-use Rattle.std.proofs.Common.{subst}
-use Rattle.oauth2_device.specs.Poll.{Polls, timeout_of}
-use Rattle.oauth2_refusals.proofs.Recorded.{recorded}
+use Rattle.oauth2_refusals.proofs.Recorded.{recorded, Polls-equal}
 use Rattle.oauth2_refusals.proofs.polls.polled.Goals as goal
 
 pub returns : goal.returns
@@ -11,5 +9,5 @@ returns c =
       started.ensures.url,
       did.0,
       recorded _ _ _ did.1,
-      subst (λ r. Polls _ _ r (timeout_of r c.args.timeout) c.args.max_polls did.0 c.poll_with.result) started.ensures.new did.2,
+      Polls-equal _ _ c.args.timeout c.args.max_polls did.0 c.poll_with.result _ _ started.ensures.new did.2,
     )
