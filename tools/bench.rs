@@ -1,11 +1,12 @@
 //! The operations of `oauth2_bench` by the Rust crate `oauth2`: the same names, inputs and output.
 
+use chrono::{DateTime, Utc};
 use oauth2::basic::{BasicClient, BasicTokenIntrospectionResponse, BasicTokenResponse};
-use oauth2::http::Response;
+use oauth2::http::{Response, StatusCode};
 use oauth2::{
     AccessToken, AuthUrl, AuthorizationCode, ClientId, ClientSecret, CsrfToken, EndpointNotSet, EndpointSet,
     HttpRequest, HttpResponse, IntrospectionUrl, PkceCodeChallenge, PkceCodeVerifier, RedirectUrl, Scope,
-    TokenIntrospectionResponse, TokenResponse, TokenUrl,
+    StandardDeviceAuthorizationResponse, TokenIntrospectionResponse, TokenResponse, TokenUrl,
 };
 use std::cell::Cell;
 use std::convert::Infallible;
@@ -155,7 +156,34 @@ fn challenge(iterations: u64) -> (u128, (usize, usize)) {
     })
 }
 
-const NAMES: [&str; 14] = [
+const DEVICE: &str = "{\"device_code\":\"12345\",\"user_code\":\"abcde\",\"verification_uri\":\"https://verify/here\",\
+    \"expires_in\":3600,\"interval\":5}";
+
+fn device_poll(number: u32, iterations: u64) -> (u128, (usize, usize)) {
+    let device: StandardDeviceAuthorizationResponse = serde_json::from_str(DEVICE).unwrap();
+    let (client, sent, pending) = (client(), Cell::new(0), Cell::new(0));
+    let http = |request: HttpRequest| -> Result<HttpResponse, Infallible> {
+        sent.set(black_box(&request).body().len());
+        if pending.get() == 0 {
+            return Ok(Response::new(SHORT.as_bytes().to_vec()));
+        }
+        pending.set(pending.get() - 1);
+        let mut reply = Response::new(b"{\"error\":\"authorization_pending\"}".to_vec());
+        *reply.status_mut() = StatusCode::BAD_REQUEST;
+        Ok(reply)
+    };
+    timed(iterations, || {
+        pending.set(number);
+        let token: BasicTokenResponse = client
+            .exchange_device_access_token(&device)
+            .set_time_fn(DateTime::<Utc>::default)
+            .request(&http, |_| (), None)
+            .unwrap();
+        (sent.get(), token.access_token().secret().len())
+    })
+}
+
+const NAMES: [&str; 17] = [
     "a_code_exchange",
     "b_client_credentials_20_extra_5_scopes",
     "b_client_credentials_200_extra_5_scopes",
@@ -170,6 +198,9 @@ const NAMES: [&str; 14] = [
     "e_token_64kb_read_alone",
     "e_token_1mb_read_alone",
     "f_pkce_challenge_sha256",
+    "g_device_poll_10_pending",
+    "g_device_poll_100_pending",
+    "g_device_poll_1000_pending",
 ];
 
 fn measure(name: &str, iterations: u64) -> (u128, (usize, usize)) {
@@ -188,6 +219,9 @@ fn measure(name: &str, iterations: u64) -> (u128, (usize, usize)) {
         "e_token_64kb_read_alone" => token_reading(64 << 10, iterations),
         "e_token_1mb_read_alone" => token_reading(1 << 20, iterations),
         "f_pkce_challenge_sha256" => challenge(iterations),
+        "g_device_poll_10_pending" => device_poll(10, iterations),
+        "g_device_poll_100_pending" => device_poll(100, iterations),
+        "g_device_poll_1000_pending" => device_poll(1000, iterations),
         _ => std::process::exit(2),
     }
 }

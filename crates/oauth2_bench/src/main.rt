@@ -13,6 +13,7 @@ mod challenge;
 mod client_credentials;
 mod clients;
 mod code_exchange;
+mod device_poll;
 mod fault;
 mod inputs;
 mod introspection_request;

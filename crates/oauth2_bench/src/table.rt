@@ -4,6 +4,7 @@ use crate::authorization_url::AuthorizationUrl;
 use crate::challenge::Challenge;
 use crate::client_credentials::ClientCredentials;
 use crate::code_exchange::CodeExchange;
+use crate::device_poll::DevicePoll;
 use crate::fault::Fault;
 use crate::inputs::{introspection, long_token, params, scopes, short_token};
 use crate::introspection_request::IntrospectionRequest;
@@ -13,7 +14,7 @@ use std::alloc::Global;
 use std::rt::Clock;
 
 /// Every operation.
-pub const NAMES: [&str; 14] = [
+pub const NAMES: [&str; 17] = [
     "a_code_exchange",
     "b_client_credentials_20_extra_5_scopes",
     "b_client_credentials_200_extra_5_scopes",
@@ -28,6 +29,9 @@ pub const NAMES: [&str; 14] = [
     "e_token_64kb_read_alone",
     "e_token_1mb_read_alone",
     "f_pkce_challenge_sha256",
+    "g_device_poll_10_pending",
+    "g_device_poll_100_pending",
+    "g_device_poll_1000_pending",
 ];
 
 const KILOBYTE: u32 = 1024;
@@ -60,6 +64,9 @@ impl<C: Clock> Bench<'_, C> {
             "e_token_64kb_read_alone" => self.token(64 * KILOBYTE),
             "e_token_1mb_read_alone" => self.token(MEGABYTE),
             "f_pkce_challenge_sha256" => self.challenge(),
+            "g_device_poll_10_pending" => self.device_poll(10),
+            "g_device_poll_100_pending" => self.device_poll(100),
+            "g_device_poll_1000_pending" => self.device_poll(1000),
             _ => Err(Fault::Arguments),
         }
     }
@@ -107,6 +114,12 @@ impl<C: Clock> Bench<'_, C> {
             TokenReading { body },
             self.iterations,
         )
+    }
+
+    fn device_poll(&self, pending: u32) -> Result<Run, Fault> {
+        let body = short_token(self.alloc)?;
+        let operation = DevicePoll::new(self.alloc, body, pending)?;
+        timed(self.clock, self.alloc, operation, self.iterations)
     }
 
     fn challenge(&self) -> Result<Run, Fault> {

@@ -1,0 +1,99 @@
+//! A poll for a device's token, from the call to the token.
+
+use crate::clients::{BenchClient, client};
+use crate::fault::Fault;
+use crate::operation::{Done, Operation};
+use jiff::Timestamp;
+use oauth2::basic::BasicTokenResponse;
+use oauth2::http::response::Parts;
+use oauth2::http::{Response, StatusCode};
+use oauth2::{
+    HttpRequest, HttpResponse, PollWorld, StandardDeviceAuthorizationResponse, TokenResponse,
+    read_body,
+};
+use std::alloc::{AllocError, Global};
+use std::time::Duration;
+
+const DEVICE: &str =
+    "{\"device_code\":\"12345\",\"user_code\":\"abcde\",\"verification_uri\":\"https://verify/here\",\"expires_in\":3600,\"interval\":5}";
+
+const PENDING: &str = "{\"error\":\"authorization_pending\"}";
+
+/// A world whose clock stands still, and whose user decides late.
+#[derive(Drop)]
+struct LateWorld {
+    alloc: Global,
+    /// The reply once the user has decided.
+    token: String,
+    /// How many replies still come before that.
+    pending: u32,
+    /// The length of the last request's body.
+    sent: usize,
+}
+
+fn reply(alloc: Global, status: StatusCode, body: &str) -> Result<HttpResponse, AllocError> {
+    let body = String::from_str(alloc, body)?;
+    let mut head = Parts::new(alloc);
+    head.status = status;
+    Ok(Response::from_parts(head, body.into_bytes()))
+}
+
+impl PollWorld for LateWorld {
+    type Error = AllocError;
+
+    fn now(&mut self) -> Timestamp {
+        Timestamp::UNIX_EPOCH
+    }
+
+    fn send(&mut self, request: HttpRequest) -> Result<HttpResponse, AllocError> {
+        self.sent = request.body().len();
+        if self.pending == 0 {
+            return reply(self.alloc, StatusCode::OK, self.token.as_str());
+        }
+        self.pending -= 1;
+        reply(self.alloc, StatusCode::BAD_REQUEST, PENDING)
+    }
+
+    fn sleep(&mut self, _duration: Duration) {}
+}
+
+/// A poll that is answered so often before the token comes.
+#[derive(Drop)]
+pub struct DevicePoll {
+    client: BenchClient,
+    device: StandardDeviceAuthorizationResponse,
+    world: LateWorld,
+    pending: u32,
+}
+
+impl DevicePoll {
+    /// The poll that this body answers, after so many replies that the user has not decided.
+    pub fn new(alloc: Global, token: String, pending: u32) -> Result<DevicePoll, Fault> {
+        Ok(DevicePoll {
+            client: client(alloc)?,
+            device: read_body(alloc, DEVICE.as_bytes())?,
+            world: LateWorld {
+                alloc,
+                token,
+                pending,
+                sent: 0,
+            },
+            pending,
+        })
+    }
+}
+
+impl Operation for DevicePoll {
+    fn run(&mut self, alloc: Global) -> Result<Done, Fault> {
+        self.world.pending = self.pending;
+        let polls = self.pending as u64 + 1;
+        let token: BasicTokenResponse = self
+            .client
+            .exchange_device_access_token(alloc, &self.device)
+            .poll_with(alloc, &mut self.world, None, polls)?;
+        Ok(Done {
+            sent: self.world.sent,
+            read: token.access_token().secret().len(),
+        })
+    }
+}
