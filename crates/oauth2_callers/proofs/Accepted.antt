@@ -3,7 +3,10 @@ use Rattle.std.proofs.Common.{◌≡◌, ℕ, List, Option, Some, None, Ok, Err,
 use Rattle.std.specs.Prelude.{Result, IfOk, IfSome, IfNone}
 use Rattle.oauth2.specs.NewRequest.{new_code_request}
 use Rattle.oauth2.specs.Settings.{Settings}
-use Rattle.oauth2_requests.specs.Code.{CodeRequest}
+use Rattle.serde_json.specs.Data.{Data}
+use Rattle.oauth2_json.specs.Reading.{Reading}
+use Rattle.oauth2_requests.specs.Code.{CodeRequest, code_configuration}
+use Rattle.oauth2_requests.specs.Once.{AsksOnce}
 use Rattle.oauth2_urls.specs.Addressed.{Addressed}
 use Rattle.oauth2_wire.specs.Reply.{HttpResponse, Answer, accepted}
 use Rattle.oauth2_wire.specs.OneShot.{HttpRequest, OneShot}
@@ -29,3 +32,11 @@ pub rule-started : (client : Settings) (code : List ℕ) (url : Option Addressed
     → IfSome url (λ u. started ≡ new_code_request client u code) → IfNone url ⊥ → started.base.reply_rule ≡ client.reply_rule
 rule-started client code (Some u) started there missing = ap (λ (r : CodeRequest). r.base.reply_rule) there
 rule-started client code None started there missing = absurd missing
+
+module _ {D A T E RE C : Type 0} {meaning : D → A} {error_meaning : T → E} (reading : Data → Reading A) (error_reading : Data → Reading E) (step : C → HttpRequest → Result HttpResponse RE → C → Type 0) {before after : C} {result : Result D (RequestTokenError RE T)} where
+  -- exchanges of a code that are equal are asked for alike
+  pub AsksOnce-equal : (a b : CodeRequest) → a ≡ b
+      → AsksOnce meaning error_meaning reading error_reading step a.base.reply_rule (code_configuration a) a.token_url before result after
+      → AsksOnce meaning error_meaning reading error_reading step b.base.reply_rule (code_configuration b) b.token_url before result after
+  AsksOnce-equal a b a_is_b asks =
+      subst (λ r. AsksOnce meaning error_meaning reading error_reading step r.base.reply_rule (code_configuration r) r.token_url before result after) a_is_b asks

@@ -12,8 +12,10 @@ use Rattle.oauth2_wire.specs.OneShot.{HttpRequest}
 use Rattle.oauth2_wire.specs.Reply.{HttpResponse, accepted, answer_of, reply_of}
 use Rattle.oauth2_wire.specs.Request.{IsRequestOf, view_of}
 use Rattle.oauth2_wire.specs.Texts.{given_text}
+use Rattle.oauth2_wire.specs.declared.error.RequestTokenError.{RequestTokenError}
 use Rattle.oauth2_requests.specs.Base.{configuration_of}
 use Rattle.oauth2_requests.specs.Code.{code_pairs}
+use Rattle.oauth2_requests.specs.Once.{AsksOnce}
 use Rattle.oauth2.specs.NewRequest.{base_of}
 use Rattle.oauth2.specs.Settings.{Settings}
 
@@ -56,3 +58,13 @@ module _ {A E RE C : Type 0} where
       × IsRequestOf (configuration_of (base_of client) (code_pairs code (Some verifier)) client.redirect_url) (serialize endpoint.url) (view_of request))
       × (reply : HttpResponse) × step before request (Ok reply) after
       × (answer_of client.reply_rule reading error_reading (reply_of reply) ≡ accepted response)
+
+module _ {D A T E RE C : Type 0} where
+  -- the exchange of this code with this verifier is asked for at most once, and this is its result
+  abbrev pub IsExchange : (D → A) → (T → E) → (Data → Reading A) → (Data → Reading E)
+      → (C → HttpRequest → Result HttpResponse RE → C → Type 0) → Settings → List ℕ → List ℕ
+      → C → Result D (RequestTokenError RE T) → C → Type 0
+  IsExchange meaning error_meaning reading error_reading step client verifier code before result after =
+      (endpoint : Addressed) × (client.token_url ≡ Some endpoint)
+      × AsksOnce meaning error_meaning reading error_reading step client.reply_rule
+      (configuration_of (base_of client) (code_pairs code (Some verifier)) client.redirect_url) endpoint before result after

@@ -1,14 +1,14 @@
 //! A login with OpenID Connect (Core 1.0, section 3.1), as an application has it in a crate of its
 //! own: the provider's `id_token` beside the access token, and a `nonce` in the login's URL.
 
-ghost use Rattle.std.specs.Prelude.{◌≡◌, ◌↔◌, Some, None, Err, IfOk, IfErr, true, false, string_bytes};
+ghost use Rattle.std.specs.Prelude.{◌≡◌, ◌↔◌, Some, None, Err, IfOk, IfErr, IsSome, true, false, string_bytes};
 ghost use Rattle.rand_core.specs.Stream.{Stream};
 ghost use Rattle.url.specs.Parser.{IsOutOfRoom};
 ghost use Rattle.oauth2_types.specs.Digest.{digest_eq};
 ghost use Rattle.oauth2_types.specs.Pkce.{IsRandomText};
 ghost use Rattle.oauth2_urls.specs.Addressed.{Addressed};
 ghost use Rattle.oauth2_requests.specs.Query.{ExtendsQuery};
-ghost use Rattle.oauth2_callers.specs.Login.{IsAnsweredBy, id_token_in, openid_pairs};
+ghost use Rattle.oauth2_callers.specs.Login.{IsAnsweredBy, IsExchange, id_token_in, openid_pairs};
 
 use crate::application::{IdentityTokenResponse, id_token};
 use oauth2::basic::{
@@ -127,6 +127,14 @@ pub fn finish_login<C: SyncHttpClient>(
         × IsAnsweredBy ⟦<IdentityTokenResponse as FromJson>⟧.reading ⟦<BasicErrorResponse as FromJson>⟧.reading C.step
         client.now login.verifier (string_bytes code) http_client.old response http_client.new
         × (id_token_in response.extra_fields ≡ None) }
+    ensures token { (error : _) → result ≡ Err (LoginError.Token error)
+        → IsExchange ⟦<IdentityTokenResponse as FromJson>⟧.meaning ⟦<BasicErrorResponse as FromJson>⟧.meaning
+        ⟦<IdentityTokenResponse as FromJson>⟧.reading ⟦<BasicErrorResponse as FromJson>⟧.reading C.step
+        client.now login.verifier (string_bytes code) http_client.old (Err error) http_client.new }
+    ensures memory { result ≡ Err LoginError.Memory → (response : ⟦<IdentityTokenResponse as FromJson>⟧.Meaning)
+        × IsAnsweredBy ⟦<IdentityTokenResponse as FromJson>⟧.reading ⟦<BasicErrorResponse as FromJson>⟧.reading C.step
+        client.now login.verifier (string_bytes code) http_client.old response http_client.new
+        × IsSome (id_token_in response.extra_fields) }
     ensures ready { C.is_ready http_client.new }
 {
     if state != login.state {
@@ -152,6 +160,9 @@ fn exchanged<C: SyncHttpClient>(
         ⟦<IdentityTokenResponse as FromJson>⟧.reading ⟦<BasicErrorResponse as FromJson>⟧.reading C.step
         client.now verifier (string_bytes code) http_client.old
         (⟦<IdentityTokenResponse as FromJson>⟧.meaning token) http_client.new) }
+    ensures exchange { IsExchange ⟦<IdentityTokenResponse as FromJson>⟧.meaning ⟦<BasicErrorResponse as FromJson>⟧.meaning
+        ⟦<IdentityTokenResponse as FromJson>⟧.reading ⟦<BasicErrorResponse as FromJson>⟧.reading C.step
+        client.now verifier (string_bytes code) http_client.old result http_client.new }
     ensures ready { C.is_ready http_client.new }
 {
     client

@@ -1,5 +1,5 @@
 -- The request of a keeper is that of its configuration.
-use Rattle.std.proofs.Common.{rules, ◌≡◌, ℕ, List, Option, Some, None, Result, Ok, Err, subst, sym, ap, ◌∙◌, refl, inl, inr}
+use Rattle.std.proofs.Common.{rules, ◌≡◌, ℕ, List, Option, Some, None, Result, Ok, Err, subst, sym, ap, refl, inl, inr}
 use Rattle.std.specs.Prelude.{ℤ, false, IsSomeAnd, option_map}
 use Rattle.oauth2_urls.specs.Addressed.{Addressed}
 use Rattle.oauth2_wire.specs.declared.content_type.ReplyRule.{ReplyRule}

@@ -1,6 +1,5 @@
 //! Extra fields that are a struct: an optional shape and a height.
 
-ghost use Rattle.std.specs.Prelude.{option_map, string_bytes};
 ghost use Rattle.oauth2_json.specs.Reading.{ReadsAs};
 ghost use Rattle.oauth2_own_types.specs.Fields.{Fields, fields_seen, fields_members, fields_reading, fields_writing, height_of};
 

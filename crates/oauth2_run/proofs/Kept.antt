@@ -1,31 +1,31 @@
 -- What the calls of a keeper add to the lines of a run.
-use Rattle.std.proofs.Common.{◌≡◌, ◌⊎◌, ℕ, ℤ, List, [], ◌∷◌, ◌++◌, Bool, true, false, Option, Some, None, Result, Ok, Err, string_bytes, inl, inr, refl, ap, sym, subst, ◌∙◌, append_assoc, append-nil, ◌+◌, ◌<◌, length, take, get_or, map}
+use Rattle.std.proofs.Common.{◌≡◌, ℕ, ℤ, List, [], ◌∷◌, ◌++◌, true, false, Option, Some, None, Result, Ok, Err, string_bytes, inl, inr, refl, ap, sym, subst, ◌∙◌, append_assoc, append-nil, ◌+◌, ◌<◌, length, take, get_or, map}
 use Rattle.std.specs.Prelude.{IsSomeAnd, IsTrue, option_map}
 use Rattle.http_uri.specs.Uri.{SpellsNone, uri_text}
 use Rattle.std.proofs.lemmas.List.{map_more}
 use Rattle.jiff.specs.Types.{Timestamp}
 use Rattle.url.specs.Parts.{serialize}
-use Rattle.oauth2_codes.specs.ErrorCodes.{error_code, error_code_text}
+use Rattle.oauth2_codes.specs.ErrorCodes.{error_code}
 use Rattle.oauth2_codes.specs.ErrorResponse.{parts_of}
 use Rattle.oauth2_urls.specs.Addressed.{Addressed}
-use Rattle.oauth2_wire.specs.OneShot.{HttpRequest, not_http_text, AnswersUnsent, AnswersTo}
-use Rattle.oauth2_wire.specs.Reply.{HttpResponse, ReplyView, reply_of, accepted as says_accepted, ShowsAnswer}
+use Rattle.oauth2_wire.specs.OneShot.{HttpRequest, not_http_text, AnswersUnsent}
+use Rattle.oauth2_wire.specs.Reply.{HttpResponse, reply_of, ShowsAnswer}
 use Rattle.oauth2_wire.specs.Request.{IsRequestOf, view_of}
 use Rattle.oauth2_wire.specs.declared.error.RequestTokenError.TheVariants.{ServerResponse, Request, Parse, Other, Memory}
 use Rattle.oauth2_wire.specs.declared.request.RequestFault.TheVariants as fault
-use Rattle.oauth2_keeper.specs.Keeper.{Keeper, AcceptedToken, Given, Outcome, quiet, accepted, failed, is_good, accept, renewal, Renews, Calls}
+use Rattle.oauth2_keeper.specs.Keeper.{Keeper, AcceptedToken, quiet, accepted, failed, is_good, accept, renewal, Calls}
 use Rattle.oauth2.specs.Settings.{Settings}
 use Rattle.oauth2_script.specs.KeeperParams.{KeeperParams}
 use Rattle.oauth2_script.specs.Replies.{Reply}
 use Rattle.oauth2_run.specs.Client.{WithEndpoint, WithToken, missing}
 use Rattle.oauth2_run.specs.Exchange.{other_text, token_answer}
-use Rattle.oauth2_run.specs.Keeper.{Standing, IsCall, IsRenewal, IsSentAt, AreCalls, IsKeeperOutput, given_in, kept_after_reply, renewal_output, both, joined, nothing}
+use Rattle.oauth2_run.specs.Keeper.{Standing, IsCall, IsRenewal, IsSentAt, AreCalls, IsKeeperOutput, kept_after_reply, renewal_output, both, joined, nothing}
 use Rattle.oauth2_run.specs.Lines.{expected_lines, quoted}
 use Rattle.oauth2_run.specs.Out.{Output, after, answered, failed as shown_fault, starved}
 use Rattle.oauth2_run.specs.private.Added.{Adds, Prints}
 use Rattle.oauth2_run.specs.private.Asked.{AsksForToken}
 use Rattle.oauth2_run.specs.private.Kept.{standing, told_by, AreKept, ShowsCall}
-use Rattle.oauth2_run.specs.private.Replay.{Replays, replied, replies_of}
+use Rattle.oauth2_run.specs.private.Replay.{Replays, replies_of}
 use Rattle.oauth2_run.specs.private.Results.{Fault, TokenSeen, token_meaning, error_seen, fault_output}
 use Rattle.oauth2_run.specs.Replies.{next_reply, later_replies}
 use Rattle.oauth2_run.specs.declared.replay.NoReply.{NoReply}

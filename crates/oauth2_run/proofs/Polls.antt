@@ -1,5 +1,5 @@
 -- What a poll in the scripted world adds to its lines.
-use Rattle.std.proofs.Common.{◌≡◌, ◌⊎◌, inl, inr, ℕ, List, [], ◌∷◌, ◌++◌, length, map, Bool, true, false, Option, Some, None, Result, Ok, Err, string_bytes, codes, refl, sym, ap, ◌∙◌, append_assoc, append-nil}
+use Rattle.std.proofs.Common.{◌≡◌, ◌⊎◌, inl, inr, ℕ, List, [], ◌∷◌, ◌++◌, length, map, true, false, Option, Some, None, Result, Ok, Err, string_bytes, codes, refl, sym, ap, ◌∙◌, append_assoc, append-nil}
 use Rattle.std.specs.Prelude.{IsErrAnd}
 use Rattle.std.specs.Duration.{as_nanos}
 use Rattle.std.specs.declared.time.Duration.{Duration}
@@ -10,7 +10,6 @@ use Rattle.oauth2_codes.specs.Codes.{token_code_reading}
 use Rattle.oauth2_replies.specs.Kept.{any_object}
 use Rattle.oauth2_replies.specs.Token.{token_reading}
 use Rattle.oauth2_wire.specs.declared.content_type.ReplyRule.{ReplyRule}
-use Rattle.oauth2_wire.specs.Expected.{Configuration}
 use Rattle.oauth2_wire.specs.OneShot.{HttpRequest, not_http_text}
 use Rattle.oauth2_wire.specs.Reply.{HttpResponse, Answer, ReplyView, reply_of}
 use Rattle.oauth2_wire.specs.Request.{view_of}
@@ -20,13 +19,13 @@ use Rattle.oauth2_poll.specs.Trace as trace
 use Rattle.oauth2_poll.specs.Trace.{Ending, TooLong, OutOfRange, Late, Decided, Limited, readings_in, answers_in}
 use Rattle.oauth2_device.specs.DeviceToken.{DeviceToken, device_token_configuration}
 use Rattle.oauth2_device.specs.Events.{Event, Reading, Sent, Slept, Leads, EachRequest, last_reply}
-use Rattle.oauth2_device.specs.Poll.{DeviceError, device_answer, device_error, class_of, plain, input_of, IsDeviceRequest, SaysOther, SaysExpired, IsAnswerAt, IsWhole, IsCutShort, IsUnsendable, IsPoll, Polls}
-use Rattle.oauth2_run.specs.Clock.{reading_of, after_reading, readings_of}
+use Rattle.oauth2_device.specs.Poll.{DeviceError, device_answer, device_error, class_of, plain, input_of, IsDeviceRequest, SaysOther, SaysExpired, IsAnswerAt, IsPoll, Polls}
+use Rattle.oauth2_run.specs.Clock.{reading_of, readings_of}
 use Rattle.oauth2_run.specs.DevicePoll.{calls_of, last_call, poll_answer, class_of_call, AreLinesOf, device_error_display, shown_at, IsPolled}
 use Rattle.oauth2_run.specs.Exchange.{BasicToken, other_text, token_json}
 use Rattle.oauth2_run.specs.Lines.{expected_lines, sleep_line}
 use Rattle.oauth2_run.specs.Out.{Output, after, failed, starved}
-use Rattle.oauth2_run.specs.Replies.{next_reply, later_replies}
+use Rattle.oauth2_run.specs.Replies.{next_reply}
 use Rattle.oauth2_run.specs.private.Added.{Prints as PrintsOutput, Adds}
 use Rattle.oauth2_run.specs.private.Replay.{ReplaysOrStarves, replied, replies_of}
 use Rattle.oauth2_run.specs.private.Results.{TokenSeen, token_meaning, DeviceFault, poll_output}

@@ -1,7 +1,6 @@
 -- What only private clauses cite.
 pub mod Added
 pub mod Asked
-pub mod Authorize
 pub mod Extra
 pub mod Kept
 pub mod Replay

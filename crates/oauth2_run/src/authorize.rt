@@ -1,10 +1,10 @@
 //! The command `authorize`: the URL to send a user to.
 
-ghost use Rattle.std.specs.Prelude.{◌≡◌, ◌++◌, Some, IfSome, IfNone, IsOkAnd, IsErrAnd, OnOk, IfOk, codes, map, option_map, unwrap_or, string_bytes};
+ghost use Rattle.std.specs.Prelude.{◌≡◌, ◌++◌, Some, IfSome, IfNone, IsOkAnd, IsErrAnd, OnOk, IfOk, codes, map, unwrap_or, string_bytes};
 ghost use Rattle.oauth2_wire.specs.ServerView.{pair_texts};
 ghost use Rattle.oauth2_wire.specs.ConfigurationError.{IsMissingUrl};
 ghost use Rattle.oauth2_run.specs.Authorize as spec;
-ghost use Rattle.oauth2_run.specs.private.Authorize as private_spec;
+ghost use Rattle.oauth2.specs.NewRequest.{new_authorization};
 ghost use Rattle.oauth2_run.specs.Client.{given_or};
 ghost use Rattle.oauth2_run.specs.private.Added.{Adds};
 ghost use Rattle.oauth2_script.specs.Views.{authorize_view};
@@ -25,7 +25,7 @@ fn start<'a>(
     client: &'a ScriptClient,
     state: CsrfToken,
 ) -> Result<AuthorizationRequest<'a>, ConfigurationError>
-    ensures there { IfSome client.now.auth_url (λ url. IsOkAnd result (λ r. r ≡ private_spec.new_authorization client.now url state)) }
+    ensures there { IfSome client.now.auth_url (λ url. IsOkAnd result (λ r. r ≡ new_authorization client.now url state)) }
     ensures missing { IfNone client.now.auth_url (IsErrAnd result (IsMissingUrl (codes "authorization"))) }
 {
     client.authorize_url(alloc, move || state)

@@ -2,7 +2,7 @@
 
 ghost use Rattle.std.specs.Prelude.{◌≡◌, ◌++◌, string_bytes, IfOk, OnOk, map, option_map, option_copied};
 ghost use Rattle.std.specs.Duration.{as_nanos};
-ghost use Rattle.oauth2_wire.specs.Request.{view_of, authorization_of};
+ghost use Rattle.oauth2_wire.specs.Request.{view_of};
 ghost use Rattle.oauth2_wire.specs.ServerView.{pair_texts};
 ghost use Rattle.oauth2_run.specs.Lines as spec;
 ghost use Rattle.oauth2_run.specs.private.RequestLines as private_spec;

@@ -1,5 +1,5 @@
 -- One call of a script's keeper.
-use Rattle.std.specs.Prelude.{◌≡◌, ℕ, ℤ, List, IsSomeAnd, Result, Ok, Err}
+use Rattle.std.specs.Prelude.{ℕ, ℤ, List, IsSomeAnd, Result, Ok, Err}
 use Rattle.oauth2.specs.Settings.{Settings}
 use Rattle.oauth2_keeper.specs.Keeper.{Keeper, Given}
 use Rattle.oauth2_script.specs.KeeperParams.{KeeperParams}

@@ -4,7 +4,7 @@ use Rattle.std.proofs.lemmas.Result.{IfOk-weaker}
 use Rattle.oauth2_requests.specs.Authorization.{Authorization}
 use Rattle.oauth2_script.specs.AuthorizeParams.{AuthorizeParams}
 use Rattle.oauth2_run.specs.Authorize.{authorization, IsUrlShown}
-use Rattle.oauth2_run.specs.private.Authorize.{new_authorization}
+use Rattle.oauth2.specs.NewRequest.{new_authorization}
 use Rattle.oauth2_run.specs.Client.{given_or}
 use Rattle.oauth2_script.specs.Views.{authorize_view}
 use Rattle.oauth2_run.proofs.Commands.{given_or-none, missing_told, command_told}

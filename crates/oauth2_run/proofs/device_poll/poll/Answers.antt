@@ -1,4 +1,4 @@
-use Rattle.std.proofs.Common.{◌≡◌, string_bytes}
+use Rattle.std.proofs.Common.{string_bytes}
 use Rattle.std.specs.Int.NonZero.{non_zero_u64_get}
 use Rattle.std.proofs.lemmas.Result.{IfOk-weaker}
 use Rattle.oauth2_device.specs.Poll.{timeout_of}
