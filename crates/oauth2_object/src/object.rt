@@ -103,7 +103,7 @@ fn of_text<'a>(
 }
 
 /// The members of a text that is an object. The reader's buffer, as long as the text, is let go
-/// before a text is copied.
+/// before a text that stands in the body is copied.
 fn found_in<'a>(
     alloc: Global,
     text: &'a str,
