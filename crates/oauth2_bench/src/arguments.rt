@@ -19,12 +19,14 @@ pub fn asked_mode(rt: &HostRuntime) -> Result<Mode, Fault> {
     let Some(option) = arguments.next() else {
         return Ok(Mode::Plain);
     };
-    let (Some(name), Some(number)) = (arguments.next(), arguments.next()) else {
+    let (Some(mut name), Some(number)) = (arguments.next(), arguments.next()) else {
         return Err(Fault::Arguments);
     };
     if option.as_str() != "--time" {
         return Err(Fault::Arguments);
     }
+    // The name is held while the operation runs, and was read into more room than it needs.
+    name.shrink_to_fit();
     match number.as_str().parse::<u64>() {
         Ok(iterations) => Ok(Mode::Time { name, iterations }),
         Err(_) => Err(Fault::Arguments),

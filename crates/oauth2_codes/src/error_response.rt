@@ -10,7 +10,7 @@ use crate::device_error::DeviceCodeErrorResponseType;
 use crate::error_traits::{ErrorResponse, ErrorResponseType};
 use crate::revocation_error::RevocationErrorResponseType;
 use oauth2_json::{FromJson, ReadError, ToJson, WriteError, members};
-use oauth2_object::{Object, Scratch};
+use oauth2_object::Object;
 use oauth2_types::TryClone;
 use serde_json::{Map, Value};
 use std::alloc::{AllocError, Global};
@@ -78,9 +78,8 @@ impl<T: FromJson + Drop> FromJson for StandardErrorResponse<T> {
     }
 
     fn from_body(alloc: Global, bytes: &[u8]) -> Result<StandardErrorResponse<T>, ReadError> {
-        let mut scratch = Scratch::new(alloc);
         let names = ["error", "error_description", "error_uri"];
-        let members = Object::of_body(alloc, bytes, &mut scratch, &names, false)?;
+        let members = Object::of_body(alloc, bytes, &names, false)?;
         from_members(alloc, members)
     }
 }

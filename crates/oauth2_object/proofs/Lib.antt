@@ -1,4 +1,5 @@
 pub mod Conversions
+pub mod Finding
 pub mod Keeping
 pub mod Taking
 pub mod Turns

@@ -95,7 +95,7 @@ whole_object (Some (ms, t ∷ ts)) = and_more (of_members ms no_members) t ts
 
 -- ---- members that were read
 
-put_each-append : (es : List (List ℕ × Option Data)) (e : List ℕ × Option Data) (ms : Members) → put_each (es ++ e ∷ []) ms ≡ put_some e.0 e.1 (put_each es ms)
+pub put_each-append : (es : List (List ℕ × Option Data)) (e : List ℕ × Option Data) (ms : Members) → put_each (es ++ e ∷ []) ms ≡ put_some e.0 e.1 (put_each es ms)
 put_each-append [] e ms = refl
 put_each-append (f ∷ es) e ms = put_each-append es e (put_some f.0 f.1 ms)
 

@@ -1,3 +1,4 @@
 -- What only private clauses and lemmas cite.
+pub mod Found
 pub mod Taken
 pub mod Texts

@@ -9,7 +9,10 @@ ghost use Rattle.oauth2_json.specs.Body.{body_reading, value_reading};
 ghost use Rattle.oauth2_json.specs.Members.{members_of_object, without};
 ghost use Rattle.oauth2_json.specs.Reading.{ReadsAs};
 ghost use Rattle.oauth2_object.specs.Object.{object_members, KeptAs};
+ghost use Rattle.oauth2_object.specs.private.Found.{found_members};
+ghost use Rattle.oauth2_object.specs.private.Texts.{IfFound};
 
+use crate::found::{self, Found};
 use crate::member::{self, Member};
 use crate::text;
 use json::{Reader, Scratch, Token};
@@ -46,7 +49,6 @@ impl<'a> Object<'a> {
     pub fn of_body(
         alloc: Global,
         bytes: &'a [u8],
-        scratch: &'a mut Scratch,
         names: &[&str],
         keeps_others: bool,
     ) -> Result<Object<'a>, ReadError>
@@ -54,7 +56,7 @@ impl<'a> Object<'a> {
             (body_reading members_of_object bytes.now) }
     {
         match std::str::from_utf8(bytes) {
-            Ok(text) => of_text(alloc, text, scratch, names, keeps_others),
+            Ok(text) => of_text(alloc, text, names, keeps_others),
             Err(_) => Err(ReadError::whole(alloc, ParseCause::NotJson)),
         }
     }
@@ -86,22 +88,37 @@ impl<'a> Object<'a> {
 fn of_text<'a>(
     alloc: Global,
     text: &'a str,
-    scratch: &'a mut Scratch,
     names: &[&str],
     keeps_others: bool,
 ) -> Result<Object<'a>, ReadError>
     ensures { KeptAs object_members (map (λ k. k.now) names.now) keeps_others result
         (value_reading members_of_object (read text.now)) }
 {
-    let mut reader = Reader::new(text, scratch)?;
+    match found_in(alloc, text, names, keeps_others)? {
+        Some(list) => Ok(Object {
+            source: Source::List(found::members(alloc, list)?),
+        }),
+        None => through_value(alloc, text),
+    }
+}
+
+/// The members of a text that is an object. The reader's buffer, as long as the text, is let go
+/// before a text that stands in the body is copied.
+fn found_in<'a>(
+    alloc: Global,
+    text: &'a str,
+    names: &[&str],
+    keeps_others: bool,
+) -> Result<Option<Vec<Found<'a>>>, ReadError>
+    ensures { IfFound result (λ found. KeptAs (λ list. found_members list.items)
+        (map (λ k. k.now) names.now) keeps_others found
+        (value_reading members_of_object (read text.now))) }
+{
+    let mut scratch = Scratch::new(alloc);
+    let mut reader = Reader::new(text, &mut scratch)?;
     match reader.next() {
-        Some(Token::BeginObject) => {
-            let list = text::to_end(alloc, &mut reader, names, keeps_others)?;
-            Ok(Object {
-                source: Source::List(list),
-            })
-        }
-        _ => through_value(alloc, text),
+        Some(Token::BeginObject) => text::to_end(alloc, text, &mut reader, names, keeps_others),
+        _ => Ok(None),
     }
 }
 

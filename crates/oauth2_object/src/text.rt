@@ -4,63 +4,72 @@ ghost use Rattle.std.specs.Prelude.{◌≡◌, ◌<◌, ◌||◌, length, map, o
 ghost use Rattle.json.specs.Json.{read_key, value, members};
 ghost use Rattle.serde_json.specs.Data.{no_members};
 ghost use Rattle.serde_json.specs.Read.{of_json, of_members, converted};
-ghost use Rattle.serde_json.specs.View.{view};
 ghost use Rattle.oauth2_json.specs.Reading.{ReadsAs};
-ghost use Rattle.oauth2_object.specs.Object.{members_in, has_name, KeptAs};
-ghost use Rattle.oauth2_object.specs.private.Texts.{or_not_json, at_end, StopsAs};
+ghost use Rattle.oauth2_object.specs.Object.{has_name, KeptAs};
+ghost use Rattle.oauth2_object.specs.private.Found.{held_view, found_members};
+ghost use Rattle.oauth2_object.specs.private.Texts.{or_not_json, at_end, IfFound, StopsAs};
 
-use crate::member::Member;
+use crate::found::{Found, Held, hold, in_body};
 use crate::nested;
 use json::{Error, Reader};
 use oauth2_json::{ParseCause, ReadError};
-use serde_json::Value;
 use std::alloc::Global;
 
 /// How deep a member of the object may nest: the whole text nests to 127.
 const DEPTH: usize = 126;
 
-/// The members of the object that the reader stands in, where nothing follows it: those of these
-/// names, and the others where they are kept too.
+/// The members of the object that the reader of this body stands in, where nothing follows it:
+/// those of these names, and the others where they are kept too. None where such a name is written
+/// by escapes.
 pub(crate) fn to_end<'a>(
     alloc: Global,
-    reader: &mut Reader<'a>,
+    body: &'a str,
+    reader: &mut Reader<'_>,
     names: &[&str],
     keeps_others: bool,
-) -> Result<Vec<Member<'a>>, ReadError>
-    ensures { KeptAs (λ list. members_in list.items) (map (λ k. k.now) names.now) keeps_others result
+) -> Result<Option<Vec<Found<'a>>>, ReadError>
+    ensures { IfFound result (λ found. KeptAs (λ list. found_members list.items)
+        (map (λ k. k.now) names.now) keeps_others found
         (or_not_json (at_end (converted (λ ms. of_members ms no_members)
-        (members (value 126) (length reader.old) reader.old)))) }
+        (members (value 126) (length reader.old) reader.old))))) }
 {
-    let list = to_brace(alloc, reader, names, keeps_others)?;
+    let Some(list) = to_brace(alloc, body, reader, names, keeps_others)? else {
+        return Ok(None);
+    };
     if reader.next().is_some() {
         return Err(ReadError::whole(alloc, ParseCause::NotJson));
     }
-    Ok(list)
+    Ok(Some(list))
 }
 
 fn to_brace<'a>(
     alloc: Global,
-    reader: &mut Reader<'a>,
+    body: &'a str,
+    reader: &mut Reader<'_>,
     names: &[&str],
     keeps_others: bool,
-) -> Result<Vec<Member<'a>>, ReadError>
-    ensures { StopsAs (λ list. members_in list.items) (map (λ k. k.now) names.now) keeps_others
-        reader.new result (or_not_json (converted (λ ms. of_members ms no_members)
-        (members (value 126) (length reader.old) reader.old))) }
+) -> Result<Option<Vec<Found<'a>>>, ReadError>
+    ensures { IfFound result (λ found. StopsAs (λ list. found_members list.items)
+        (map (λ k. k.now) names.now) keeps_others reader.new found
+        (or_not_json (converted (λ ms. of_members ms no_members)
+        (members (value 126) (length reader.old) reader.old)))) }
 {
     let mut list = Vec::with_capacity(alloc, names.len())?;
-    'members: while let Some(name) = next_name(alloc, reader)? {
+    'members: while let Some((place, name)) = next_name(alloc, reader)? {
         if is_kept(name, names, keeps_others) {
-            let value = next_value(alloc, reader)?;
-            list.push(Member {
-                name,
-                value: Some(value),
+            let Some(name_there) = in_body(body, place, name) else {
+                return Ok(None);
+            };
+            let held = next_held(alloc, body, reader)?;
+            list.push(Found {
+                name: name_there,
+                held,
             })?;
         } else {
             pass_value(alloc, reader)?;
         }
     }
-    Ok(list)
+    Ok(Some(list))
 }
 
 fn is_kept(name: &str, names: &[&str], keeps_others: bool) -> bool
@@ -77,23 +86,34 @@ fn is_kept(name: &str, names: &[&str], keeps_others: bool) -> bool
     false
 }
 
-fn next_name<'a>(alloc: Global, reader: &mut Reader<'a>) -> Result<Option<&'a str>, ReadError>
-    ensures { ReadsAs (λ name. (option_map (λ s. s.now) name, reader.new)) result
+/// The next name, and the place that the reader says it has.
+fn next_name<'a>(
+    alloc: Global,
+    reader: &mut Reader<'a>,
+) -> Result<Option<(usize, &'a str)>, ReadError>
+    ensures { ReadsAs (λ found. (option_map (λ p. p.1.now) found, reader.new)) result
         (or_not_json (read_key reader.old)) }
 {
+    let place = reader.offset();
     match reader.next_key() {
-        Ok(name) => Ok(name),
+        Ok(Some(name)) => Ok(Some((place, name))),
+        Ok(None) => Ok(None),
         Err(_) => Err(ReadError::whole(alloc, ParseCause::NotJson)),
     }
 }
 
-fn next_value(alloc: Global, reader: &mut Reader<'_>) -> Result<Value, ReadError>
-    ensures read { ReadsAs (λ v. (view v, reader.new)) result
+fn next_held<'a>(
+    alloc: Global,
+    body: &'a str,
+    reader: &mut Reader<'_>,
+) -> Result<Held<'a>, ReadError>
+    ensures read { ReadsAs (λ h. (held_view h, reader.new)) result
         (or_not_json (converted of_json (value 126 reader.old))) }
     ensures shorter { OnOk result (length reader.new < length reader.old) }
 {
+    let place = reader.offset();
     match json::Value::read(alloc, reader, DEPTH) {
-        Ok(value) => nested::owned(alloc, &value),
+        Ok(value) => hold(alloc, body, place, &value),
         Err(Error::OutOfMemory) => Err(ReadError::Memory),
         Err(_) => Err(ReadError::whole(alloc, ParseCause::NotJson)),
     }

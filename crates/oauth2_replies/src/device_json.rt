@@ -18,7 +18,7 @@ use crate::device::{
     Addresses, Codes, DeviceAuthorizationResponse, ExtraDeviceAuthorizationFields, Times,
 };
 use oauth2_json::{FromJson, ReadError, ToJson, WriteError, members};
-use oauth2_object::{Object, Scratch};
+use oauth2_object::Object;
 use oauth2_types::VerificationUriComplete;
 use oauth2_urls::EndUserVerificationUrl;
 use serde_json::{Map, Value};
@@ -44,7 +44,6 @@ impl<EF: ExtraDeviceAuthorizationFields + Drop> FromJson for DeviceAuthorization
         alloc: Global,
         bytes: &[u8],
     ) -> Result<DeviceAuthorizationResponse<EF>, ReadError> {
-        let mut scratch = Scratch::new(alloc);
         let names = [
             "device_code",
             "user_code",
@@ -54,7 +53,7 @@ impl<EF: ExtraDeviceAuthorizationFields + Drop> FromJson for DeviceAuthorization
             "expires_in",
             "interval",
         ];
-        let members = Object::of_body(alloc, bytes, &mut scratch, &names, EF::reads_members())?;
+        let members = Object::of_body(alloc, bytes, &names, EF::reads_members())?;
         from_members(alloc, members)
     }
 }

@@ -17,7 +17,7 @@ use crate::scopes;
 use crate::token::ExtraTokenFields;
 use oauth2_codes::TokenType;
 use oauth2_json::{FromJson, ReadError, ToJson, WriteError, members};
-use oauth2_object::{Object, Scratch};
+use oauth2_object::Object;
 use oauth2_types::ClientId;
 use serde_json::{Map, Value};
 use std::alloc::{AllocError, Global};
@@ -43,7 +43,6 @@ impl<EF: ExtraTokenFields + Drop, TT: TokenType + Drop> FromJson
         alloc: Global,
         bytes: &[u8],
     ) -> Result<StandardTokenIntrospectionResponse<EF, TT>, ReadError> {
-        let mut scratch = Scratch::new(alloc);
         let names = [
             "active",
             "scope",
@@ -58,7 +57,7 @@ impl<EF: ExtraTokenFields + Drop, TT: TokenType + Drop> FromJson
             "iss",
             "jti",
         ];
-        let members = Object::of_body(alloc, bytes, &mut scratch, &names, EF::reads_members())?;
+        let members = Object::of_body(alloc, bytes, &names, EF::reads_members())?;
         from_members(alloc, members)
     }
 }

@@ -16,7 +16,7 @@ use crate::scopes;
 use crate::token::{ExtraTokenFields, StandardTokenResponse};
 use oauth2_codes::TokenType;
 use oauth2_json::{FromJson, ReadError, ToJson, WriteError, members};
-use oauth2_object::{Object, Scratch};
+use oauth2_object::Object;
 use oauth2_types::{AccessToken, RefreshToken, Scope};
 use serde_json::{Map, Value};
 use std::alloc::{AllocError, Global};
@@ -34,7 +34,6 @@ impl<EF: ExtraTokenFields + Drop, TT: TokenType + Drop> FromJson for StandardTok
     }
 
     fn from_body(alloc: Global, bytes: &[u8]) -> Result<StandardTokenResponse<EF, TT>, ReadError> {
-        let mut scratch = Scratch::new(alloc);
         let names = [
             "access_token",
             "token_type",
@@ -42,7 +41,7 @@ impl<EF: ExtraTokenFields + Drop, TT: TokenType + Drop> FromJson for StandardTok
             "refresh_token",
             "scope",
         ];
-        let members = Object::of_body(alloc, bytes, &mut scratch, &names, EF::reads_members())?;
+        let members = Object::of_body(alloc, bytes, &names, EF::reads_members())?;
         from_members(alloc, members)
     }
 }

@@ -21,3 +21,9 @@ at_end (Some (a, t ∷ ts)) = None
 abbrev pub StopsAs : {T : Type 0} → (T → Members) → List (List ℕ) → Bool → List Token → Result T ReadError → Reading (Members × List Token) → Type 0
 StopsAs meaning names with_others rest (Ok t) expected = (all : Members) × (expected ≡ Ok (all, rest)) × Keeps names with_others all (meaning t)
 StopsAs meaning names with_others rest (Err e) expected = ErrsAs e expected
+
+-- what was found, if it was looked for to the end
+abbrev pub IfFound : {A : Type 0} → Result (Option A) ReadError → (Result A ReadError → Type 0) → Type 0
+IfFound (Ok None) P = Unit {0}
+IfFound (Ok (Some a)) P = P (Ok a)
+IfFound (Err e) P = P (Err e)
