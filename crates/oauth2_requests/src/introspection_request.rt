@@ -10,7 +10,7 @@ ghost use Rattle.oauth2_requests.specs.Once.{AsksOnce};
 
 use crate::base_request::BaseRequest;
 use oauth2_codes::ErrorResponse;
-use oauth2_replies::TokenIntrospectionResponse;
+use oauth2_json::FromJson;
 use oauth2_types::AccessToken;
 use oauth2_urls::IntrospectionUrl;
 use oauth2_wire::{HttpRequest, ParamText, RequestFault, RequestTokenError, SyncHttpClient};
@@ -112,8 +112,8 @@ impl<'a, TE, TIR> IntrospectionRequest<'a, TE, TIR> {
     }
 }
 
-impl<'a, TE: ErrorResponse, TIR: TokenIntrospectionResponse> IntrospectionRequest<'a, TE, TIR> {
-    /// Sends the request, once, and reads its reply.
+impl<'a, TE: ErrorResponse, TIR: FromJson> IntrospectionRequest<'a, TE, TIR> {
+    /// Sends the request, once, and reads its reply, which may be of any type that is read from JSON.
     pub fn request<C: SyncHttpClient>(
         self,
         alloc: Global,
