@@ -36,7 +36,8 @@ impl<'a> Extensible<'a> for DeviceRequest<'a> {
 
     ghost none = { λ r. ap (λ (b : Base). record r { request = record r.request { base = b } }) (with_pairs-none r.request.base) };
 
-    ghost more = { λ r p q. ap (λ (b : Base). record r { request = record r.request { base = b } }) (with_pairs-more r.request.base p q) };
+    ghost more = { λ r p q. ap (λ (b : Base). record r { request = record r.request { base = b } })
+        (with_pairs-more r.request.base p q) };
 
     fn with_pair(self, name: &'a str, value: &'a str) -> Result<DeviceRequest<'a>, AllocError> {
         self.add_extra_param(ParamText::Borrowed(name), ParamText::Borrowed(value))

@@ -24,7 +24,8 @@ fn challenge_by_sha256(rt: HostRuntime) {
     is_shown_as(
         &rt,
         &challenge,
-        "PkceCodeChallenge { code_challenge: \"E9Melhoa2OwvFrEMTJguCHaoeK1t8URWbuGJSstw-cM\", code_challenge_method: PkceCodeChallengeMethod(\"S256\") }",
+        "PkceCodeChallenge { code_challenge: \"E9Melhoa2OwvFrEMTJguCHaoeK1t8URWbuGJSstw-cM\", \
+         code_challenge_method: PkceCodeChallengeMethod(\"S256\") }",
     );
     let copy = challenge.try_clone(rt.alloc()).expect(&rt, "a copy");
     assert!(rt; copy == challenge);
@@ -66,7 +67,8 @@ fn plain_challenge_in_lines(rt: HostRuntime) {
     is_text(
         &rt,
         pretty.as_str(),
-        "PkceCodeChallenge {\n    code_challenge: [redacted],\n    code_challenge_method: PkceCodeChallengeMethod(\n        \"plain\",\n    ),\n}",
+        "PkceCodeChallenge {\n    code_challenge: [redacted],\n\
+         \x20   code_challenge_method: PkceCodeChallengeMethod(\n        \"plain\",\n    ),\n}",
     );
 }
 

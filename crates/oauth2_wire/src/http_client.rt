@@ -25,7 +25,8 @@ pub trait SyncHttpClient {
     ghost is_ready: { Self → Type 0 } = { λ _. ⊤ };
 
     // What a call may do: the state before, the request, the answer and the state after.
-    ghost step: { Self → Request (Vec ℕ Global) → Result (Response (Vec ℕ Global)) Self.Error → Self → Type 0 } = { λ _ _ _ _. ⊤ };
+    ghost step: { Self → Request (Vec ℕ Global) → Result (Response (Vec ℕ Global)) Self.Error → Self
+        → Type 0 } = { λ _ _ _ _. ⊤ };
 
     /// Sends one request.
     fn call(&mut self, request: HttpRequest) -> Result<HttpResponse, Self::Error>

@@ -63,7 +63,8 @@ fn read_success<RE, TE: FromJson, DO: FromJson>(
     rule: ReplyRule,
     reply: HttpResponse,
 ) -> Result<DO, RequestTokenError<RE, TE>>
-    ensures { ShowsAnswer DO.meaning TE.meaning (success_answer rule DO.reading (reply_of reply).content_type (reply_of reply).body) result }
+    ensures { ShowsAnswer DO.meaning TE.meaning
+        (success_answer rule DO.reading (reply_of reply).content_type (reply_of reply).body) result }
 {
     match reply.headers().get(CONTENT_TYPE) {
         Some(value) => if is_json_type(rule, value.as_bytes()) {

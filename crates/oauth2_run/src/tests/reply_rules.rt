@@ -39,7 +39,8 @@ const MEDIA_TYPES: [(&str, RunStatus, &str); 7] = [
     (
         "\"content_type\":\"application/json-patch+json\",\"status\":200",
         RunStatus::Fault,
-        "answer fault \"Other error: unexpected response Content-Type: \\\"application/json-patch+json\\\", should be `application/json`\"\n",
+        "answer fault \"Other error: unexpected response Content-Type: \
+         \\\"application/json-patch+json\\\", should be `application/json`\"\n",
     ),
 ];
 
