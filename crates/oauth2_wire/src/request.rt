@@ -299,7 +299,8 @@ fn push_secret(body: &mut FormBody, client_secret: &ClientSecret) -> Result<(), 
 
 // Adds the redirect URL's text, where there is one.
 fn push_redirect(body: &mut FormBody, redirect_url: Option<&RedirectUrl>) -> Result<(), AllocError>
-    ensures { OnOk result (body.new ≡ body.old ++ optional_pair (codes "redirect_uri") (option_map given_text (option_copied redirect_url.entry))) }
+    ensures { OnOk result (body.new
+        ≡ body.old ++ optional_pair (codes "redirect_uri") (option_map given_text (option_copied redirect_url.entry))) }
 {
     match redirect_url {
         Some(url) => {
