@@ -1,2 +1,3 @@
 mod Accepted
+mod Kept
 mod Recorded

@@ -12,9 +12,10 @@ abbrev pub replied : Result HttpResponse NoReply → Option HttpResponse
 replied (Ok reply) = Some reply
 replied (Err error) = None
 
--- one call: it is counted, and gives the reply away
+-- one call: it is counted, its request kept, and the reply given away
 pub record Counts (before : CountingClient) (request : HttpRequest) (answer : Result HttpResponse NoReply) (after : CountingClient) : Type 0 where
   pub calls : after.calls ≡ min (before.calls + 1) (2 ^ 64 - 1)
+  pub kept : after.request ≡ Some request
   pub shown : replied answer ≡ before.reply
   pub given : after.reply ≡ None
 

@@ -1,6 +1,5 @@
 pub mod Additions
 pub mod Counted
-pub mod Ended
 pub mod Posts
 pub mod Recorded
 pub mod Urls

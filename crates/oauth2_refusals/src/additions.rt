@@ -4,12 +4,12 @@ ghost use Rattle.std.specs.Prelude.{◌≡◌, OnErr, OnOk};
 ghost use Rattle.oauth2_refusals.specs.Additions.{with_addition};
 
 use crate::clients::RowClient;
-use crate::ended::Ended;
 use oauth2::{HttpRequest, ParamBuffer, endpoint_request_encoded};
+use oauth2_value_rows::Ended;
 use std::alloc::{AllocError, Global};
 
 /// What a buffer is given.
-#[derive(Clone, Copy, Debug)]
+#[derive(Clone, Copy)]
 pub enum Addition<'a> {
     Scope(&'a str),
     Extra(&'a str, &'a str),

@@ -1,13 +1,14 @@
 //! The rows that have a client.
 
 use crate::clients::{ClientTexts, RowClient, USUAL};
-use crate::ended::Ended;
 use crate::exchanges::show_exchange;
+use crate::keepers::{show_first_token, show_renewed_token};
+use crate::logins::show_login;
 use crate::polls::{Poll, show_poll};
 use crate::post_rows::{PostRow, show_post_row};
 use crate::replies::ReplyTexts;
-use crate::table::find;
 use crate::url_rows::{UrlRow, show_url_row};
+use oauth2_value_rows::{Ended, find};
 use std::alloc::Global;
 use std::io::Write;
 
@@ -73,12 +74,15 @@ pub fn texts_of(name: &str) -> ClientTexts<'static> {
 }
 
 /// What a row with a client runs.
-#[derive(Clone, Copy, Debug)]
+#[derive(Clone, Copy)]
 pub enum ClientRow {
     Post(PostRow),
     Url(UrlRow),
     Exchange(ReplyTexts<'static>),
     Poll(Poll<'static>),
+    Login,
+    FirstToken,
+    RenewedToken,
 }
 
 const TOKEN: ReplyTexts<'static> = ReplyTexts {
@@ -101,7 +105,7 @@ const WAITING: Poll<'static> = Poll {
     replies: 2,
 };
 
-const ROWS: [(&str, ClientRow); 31] = [
+const ROWS: [(&str, ClientRow); 34] = [
     ("basic_credentials", ClientRow::Post(PostRow::Credentials)),
     ("empty_credentials", ClientRow::Post(PostRow::Credentials)),
     ("no_secret", ClientRow::Post(PostRow::Credentials)),
@@ -202,6 +206,9 @@ const ROWS: [(&str, ClientRow); 31] = [
     ("no_revocation", ClientRow::Post(PostRow::Revocation)),
     ("no_target", ClientRow::Exchange(TOKEN)),
     ("user_password", ClientRow::Post(PostRow::Password)),
+    ("code_flow", ClientRow::Login),
+    ("first_token", ClientRow::FirstToken),
+    ("renewed_token", ClientRow::RenewedToken),
 ];
 
 /// The row of this name, if there is one.
@@ -221,5 +228,8 @@ pub fn show_client_row<W: Write>(
         ClientRow::Url(row) => show_url_row(alloc, client, row, out),
         ClientRow::Exchange(reply) => show_exchange(alloc, client, reply, out),
         ClientRow::Poll(poll) => show_poll(alloc, client, &poll, out),
+        ClientRow::Login => show_login(alloc, client, out),
+        ClientRow::FirstToken => show_first_token(alloc, client, out),
+        ClientRow::RenewedToken => show_renewed_token(alloc, client, out),
     }
 }

@@ -2,12 +2,12 @@
 
 ghost use Rattle.std.specs.Prelude.{◌≡◌, Some, None, IfOk, IsTrue, option_map};
 
-use crate::ended::{Ended, text};
 use oauth2::basic::BasicClient;
 use oauth2::{
     AuthUrl, ClientId, ClientSecret, DeviceAuthorizationUrl, EndpointMaybeSet, EndpointSet,
     HttpRequest, IntrospectionUrl, RequestFault, RevocationUrl, TokenUrl,
 };
+use oauth2_value_rows::{Ended, text};
 use std::alloc::Global;
 
 /// A client with every endpoint but, in some rows, that of revocations.
@@ -20,7 +20,7 @@ pub type RowClient = BasicClient<
 >;
 
 /// What the clients of the rows differ in.
-#[derive(Clone, Copy, Debug)]
+#[derive(Clone, Copy)]
 pub struct ClientTexts<'a> {
     pub id: &'a str,
     pub secret: Option<&'a str>,

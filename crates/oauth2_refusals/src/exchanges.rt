@@ -6,11 +6,11 @@ ghost use Rattle.oauth2_refusals.specs.Counted.{TellsCalls};
 
 use crate::clients::RowClient;
 use crate::counting_client::{CountingClient, NoReply};
-use crate::ended::{Ended, text};
 use crate::replies::{ReplyTexts, ready_reply};
 use crate::show::show_answer;
 use oauth2::basic::{BasicErrorResponse, BasicRequestTokenError, BasicTokenResponse};
 use oauth2::{AuthorizationCode, FromJson};
+use oauth2_value_rows::{Ended, text};
 use std::alloc::Global;
 use std::io::Write;
 

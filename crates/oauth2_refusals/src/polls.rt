@@ -9,7 +9,6 @@ ghost use Rattle.oauth2_refusals.specs.Recorded.{Records};
 
 use crate::clients::RowClient;
 use crate::counting_client::NoReply;
-use crate::ended::{Ended, Want};
 use crate::recorder::Recorder;
 use crate::replies::{ReplyTexts, ready_reply};
 use crate::show::{show_answer, show_seen};
@@ -19,6 +18,7 @@ use oauth2::{
     DeviceCodeErrorResponse, FromJson, HttpResponse, RequestTokenError,
     StandardDeviceAuthorizationResponse, read_body,
 };
+use oauth2_value_rows::{Ended, Want};
 use std::alloc::Global;
 use std::io::Write;
 use std::time::Duration;
@@ -27,7 +27,7 @@ use std::time::Duration;
 const ROOM: usize = 32;
 
 /// A poll: how long, how often at most, by which clock, and by which reply, so many times.
-#[derive(Clone, Copy, Debug)]
+#[derive(Clone, Copy)]
 pub struct Poll<'a> {
     pub timeout: Option<u64>,
     pub max_polls: u64,

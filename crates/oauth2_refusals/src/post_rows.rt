@@ -2,19 +2,19 @@
 
 use crate::additions::{Addition, add_all, request_of};
 use crate::clients::RowClient;
-use crate::ended::{Ended, Want, text};
 use crate::polls::device;
 use crate::posts;
-use crate::show::{show_request, show_text};
+use crate::show::show_post;
 use oauth2::{
     AccessToken, HttpRequest, ParamBuffer, RefreshToken, ResourceOwnerPassword,
-    ResourceOwnerUsername, StandardRevocableToken, server_view,
+    ResourceOwnerUsername, StandardRevocableToken,
 };
+use oauth2_value_rows::{Ended, Want, show_text, text};
 use std::alloc::Global;
 use std::io::Write;
 
 /// Which request.
-#[derive(Clone, Copy, Debug)]
+#[derive(Clone, Copy)]
 pub enum PostRow {
     Credentials,
     Scoped(&'static str),
@@ -27,11 +27,6 @@ pub enum PostRow {
     DeviceToken,
     Introspection,
     Revocation,
-}
-
-fn show_post<W: Write>(alloc: Global, request: HttpRequest, out: &mut W) -> Result<(), Ended> {
-    let view = server_view(alloc, &request)?;
-    show_request(out, &request, &view)
 }
 
 /// Runs a row.

@@ -10,11 +10,11 @@ ghost use Rattle.oauth2.specs.NewRequest.{base_of};
 ghost use Rattle.oauth2_refusals.specs.Posts.{IsPostOf};
 
 use crate::clients::RowClient;
-use crate::ended::{Ended, text};
 use oauth2::{
     AccessToken, HttpRequest, ParamText, ResourceOwnerPassword, ResourceOwnerUsername, Scope,
     StandardDeviceAuthorizationResponse,
 };
+use oauth2_value_rows::{Ended, text};
 use std::alloc::Global;
 
 /// A scope of this name.

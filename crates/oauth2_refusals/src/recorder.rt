@@ -9,7 +9,7 @@ use oauth2::{HttpRequest, HttpResponse, PollWorld};
 use std::time::Duration;
 
 /// What a world saw.
-#[derive(Clone, Copy, Debug, PartialEq, Eq)]
+#[derive(Clone, Copy)]
 pub enum Seen {
     Reading(Timestamp),
     Request,

@@ -3,15 +3,15 @@
 ghost use Rattle.std.specs.Prelude.{◌≡◌, IfOk};
 ghost use Rattle.oauth2_wire.specs.Reply.{reply_of};
 
-use crate::ended::{Ended, Want, text};
 use http_header::{CONTENT_TYPE, HeaderValue};
 use oauth2::HttpResponse;
 use oauth2::http::response::Parts;
 use oauth2::http::{Response, StatusCode};
+use oauth2_value_rows::{Ended, Want, text};
 use std::alloc::Global;
 
 /// A reply as texts.
-#[derive(Clone, Copy, Debug)]
+#[derive(Clone, Copy)]
 pub struct ReplyTexts<'a> {
     pub status: u16,
     pub content_type: Option<&'a str>,

@@ -2,9 +2,8 @@
 
 use crate::client_rows::{ClientRow, client_row, show_client_row, texts_of};
 use crate::clients::{ClientTexts, RowClient, client_of, is_as};
-use crate::ended::{Ended, Want};
-use crate::value_rows::{show_value_row, value_row};
 use oauth2::TryClone;
+use oauth2_value_rows::{Ended, Want, show_value_row, value_row};
 use std::alloc::Global;
 use std::io::Write;
 

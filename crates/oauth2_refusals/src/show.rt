@@ -1,21 +1,24 @@
-//! The lines of a row. None of them takes memory.
+//! The lines of a row. What a server reads of a request takes memory, the rest none.
 
 use crate::counting_client::NoReply;
-use crate::ended::{Ended, Want};
 use crate::recorder::Seen;
 use http_header::AUTHORIZATION;
 use oauth2::basic::BasicTokenResponse;
 use oauth2::url::Url;
-use oauth2::{
-    CsrfToken, HttpRequest, ParseFault, PkceCodeChallenge, PollEvent, PollRun, RequestTokenError,
-    ServerView, TokenResponse,
-};
+use oauth2::{CsrfToken, HttpRequest, RequestTokenError, ServerView, TokenResponse, server_view};
+use oauth2_value_rows::{Ended, Want, show_fault, show_sleep};
+use std::alloc::Global;
 use std::fmt::Display;
 use std::io::Write;
-use std::time::Duration;
 
-/// A request's own bytes, and what a server that decodes reads of it.
-pub fn show_request<W: Write>(
+/// A request, as it is sent and as a server reads it.
+pub fn show_post<W: Write>(alloc: Global, request: HttpRequest, out: &mut W) -> Result<(), Ended> {
+    let view = server_view(alloc, &request)?;
+    show_request(out, &request, &view)
+}
+
+// A request's own bytes, and what a server that decodes reads of it.
+fn show_request<W: Write>(
     out: &mut W,
     request: &HttpRequest,
     view: &ServerView,
@@ -34,7 +37,8 @@ pub fn show_request<W: Write>(
     Ok(())
 }
 
-fn show_bytes<W: Write>(out: &mut W, before: &str, bytes: &[u8]) -> Result<(), Ended> {
+/// Bytes that are a text.
+pub fn show_bytes<W: Write>(out: &mut W, before: &str, bytes: &[u8]) -> Result<(), Ended> {
     let Ok(text) = str::from_utf8(bytes) else {
         return Err(Ended::Refused);
     };
@@ -45,22 +49,6 @@ fn show_bytes<W: Write>(out: &mut W, before: &str, bytes: &[u8]) -> Result<(), E
 pub fn show_url<W: Write>(out: &mut W, url: &Url, state: &CsrfToken) -> Result<(), Ended> {
     writeln!(out, "url {}", url.as_str())?;
     writeln!(out, "state {:?}", state.secret().as_str())?;
-    Ok(())
-}
-
-pub fn show_challenge<W: Write>(out: &mut W, challenge: &PkceCodeChallenge) -> Result<(), Ended> {
-    let method = challenge.method().as_str();
-    writeln!(out, "challenge {:?} {method:?}", challenge.as_str())?;
-    Ok(())
-}
-
-pub fn show_text<W: Write, T: Display>(out: &mut W, text: &T) -> Result<(), Ended> {
-    writeln!(out, "text {text}")?;
-    Ok(())
-}
-
-pub fn show_fault<W: Write>(out: &mut W, fault: &ParseFault) -> Result<(), Ended> {
-    writeln!(out, "fault {:?} {:?}", fault.member.as_str(), fault.cause)?;
     Ok(())
 }
 
@@ -84,16 +72,6 @@ pub fn show_answer<W: Write, TE: Display + Drop>(
     Ok(())
 }
 
-pub fn show_sleep<W: Write>(out: &mut W, duration: Duration) -> Result<(), Ended> {
-    writeln!(
-        out,
-        "sleep {}.{:09}",
-        duration.as_secs(),
-        duration.subsec_nanos()
-    )?;
-    Ok(())
-}
-
 /// What a world saw.
 pub fn show_seen<W: Write>(out: &mut W, seen: &[Seen]) -> Result<(), Ended> {
     for event in seen {
@@ -103,19 +81,5 @@ pub fn show_seen<W: Write>(out: &mut W, seen: &[Seen]) -> Result<(), Ended> {
             Seen::Sleep(duration) => show_sleep(out, *duration)?,
         }
     }
-    Ok(())
-}
-
-/// The events of a poll over lists, and its end.
-pub fn show_run<W: Write>(out: &mut W, run: &PollRun) -> Result<(), Ended> {
-    for event in &run.trace {
-        match event {
-            PollEvent::Reading(moment) => writeln!(out, "reading {}", moment.as_second())?,
-            PollEvent::Request => writeln!(out, "request")?,
-            PollEvent::Answer(answer) => writeln!(out, "answer {answer:?}")?,
-            PollEvent::Sleep(duration) => show_sleep(out, *duration)?,
-        }
-    }
-    writeln!(out, "end {:?}", run.end)?;
     Ok(())
 }

@@ -1,17 +1,17 @@
 //! The rows of authorization URLs.
 
 use crate::clients::RowClient;
-use crate::ended::{Ended, text};
 use crate::posts::scope;
 use crate::show::show_url;
 use crate::urls::{authorization_url, redirected_url, scoped_url, typed_url};
 use oauth2::url::Url;
 use oauth2::{CsrfToken, RedirectUrl, ResponseType};
+use oauth2_value_rows::{Ended, text};
 use std::alloc::Global;
 use std::io::Write;
 
 /// What is set on the request.
-#[derive(Clone, Copy, Debug)]
+#[derive(Clone, Copy)]
 pub enum UrlRow {
     Plain,
     EmptyScope,

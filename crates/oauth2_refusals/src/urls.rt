@@ -4,9 +4,9 @@ ghost use Rattle.std.specs.Prelude.{◌≡◌, ◌∷◌, [], Some, IfOk, codes}
 ghost use Rattle.oauth2_refusals.specs.Urls.{LeadsTo, plain};
 
 use crate::clients::RowClient;
-use crate::ended::Ended;
 use oauth2::url::Url;
 use oauth2::{CsrfToken, ParamText, RedirectRef, RedirectUrl, ResponseType, Scope};
+use oauth2_value_rows::Ended;
 use std::alloc::Global;
 
 /// The URL of a request with nothing set.

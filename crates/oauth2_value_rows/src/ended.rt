@@ -1,21 +1,22 @@
 //! Why a row ended without its answer.
 
 ghost use Rattle.std.specs.Prelude.{◌≡◌, string_bytes, IfErr, IfOk};
-ghost use Rattle.oauth2_refusals.specs.Ended as spec;
-ghost use Rattle.oauth2_refusals.specs.declared.ended.Ended.TheVariants.{Starved, Unwritten};
-ghost use Rattle.oauth2_refusals.specs.declared.ended.Want.TheVariants as want;
+ghost use Rattle.oauth2_value_rows.specs.Ended as spec;
+ghost use Rattle.oauth2_value_rows.specs.declared.ended.Ended.TheVariants.{Starved, Unwritten};
+ghost use Rattle.oauth2_value_rows.specs.declared.ended.Want.TheVariants as want;
 
 use oauth2::url::ParseError;
-use oauth2::{ReadError, RequestFault, ViewError, WriteError};
+use oauth2::{CodeFlowError, ReadError, RequestFault, ViewError, WriteError};
 use std::alloc::{AllocError, Global};
 use std::io;
 
 /// How want of memory was answered.
-#[derive(Clone, Copy, Debug, PartialEq, Eq)]
+#[derive(Clone, Copy, Debug)]
 pub enum Want {
-    /// Outside of every call: for a text that the row makes.
+    /// Outside of the row's calls: for what it hands them.
     Row,
     AllocError,
+    CodeFlowError,
     ParseError,
     ReadError,
     RequestFault,
@@ -25,7 +26,7 @@ pub enum Want {
 }
 
 /// Why a row ended without its answer.
-#[derive(Clone, Copy, Debug, PartialEq, Eq)]
+#[derive(Clone, Copy)]
 pub enum Ended {
     Starved(Want),
     /// A call refused what it is given.
@@ -92,6 +93,20 @@ impl From<RequestFault> for Ended {
         match fault {
             RequestFault::Memory => Ended::Starved(Want::RequestFault),
             RequestFault::NotHttp => Ended::Refused,
+        }
+    }
+}
+
+impl From<CodeFlowError> for Ended {
+    ghost from_gives = { λ error e. e ≡ spec.of_code_flow_error error };
+
+    fn from(error: CodeFlowError) -> Ended {
+        match error {
+            CodeFlowError::Memory => Ended::Starved(Want::CodeFlowError),
+            CodeFlowError::Url(ParseError::OutOfMemory | ParseError::Overflow) => {
+                Ended::Starved(Want::CodeFlowError)
+            }
+            CodeFlowError::Url(_) | CodeFlowError::NotHttp => Ended::Refused,
         }
     }
 }

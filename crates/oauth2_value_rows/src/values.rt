@@ -16,14 +16,23 @@ use std::alloc::{AllocError, Global};
 use std::time::Duration;
 
 /// The verifier of RFC 7636, appendix B.
-const VERIFIER: &str = "dBjftJeZ4CVP-mB92K27uhbUJU1p1r_wW1gFWFOEjXk";
+pub const VERIFIER: &str = "dBjftJeZ4CVP-mB92K27uhbUJU1p1r_wW1gFWFOEjXk";
+
+/// A verifier of this text.
+pub fn verifier(alloc: Global, verifier: &str) -> Result<PkceCodeVerifier, Ended>
+    ensures length { IfOk result HasValidLength }
+    ensures text { IfOk result (λ made. made ≡ verifier.now) }
+{
+    let made = PkceCodeVerifier::new(text(alloc, verifier)?);
+    if !made.has_valid_length() {
+        return Err(Ended::Refused);
+    }
+    Ok(made)
+}
 
 /// The challenge of RFC 7636, appendix B.
 pub fn challenge(alloc: Global) -> Result<PkceCodeChallenge, Ended> {
-    let verifier = PkceCodeVerifier::new(text(alloc, VERIFIER)?);
-    if !verifier.has_valid_length() {
-        return Err(Ended::Refused);
-    }
+    let verifier = verifier(alloc, VERIFIER)?;
     Ok(PkceCodeChallenge::from_code_verifier_sha256(alloc, &verifier)?)
 }
 

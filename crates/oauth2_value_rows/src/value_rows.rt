@@ -17,7 +17,7 @@ use std::io::Write;
 use std::time::Duration;
 
 /// What a row without a client runs.
-#[derive(Clone, Copy, Debug)]
+#[derive(Clone, Copy)]
 pub enum ValueRow {
     Challenge,
     ShortestVerifier,
