@@ -18,13 +18,13 @@ module _ {D A T E : Type 0} (meaning : D → A) (error_meaning : T → E) (befor
   called request answer did = did.calls ∙ ap (λ n. min (n + 1) (2 ^ 64 - 1)) uncalled
 
   module _ (says : HttpResponse → Answer A E) (IsRequest : HttpRequest → Type 0) (NotHttp : Type 0) where
-    Sends : Result D (RequestTokenError NoReply T) → Type 0
+    abbrev Sends : Result D (RequestTokenError NoReply T) → Type 0
     Sends result = OneShot meaning error_meaning Counts says IsRequest NotHttp before result after
 
     -- of a request that fails
     told_of_request : (error : RequestTokenError NoReply T) → Sends (Err error) → TellsCalls {D = Unit} (Err error) after
     told_of_request (token.Memory true) (inl (request, is, (answer, did, shown))) = called request answer did
-    told_of_request (token.Memory false) (inl (request, is, (Ok reply, did, shown))) = absurd shown
+    told_of_request (token.Memory false) (inl (request, is, (Ok reply, did, shown))) = cc
     told_of_request (token.Memory false) (inl (request, is, (Err error, did, shown))) = cc
     told_of_request (token.Memory true) (inr (inl (refused, _), same)) = cc
     told_of_request (token.Memory true) (inr (inr refused, same)) = cc

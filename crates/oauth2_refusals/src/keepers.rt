@@ -116,22 +116,51 @@ fn show_call<W: Write>(
     let Ok(now) = Timestamp::from_second(call.second) else {
         return Err(Ended::Refused);
     };
-    let mut http_client = CountingClient::new(ready_reply(alloc, call.reply)?);
-    let mut other_client = CountingClient::new(ready_reply(alloc, call.reply)?);
-    let answer = keep(alloc, keeper, now, &mut http_client);
-    writeln!(out, "calls {}", http_client.calls)?;
-    let Err(error) = answer else {
-        return show_kept(keeper, &http_client, out);
+    let Some(want) = show_first_try(alloc, keeper, now, call.reply, out)? else {
+        return Ok(());
     };
     show_unless_kept(keeper, call.kept, out)?;
-    if keep(alloc, keeper, now, &mut other_client).is_ok() {
-        show_kept(keeper, &other_client, out)?;
+    show_second_try(alloc, keeper, now, call.reply, out)?;
+    Err(Ended::Starved(want))
+}
+
+// What was sent and is kept, and how often the client was called; or what memory was refused to.
+fn show_first_try<W: Write>(
+    alloc: Global,
+    keeper: &mut RowKeeper<'_>,
+    now: Timestamp,
+    reply: ReplyTexts<'_>,
+    out: &mut W,
+) -> Result<Option<Want>, Ended> {
+    let mut http_client = CountingClient::new(ready_reply(alloc, reply)?);
+    let want = want_of(keep(alloc, keeper, now, &mut http_client))?;
+    writeln!(out, "calls {}", http_client.calls)?;
+    if want.is_none() {
+        show_kept(keeper, &http_client, out)?;
     }
-    match error {
-        RequestTokenError::Memory { sent } => {
-            Err(Ended::Starved(Want::RequestTokenError { sent }))
-        }
-        _ => Err(Ended::Refused),
+    Ok(want)
+}
+
+// What was sent and is kept by a call with memory.
+fn show_second_try<W: Write>(
+    alloc: Global,
+    keeper: &mut RowKeeper<'_>,
+    now: Timestamp,
+    reply: ReplyTexts<'_>,
+    out: &mut W,
+) -> Result<(), Ended> {
+    let mut http_client = CountingClient::new(ready_reply(alloc, reply)?);
+    if keep(alloc, keeper, now, &mut http_client).is_ok() {
+        show_kept(keeper, &http_client, out)?;
+    }
+    Ok(())
+}
+
+fn want_of(answer: Result<(), BasicRequestTokenError<NoReply>>) -> Result<Option<Want>, Ended> {
+    match answer {
+        Ok(()) => Ok(None),
+        Err(RequestTokenError::Memory { sent }) => Ok(Some(Want::RequestTokenError { sent })),
+        Err(_) => Err(Ended::Refused),
     }
 }
 
