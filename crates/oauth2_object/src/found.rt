@@ -36,11 +36,7 @@ pub(crate) fn in_body<'a>(body: &'a str, quote: usize, text: &str) -> Option<&'a
 {
     let start = quote.checked_add(1)?;
     let found = body.get(start..start.checked_add(text.len())?)?;
-    if found == text {
-        Some(found)
-    } else {
-        None
-    }
+    if found == text { Some(found) } else { None }
 }
 
 /// What that value is, which stands at that place in the body.
