@@ -4,8 +4,8 @@ ghost use Rattle.std.specs.Prelude.{◌≡◌, Some, None, IfOk, IsTrue, option_
 
 use oauth2::basic::BasicClient;
 use oauth2::{
-    AuthUrl, ClientId, ClientSecret, DeviceAuthorizationUrl, EndpointMaybeSet, EndpointSet,
-    HttpRequest, IntrospectionUrl, RequestFault, RevocationUrl, TokenUrl,
+    AuthUrl, ClientId, ClientSecret, DeviceAuthorizationUrl, EndpointMaybeSet, EndpointNotSet,
+    EndpointSet, HttpRequest, IntrospectionUrl, RequestFault, RevocationUrl, TokenUrl,
 };
 use oauth2_value_rows::{Ended, text};
 use std::alloc::Global;
@@ -70,19 +70,35 @@ fn other_endpoints(alloc: Global) -> Result<(DeviceAuthorizationUrl, Introspecti
     Ok((device, introspection))
 }
 
-// A client of these texts without a secret.
-fn public_client(alloc: Global, texts: ClientTexts<'_>) -> Result<RowClient, Ended>
+/// A client that asks for codes and tokens alone.
+type CodeClient = BasicClient<
+    EndpointSet,
+    EndpointNotSet,
+    EndpointNotSet,
+    EndpointNotSet,
+    EndpointSet,
+>;
+
+// A client of these texts without a secret, which asks for codes and tokens.
+fn code_client(alloc: Global, texts: ClientTexts<'_>) -> Result<CodeClient, Ended>
     ensures id { IfOk result (λ client. client.client_id ≡ texts.entry.id.now) }
     ensures secret { IfOk result (λ client. client.client_secret ≡ None) }
 {
     let id = ClientId::new(text(alloc, texts.id)?);
-    let revocation = revocation_url(alloc, texts.revocation_url)?;
     let (auth, token) = token_endpoints(alloc, texts)?;
+    Ok(BasicClient::new(id).set_auth_uri(auth).set_token_uri(token))
+}
+
+// The same with the other endpoints.
+fn public_client(alloc: Global, texts: ClientTexts<'_>) -> Result<RowClient, Ended>
+    ensures id { IfOk result (λ client. client.client_id ≡ texts.entry.id.now) }
+    ensures secret { IfOk result (λ client. client.client_secret ≡ None) }
+{
+    let revocation = revocation_url(alloc, texts.revocation_url)?;
     let (device, introspection) = other_endpoints(alloc)?;
+    let client = code_client(alloc, texts)?;
     Ok(
-        BasicClient::new(id)
-            .set_auth_uri(auth)
-            .set_token_uri(token)
+        client
             .set_device_authorization_url(device)
             .set_introspection_url(introspection)
             .set_revocation_url_option(revocation),
@@ -112,23 +128,32 @@ fn has_same_endpoints(client: &RowClient, copy: &RowClient) -> bool
         && client.revocation_url() == copy.revocation_url()
 }
 
-// The request that shows the client's credentials.
-fn shown(alloc: Global, client: &RowClient) -> Result<HttpRequest, RequestFault> {
-    client
-        .exchange_client_credentials(alloc)
-        .prepare_request(alloc)
+// The request that shows the client's credentials, if it has a target.
+fn shown(alloc: Global, client: &RowClient) -> Result<Option<HttpRequest>, Ended> {
+    let request = client.exchange_client_credentials(alloc);
+    match request.prepare_request(alloc) {
+        Ok(post) => Ok(Some(post)),
+        Err(RequestFault::NotHttp) => Ok(None),
+        Err(fault) => Err(Ended::from(fault)),
+    }
+}
+
+// Whether a client's request is the same as this one.
+fn is_shown_by(alloc: Global, post: &HttpRequest, client: &RowClient) -> Result<bool, Ended> {
+    match shown(alloc, client)? {
+        Some(other) => Ok(post.headers() == other.headers() && post.body() == other.body()),
+        None => Ok(false),
+    }
+}
+
+fn shows_the_same(alloc: Global, client: &RowClient, copy: &RowClient) -> Result<bool, Ended> {
+    match shown(alloc, client)? {
+        Some(post) => is_shown_by(alloc, &post, copy),
+        None => Ok(shown(alloc, copy)?.is_none()),
+    }
 }
 
 /// Whether a client tells what its copy tells, and shows the same credentials.
 pub fn is_as(alloc: Global, client: &RowClient, copy: &RowClient) -> Result<bool, Ended> {
-    if !has_same_endpoints(client, copy) {
-        return Ok(false);
-    }
-    match (shown(alloc, client), shown(alloc, copy)) {
-        (Ok(left), Ok(right)) => Ok(
-            left.headers() == right.headers() && left.body() == right.body(),
-        ),
-        (Err(RequestFault::NotHttp), Err(RequestFault::NotHttp)) => Ok(true),
-        _ => Err(Ended::from(RequestFault::Memory)),
-    }
+    Ok(has_same_endpoints(client, copy) && shows_the_same(alloc, client, copy)?)
 }

@@ -40,9 +40,18 @@ pub fn show_exchange<W: Write>(
     reply: ReplyTexts<'_>,
     out: &mut W,
 ) -> Result<(), Ended> {
-    let mut http_client = CountingClient::new(ready_reply(alloc, reply)?);
     let code = AuthorizationCode::new(text(alloc, "ccc")?);
+    let mut http_client = CountingClient::new(ready_reply(alloc, reply)?);
     let answer = exchange(alloc, client, code, &mut http_client);
-    writeln!(out, "calls {}", http_client.calls)?;
+    show_exchanged(out, http_client.calls, answer)
+}
+
+// How often the client was called, and the token.
+fn show_exchanged<W: Write>(
+    out: &mut W,
+    calls: u64,
+    answer: Result<BasicTokenResponse, BasicRequestTokenError<NoReply>>,
+) -> Result<(), Ended> {
+    writeln!(out, "calls {calls}")?;
     show_answer(out, answer)
 }

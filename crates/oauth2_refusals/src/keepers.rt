@@ -99,11 +99,16 @@ pub fn show_renewed_token<W: Write>(
     out: &mut W,
 ) -> Result<(), Ended> {
     let mut keeper = new_keeper(client);
-    let mut http_client = CountingClient::new(ready_reply(alloc, FIRST)?);
-    if keep(alloc, &mut keeper, Timestamp::UNIX_EPOCH, &mut http_client).is_err() {
-        return Err(Ended::Starved(Want::Row));
-    }
+    keep_first(alloc, &mut keeper)?;
     show_call(alloc, &mut keeper, LATER_CALL, out)
+}
+
+fn keep_first(alloc: Global, keeper: &mut RowKeeper<'_>) -> Result<(), Ended> {
+    let mut http_client = CountingClient::new(ready_reply(alloc, FIRST)?);
+    match keep(alloc, keeper, Timestamp::UNIX_EPOCH, &mut http_client) {
+        Ok(()) => Ok(()),
+        Err(_) => Err(Ended::Starved(Want::Row)),
+    }
 }
 
 // Calls a keeper, and calls it again where memory was refused.
@@ -133,10 +138,20 @@ fn show_first_try<W: Write>(
     out: &mut W,
 ) -> Result<Option<Want>, Ended> {
     let mut http_client = CountingClient::new(ready_reply(alloc, reply)?);
-    let want = want_of(keep(alloc, keeper, now, &mut http_client))?;
+    let answer = keep(alloc, keeper, now, &mut http_client);
+    show_tried(keeper, &http_client, want_of(answer), out)
+}
+
+fn show_tried<W: Write>(
+    keeper: &RowKeeper<'_>,
+    http_client: &CountingClient,
+    want: Result<Option<Want>, Ended>,
+    out: &mut W,
+) -> Result<Option<Want>, Ended> {
+    let want = want?;
     writeln!(out, "calls {}", http_client.calls)?;
     if want.is_none() {
-        show_kept(keeper, &http_client, out)?;
+        show_kept(keeper, http_client, out)?;
     }
     Ok(want)
 }

@@ -40,11 +40,11 @@ pub fn show_login<W: Write>(alloc: Global, client: &RowClient, out: &mut W) -> R
     let state = CsrfToken::new(text(alloc, "csrf_token")?);
     let verifier = verifier(alloc, VERIFIER)?;
     let code = AuthorizationCode::new(text(alloc, "ccc")?);
-    let CodeFlow {
-        url,
-        state,
-        request,
-    } = login(alloc, client, state, verifier, code)?;
-    show_url(out, &url, &state)?;
-    show_post(alloc, request, out)
+    let flow = login(alloc, client, state, verifier, code)?;
+    show_flow(alloc, &flow, out)
+}
+
+fn show_flow<W: Write>(alloc: Global, flow: &CodeFlow, out: &mut W) -> Result<(), Ended> {
+    show_url(out, &flow.url, &flow.state)?;
+    show_post(alloc, &flow.request, out)
 }

@@ -102,12 +102,30 @@ pub fn show_poll<W: Write>(
     out: &mut W,
 ) -> Result<(), Ended> {
     let device = device(alloc)?;
-    let mut world = world_of(alloc, poll)?;
+    show_poll_of(alloc, client, &device, poll, out)
+}
+
+fn show_poll_of<W: Write>(
+    alloc: Global,
+    client: &RowClient,
+    device: &StandardDeviceAuthorizationResponse,
+    poll: &Poll<'_>,
+    out: &mut W,
+) -> Result<(), Ended> {
     if poll.max_polls == 0 {
         return Err(Ended::Refused);
     }
+    let mut world = world_of(alloc, poll)?;
     let timeout = poll.timeout.map(Duration::from_secs);
-    let answer = polled(alloc, client, &device, &mut world, timeout, poll.max_polls);
+    let answer = polled(alloc, client, device, &mut world, timeout, poll.max_polls);
+    show_polled(&world, answer, out)
+}
+
+fn show_polled<W: Write>(
+    world: &Recorder<'_>,
+    answer: PollResult,
+    out: &mut W,
+) -> Result<(), Ended> {
     show_seen(out, world.seen.as_slice())?;
     if !world.is_whole {
         return Err(Ended::Refused);

@@ -45,11 +45,11 @@ pub fn show_post_row<W: Write>(
         PostRow::Password => password(alloc, client)?,
         PostRow::DeviceCodes => posts::device_authorization(alloc, client)?,
         PostRow::ExtendedDeviceCodes => extended_device_codes(alloc, client)?,
-        PostRow::DeviceToken => posts::device_token(alloc, client, &device(alloc)?)?,
+        PostRow::DeviceToken => device_token(alloc, client)?,
         PostRow::Introspection => introspection(alloc, client)?,
         PostRow::Revocation => return show_revocation(alloc, client, out),
     };
-    show_post(alloc, request, out)
+    show_post(alloc, &request, out)
 }
 
 fn password(alloc: Global, client: &RowClient) -> Result<HttpRequest, Ended> {
@@ -62,6 +62,11 @@ fn password(alloc: Global, client: &RowClient) -> Result<HttpRequest, Ended> {
 
 fn extended_device_codes(alloc: Global, client: &RowClient) -> Result<HttpRequest, Ended> {
     posts::extended_device_authorization(alloc, client, "openid", "foo", "bar")
+}
+
+fn device_token(alloc: Global, client: &RowClient) -> Result<HttpRequest, Ended> {
+    let device = device(alloc)?;
+    posts::device_token(alloc, client, &device)
 }
 
 fn introspection(alloc: Global, client: &RowClient) -> Result<HttpRequest, Ended> {
@@ -81,18 +86,31 @@ const ADDITIONS: [Addition<'static>; 5] = [
 fn show_buffer<W: Write>(alloc: Global, client: &RowClient, out: &mut W) -> Result<(), Ended> {
     let mut buffer = ParamBuffer::new(alloc);
     let was_refused = add_all(&mut buffer, &ADDITIONS)?;
-    show_post(alloc, request_of(alloc, client, &buffer)?, out)?;
+    show_buffered(alloc, client, &buffer, out)?;
     if was_refused {
         return Err(Ended::Starved(Want::AllocError));
     }
     Ok(())
 }
 
+fn show_buffered<W: Write>(
+    alloc: Global,
+    client: &RowClient,
+    buffer: &ParamBuffer,
+    out: &mut W,
+) -> Result<(), Ended> {
+    let request = request_of(alloc, client, buffer)?;
+    show_post(alloc, &request, out)
+}
+
 // The request, or why there is none.
 fn show_revocation<W: Write>(alloc: Global, client: &RowClient, out: &mut W) -> Result<(), Ended> {
     let token = RefreshToken::new(text(alloc, "refresh_token_123")?);
     match client.revoke_token(alloc, StandardRevocableToken::from(token)) {
-        Ok(request) => show_post(alloc, request.prepare_request(alloc)?, out),
+        Ok(request) => {
+            let post = request.prepare_request(alloc)?;
+            show_post(alloc, &post, out)
+        }
         Err(error) => show_text(out, &error),
     }
 }

@@ -12,9 +12,9 @@ use std::fmt::Display;
 use std::io::Write;
 
 /// A request, as it is sent and as a server reads it.
-pub fn show_post<W: Write>(alloc: Global, request: HttpRequest, out: &mut W) -> Result<(), Ended> {
-    let view = server_view(alloc, &request)?;
-    show_request(out, &request, &view)
+pub fn show_post<W: Write>(alloc: Global, request: &HttpRequest, out: &mut W) -> Result<(), Ended> {
+    let view = server_view(alloc, request)?;
+    show_request(out, request, &view)
 }
 
 // A request's own bytes, and what a server that decodes reads of it.
@@ -58,16 +58,26 @@ pub fn show_answer<W: Write, TE: Display + Drop>(
     answer: Result<BasicTokenResponse, RequestTokenError<NoReply, TE>>,
 ) -> Result<(), Ended> {
     match answer {
-        Ok(token) => writeln!(out, "token {:?}", token.access_token().secret().as_str())?,
+        Ok(token) => show_token(out, &token),
         Err(RequestTokenError::Memory { sent }) => {
-            return Err(Ended::Starved(Want::RequestTokenError { sent }));
+            Err(Ended::Starved(Want::RequestTokenError { sent }))
         }
-        Err(error) => {
-            writeln!(out, "error {error}")?;
-            if let RequestTokenError::Parse(fault, _) = &error {
-                show_fault(out, fault)?;
-            }
-        }
+        Err(error) => show_error(out, &error),
+    }
+}
+
+fn show_token<W: Write>(out: &mut W, token: &BasicTokenResponse) -> Result<(), Ended> {
+    writeln!(out, "token {:?}", token.access_token().secret().as_str())?;
+    Ok(())
+}
+
+fn show_error<W: Write, TE: Display + Drop>(
+    out: &mut W,
+    error: &RequestTokenError<NoReply, TE>,
+) -> Result<(), Ended> {
+    writeln!(out, "error {error}")?;
+    if let RequestTokenError::Parse(fault, _) = error {
+        show_fault(out, fault)?;
     }
     Ok(())
 }
