@@ -67,9 +67,10 @@ pub fn introspection_value(
     alloc: Global,
     response: &ColorfulIntrospectionResponse,
 ) -> Result<Value, WriteError>
-    ensures { IfOk result (λ value. AreScopesKept response.now.scopes
+    ensures value { IfOk result (λ value. AreScopesKept response.now.scopes
         → IfSome response.now.exp IsWholeSeconds → IfSome response.now.iat IsWholeSeconds → IfSome response.now.nbf IsWholeSeconds
         → colorful_introspection_reading (view value) ≡ Ok (colorful_introspection_seen response.now)) }
+    ensures refusal { IfErr result (λ error. error ≡ Memory) }
 {
     fields_are_kept(response.extra_fields());
     response.to_json(alloc)
@@ -80,7 +81,8 @@ pub fn codes_value(
     alloc: Global,
     codes: &DeviceAuthorizationResponse<ColorfulFields>,
 ) -> Result<Value, WriteError>
-    ensures { IfOk result (λ value. device_reading fields_reading (view value) ≡ Ok (device_seen fields_seen codes.now)) }
+    ensures value { IfOk result (λ value. device_reading fields_reading (view value) ≡ Ok (device_seen fields_seen codes.now)) }
+    ensures refusal { IfErr result (λ error. error ≡ Memory) }
 {
     fields_are_kept(codes.extra_fields());
     codes.to_json(alloc)
@@ -88,7 +90,8 @@ pub fn codes_value(
 
 /// The value to keep for an error response, which reads back.
 pub fn error_value(alloc: Global, error: &ColorfulErrorResponse) -> Result<Value, WriteError>
-    ensures { IfOk result (λ value. colorful_error_reading (view value) ≡ Ok (colorful_error_seen error.now)) }
+    ensures value { IfOk result (λ value. colorful_error_reading (view value) ≡ Ok (colorful_error_seen error.now)) }
+    ensures refusal { IfErr result (λ error. error ≡ Memory) }
 {
     error.to_json(alloc)
 }

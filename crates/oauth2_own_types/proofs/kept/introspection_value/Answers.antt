@@ -4,8 +4,8 @@ use Rattle.oauth2_own_types.specs.Fields.{fields_reading, fields_seen, fields_wr
 use Rattle.oauth2_own_types.proofs.ReadBack.{color_kept_if}
 use Rattle.oauth2_own_types.proofs.kept.introspection_value.Goals as goal
 
-pub returns : goal.returns
-returns c =
+pub returns-clause-value : goal.returns-clause-value
+returns-clause-value c =
     let r = c.args.response.now in
     let fields : AreFieldsKept fields_reading fields_seen (λ f. fields_writing (fields_seen f)) r.extra_fields = rw c.extra_fields.ensures at c.fields_are_kept.ensures in
     IfOk-weaker c.to_json.result _ _
