@@ -35,7 +35,8 @@ const BAD_COMMANDS: [&str; 28] = [
     "\"command\":\"device_poll\",\"params\":{\"device\":{\"device_code\":\"12345\",\"user_code\":\"abcde\",\"verification_uri\":\"https://verify/here\",\"expires_in\":2,\"interval\":1},\"max_polls\":5,\"extra\":[[\"a\"]]}",
     "\"command\":\"device_poll\",\"params\":{\"device\":[],\"max_polls\":5}",
     "\"command\":\"device_poll\",\"params\":{\"device\":{\"device_code\":\"12345\",\"verification_uri\":\"https://verify/here\",\"expires_in\":2,\"interval\":1},\"max_polls\":5}",
-    "\"command\":\"device_poll\",\"params\":{\"device\":{\"device_code\":\"12345\",\"user_code\":\"abcde\",\"verification_uri\":\"x\",\"expires_in\":2,\"interval\":1},\"max_polls\":5}",
+    "\"command\":\"device_poll\",\"params\":{\"device\":{\"device_code\":\"12345\",\"user_code\":\"abcde\",\
+     \"verification_uri\":\"x\",\"expires_in\":2,\"interval\":1},\"max_polls\":5}",
     "\"command\":\"device_poll\",\"params\":{\"device\":{\"device_code\":\"12345\",\"user_code\":\"abcde\",\
      \"verification_uri\":\"https://verify/here\",\"expires_in\":2,\"verification_url\":\"https://v/\",\"interval\":1},\"max_polls\":5}",
 ];
