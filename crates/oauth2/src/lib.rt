@@ -12,6 +12,7 @@ mod device_authorization_endpoint;
 mod endpoint;
 mod flow;
 mod introspection_endpoint;
+pub mod members;
 mod revocation_endpoint;
 mod token_endpoint;
 
@@ -50,7 +51,6 @@ pub use oauth2_json::ToJson;
 pub use oauth2_json::WriteError;
 pub use oauth2_json::compact;
 pub use oauth2_json::helpers;
-pub use oauth2_json::members;
 pub use oauth2_json::read_body;
 pub use oauth2_replies::DeviceAuthorizationResponse;
 pub use oauth2_replies::EmptyExtraDeviceAuthorizationFields;

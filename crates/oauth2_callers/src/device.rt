@@ -1,6 +1,6 @@
 //! The sign-in of a device.
 
-ghost use Rattle.std.specs.Prelude.{◌≡◌, Some, None, Ok, IfOk, List};
+ghost use Rattle.std.specs.Prelude.{◌≡◌, Some, None, List};
 ghost use Rattle.oauth2_urls.specs.Addressed.{Addressed};
 ghost use Rattle.oauth2_replies.specs.Device.{device_seen, device_reading};
 ghost use Rattle.oauth2_requests.specs.DeviceAuthorization.{device_authorization_configuration};

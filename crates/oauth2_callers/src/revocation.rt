@@ -1,6 +1,6 @@
 //! A revocation that is sent.
 
-ghost use Rattle.std.specs.Prelude.{◌≡◌, Some, Ok, OnOk, IfErr, IfSome, codes};
+ghost use Rattle.std.specs.Prelude.{◌≡◌, Some, Ok, OnOk, IfSome, codes};
 ghost use Rattle.url.specs.Parts.{serialize};
 ghost use Rattle.oauth2_urls.specs.Addressed.{Addressed};
 ghost use Rattle.oauth2_wire.specs.OneShot.{HttpRequest};

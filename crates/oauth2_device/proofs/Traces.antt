@@ -15,7 +15,7 @@ use Rattle.oauth2_poll.specs.declared.device_poll.PollAnswer.TheVariants.{Decidi
 use Rattle.oauth2_poll.specs.State.{PollState}
 use Rattle.oauth2_poll.specs.Step.{TimeoutFits, answered}
 use Rattle.oauth2_poll.specs.Trace as trace
-use Rattle.oauth2_poll.specs.Trace.{PollInput, Ending, IsEnding, IsLate, planned, readings_in, answers_in, TooLong, OutOfRange, Late, Decided, Limited}
+use Rattle.oauth2_poll.specs.Trace.{PollInput, Ending, IsEnding, planned, readings_in, answers_in, TooLong, OutOfRange, Late, Decided, Limited}
 use Rattle.oauth2_poll.specs.Laws.{IsTraceOf}
 use Rattle.oauth2_poll.proofs.Open.{IsOpen, reached, late, not_late, open_start, late_plan, decided_plan, open_next}
 use Rattle.oauth2_poll.proofs.Extend.{more, open_more, readings_in-append, answers_in-append}

@@ -4,5 +4,4 @@ pub mod Order
 pub mod Lists
 pub mod WholeValue
 pub mod Words
-pub mod Seconds
 pub mod Optionals

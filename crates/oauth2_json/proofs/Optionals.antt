@@ -1,12 +1,11 @@
 -- Optional members, read back.
-use Rattle.std.proofs.Common.{◌≡◌, ℕ, ℤ, List, map, true, Vec, Global, Option, Some, None, option_map, IfSome, Ok, refl}
+use Rattle.std.proofs.Common.{◌≡◌, ℕ, List, map, true, Vec, Global, Option, Some, None, option_map, IfSome, Ok, refl}
 use Rattle.std.proofs.lemmas.List.{map-id}
 use Rattle.serde_json.specs.Data.{string}
 use Rattle.oauth2_json.specs.Members.{optional}
-use Rattle.oauth2_json.specs.Values.{text, spaced, instant, is_instant, second_of, second_data, IsWholeSeconds}
+use Rattle.oauth2_json.specs.Values.{text, spaced}
 use Rattle.oauth2_json.specs.Words.{are_words, joined}
 use Rattle.oauth2_json.proofs.Words.{pieces-joined, each-text}
-use Rattle.oauth2_json.proofs.Seconds.{integer, second_of-whole}
 
 pub optional-words : (name : List ℕ) (o : Option (List (List ℕ))) → IfSome o (λ ps. are_words ps ≡ true) → optional (spaced text) name (option_map (λ ps. string (joined ps)) o) ≡ Ok o
 optional-words name None h = refl
@@ -16,7 +15,3 @@ optional-words name (Some ps) h = rw (pieces-joined ps h, each-text ps) refl
 pub words_alone : (o : Option (Vec (List ℕ) Global)) → option_map (λ ps. string (joined ps)) (option_map (λ v. map (λ t. t) v.items) o) ≡ option_map (λ ps. string (joined ps)) (option_map (λ v. v.items) o)
 words_alone None = refl
 words_alone (Some v) = rw (map-id v.items) refl
-
-pub optional-instant : (name : List ℕ) (o : Option ℤ) → IfSome o (λ n. is_instant n ≡ true) → IfSome o IsWholeSeconds → optional instant name (option_map second_data o) ≡ Ok o
-optional-instant name None r w = refl
-optional-instant name (Some n) r w = rw (integer (second_of n), second_of-whole n w, r) refl

@@ -5,7 +5,6 @@ mod body;
 mod challenge;
 mod floats;
 pub mod helpers;
-mod instants;
 mod lowered;
 mod member_readers;
 mod member_writers;

@@ -1,7 +1,6 @@
 //! The members of an object, by name: a reader for each kind, and what the writer of an object
 //! needs.
 
-pub use crate::instants::{optional_time, time_value};
 pub use crate::lowered::{needed_lowered, present_lowered};
 pub use crate::member_readers::{either_name, needed, of_object, optional, present, take};
 pub use crate::member_writers::{beside, optional_to_json, put_some, text_value};

@@ -1,6 +1,6 @@
 //! Device authorization responses (RFC 8628, section 3.2).
 
-use crate::support::{copy_is_kept, is_refused, is_rewritten, read};
+use crate::support::{copy_is_kept, is_equal, is_refused, is_rewritten, read};
 use oauth2::{
     EmptyExtraDeviceAuthorizationFields, ParseCause, StandardDeviceAuthorizationResponse,
 };
@@ -54,16 +54,16 @@ fn copy_of_a_device_response_is_written_alike(rt: HostRuntime) {
 }
 
 fn has_codes(rt: &impl Abort, device: &StandardDeviceAuthorizationResponse) {
-    assert_eq!(rt; device.device_code().secret().as_str(), "d");
-    assert_eq!(rt; device.user_code().secret().as_str(), "u");
+    is_equal(rt, device.device_code().secret().as_str(), "d");
+    is_equal(rt, device.user_code().secret().as_str(), "u");
 }
 
 fn has_addresses(rt: &impl Abort, device: &StandardDeviceAuthorizationResponse) {
-    assert_eq!(rt; device.verification_uri().deref().as_str(), "https://v/");
+    is_equal(rt, device.verification_uri().deref().as_str(), "https://v/");
     let complete = device
         .verification_uri_complete()
         .expect(rt, "a complete URI");
-    assert_eq!(rt; complete.secret().as_str(), "https://v/u");
+    is_equal(rt, complete.secret().as_str(), "https://v/u");
 }
 
 fn has_times(rt: &impl Abort, device: &StandardDeviceAuthorizationResponse) {

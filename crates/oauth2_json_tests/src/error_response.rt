@@ -1,6 +1,6 @@
 //! Error codes and error responses (RFC 6749, section 5.2), and the body that holds one.
 
-use crate::support::{is_displayed_as, is_fault, is_refused, is_written_as, read, text};
+use crate::support::{is_displayed_as, is_equal, is_fault, is_refused, is_written_as, read, text};
 use oauth2::basic::{BasicErrorResponse, BasicErrorResponseType};
 use oauth2::{
     DeviceCodeErrorResponseType, ErrorResponse, ParseCause, StandardErrorResponse,
@@ -13,9 +13,9 @@ use std::process::Abort;
 fn codes_are_compared_with_case(rt: HostRuntime) {
     let error = read::<BasicErrorResponseType>(&rt, "\"Invalid_Client\"");
     let shown = format!(in rt.alloc(); "{error}").expect(&rt, "a text");
-    assert_eq!(rt; shown.as_str(), "Invalid_Client");
+    is_equal(&rt, shown.as_str(), "Invalid_Client");
     let debug = format!(in rt.alloc(); "{error:?}").expect(&rt, "a text");
-    assert_eq!(rt; debug.as_str(), "Invalid_Client");
+    is_equal(&rt, debug.as_str(), "Invalid_Client");
     let copy = error.try_clone(rt.alloc()).expect(&rt, "a copy");
     assert!(rt; copy == BasicErrorResponseType::Extension(shown));
 }
@@ -25,7 +25,7 @@ fn written_code_reads_as_its_own_variant(rt: HostRuntime) {
     let basic = BasicErrorResponseType::Extension(text(&rt, "slow_down"));
     let error = DeviceCodeErrorResponseType::Basic(basic);
     let written = compact(rt.alloc(), &error).expect(&rt, "a text");
-    assert_eq!(rt; written.as_str(), "\"slow_down\"");
+    is_equal(&rt, written.as_str(), "\"slow_down\"");
     let read = read::<DeviceCodeErrorResponseType>(&rt, written.as_str());
     assert!(rt; read == DeviceCodeErrorResponseType::SlowDown);
 }
@@ -98,7 +98,7 @@ fn refused_error_responses(rt: HostRuntime) {
 #[test]
 fn body_is_one_whole_value(rt: HostRuntime) {
     let read = read::<BasicErrorResponse>(&rt, "{\"error\":\"x\"} \n");
-    assert_eq!(rt; read.error().as_str(), "x");
+    is_equal(&rt, read.error().as_str(), "x");
 }
 
 #[test]
@@ -123,7 +123,7 @@ fn nested(rt: &(impl Abort + AllocGlobal), depth: usize) -> String {
 #[test]
 fn body_nests_to_127(rt: HostRuntime) {
     let read = read::<BasicErrorResponse>(&rt, nested(&rt, 127).as_str());
-    assert_eq!(rt; read.error().as_str(), "x");
+    is_equal(&rt, read.error().as_str(), "x");
     let deeper = nested(&rt, 128);
     is_refused::<BasicErrorResponse>(&rt, deeper.as_str(), "", ParseCause::NotJson);
 }

@@ -1,12 +1,12 @@
 //! Responses with extra fields of a user's own.
 
-use crate::support::{is_kept, is_refused, is_rewritten, read, text};
+use crate::support::{is_kept, is_refused, is_rewritten, is_so_at, read, text};
 use oauth2::basic::{BasicTokenResponse, BasicTokenType};
 use oauth2::{
     AccessToken, DeviceAuthorizationResponse, ExtraFields, ParseCause, StandardTokenResponse,
     ToJson, WriteError,
 };
-use oauth2_own_types::ColorfulTokenResponse;
+use oauth2_own_types_callers::ColorfulTokenResponse;
 use std::process::Abort;
 
 type RawToken = StandardTokenResponse<ExtraFields, BasicTokenType>;
@@ -108,6 +108,6 @@ fn clash_is_refused_before_a_float(rt: HostRuntime) {
     ] {
         let token = with_raw(&rt, fields);
         let refused = token.to_json(rt.alloc()).err();
-        assert!(rt; refused == Some(refusal), "{fields}");
+        is_so_at(&rt, refused == Some(refusal), fields);
     }
 }

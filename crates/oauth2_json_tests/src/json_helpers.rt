@@ -1,6 +1,6 @@
 //! The helpers for types of a user's own: lists in one text, audiences, codes and variants.
 
-use crate::support::{is_fault, is_written_as, parsed, text};
+use crate::support::{is_equal, is_fault, is_written_as, parsed, text};
 use oauth2::basic::BasicTokenType;
 use oauth2::helpers::{
     VariantName, deserialize_optional_string_or_vec_string, deserialize_space_delimited_vec,
@@ -29,7 +29,7 @@ fn ascii_letters_are_lowered(rt: HostRuntime) {
         rt.alloc(),
         value,
     ).expect(&rt, "a token type");
-    assert_eq!(rt; read.as_str(), "Äb");
+    is_equal(&rt, read.as_str(), "Äb");
     copy_is_written_as(&rt, &read, "\"Äb\"");
 }
 
@@ -37,11 +37,11 @@ fn ascii_letters_are_lowered(rt: HostRuntime) {
 fn is_split(rt: &(impl Abort + AllocGlobal), scopes: Vec<Scope>, written: &str, pieces: usize) {
     let value = serialize_space_delimited_vec(rt.alloc(), &Some(scopes)).expect(rt, "a value");
     let text = value.to_string(rt.alloc()).expect(rt, "a text");
-    assert_eq!(rt; text.as_str(), written);
+    is_equal(rt, text.as_str(), written);
     let read = deserialize_space_delimited_vec::<Scope>(rt.alloc(), value)
         .expect(rt, "scopes or none")
         .expect(rt, "scopes");
-    assert_eq!(rt; read.len(), pieces);
+    is_equal(rt, read.len(), pieces);
 }
 
 #[test]
@@ -77,7 +77,7 @@ fn audience_is_a_text_or_a_list(rt: HostRuntime) {
             .expect(&rt, "a value or none")
             .expect(&rt, "a value");
         let written = value.to_string(rt.alloc()).expect(&rt, "a text");
-        assert_eq!(rt; written.as_str(), wanted);
+        is_equal(&rt, written.as_str(), wanted);
     }
 }
 
@@ -101,5 +101,5 @@ impl VariantName for Plain {
 
 #[test]
 fn variants_have_names(rt: HostRuntime) {
-    assert_eq!(rt; variant_name(&Plain), "Plain");
+    is_equal(&rt, variant_name(&Plain), "Plain");
 }

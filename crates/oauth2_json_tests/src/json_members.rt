@@ -1,6 +1,6 @@
 //! The members of an object: read by name, taken out, and written beside others.
 
-use crate::support::{is_fault, parsed, text};
+use crate::support::{is_equal, is_fault, is_so_at, parsed, text};
 use jiff::Timestamp;
 use oauth2::basic::BasicTokenType;
 use oauth2::{EndUserVerificationUrl, ParseCause, Scope, WriteError, members};
@@ -19,7 +19,7 @@ fn refused_numbers(rt: HostRuntime) {
     ] {
         let found = Some(parsed(&rt, text));
         let read = members::optional_number(rt.alloc(), "expires_in", found);
-        assert!(rt; is_fault(read, "expires_in", cause), "{text}");
+        is_so_at(&rt, is_fault(read, "expires_in", cause), text);
     }
 }
 
@@ -27,20 +27,20 @@ fn refused_numbers(rt: HostRuntime) {
 fn numbers_that_may_be_absent(rt: HostRuntime) {
     let most = Some(parsed(&rt, "18446744073709551615"));
     let read = members::optional_number(rt.alloc(), "expires_in", most).expect(&rt, "a number");
-    assert_eq!(rt; read, Some(u64::MAX));
+    is_equal(&rt, read, Some(u64::MAX));
     let null = Some(Value::Null);
     let read = members::optional_number(rt.alloc(), "expires_in", null).expect(&rt, "a number");
-    assert_eq!(rt; read, None);
+    is_equal(&rt, read, None);
     let null = Some(Value::Null);
     let read = members::number_or(rt.alloc(), "interval", 5, null).expect(&rt, "a number");
-    assert_eq!(rt; read, 5);
+    is_equal(&rt, read, 5);
 }
 
 #[test]
 fn numbers_that_must_be_there(rt: HostRuntime) {
     let three = members::number_value(Some(3));
     let read = members::needed_number(rt.alloc(), "expires_in", three).expect(&rt, "a number");
-    assert_eq!(rt; read, 3);
+    is_equal(&rt, read, 3);
     let absent = members::needed_number(rt.alloc(), "expires_in", None);
     assert!(rt; is_fault(absent, "expires_in", ParseCause::Missing));
     let yes = Some(Value::Bool(true));
@@ -57,7 +57,7 @@ fn times_are_whole_seconds_rounded_down(rt: HostRuntime) {
         let at = Timestamp::from_nanosecond(nanosecond).expect(&rt, "a time");
         let value = members::time_value(Some(at)).expect(&rt, "a value");
         let written = value.to_string(rt.alloc()).expect(&rt, "a text");
-        assert_eq!(rt; written.as_str(), second);
+        is_equal(&rt, written.as_str(), second);
         let read = members::optional_time(rt.alloc(), "exp", Some(value)).expect(&rt, "a time");
         assert!(rt; read.is_some());
     }
@@ -73,7 +73,7 @@ fn refused_times(rt: HostRuntime) {
     ] {
         let found = Some(parsed(&rt, text));
         let read = members::optional_time(rt.alloc(), "exp", found);
-        assert!(rt; is_fault(read, "exp", cause), "{text}");
+        is_so_at(&rt, is_fault(read, "exp", cause), text);
     }
 }
 
@@ -113,7 +113,7 @@ fn either_of_two_names(rt: HostRuntime) {
         None,
         url,
     ).expect(&rt, "a URL");
-    assert_eq!(rt; read.as_str(), "https://v/");
+    is_equal(&rt, read.as_str(), "https://v/");
 }
 
 #[test]
@@ -162,9 +162,10 @@ fn extra_members_stand_beside_the_own(rt: HostRuntime) {
     let written = Value::Object(beside)
         .to_string(rt.alloc())
         .expect(&rt, "a text");
-    assert_eq!(rt;
+    is_equal(
+        &rt,
         written.as_str(),
-        "{\"a\":\"w\",\"b\":\"mac\",\"c\":1,\"d\":\"s\"}"
+        "{\"a\":\"w\",\"b\":\"mac\",\"c\":1,\"d\":\"s\"}",
     );
 }
 
@@ -176,7 +177,7 @@ fn refused_extra_members(rt: HostRuntime) {
         ("{\"c\":[{\"d\":1.5}]}", WriteError::Float),
     ] {
         let refused = members::beside(&["a", "b"], parsed(&rt, text)).err();
-        assert!(rt; refused == Some(refusal), "{text}");
+        is_so_at(&rt, refused == Some(refusal), text);
     }
 }
 
@@ -188,7 +189,7 @@ fn members_are_taken_out(rt: HostRuntime) {
     ).expect(&rt, "the members");
     let first = members::take(&mut members, "a");
     let first = members::needed::<String>(rt.alloc(), "a", first).expect(&rt, "a text");
-    assert_eq!(rt; first.as_str(), "x");
+    is_equal(&rt, first.as_str(), "x");
     let second = members::take(&mut members, "b");
     are_joined(&rt, second, "y z");
     assert!(rt; members.is_empty());
@@ -200,14 +201,14 @@ fn are_joined(rt: &(impl Abort + AllocGlobal), found: Option<Value>, wanted: &st
         .expect(rt, "words or none")
         .expect(rt, "words");
     let joined = members::joined(rt.alloc(), words.as_slice()).expect(rt, "a text");
-    assert_eq!(rt; joined.as_str(), wanted);
+    is_equal(rt, joined.as_str(), wanted);
 }
 
 #[test]
 fn members_that_are_there(rt: HostRuntime) {
     let seven = Some(parsed(&rt, "7"));
     let read = members::number_or(rt.alloc(), "interval", 5, seven).expect(&rt, "a number");
-    assert_eq!(rt; read, 7);
+    is_equal(&rt, read, 7);
     let word = Some(parsed(&rt, "\"x\""));
     let read = members::optional::<String>(rt.alloc(), "c", word).expect(&rt, "a text or none");
     assert!(rt; read.as_deref() == Some("x"));
@@ -229,7 +230,7 @@ fn codes_and_lists_that_are_there(rt: HostRuntime) {
         .expect(&rt, "texts or none")
         .expect(&rt, "texts");
     let joined = read.concat(rt.alloc()).expect(&rt, "a text");
-    assert_eq!(rt; joined.as_str(), "xy");
+    is_equal(&rt, joined.as_str(), "xy");
 }
 
 #[test]
@@ -245,5 +246,5 @@ fn absent_members(rt: HostRuntime) {
 #[test]
 fn pieces_of_a_space(rt: HostRuntime) {
     let pieces = members::pieces::<Scope>(rt.alloc(), " ").expect(&rt, "the pieces");
-    assert_eq!(rt; pieces.len(), 2);
+    is_equal(&rt, pieces.len(), 2);
 }

@@ -1,6 +1,6 @@
 //! Tokens that can be revoked (RFC 7009, section 2.1).
 
-use crate::support::{copy_is_kept, is_refused, text};
+use crate::support::{copy_is_kept, is_equal, is_refused, text};
 use oauth2::helpers::variant_name;
 use oauth2::{AccessToken, ParseCause, RefreshToken, RevocableToken, StandardRevocableToken};
 use std::process::Abort;
@@ -41,9 +41,9 @@ fn tells(
     hint: &'static str,
     name: &str,
 ) {
-    assert_eq!(rt; token.secret(), secret);
+    is_equal(rt, token.secret(), secret);
     assert!(rt; token.type_hint() == Some(hint));
-    assert_eq!(rt; variant_name(token), name);
+    is_equal(rt, variant_name(token), name);
 }
 
 #[test]
@@ -53,7 +53,11 @@ fn access_tokens(rt: HostRuntime) {
         &rt, "a token",
     );
     tells(&rt, &token, "a", "access_token", "AccessToken");
-    assert_eq!(rt; StandardRevocableToken::from(access_token).secret(), "a");
+    is_equal(
+        &rt,
+        StandardRevocableToken::from(access_token).secret(),
+        "a",
+    );
 }
 
 #[test]
@@ -63,5 +67,9 @@ fn refresh_tokens(rt: HostRuntime) {
         &rt, "a token",
     );
     tells(&rt, &token, "b", "refresh_token", "RefreshToken");
-    assert_eq!(rt; StandardRevocableToken::from(refresh_token).secret(), "b");
+    is_equal(
+        &rt,
+        StandardRevocableToken::from(refresh_token).secret(),
+        "b",
+    );
 }

@@ -2,7 +2,7 @@
 
 use oauth2::{FromJson, ParseCause, ReadError, ToJson, TryClone, compact, read_body};
 use serde_json::Value;
-use std::fmt::Display;
+use std::fmt::{Debug, Display};
 use std::process::Abort;
 
 pub fn text(rt: &(impl Abort + AllocGlobal), text: &str) -> String {
@@ -19,16 +19,26 @@ pub fn read<T: FromJson>(rt: &(impl Abort + AllocGlobal), body: &str) -> T {
     read_body::<T>(rt.alloc(), body.as_bytes()).expect(rt, "a value")
 }
 
+/// The two are equal. (A call costs a proof far less than the assertion would in its place.)
+pub fn is_equal<T: PartialEq + Debug + Drop>(rt: &impl Abort, found: T, wanted: T) {
+    assert_eq!(rt; found, wanted);
+}
+
+/// It is so, at this row of a table.
+pub fn is_so_at(rt: &impl Abort, is_so: bool, row: &str) {
+    assert!(rt; is_so, "at {row}");
+}
+
 /// The value is shown as this text.
 pub fn is_displayed_as<T: Display>(rt: &(impl Abort + AllocGlobal), value: &T, wanted: &str) {
     let shown = format!(in rt.alloc(); "{value}").expect(rt, "a text");
-    assert_eq!(rt; shown.as_str(), wanted);
+    is_equal(rt, shown.as_str(), wanted);
 }
 
 /// The value is written as this text.
 pub fn is_written_as<T: ToJson>(rt: &(impl Abort + AllocGlobal), value: &T, wanted: &str) {
     let json = compact(rt.alloc(), value).expect(rt, "a text");
-    assert_eq!(rt; json.as_str(), wanted);
+    is_equal(rt, json.as_str(), wanted);
 }
 
 /// The body reads to a value that is written as this text.

@@ -1,6 +1,6 @@
 //! Token responses (RFC 6749, section 5.1).
 
-use crate::support::{copy_is_kept, is_refused, is_written_as, read, text};
+use crate::support::{copy_is_kept, is_equal, is_refused, is_written_as, read, text};
 use oauth2::basic::{BasicTokenResponse, BasicTokenType};
 use oauth2::{AccessToken, EmptyExtraTokenFields, ParseCause, RefreshToken, Scope, TokenResponse};
 use std::process::Abort;
@@ -15,7 +15,7 @@ fn token_type_is_lowered_and_an_empty_scope_is_one_entry(rt: HostRuntime) {
     assert!(rt; *token.token_type() == BasicTokenType::Bearer);
     assert!(rt; token.expires_in().is_none());
     let scopes = token.scopes().expect(&rt, "scopes");
-    assert_eq!(rt; scopes.len(), 1);
+    is_equal(&rt, scopes.len(), 1);
     is_written_as(
         &rt,
         &token,
@@ -64,7 +64,7 @@ fn members_that_nobody_reads(rt: HostRuntime) {
         if is_read {
             // The last member of a name counts.
             let token = read::<BasicTokenResponse>(&rt, body.as_str());
-            assert_eq!(rt; token.access_token().secret().as_str(), "t");
+            is_equal(&rt, token.access_token().secret().as_str(), "t");
         } else {
             is_refused::<BasicTokenResponse>(&rt, body.as_str(), "", ParseCause::NotJson);
         }
@@ -112,7 +112,7 @@ fn token_response_is_set(rt: HostRuntime) {
     token.set_extra_fields(EmptyExtraTokenFields {});
     assert!(rt; *token.extra_fields() == EmptyExtraTokenFields {});
     assert!(rt; token.refresh_token().is_some());
-    assert_eq!(rt; token.access_token().secret().as_str(), "u");
+    is_equal(&rt, token.access_token().secret().as_str(), "u");
     is_written_as(
         &rt,
         &token,

@@ -1,6 +1,6 @@
 //! Values that a text holds, as `serde_json` has them.
 
-ghost use Rattle.std.specs.Prelude.{◌≡◌, true, option_map};
+ghost use Rattle.std.specs.Prelude.{true, option_map};
 ghost use Rattle.json.specs.Value.{value_view, items_view as texts_view, members_view as named_view};
 ghost use Rattle.serde_json.specs.Data.{no_members};
 ghost use Rattle.serde_json.specs.Read.{of_json, of_items, of_members};

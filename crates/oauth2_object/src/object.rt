@@ -4,7 +4,7 @@ ghost use Rattle.std.specs.Prelude.{◌≡◌, IfOk, map, option_map};
 ghost use Rattle.serde_json.specs.Data.{object};
 ghost use Rattle.serde_json.specs.Find.{get_member};
 ghost use Rattle.serde_json.specs.Read.{read};
-ghost use Rattle.serde_json.specs.View.{view, members_view};
+ghost use Rattle.serde_json.specs.View.{view};
 ghost use Rattle.oauth2_json.specs.Body.{body_reading, value_reading};
 ghost use Rattle.oauth2_json.specs.Members.{members_of_object, without};
 ghost use Rattle.oauth2_json.specs.Reading.{ReadsAs};

@@ -1,9 +1,6 @@
 -- A poll has an end, and no other.
-use Rattle.std.proofs.Common.{◌≡◌, ℕ, zero, suc, ◌-◌, ◌<◌, ◌≤◌, Option, Some, None, refl, sym, ◌∙◌, ap, arith, subst, ◌⊎◌, inl, inr}
-use Rattle.std.specs.Prelude.{slice_get, ℤ, pos, ◌+ℤ◌}
+use Rattle.std.proofs.Common.{◌≡◌, ℕ, refl, ap, arith, subst, ◌⊎◌, inl, inr}
 use Rattle.std.proofs.Math.Decide.{dec_le}
-use Rattle.jiff.specs.Words.{IsTimestampNanos}
-use Rattle.oauth2_poll.specs.Step.{TimeoutFits}
 use Rattle.oauth2_poll.specs.Trace.{PollInput, Ending, TooLong, OutOfRange, Late, Decided, Limited, IsEnding, IsReached, IsLate, Decides, GoesOn}
 use Rattle.oauth2_poll.specs.Laws.{EachEndingIsTheOnlyOne}
 

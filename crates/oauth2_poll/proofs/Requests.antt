@@ -1,6 +1,6 @@
 -- What comes before a request in what is planned, and how long the poll waited until then.
 use Rattle.std.proofs.Common.{◌≡◌, ℕ, zero, suc, ◌+◌, ◌-◌, ◌*◌, ◌/◌, ◌<◌, ◌≤◌, List, [], ◌∷◌, ◌++◌, map, take, length, Option, Some, None, refl, ap, sym, ◌∙◌, subst, append_assoc, arith, ◌⊎◌, inl, inr}
-use Rattle.std.specs.Prelude.{slice_get, min, ℤ, pos, ◌+ℤ◌, ◌<ℤ◌, ◌≤ℤ◌}
+use Rattle.std.specs.Prelude.{slice_get, ℤ, pos, ◌+ℤ◌, ◌<ℤ◌, ◌≤ℤ◌}
 use Rattle.std.specs.Option.{option_map}
 use Rattle.std.specs.Duration.{max_nanos}
 use Rattle.std.proofs.lemmas.List.{map-append, length-take, take-take, take-append-le}
@@ -8,10 +8,10 @@ use Rattle.std.proofs.lemmas.Option.{slice_get_within}
 use Rattle.std.proofs.lemmas.Int.{by_lt_z, ints}
 use Rattle.std.proofs.lemmas.Nat.{le-div}
 use Rattle.oauth2_poll.specs.declared.device_poll.PollAnswer.{PollAnswer}
-use Rattle.oauth2_poll.specs.Step.{slow_down, TimeoutFits}
-use Rattle.oauth2_poll.specs.Trace.{PollInput, Event, Reading, Asked, Answered, Slept, Ending, TooLong, OutOfRange, Late, Decided, Limited, IsLate, IsReached, IsEnding, answer_of, interval_after, reading_at, answer_at, round, rounds, planned, answers_in, readings_in}
-use Rattle.oauth2_poll.specs.Pacing.{requests_in, slept_in, slow_downs, slow_downs_to, ClockIsHonest, RequestsFit}
-use Rattle.oauth2_poll.specs.Laws.{IsTraceOf, RequestsAreBounded}
+use Rattle.oauth2_poll.specs.Step.{TimeoutFits}
+use Rattle.oauth2_poll.specs.Trace.{PollInput, Event, Reading, Asked, Answered, Slept, Ending, TooLong, OutOfRange, Late, Decided, Limited, IsLate, IsReached, IsEnding, answer_of, interval_after, reading_at, answer_at, round, rounds, planned, answers_in}
+use Rattle.oauth2_poll.specs.Pacing.{requests_in, slow_downs, slow_downs_to, ClockIsHonest, RequestsFit}
+use Rattle.oauth2_poll.specs.Laws.{RequestsAreBounded}
 use Rattle.oauth2_poll.proofs.Lists.{take_one_more}
 use Rattle.oauth2_poll.proofs.Extend.{answers_in-append}
 use Rattle.oauth2_poll.proofs.Intervals.{sleeps_to, waited}

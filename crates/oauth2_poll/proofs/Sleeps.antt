@@ -1,13 +1,11 @@
 -- Which answers come before a sleep in what is planned.
-use Rattle.std.proofs.Common.{◌≡◌, ℕ, zero, suc, ◌-◌, ◌≤◌, List, [], ◌∷◌, ◌++◌, map, take, Option, Some, None, refl, ap, sym, ◌∙◌, subst, append_assoc, ◌⊎◌, inl, inr}
+use Rattle.std.proofs.Common.{◌≡◌, ℕ, zero, suc, ◌-◌, List, [], ◌∷◌, ◌++◌, map, take, Option, Some, None, refl, ap, sym, ◌∙◌, append_assoc, ◌⊎◌, inl, inr}
 use Rattle.std.specs.Prelude.{slice_get, ℤ}
 use Rattle.std.specs.Option.{option_map}
-use Rattle.std.specs.Duration.{max_nanos}
 use Rattle.std.proofs.lemmas.List.{map-append}
 use Rattle.oauth2_poll.specs.declared.device_poll.PollAnswer.{PollAnswer}
-use Rattle.oauth2_poll.specs.Trace.{PollInput, Event, Reading, Asked, Answered, Slept, Ending, TooLong, OutOfRange, Late, Decided, Limited, answer_of, interval_after, reading_at, answer_at, round, rounds, planned, answers_in}
-use Rattle.oauth2_poll.specs.Pacing.{IsPaced, SleepsArePaced}
-use Rattle.oauth2_poll.specs.Laws.{IsTraceOf, EachSleepIsPaced}
+use Rattle.oauth2_poll.specs.Trace.{PollInput, Event, Reading, Asked, Answered, Slept, Ending, TooLong, OutOfRange, Late, Decided, Limited, answer_of, interval_after, reading_at, round, rounds, planned, answers_in}
+use Rattle.oauth2_poll.specs.Laws.{EachSleepIsPaced}
 use Rattle.oauth2_poll.proofs.Lists.{take_one_more}
 use Rattle.oauth2_poll.proofs.Extend.{answers_in-append}
 use Rattle.oauth2_poll.proofs.Intervals.{is_paced}

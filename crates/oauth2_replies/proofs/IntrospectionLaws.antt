@@ -11,7 +11,8 @@ use Rattle.oauth2_json.specs.Puts.{put_all}
 use Rattle.oauth2_json.proofs.Puts.{found, rest}
 use Rattle.oauth2_json.proofs.Objects.{get_member-others, beside_taken, optional-text}
 use Rattle.oauth2_json.proofs.Lists.{optional-texts}
-use Rattle.oauth2_json.proofs.Optionals.{optional-words, optional-instant}
+use Rattle.oauth2_json.proofs.Optionals.{optional-words}
+use Rattle.oauth2_replies.proofs.Seconds.{optional-instant}
 use Rattle.oauth2_object.specs.Object.{Keeps}
 use Rattle.oauth2_object.proofs.Keeping.{others_kept}
 use Rattle.oauth2_replies.specs.Kept.{IsTypeKept, AreScopesKept}

@@ -1,4 +1,5 @@
 pub mod TokenLaws
+pub mod Seconds
 pub mod IntrospectionLaws
 pub mod DeviceLaws
 pub mod ExtraLaws

@@ -1,6 +1,6 @@
 //! The response of a device authorization endpoint (RFC 8628, section 3.2).
 
-ghost use Rattle.std.specs.Prelude.{◌≡◌, ℕ, ◌*◌, Ok, IfOk, option_copied};
+ghost use Rattle.std.specs.Prelude.{◌≡◌, ◌*◌, Ok, IfOk, option_copied};
 ghost use Rattle.std.specs.Duration.{as_nanos};
 ghost use Rattle.oauth2_replies.specs.Device.{DeviceAuthorization, device_seen};
 ghost use Rattle.oauth2_replies.specs.private.Address.{IsAddress};

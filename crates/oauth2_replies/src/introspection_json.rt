@@ -12,6 +12,7 @@ ghost use Rattle.oauth2_replies.specs.Introspection.{Introspection, introspectio
 ghost use Rattle.oauth2_replies.specs.private.Groups.{quadruple};
 ghost use Rattle.oauth2_replies.specs.private.IntrospectionRows.{grant_names, grant_reading, grant_rows, validity_names, validity_reading, validity_rows, claims_names, claims_reading, claims_rows, in_turn, AreInstants};
 
+use crate::instants::{optional_time, time_value};
 use crate::introspection::{Claims, Grant, StandardTokenIntrospectionResponse, Validity};
 use crate::scopes;
 use crate::token::ExtraTokenFields;
@@ -101,11 +102,11 @@ fn take_validity<TT: TokenType + Drop>(
     let token_type = members.take("token_type");
     let token_type = members::present_lowered(alloc, "token_type", token_type)?;
     let exp = members.take("exp");
-    let exp = members::optional_time(alloc, "exp", exp)?;
+    let exp = optional_time(alloc, "exp", exp)?;
     let iat = members.take("iat");
-    let iat = members::optional_time(alloc, "iat", iat)?;
+    let iat = optional_time(alloc, "iat", iat)?;
     let nbf = members.take("nbf");
-    let nbf = members::optional_time(alloc, "nbf", nbf)?;
+    let nbf = optional_time(alloc, "nbf", nbf)?;
     Ok(Validity {
         token_type,
         exp,
@@ -237,9 +238,9 @@ impl<EF: ExtraTokenFields, TT: TokenType> StandardTokenIntrospectionResponse<EF,
         ensures { IfOk result (λ _. members_view members.new.entries
             ≡ put_all (validity_rows (option_map view token_type) self.now) (members_view members.old.entries)) }
     {
-        members::put_some(members, alloc, "nbf", members::time_value(self.nbf))?;
-        members::put_some(members, alloc, "iat", members::time_value(self.iat))?;
-        members::put_some(members, alloc, "exp", members::time_value(self.exp))?;
+        members::put_some(members, alloc, "nbf", time_value(self.nbf))?;
+        members::put_some(members, alloc, "iat", time_value(self.iat))?;
+        members::put_some(members, alloc, "exp", time_value(self.exp))?;
         members::put_some(members, alloc, "token_type", token_type)
     }
 

@@ -5,6 +5,7 @@
 mod device;
 mod device_json;
 mod extra_fields;
+mod instants;
 mod introspection;
 mod introspection_json;
 mod revocation;
@@ -17,6 +18,7 @@ pub use device::{
     ExtraDeviceAuthorizationFields, StandardDeviceAuthorizationResponse,
 };
 pub use extra_fields::ExtraFields;
+pub use instants::{optional_time, time_value};
 pub use introspection::{
     BasicTokenIntrospectionResponse, StandardTokenIntrospectionResponse, TokenIntrospectionResponse,
 };

@@ -1,33 +1,12 @@
 // Runs one command of a JSON script, with a client that answers from the script.
 #![tactic(auto)]
 
-mod answer;
-mod authorize;
-mod client;
-mod client_credentials;
-mod clock;
-mod code;
-mod command;
-mod device_authorization;
-mod device_poll;
-mod extra;
-mod input;
-mod introspect;
-mod keeper;
-mod lines;
-mod password;
-mod refresh;
-mod replay;
-mod revoke;
-mod run;
-mod status;
+mod exit;
 #[cfg(test)]
 mod tests;
-mod token_request;
-mod world;
 
-use run::run_script;
-use status::exit_of;
+use exit::exit_of;
+use oauth2_commands::run_script;
 use std::io;
 use std::process::ExitCode;
 

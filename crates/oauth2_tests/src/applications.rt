@@ -1,7 +1,7 @@
 //! An application with an HTTP client and an error of its own, which wants a member of the reply
 //! that the standard does not name.
 
-use crate::support::text;
+use crate::support::{is_equal, text};
 use oauth2::HttpResponse;
 use oauth2::http::Response;
 use oauth2_callers::canned_id_token;
@@ -19,7 +19,7 @@ fn tells(rt: &(impl Abort + AllocGlobal), body: &str, wanted: Option<&str>) {
     let url = text(rt, "https://example.com/token");
     let answer = canned_id_token(rt.alloc(), url, text(rt, "ccc"), reply(rt, body));
     let id_token = answer.expect(rt, "an answer");
-    assert_eq!(rt; id_token.as_deref(), wanted);
+    is_equal(rt, id_token.as_deref(), wanted);
 }
 
 #[test]

@@ -1,6 +1,6 @@
 //! Clients: made, copied, and where a login leads.
 
-use crate::support::{is_text, text};
+use crate::support::{is_equal, is_text, text};
 use oauth2::basic::BasicClient;
 use oauth2::{
     AuthUrl, AuthorizationRequest, Client, ClientId, ClientSecret, CsrfToken, EndpointMaybeSet,
@@ -52,9 +52,9 @@ fn copies(rt: HostRuntime) {
 
 /// The client and its copy have this rule.
 fn has_rule(rt: &(impl Abort + AllocGlobal), client: &CodeClient, rule: ReplyRule) {
-    assert_eq!(rt; client.reply_rule(), rule);
+    is_equal(rt, client.reply_rule(), rule);
     let copy = client.try_clone(rt.alloc()).expect(rt, "a copy");
-    assert_eq!(rt; copy.reply_rule(), rule);
+    is_equal(rt, copy.reply_rule(), rule);
 }
 
 #[test]

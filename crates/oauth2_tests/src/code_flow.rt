@@ -1,7 +1,7 @@
 //! A login from its URL to the exchange of its code, at once and in the two steps of an application.
 
 use crate::constant_generator::ConstantGenerator;
-use crate::support::{is_text, text};
+use crate::support::{is_equal, is_text, text};
 use oauth2::http::Response;
 use oauth2::{
     AuthUrl, AuthorizationCode, Client, ClientId, ClientSecret, CodeFlow, CodeFlowError, CsrfToken,
@@ -58,7 +58,7 @@ fn leads_to(rt: &(impl Abort + AllocGlobal), auth: &str, url: &str) {
     is_text(rt, flow.state.secret().as_str(), "csrf_token");
     let body =
         "grant_type=authorization_code&code=ccc&code_verifier=dBjftJeZ4CVP-mB92K27uhbUJU1p1r_wW1gFWFOEjXk";
-    assert_eq!(rt; flow.request.body().as_slice(), body.as_bytes());
+    is_equal(rt, flow.request.body().as_slice(), body.as_bytes());
 }
 
 #[test]
@@ -87,7 +87,7 @@ fn joined_login_without_a_target(rt: HostRuntime) {
     let error = login(&rt, AUTH, "data:text/plain,hello")
         .err()
         .expect(&rt, "a refusal");
-    assert_eq!(rt; error, CodeFlowError::NotHttp);
+    is_equal(&rt, error, CodeFlowError::NotHttp);
     let shown = format!(in rt.alloc(); "{error}").expect(&rt, "a text");
     is_text(&rt, shown.as_str(), "endpoint URL is not an HTTP target");
 }

@@ -1,7 +1,7 @@
 //! A client of a server with types of its own: token types, extra fields, error codes, an error
 //! response and a kind of tokens to revoke.
 
-use crate::support::{is_text, text};
+use crate::support::{is_equal, is_text, text};
 use oauth2::http::response::Parts;
 use oauth2::http::{Response, StatusCode};
 use oauth2::{
@@ -9,7 +9,7 @@ use oauth2::{
     IntrospectionUrl, RequestTokenError, RevocationUrl, TokenResponse, TokenUrl,
 };
 use oauth2_callers::{CannedClient, CannedError};
-use oauth2_own_types::{
+use oauth2_own_types_callers::{
     ColorfulClient, ColorfulErrorResponse, ColorfulErrorResponseType, ColorfulRevocableToken,
     ColorfulTokenResponse, ColorfulTokenType, colorful_client, custom_error_client, reread,
     restored_token, revocation, stored_token, token_for_code, token_or_custom_error,
@@ -67,8 +67,8 @@ fn token(rt: &(impl Abort + AllocGlobal)) -> ColorfulTokenResponse {
 fn tells(rt: &(impl Abort + AllocGlobal), token: &ColorfulTokenResponse) {
     assert!(rt; *token.token_type() == ColorfulTokenType::Green);
     let fields = token.extra_fields();
-    assert_eq!(rt; fields.height, 12);
-    assert_eq!(rt; fields.shape.as_deref(), Some("round"));
+    is_equal(rt, fields.height, 12);
+    is_equal(rt, fields.shape.as_deref(), Some("round"));
 }
 
 #[test]
@@ -121,8 +121,9 @@ fn revocation_of_a_red_token(rt: HostRuntime) {
         .expect(&rt, "an endpoint")
         .prepare_request(rt.alloc())
         .expect(&rt, "a request");
-    assert_eq!(rt;
+    is_equal(
+        &rt,
         request.body().as_slice(),
-        b"token=colorful_token_123&token_type_hint=red_token".as_slice()
+        b"token=colorful_token_123&token_type_hint=red_token".as_slice(),
     );
 }

@@ -1,7 +1,7 @@
 //! Code challenges (RFC 7636), and the random texts of states and verifiers.
 
 use crate::constant_generator::ConstantGenerator;
-use crate::support::{is_shown_as, is_text, text};
+use crate::support::{is_equal, is_shown_as, is_text, text};
 use oauth2::{CsrfToken, PkceCodeChallenge, PkceCodeChallengeMethod, PkceCodeVerifier, TryClone};
 use std::process::Abort;
 
@@ -136,7 +136,7 @@ fn valid_lengths(rt: HostRuntime) {
         ("é", 22, true),
     ];
     for (letter, n, wanted) in rows {
-        let verifier = PkceCodeVerifier::new(letter.repeat(rt.alloc(), n).expect(&rt, "a text"));
-        assert_eq!(rt; verifier.has_valid_length(), wanted, "{n} times {letter}");
+        let text = letter.repeat(rt.alloc(), n).expect(&rt, "a text");
+        is_equal(&rt, PkceCodeVerifier::new(text).has_valid_length(), wanted);
     }
 }

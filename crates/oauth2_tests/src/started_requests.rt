@@ -1,7 +1,7 @@
 //! The requests that a client starts at its device authorization, introspection and revocation
 //! endpoints.
 
-use crate::support::text;
+use crate::support::{is_equal, text};
 use oauth2::basic::BasicClient;
 use oauth2::{
     AccessToken, Client, ClientId, ClientSecret, ConfigurationError, DeviceAuthorizationRequest,
@@ -48,7 +48,7 @@ fn revocation_client(rt: &(impl Abort + AllocGlobal), url: &str) -> RevocationCl
 }
 
 fn has_body(rt: &impl Abort, request: HttpRequest, body: &str) {
-    assert_eq!(rt; request.body().as_slice(), body.as_bytes());
+    is_equal(rt, request.body().as_slice(), body.as_bytes());
 }
 
 fn asks_for_codes<TE>(
@@ -120,7 +120,7 @@ fn refuses(rt: &(impl Abort + AllocGlobal), client: RevocationClient, wanted: &s
         .err()
         .expect(rt, "a refusal");
     let shown = format!(in rt.alloc(); "{error}").expect(rt, "a text");
-    assert_eq!(rt; shown.as_str(), wanted);
+    is_equal(rt, shown.as_str(), wanted);
 }
 
 #[test]

@@ -10,6 +10,11 @@ pub fn text(rt: &(impl Abort + AllocGlobal), text: &str) -> String {
     String::from_str(rt.alloc(), text).expect(rt, "a text")
 }
 
+/// The two are equal. (A call costs a proof far less than the assertion would in its place.)
+pub fn is_equal<T: PartialEq + Debug + Drop>(rt: &impl Abort, found: T, wanted: T) {
+    assert_eq!(rt; found, wanted);
+}
+
 pub fn is_text(rt: &impl Abort, found: &str, wanted: &str) {
     assert_eq!(rt; found, wanted);
 }
@@ -32,7 +37,7 @@ pub fn copies_alike<T: Debug + Eq + Hash + TryClone + Drop>(
 ) {
     let copy = value.try_clone(rt.alloc()).expect(rt, "a copy");
     assert!(rt; copy == *value);
-    assert_eq!(rt; hash_of(&copy), hash_of(value));
+    is_equal(rt, hash_of(&copy), hash_of(value));
 }
 
 /// Two values of different texts: how the first is shown in debug, its copy, and that they differ.

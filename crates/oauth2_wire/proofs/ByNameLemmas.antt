@@ -1,12 +1,12 @@
 -- Every pair that is set is read by its name.
-use Rattle.std.proofs.Common.{◌≡◌, ℕ, List, [], ◌∷◌, ◌++◌, length, Option, None, Some, Bool, true, false, ◌&&◌, ◌||◌, not, cond, filter, All, codes, ap, ◌∙◌, sym, refl, subst, append_assoc, append-nil, bytes_eq}
+use Rattle.std.proofs.Common.{◌≡◌, ℕ, List, [], ◌∷◌, ◌++◌, Option, None, Some, Bool, true, false, ◌&&◌, ◌||◌, not, filter, All, codes, ap, ◌∙◌, sym, refl, subst, append_assoc, bytes_eq}
 use Rattle.std.specs.List.{list_all, list_any}
 use Rattle.std.proofs.lemmas.Bool.{cond-true, cond-false, not-true, false≢true}
 use Rattle.std.proofs.lemmas.List.Elements.{All-nil, All-cons, All-append, All-weaker, filter-append}
 use Rattle.std.proofs.lemmas.List.Sums.{AllPass-from_list_all}
 use Rattle.std.proofs.lemmas.Slice.Eq.{bytes_eq-Decides}
 use Rattle.oauth2_wire.specs.Pairs.{Pair}
-use Rattle.oauth2_wire.specs.Expected.{Configuration, basic_credentials, optional_pair, body_credentials, expected_basic, set_pairs, expected_pairs}
+use Rattle.oauth2_wire.specs.Expected.{Configuration, optional_pair, body_credentials, expected_basic, set_pairs, expected_pairs}
 use Rattle.oauth2_wire.specs.ByName.{bears, sole, read_by_name, is_request_name, is_shared_name, is_own_name, are_distinct, are_request_pairs, avoid_own_names, ReadsByName}
 
 not_true : (r : Bool) → (r ≡ true → ⊥) → r ≡ false

@@ -1,7 +1,7 @@
 //! The body of a form, as the list of its pairs.
-ghost use Rattle.std.specs.Prelude.{◌≡◌, ℕ, List, [], ◌∷◌, ◌++◌, map, All, IfOk, OnOk, OnErr};
+ghost use Rattle.std.specs.Prelude.{◌≡◌, ℕ, List, [], ◌∷◌, ◌++◌, map, IfOk, OnOk, OnErr};
 ghost use Rattle.form_urlencoded.specs.Form.{append_pair as with_pair, byte_serialize as encoded_text, extend_pairs, pair_text};
-ghost use Rattle.oauth2_wire.specs.Pairs.{form, IsByte};
+ghost use Rattle.oauth2_wire.specs.Pairs.{form};
 ghost use Rattle.oauth2_wire.specs.private.Written.{IsWritten, JoinsForms};
 
 use crate::encoded_text::EncodedText;

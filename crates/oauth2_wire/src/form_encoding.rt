@@ -1,5 +1,5 @@
 //! Texts and pairs as a form encodes them (URL Standard, section 5.2), appended to what there is.
-ghost use Rattle.std.specs.Prelude.{◌≡◌, ◌≤◌, ◌+◌, ◌∷◌, [], ◌++◌, OnOk, OnErr, length, vec_len, vec_capacity};
+ghost use Rattle.std.specs.Prelude.{◌≡◌, ◌≤◌, ◌+◌, ◌∷◌, [], ◌++◌, OnOk, OnErr, vec_len, vec_capacity};
 ghost use Rattle.percent_encoding.specs.Percent.{percent_encode_byte};
 ghost use Rattle.form_urlencoded.specs.Form.{append_pair, byte_serialize, equals_sign, separator, serialize_pair, IsPrefix};
 ghost use Rattle.oauth2_wire.specs.FormEncoding.{form_text};

@@ -5,9 +5,8 @@ ghost use Rattle.http_header.specs.HeaderMap.{insert, value_count};
 ghost use Rattle.http_uri.specs.Uri.{Spells, SpellsNone};
 ghost use Rattle.url.specs.Parts.{serialize};
 ghost use Rattle.oauth2_wire.specs.Texts.{param_pair, given_text};
-ghost use Rattle.oauth2_wire.specs.Expected.{Configuration, joined_scope, expected_pairs, basic_credentials, authorization_header, optional_pair, body_credentials};
+ghost use Rattle.oauth2_wire.specs.Expected.{joined_scope, expected_pairs, basic_credentials, authorization_header, optional_pair, body_credentials};
 ghost use Rattle.oauth2_wire.specs.private.Headers.{headers_with, optional_authorization};
-ghost use Rattle.oauth2_wire.specs.Params.{Params};
 ghost use Rattle.oauth2_wire.specs.Basic.{basic};
 ghost use Rattle.oauth2_wire.specs.Request.{view_of, IsRequestOf};
 

@@ -1,7 +1,7 @@
 //! Scopes and parameters of the caller's, in each kind of request that takes them.
 
 use crate::every_request::{client, password, refresh_token, username};
-use crate::support::{is_text, text};
+use crate::support::{is_equal, is_text, text};
 use oauth2::{
     CsrfToken, HttpRequest, PkceCodeChallenge, PkceCodeChallengeMethod, RedirectRef, RedirectUrl,
     ResponseType, Scope,
@@ -17,7 +17,7 @@ fn two_scopes(rt: &(impl Abort + AllocGlobal)) -> Vec<Scope> {
 }
 
 fn has_body(rt: &impl Abort, request: HttpRequest, body: &str) {
-    assert_eq!(rt; request.body().as_slice(), body.as_bytes());
+    is_equal(rt, request.body().as_slice(), body.as_bytes());
 }
 
 #[test]

@@ -1,6 +1,6 @@
 //! The header of HTTP Basic credentials (RFC 6749, section 2.3.1).
 
-use crate::support::text;
+use crate::support::{is_equal, text};
 use crate::views::{header, request_with, shows_basic, view_of};
 use http_header::HeaderValue;
 use oauth2::basic_header;
@@ -18,7 +18,7 @@ fn header_of(rt: &(impl Abort + AllocGlobal), id: &str, secret: &str) -> HeaderV
 
 fn is_header(rt: &(impl Abort + AllocGlobal), id: &str, secret: &str, wanted: &str) {
     let value = header_of(rt, id, secret);
-    assert_eq!(rt; value.as_bytes(), wanted.as_bytes());
+    is_equal(rt, value.as_bytes(), wanted.as_bytes());
     reads(rt, value, id, secret);
 }
 

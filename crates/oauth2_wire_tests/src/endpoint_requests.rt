@@ -1,7 +1,7 @@
 //! Requests to an endpoint: their bodies (RFC 6749, sections 4 and 6, and what extends them), their
 //! headers and their targets.
 
-use crate::support::{is_text, text, url};
+use crate::support::{is_equal, is_text, text, url};
 use crate::views::{shows_basic, shows_no_basic, view_of};
 use oauth2::AuthType::{BasicAuth, RequestBody};
 use oauth2::url::Url;
@@ -73,14 +73,14 @@ fn request_of(
 }
 
 fn has(rt: &impl Abort, request: &HttpRequest, body: &str, headers: usize) {
-    assert_eq!(rt; request.body().as_slice(), body.as_bytes());
-    assert_eq!(rt; request.headers().len(), headers);
+    is_equal(rt, request.body().as_slice(), body.as_bytes());
+    is_equal(rt, request.headers().len(), headers);
 }
 
 fn is_post_with_header(rt: &(impl Abort + AllocGlobal), request: &HttpRequest) {
     let view = view_of(rt, request);
-    assert_eq!(rt; view.method.as_str(), "POST");
-    assert_eq!(rt; view.target.as_str(), "https://example.com/token");
+    is_equal(rt, view.method.as_str(), "POST");
+    is_equal(rt, view.target.as_str(), "https://example.com/token");
     shows_basic(rt, view, "aaa", "bbb");
 }
 
@@ -279,7 +279,7 @@ fn bare_request(
 
 fn has_target(rt: &(impl Abort + AllocGlobal), request: &HttpRequest, target: &str) {
     let view = view_of(rt, request);
-    assert_eq!(rt; view.target.as_str(), target);
+    is_equal(rt, view.target.as_str(), target);
 }
 
 #[test]
@@ -313,11 +313,11 @@ fn no_target(rt: HostRuntime) {
     let fault = request_to(&rt, "data:text/plain,hello")
         .err()
         .expect(&rt, "no target");
-    assert_eq!(rt; fault, RequestFault::NotHttp);
+    is_equal(&rt, fault, RequestFault::NotHttp);
 }
 
 #[test]
 fn copy_of_an_auth_type(rt: HostRuntime) {
     let copy = RequestBody.try_clone(rt.alloc()).expect(&rt, "a copy");
-    assert_eq!(rt; copy, RequestBody);
+    is_equal(&rt, copy, RequestBody);
 }

@@ -1,6 +1,6 @@
 //! What a form writes for each byte (URL Standard, section 5.2).
 
-use crate::support::{text, url};
+use crate::support::{is_equal, text, url};
 use oauth2::{AuthType, ClientId, HttpRequest, ParamText, endpoint_request};
 use std::process::Abort;
 
@@ -29,7 +29,7 @@ fn request_of(
 fn sends(rt: &(impl Abort + AllocGlobal), name: &str, body: &[u8]) {
     let extra = [(ParamText::from(name), ParamText::from(""))];
     let request = request_of(rt, extra.as_slice());
-    assert_eq!(rt; request.body().as_slice(), body);
+    is_equal(rt, request.body().as_slice(), body);
 }
 
 /// The bytes that are no escapes: the ASCII letters and digits, `*`, `-`, `.` and `_`.

@@ -4,7 +4,7 @@ use crate::every_request::{
     OPEN, WholeClient, access_token, client, code, device, password, refresh_token, username,
 };
 use crate::replies::reply_of;
-use crate::support::{is_text, text};
+use crate::support::{is_equal, is_text, text};
 use jiff::Timestamp;
 use oauth2::basic::{BasicRequestTokenError, BasicTokenResponse};
 use oauth2::{
@@ -70,8 +70,8 @@ fn tells<T: Drop, E: Display + Drop>(
         (Ok(_), Outcome::Accepted) => {}
         (Err(RequestTokenError::Parse(fault, bytes)), Outcome::Unread(member, cause)) => {
             is_text(rt, fault.member.as_str(), member);
-            assert_eq!(rt; fault.cause, cause);
-            assert_eq!(rt; bytes.as_slice(), body);
+            is_equal(rt, fault.cause, cause);
+            is_equal(rt, bytes.as_slice(), body);
         }
         (Err(error), Outcome::Shown(text)) => {
             let shown = format!(in rt.alloc(); "{error}").expect(rt, "a text");

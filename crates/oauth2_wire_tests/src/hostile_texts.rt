@@ -4,7 +4,7 @@ use crate::basic_headers::every_character;
 use crate::every_request::{
     WholeClient, access_token, client, code, device, password, refresh_token, username,
 };
-use crate::support::is_text;
+use crate::support::{is_equal, is_so_at, is_text};
 use crate::views::{shows_basic, view_of};
 use oauth2::{AuthType, HttpRequest, StandardRevocableToken};
 use std::process::Abort;
@@ -152,9 +152,9 @@ const BODIES: [&str; 8] = [
 fn name_of_the_character_0(rt: HostRuntime) {
     let client = client(&rt, "aaa", "bbb");
     let requests = each_request(&rt, &client, ("\0", "~"));
-    assert_eq!(rt; requests.len(), BODIES.len());
+    is_equal(&rt, requests.len(), BODIES.len());
     for (request, body) in requests.iter().zip(BODIES) {
-        assert_eq!(rt; request.body().as_slice(), body.as_bytes());
+        is_equal(&rt, request.body().as_slice(), body.as_bytes());
     }
 }
 
@@ -186,7 +186,7 @@ fn is_read_by_name(rt: &impl Abort, form: &[(String, String)], name: &str, value
             times = times.saturating_add(1);
         }
     }
-    assert_eq!(rt; times, 1, "{name}");
+    is_so_at(rt, times == 1, name);
 }
 
 #[test]

@@ -1,6 +1,6 @@
 //! The sending of one request by a client, which is called once at most.
 
-use crate::support::is_text;
+use crate::support::{is_equal, is_text};
 use oauth2::basic::BasicRequestTokenError;
 use oauth2::http::response::Parts;
 use oauth2::http::{Request, Response, StatusCode};
@@ -53,7 +53,7 @@ fn sends(
         calls: 0,
     };
     let answer: TextResult = send_once(rt.alloc(), ReplyRule::Prefix, prepared, &mut client);
-    assert_eq!(rt; client.calls, calls);
+    is_equal(rt, client.calls, calls);
     says(rt, answer, wanted);
 }
 
@@ -113,5 +113,5 @@ fn closures(rt: HostRuntime) {
     let answer: Result<(), RevocationError> = send_once_status_only(alloc, prepared, &mut client);
     assert!(rt; answer.is_ok());
     drop(client.into_inner());
-    assert_eq!(rt; calls, 1);
+    is_equal(&rt, calls, 1);
 }

@@ -1,6 +1,6 @@
 //! Scopes and parameters that are encoded as they are added.
 
-use crate::support::{text, url};
+use crate::support::{is_equal, text, url};
 use oauth2::{
     AuthType, ClientId, ClientSecret, HttpRequest, ParamBuffer, endpoint_request_encoded,
 };
@@ -26,7 +26,7 @@ fn request_of(rt: &(impl Abort + AllocGlobal), params: &ParamBuffer) -> HttpRequ
 
 fn sends(rt: &(impl Abort + AllocGlobal), params: &ParamBuffer, body: &str) {
     let request = request_of(rt, params);
-    assert_eq!(rt; request.body().as_slice(), body.as_bytes());
+    is_equal(rt, request.body().as_slice(), body.as_bytes());
 }
 
 #[test]

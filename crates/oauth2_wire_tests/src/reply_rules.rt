@@ -1,6 +1,6 @@
 //! The rule by which the Content-Type of a reply is judged (RFC 9110, section 8.3.1).
 
-use crate::support::{is_text, text};
+use crate::support::{is_equal, is_text, text};
 use http_header::{CONTENT_TYPE, HeaderValue};
 use oauth2::basic::{BasicClient, BasicRequestTokenError};
 use oauth2::http::response::Parts;
@@ -122,7 +122,7 @@ fn the_status_comes_first(rt: HostRuntime) {
 fn a_rule_is_copied(rt: HostRuntime) {
     for rule in [ReplyRule::Prefix, ReplyRule::MediaType] {
         let copy = rule.try_clone(rt.alloc()).expect(&rt, "a copy");
-        assert_eq!(rt; copy, rule);
+        is_equal(&rt, copy, rule);
     }
 }
 

@@ -1,6 +1,6 @@
 //! What a server that only decodes reads of a request.
 
-use crate::support::text;
+use crate::support::{is_equal, is_so_at, text};
 use http_header::{AUTHORIZATION, HeaderValue};
 use oauth2::http::Request;
 use oauth2::{HttpRequest, ServerView, ViewError, server_view};
@@ -13,14 +13,14 @@ pub fn view_of(rt: &(impl Abort + AllocGlobal), request: &HttpRequest) -> Server
 /// The identifier and the secret of a view.
 pub fn shows_basic(rt: &impl Abort, view: ServerView, id: &str, secret: &str) {
     let (read_id, read_secret) = view.basic.expect(rt, "credentials");
-    assert_eq!(rt; read_id.as_str(), id);
-    assert_eq!(rt; read_secret.as_str(), secret);
+    is_equal(rt, read_id.as_str(), id);
+    is_equal(rt, read_secret.as_str(), secret);
 }
 
 /// A view without them, and how many pairs it has.
 pub fn shows_no_basic(rt: &impl Abort, view: ServerView, pairs: usize) {
     assert!(rt; view.basic.is_none());
-    assert_eq!(rt; view.form.len(), pairs);
+    is_equal(rt, view.form.len(), pairs);
 }
 
 pub fn header(rt: &(impl Abort + AllocGlobal), text: &str) -> HeaderValue {
@@ -44,7 +44,7 @@ fn bad_credentials(rt: HostRuntime) {
         let fault = server_view(rt.alloc(), &request)
             .err()
             .expect(&rt, "a fault");
-        assert_eq!(rt; fault, ViewError::BadBasic, "{value}");
+        is_so_at(&rt, fault == ViewError::BadBasic, value);
     }
 }
 
@@ -63,5 +63,5 @@ fn pairs_of_a_body(rt: HostRuntime) {
     let body = text(&rt, "a&=b&&c==d&e=%zz").into_bytes();
     let view = view_of(&rt, &Request::new(rt.alloc(), body));
     let shown = lines(&rt, view.form.as_slice());
-    assert_eq!(rt; shown.as_str(), "a is \n is b\nc is =d\ne is %zz\n");
+    is_equal(&rt, shown.as_str(), "a is \n is b\nc is =d\ne is %zz\n");
 }

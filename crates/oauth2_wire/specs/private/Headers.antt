@@ -1,5 +1,5 @@
 -- The headers of a request, from the value of its Authorization header.
-use Rattle.std.specs.Prelude.{List, [], ◌∷◌, codes, Option, Some, None}
+use Rattle.std.specs.Prelude.{[], ◌∷◌, codes, Option, Some, None}
 use Rattle.http_header.specs.FieldValue.{FieldValue}
 use Rattle.http_header.specs.HeaderMap.{Entries}
 use Rattle.oauth2_wire.specs.Expected.{headers_before}

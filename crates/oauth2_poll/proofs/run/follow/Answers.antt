@@ -1,4 +1,4 @@
-use Rattle.std.proofs.Common.{rules, arith, ◌≡◌, ◌+◌, ℕ, suc, [], ◌∷◌, ◌++◌, map, refl, sym, ◌∙◌, add-one, inl, ap, subst}
+use Rattle.std.proofs.Common.{rules, ◌≡◌, ◌+◌, ℕ, suc, [], ◌∷◌, ◌++◌, map, refl, sym, ◌∙◌, add-one, inl, ap, subst}
 use Rattle.std.specs.Prelude.{◌<ℤ◌, ◌+ℤ◌, pos}
 use Rattle.std.specs.Duration.{as_nanos}
 use Rattle.std.proofs.lemmas.Option.{slice_get_within}

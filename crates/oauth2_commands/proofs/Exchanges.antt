@@ -1,0 +1,136 @@
+-- What one request adds to the lines of a scripted client.
+use Rattle.std.proofs.Common.{◌≡◌, ℕ, List, ◌++◌, Bool, false, Option, Some, None, option_map, option_and_then, Result, Ok, Err, string_bytes, codes, map, inl, inr, refl, ap, ◌∙◌, append_assoc, ◌⊎◌}
+use Rattle.http_header.specs.HeaderMap.{get}
+use Rattle.http_header.specs.FieldValue.{plain_value}
+use Rattle.http_uri.specs.Uri.{SpellsNone, uri_text}
+use Rattle.url.specs.Parts.{serialize}
+use Rattle.oauth2_urls.specs.Addressed.{Addressed}
+use Rattle.oauth2_wire.specs.Pairs.{Pair}
+use Rattle.oauth2_wire.specs.Basic.{basic, basic_value}
+use Rattle.oauth2_wire.specs.Expected.{Configuration, expected_basic, expected_pairs, authorization_header, headers_before}
+use Rattle.oauth2_wire.specs.OneShot.{HttpRequest, not_http_text, AnswersUnsent, AnswersTo}
+use Rattle.oauth2_wire.specs.Reply.{HttpResponse, Answer, ReplyView, reply_of, ShowsAnswer as ReplyShows}
+use Rattle.oauth2_wire.specs.Request.{RequestView, IsRequestOf, view_of, authorization_of}
+use Rattle.oauth2_wire.specs.ServerView.{shown_pair}
+use Rattle.oauth2_wire.specs.declared.error.RequestTokenError.{RequestTokenError}
+use Rattle.oauth2_wire.specs.declared.error.RequestTokenError.TheVariants.{ServerResponse, Request, Parse, Other, Memory}
+use Rattle.oauth2_wire.specs.declared.request.RequestFault.TheVariants as fault
+use Rattle.oauth2_commands.specs.private.Asked.{Asks}
+use Rattle.oauth2_commands.specs.Exchange.{answer_output, reply_output, IsSent, IsExchange, other_text}
+use Rattle.oauth2_commands.specs.Lines.{basic_line, pair_lines, expected_lines, authorization_text}
+use Rattle.oauth2_commands.specs.private.RequestLines.{read_lines, view_lines, request_lines}
+use Rattle.oauth2_commands.specs.Out.{Output, failed, starved, after}
+use Rattle.oauth2_commands.specs.private.Added.{Prints, Adds}
+use Rattle.oauth2_commands.specs.private.Replay.{Replays, replied, replies_of}
+use Rattle.oauth2_script.specs.Replies.{Reply}
+use Rattle.oauth2_commands.specs.Replies.{next_reply}
+use Rattle.oauth2_commands.specs.private.Results.{end_output}
+use Rattle.oauth2_commands.specs.declared.replay.ScriptedClient.{ScriptedClient}
+use Rattle.oauth2_commands.specs.declared.replay.NoReply.{NoReply}
+use Rattle.oauth2_commands.specs.declared.status.RunStatus.{RunStatus}
+
+-- ---- the lines of the request that a configuration asks for
+
+authorization_in : (credentials : Option Pair) → get (headers_before (authorization_header credentials)) (codes "authorization") ≡ option_map (λ p. plain_value (basic_value p.0 p.1)) credentials
+authorization_in None = refl
+authorization_in (Some p) = refl
+
+-- what is read, by the credentials that are there
+read_by : (credentials : Option Pair) (pairs : List Pair) → option_and_then (λ value. basic value.bytes) (option_map (λ (p : Pair). plain_value (basic_value p.0 p.1)) credentials) ≡ credentials
+    → read_lines (option_map (λ value. option_map shown_pair (basic value.bytes)) (option_map (λ (p : Pair). plain_value (basic_value p.0 p.1)) credentials)) pairs
+    ≡ basic_line (option_map shown_pair credentials) ++ pair_lines pairs
+read_by None pairs e = refl
+read_by (Some p) pairs e = let b : basic (basic_value p.0 p.1) ≡ Some p = e in rw b refl
+
+texts_by : (credentials : Option Pair) → option_map (λ value. value.bytes) (option_map (λ (p : Pair). plain_value (basic_value p.0 p.1)) credentials) ≡ authorization_text credentials
+texts_by None = refl
+texts_by (Some p) = refl
+
+pub request_lines-expected : (c : Configuration) (text : List ℕ) (v : RequestView) → IsRequestOf c text v → request_lines v ≡ expected_lines c (uri_text v.target)
+unfolding request_lines expected_lines
+request_lines-expected c text v is =
+    let a : authorization_of v ≡ option_map (λ (p : Pair). plain_value (basic_value p.0 p.1)) (expected_basic c) = rw is.headers (authorization_in (expected_basic c)) in
+    let b : option_and_then (λ value. basic value.bytes) (option_map (λ (p : Pair). plain_value (basic_value p.0 p.1)) (expected_basic c)) ≡ expected_basic c = rw (← a) is.basic in
+    let r : view_lines v ≡ basic_line (option_map shown_pair (expected_basic c)) ++ pair_lines (map shown_pair (expected_pairs c)) =
+    rw (is.form, a) (read_by (expected_basic c) (map shown_pair (expected_pairs c)) b) in
+    rw (r, is.method, is.body, a, texts_by (expected_basic c)) (simp append_assoc)
+
+-- ---- a request, whatever it asks for
+
+module _ {D A T E : Type 0} (meaning : D → A) (error_meaning : T → E) (json : A → List ℕ) (text : E → List ℕ) (says : ReplyView → Answer A E) where
+  -- what is shown of a result
+  abbrev shown : Result D (RequestTokenError NoReply T) → Output
+  shown result = end_output (λ e. text (error_meaning e)) (λ d. json (meaning d)) result
+
+  -- the result is shown as the reply is judged, or memory ran out
+  abbrev IsJudged : Result D (RequestTokenError NoReply T) → Output → Type 0
+  IsJudged result o = (shown result ≡ o) ⊎ ((sent : Bool) × (result ≡ Err (Memory sent)))
+
+  pub judged : (view : ReplyView) (result : Result D (RequestTokenError NoReply T)) → ReplyShows meaning error_meaning (says view) result
+      → IsJudged result (answer_output json text (says view))
+  judged view (Ok answer) h = inl (rw h refl)
+  judged view (Err (ServerResponse e)) h = inl (rw h refl)
+  judged view (Err (Parse f body)) h = inl (rw h refl)
+  judged view (Err (Other given)) h = inl (rw h refl)
+  judged view (Err (Memory sent)) h = inr (sent, refl)
+  judged view (Err (Request e)) h = absurd h
+
+  answered_by : (replies : List Reply) (answer : Result HttpResponse NoReply) (result : Result D (RequestTokenError NoReply T)) → replied answer ≡ next_reply replies
+      → AnswersTo meaning error_meaning (λ reply. says (reply_of reply)) answer result
+      → IsJudged result (reply_output json text says (next_reply replies))
+  answered_by replies (Ok reply) result e h = rw (← e) (judged (reply_of reply) result h)
+  answered_by replies (Err failure) result e h = inl (rw (← e, h) refl)
+
+  module _ (c : Configuration) (endpoint : Addressed) (old new : ScriptedClient) (lines : List ℕ) (s : RunStatus) where
+    ends_by : (target : List ℕ) (result : Result D (RequestTokenError NoReply T)) → IsJudged result (reply_output json text says (next_reply (replies_of old)))
+        → IsSent json text says c (replies_of old) (Some target) (after (expected_lines c target) (shown result))
+    ends_by target result (inl same) = inl (ap (after (expected_lines c target)) same)
+    ends_by target result (inr (was_sent, e)) = inr (ap (λ (r : Result D (RequestTokenError NoReply T)). after (expected_lines c target) (shown r)) e)
+
+    -- one call
+    sent : (request : HttpRequest) → IsRequestOf c (serialize endpoint.url) (view_of request) → (answer : Result HttpResponse NoReply) → Replays old request answer new
+        → (result : Result D (RequestTokenError NoReply T)) → IsJudged result (reply_output json text says (next_reply (replies_of old)))
+        → Prints (string_bytes new.lines) lines s (shown result) → Adds (string_bytes old.lines) lines s (IsExchange json text says c endpoint (replies_of old))
+    sent request is answer replays result judged (printed, ended) =
+        let target = uri_text (view_of request).target in
+        let o = after (expected_lines c target) (shown result) in
+        let sends : string_bytes new.lines ≡ string_bytes old.lines ++ expected_lines c target = rw (← request_lines-expected c (serialize endpoint.url) (view_of request) is) replays.prints in
+        let all : lines ≡ string_bytes old.lines ++ o.lines = rw (printed, sends) (append_assoc (string_bytes old.lines) (expected_lines c target) (shown result).lines) in
+        (o, inr (Some target, ((view_of request).target, is.target, refl), ends_by target result judged), all, ended)
+
+    -- no call, for want of memory
+    unsent : (result : Result D (RequestTokenError NoReply T)) → string_bytes new.lines ≡ string_bytes old.lines → shown result ≡ starved
+        → Prints (string_bytes new.lines) lines s (shown result) → Adds (string_bytes old.lines) lines s (IsExchange json text says c endpoint (replies_of old))
+    unsent result same is (printed, ended) =
+        let all : lines ≡ string_bytes old.lines ++ starved.lines = rw (printed, same, is) refl in
+        (starved, inl refl, all, ended ∙ ap (λ (x : Output). x.status) is)
+
+    not_http : (result : Result D (RequestTokenError NoReply T)) → AnswersUnsent fault.NotHttp result → SpellsNone (serialize endpoint.url) → string_bytes new.lines ≡ string_bytes old.lines
+        → Prints (string_bytes new.lines) lines s (shown result) → Adds (string_bytes old.lines) lines s (IsExchange json text says c endpoint (replies_of old))
+    not_http (Ok answer) h none same p = absurd h
+    not_http (Err (ServerResponse e)) h none same p = absurd h
+    not_http (Err (Request e)) h none same p = absurd h
+    not_http (Err (Parse f body)) h none same p = absurd h
+    not_http (Err (Other given)) h none same (printed, ended) =
+        let o = failed (other_text not_http_text) in
+        let all : lines ≡ string_bytes old.lines ++ o.lines = rw (printed, same, h) refl in
+        (o, inr (None, none, refl), all, ended)
+    not_http (Err (Memory was_sent)) h none same p = unsent (Err (Memory was_sent)) same refl p
+
+    unfed : (result : Result D (RequestTokenError NoReply T)) → AnswersUnsent fault.Memory result → string_bytes new.lines ≡ string_bytes old.lines
+        → Prints (string_bytes new.lines) lines s (shown result) → Adds (string_bytes old.lines) lines s (IsExchange json text says c endpoint (replies_of old))
+    unfed (Ok answer) h same p = absurd h
+    unfed (Err (ServerResponse e)) h same p = absurd h
+    unfed (Err (Request e)) h same p = absurd h
+    unfed (Err (Parse f body)) h same p = absurd h
+    unfed (Err (Other given)) h same p = absurd h
+    unfed (Err (Memory was_sent)) h same p = unsent (Err (Memory was_sent)) same refl p
+
+    pub exchange_told : (result : Result D (RequestTokenError NoReply T)) → Asks meaning error_meaning says c endpoint old result new → new.is_starved ≡ false
+        → Prints (string_bytes new.lines) lines s (end_output (λ e. text (error_meaning e)) (λ d. json (meaning d)) result)
+        → Adds (string_bytes old.lines) lines s (IsExchange json text says c endpoint (replies_of old))
+    exchange_told result (inl (request, is, (answer, inl out, answers))) fed p = cc
+    exchange_told result (inl (request, is, (answer, inr replays, answers))) fed p =
+        sent request is answer replays result (answered_by (replies_of old) answer result replays.answers answers) p
+    exchange_told result (inr (inl (h, none), same)) fed p = not_http result h none (ap (λ (x : ScriptedClient). string_bytes x.lines) same) p
+    exchange_told result (inr (inr h, same)) fed p = unfed result h (ap (λ (x : ScriptedClient). string_bytes x.lines) same) p

@@ -1,0 +1,115 @@
+-- What a run shows of the result of a request.
+use Rattle.std.proofs.Common.{◌≡◌, ℕ, List, ◌++◌, Option, Some, None, Ok, Vec, codes, false, refl}
+use Rattle.std.specs.Prelude.{IfSome, IsOkAnd}
+use Rattle.std.specs.declared.alloc.Global.{Global}
+use Rattle.serde_json.specs.Data.{Data, string, object, no_members}
+use Rattle.serde_json.specs.Written.{has_float, compact_text}
+use Rattle.oauth2_codes.specs.Codes.{token_code, token_code_text}
+use Rattle.oauth2_codes.specs.ErrorCodes.{error_code, error_code_text, device_error_code, device_error_code_text, revocation_error_code, revocation_error_code_text}
+use Rattle.oauth2_codes.specs.ErrorResponse.{error_text, parts_of}
+use Rattle.oauth2_json.specs.Writing.{Writing}
+use Rattle.oauth2_json.specs.declared.read.ParseFault.{ParseFault}
+use Rattle.oauth2_codes.specs.declared.token_type.BasicTokenType.{BasicTokenType}
+use Rattle.oauth2_replies.specs.Device.{device_writing}
+use Rattle.oauth2_replies.specs.Introspection.{introspection_writing}
+use Rattle.oauth2_replies.specs.Token.{token_writing}
+use Rattle.oauth2_wire.specs.Display.{configuration_text, fault_text}
+use Rattle.oauth2_wire.specs.declared.error.ConfigurationError.{ConfigurationError}
+use Rattle.oauth2_wire.specs.declared.error.ConfigurationError.TheVariants.{MissingUrl, InsecureUrl}
+use Rattle.oauth2_wire.specs.declared.error.RequestTokenError.{RequestTokenError}
+use Rattle.oauth2_wire.specs.declared.error.RequestTokenError.TheVariants.{ServerResponse, Request, Parse, Other, Memory}
+use Rattle.oauth2_commands.specs.Exchange.{token_data, token_json, error_display}
+use Rattle.oauth2_commands.specs.DeviceAuthorization.{device_data, device_json}
+use Rattle.oauth2_commands.specs.Introspect.{introspection_data, introspection_json}
+use Rattle.oauth2_commands.specs.Lines.{fault_line}
+use Rattle.oauth2_commands.specs.private.Added.{Prints}
+use Rattle.oauth2_commands.specs.private.Results.{configuration_output, fault_output}
+use Rattle.oauth2_commands.specs.private.Results.{TokenSeen, token_meaning, token_text, IntrospectionSeen, introspection_meaning, introspection_text}
+use Rattle.oauth2_commands.specs.private.Results.{DeviceSeen, device_meaning, device_text, DeviceErrorResponse, device_error_seen}
+use Rattle.oauth2_commands.specs.private.Results.{ErrorResponse, error_seen, RevocationErrorResponse, revocation_error_seen}
+use Rattle.oauth2_commands.specs.declared.replay.NoReply.{NoReply}
+use Rattle.oauth2_commands.proofs.NoFloats.{token_data-no_float, device_data-no_float, introspection_data-no_float}
+use Rattle.oauth2_commands.specs.declared.status.RunStatus.TheVariants as status
+
+module _ {T : Type 0} (display : T → Option (List ℕ)) (text : T → List ℕ) (shows : (e : T) → display e ≡ Some (text e)) where
+  pub fault_shown : (fault : RequestTokenError NoReply T) (shown old new : List ℕ) → ((f : ParseFault) (body : Vec ℕ Global) → fault ≡ Parse f body → ⊥)
+      → IfSome (fault_text display fault) (λ bs. shown ≡ bs) → new ≡ old ++ fault_line shown → Prints old new status.Fault (fault_output text fault)
+  fault_shown (ServerResponse e) shown old new other told printed =
+      let is : shown ≡ codes "Server returned error response: " ++ text e = rw (shows e) at told in
+      (rw (← is) printed, refl)
+  fault_shown (Request e) shown old new other told printed = (rw (← told) printed, refl)
+  fault_shown (Parse f body) shown old new other told printed = absurd (other f body refl)
+  fault_shown (Other given) shown old new other told printed = (rw (← told) printed, refl)
+  fault_shown (Memory sent) shown old new other told printed = (rw (← told) printed, refl)
+
+pub configuration_shown : (e : ConfigurationError) (shown old new : List ℕ) → IfSome (configuration_text e) (λ bs. shown ≡ bs)
+    → new ≡ old ++ fault_line shown → Prints old new status.Fault (configuration_output e)
+configuration_shown (MissingUrl name) shown old new told printed = (rw (← told) printed, refl)
+configuration_shown (InsecureUrl name) shown old new told printed = (rw (← told) printed, refl)
+
+-- what is written of a response without extra fields
+abbrev token_written : TokenSeen → Writing
+token_written t = token_writing (λ _. Ok (object no_members)) (λ k. Ok (string (token_code_text (token_code k)))) t
+
+token_written-data : (t : TokenSeen) → token_written t ≡ Ok (token_data (token_meaning t))
+unfolding token_data
+token_written-data t = refl
+
+abbrev introspection_written : IntrospectionSeen → Writing
+introspection_written r = introspection_writing (λ _. Ok (object no_members)) (λ k. Ok (string (token_code_text (token_code k)))) r
+
+introspection_written-data : (r : IntrospectionSeen) → introspection_written r ≡ Ok (introspection_data (introspection_meaning r))
+unfolding introspection_data
+introspection_written-data r = by_type r.token_type refl
+  where
+    by_type : (t : Option BasicTokenType) → r.token_type ≡ t → introspection_written r ≡ Ok (introspection_data (introspection_meaning r))
+    by_type None e = rw e refl
+    by_type (Some k) e = rw e refl
+
+abbrev device_written : DeviceSeen → Writing
+device_written r = device_writing (λ _. Ok (object no_members)) r
+
+device_written-data : (r : DeviceSeen) → device_written r ≡ Ok (device_data (device_meaning r))
+unfolding device_data
+device_written-data r = refl
+
+free_of : (written : Writing) (d : Data) → written ≡ Ok d → has_float d ≡ false → IsOkAnd written (λ d. has_float d ≡ false)
+free_of written d e free = rw e free
+
+pub token_free : (t : TokenSeen) → IsOkAnd (token_written t) (λ d. has_float d ≡ false)
+token_free t = free_of (token_written t) (token_data (token_meaning t)) (token_written-data t) (token_data-no_float (token_meaning t))
+
+pub introspection_free : (r : IntrospectionSeen) → IsOkAnd (introspection_written r) (λ d. has_float d ≡ false)
+introspection_free r =
+    free_of (introspection_written r) (introspection_data (introspection_meaning r)) (introspection_written-data r)
+    (introspection_data-no_float (introspection_meaning r))
+
+pub device_free : (r : DeviceSeen) → IsOkAnd (device_written r) (λ d. has_float d ≡ false)
+device_free r = free_of (device_written r) (device_data (device_meaning r)) (device_written-data r) (device_data-no_float (device_meaning r))
+
+pub device_shown : (r : DeviceSeen) (s : List ℕ) → ((d : Data) → device_written r ≡ Ok d → s ≡ compact_text d) → s ≡ device_text r
+unfolding device_json
+device_shown r s shows = shows (device_data (device_meaning r)) (device_written-data r)
+
+pub token_shown : (t : TokenSeen) (s : List ℕ) → ((d : Data) → token_written t ≡ Ok d → s ≡ compact_text d) → s ≡ token_text t
+unfolding token_json
+token_shown t s shows = shows (token_data (token_meaning t)) (token_written-data t)
+
+pub introspection_shown : (r : IntrospectionSeen) (s : List ℕ) → ((d : Data) → introspection_written r ≡ Ok d → s ≡ compact_text d) → s ≡ introspection_text r
+unfolding introspection_json
+introspection_shown r s shows = shows (introspection_data (introspection_meaning r)) (introspection_written-data r)
+
+-- how the server's error is shown
+pub error_told : (e : ErrorResponse) → error_text (Some (error_code_text (error_code e.error))) (parts_of (λ t. t) e) ≡ Some (error_seen e)
+unfolding error_display
+error_told e = refl
+
+pub device_error_told : (e : DeviceErrorResponse)
+    → error_text (Some (device_error_code_text (device_error_code e.error))) (parts_of (λ t. t) e) ≡ Some (device_error_seen e)
+unfolding error_display
+device_error_told e = refl
+
+pub revocation_error_told : (e : RevocationErrorResponse)
+    → error_text (Some (revocation_error_code_text (revocation_error_code e.error))) (parts_of (λ t. t) e) ≡ Some (revocation_error_seen e)
+unfolding error_display
+revocation_error_told e = refl

@@ -1,0 +1,15 @@
+use Rattle.std.proofs.Common.{string_bytes}
+use Rattle.std.specs.Int.NonZero.{non_zero_u64_get}
+use Rattle.std.proofs.lemmas.Result.{IfOk-weaker}
+use Rattle.oauth2_device.specs.Poll.{timeout_of}
+use Rattle.oauth2_commands.proofs.Polls.{poll_told}
+use Rattle.oauth2_commands.proofs.device_poll.poll.Goals as goal
+
+pub returns : goal.returns
+returns c =
+    let seen = rw c.get.ensures.value at c.poll_with-end.ensures.poll in
+    IfOk-weaker c.show_poll.result _ _
+    (λ status printed. λ fed.
+    poll_told c.args.request.request (timeout_of c.args.request.request c.args.timeout) (non_zero_u64_get c.args.max_polls) c.args.world.now seen.0
+    c.poll_with-end.new.world (string_bytes c.show_poll.new.lines) status c.poll_with-end.result seen.2 seen.1 fed printed)
+    c.show_poll.ensures

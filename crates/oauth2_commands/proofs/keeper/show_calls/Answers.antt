@@ -1,0 +1,14 @@
+use Rattle.std.proofs.Common.{string_bytes}
+use Rattle.oauth2_commands.specs.private.Kept.{standing}
+use Rattle.oauth2_commands.proofs.Kept.{calls_more}
+use Rattle.oauth2_commands.proofs.keeper.show_calls.Goals as goal
+
+pub loop-now-preserved : goal.loop-now-preserved
+loop-now-preserved c = λ fed.
+    (let call = c.in_ok-later.ensures fed in
+    let so_far = c.loop-now.invariant call.0 in
+    rw c.both-status.ensures
+    (calls_more (standing c.args.keeper.now c.args.http_client.now) (standing c.loop-now.keeper c.loop-now.http_client) (standing c.show_call.new.keeper c.show_call.new.http_client)
+    c.args.readings.now c.loop-now.now-index c.now-item.result c.loop-now-test.true c.now-item.is
+    (string_bytes c.args.http_client.now.lines) (string_bytes c.loop-now.http_client.lines) (string_bytes c.show_call.new.http_client.lines)
+    c.loop-now.status c.in_ok-later.later so_far call.1))

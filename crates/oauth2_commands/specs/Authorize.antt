@@ -1,0 +1,35 @@
+-- The command `authorize`: the URL to send a user to (RFC 6749, 4.1.1).
+use Rattle.std.specs.Prelude.{◌≡◌, ℕ, List, ◌++◌, unwrap_or, codes}
+use Rattle.url.specs.Parts.{Parts, serialize}
+use Rattle.oauth2_urls.specs.Addressed.{Addressed}
+use Rattle.oauth2_requests.specs.Authorization.{Authorization, query_pairs}
+use Rattle.oauth2_requests.specs.Query.{ExtendsQuery}
+use Rattle.oauth2.specs.Settings.{Settings}
+use Rattle.oauth2_commands.specs.Client.{WithEndpoint, given_or}
+use Rattle.oauth2_commands.specs.Lines.{line, quoted}
+use Rattle.oauth2_commands.specs.Out.{Output, answered, after}
+use Rattle.oauth2_script.specs.AuthorizeParams.{AuthorizeParams}
+
+abbrev pub authorization : Settings → AuthorizeParams → Addressed → Authorization
+authorization client p url = record {
+  auth_url = url;
+  client_id = client.client_id;
+  state = p.state;
+  response_type = unwrap_or p.response_type (codes "code");
+  pkce_challenge = p.challenge;
+  redirect_url = given_or p.redirect client.redirect_url;
+  scopes = p.scopes;
+  extra_params = p.extra;
+}
+
+unfoldable pub url_line : List ℕ → List ℕ
+url_line text = line (codes "url " ++ quoted text)
+
+-- the endpoint's URL with these pairs, and the state
+abbrev pub IsUrlShown : Authorization → Output → Type 0
+IsUrlShown r o =
+    (url : Parts) × ExtendsQuery r.auth_url.url url (query_pairs r) × (o ≡ after (url_line (serialize url)) (answered (quoted r.state)))
+
+abbrev pub IsAuthorizeOutput : Settings → AuthorizeParams → Output → Type 0
+IsAuthorizeOutput client p o =
+    WithEndpoint (codes "authorization") (λ url o. IsUrlShown (authorization client p url) o) client.auth_url o

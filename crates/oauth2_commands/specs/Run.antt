@@ -1,0 +1,44 @@
+-- What a run over an input writes, and how it ends.
+use Rattle.std.specs.Prelude.{◌≡◌, ℕ, List, Option, Some, None, codes}
+use Rattle.oauth2.specs.Settings.{Settings}
+use Rattle.oauth2_commands.specs.Authorize.{IsAuthorizeOutput}
+use Rattle.oauth2_commands.specs.ClientCredentials.{IsClientCredentialsOutput}
+use Rattle.oauth2_commands.specs.Code.{IsCodeOutput}
+use Rattle.oauth2_commands.specs.Clock.{Clock, new_clock}
+use Rattle.oauth2_commands.specs.DeviceAuthorization.{IsDeviceAuthorizationOutput}
+use Rattle.oauth2_commands.specs.DevicePoll.{IsDevicePollOutput}
+use Rattle.oauth2_commands.specs.Introspect.{IsIntrospectOutput}
+use Rattle.oauth2_commands.specs.Keeper.{IsKeeperOutput}
+use Rattle.oauth2_commands.specs.Password.{IsPasswordOutput}
+use Rattle.oauth2_commands.specs.Refresh.{IsRefreshOutput}
+use Rattle.oauth2_commands.specs.Revoke.{IsRevokeOutput}
+use Rattle.oauth2_commands.specs.Lines.{line}
+use Rattle.oauth2_commands.specs.Out.{Output}
+use Rattle.oauth2_script.specs.Command.{Command, code, refresh, password, client_credentials, introspect, revoke, device_authorization, device_poll, keeper, authorize}
+use Rattle.oauth2_script.specs.Script.{Script, script_in}
+use Rattle.oauth2_commands.specs.Client.{settings_of}
+use Rattle.oauth2_script.specs.Replies.{Reply}
+use Rattle.oauth2_commands.specs.declared.status.RunStatus.TheVariants as status
+
+abbrev pub IsCommandOutput : Settings → Clock → List Reply → Command → Output → Type 0
+IsCommandOutput client clock replies (code p) o = IsCodeOutput client p replies o
+IsCommandOutput client clock replies (refresh p) o = IsRefreshOutput client p replies o
+IsCommandOutput client clock replies (password p) o = IsPasswordOutput client p replies o
+IsCommandOutput client clock replies (client_credentials p) o = IsClientCredentialsOutput client p replies o
+IsCommandOutput client clock replies (introspect p) o = IsIntrospectOutput client p replies o
+IsCommandOutput client clock replies (revoke p) o = IsRevokeOutput client p replies o
+IsCommandOutput client clock replies (device_authorization p) o = IsDeviceAuthorizationOutput client p replies o
+IsCommandOutput client clock replies (device_poll p) o = IsDevicePollOutput client p clock replies o
+IsCommandOutput client clock replies (keeper p) o = IsKeeperOutput client p clock.moments replies o
+IsCommandOutput client clock replies (authorize p) o = IsAuthorizeOutput client p o
+
+abbrev pub bad_script : Output
+bad_script = record { lines = line (codes "bad script"); status = status.BadScript }
+
+abbrev pub IsScriptOutput : Option Script → Output → Type 0
+IsScriptOutput None o = o ≡ bad_script
+IsScriptOutput (Some s) o = IsCommandOutput (settings_of s.client) (new_clock s.readings) s.replies s.command o
+
+-- a function of the input but for the target, which is the one that its URL's text has
+unfoldable pub IsOutputOf : List ℕ → Output → Type 0
+IsOutputOf input o = IsScriptOutput (script_in input) o

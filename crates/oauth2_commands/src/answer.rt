@@ -1,0 +1,236 @@
+//! What a run shows of the end of a request.
+
+ghost use Rattle.std.specs.Prelude.{◌≡◌, ◌++◌, ℕ, List, Some, false, string_bytes, codes, IfOk, OnOk, IsOkAnd};
+ghost use Rattle.serde_json.specs.Data.{Data};
+ghost use Rattle.serde_json.specs.Written.{compact_text, has_float};
+ghost use Rattle.oauth2_commands.specs.Exchange.{cause_name, unread_line};
+ghost use Rattle.oauth2_commands.specs.Lines.{line};
+ghost use Rattle.oauth2_commands.specs.private.Added.{Prints};
+ghost use Rattle.oauth2_commands.specs.private.Results.{token_output, introspection_output, revocation_output};
+ghost use Rattle.oauth2_commands.specs.private.Results.{device_authorization_output, poll_output};
+ghost use Rattle.oauth2_commands.specs.private.Results.{configuration_output, fault_output};
+
+use crate::lines::{print_answer, print_fault, quoted};
+use crate::replay::NoReply;
+use crate::status::RunStatus;
+use oauth2::basic::{
+    BasicErrorResponse, BasicRevocationErrorResponse, BasicTokenIntrospectionResponse,
+    BasicTokenResponse,
+};
+use oauth2::{
+    ConfigurationError, DeviceCodeErrorResponse, ParseCause, ParseFault, RequestTokenError,
+    StandardDeviceAuthorizationResponse, ToJson, WriteError, compact,
+};
+use std::alloc::{AllocError, Global};
+use std::fmt::Display;
+
+/// Why a run has no answer of the server.
+pub type Fault = RequestTokenError<NoReply, BasicErrorResponse>;
+
+/// Why a poll gave no token.
+pub type DeviceFault = RequestTokenError<NoReply, DeviceCodeErrorResponse>;
+
+/// Why a token is not revoked.
+pub type RevocationFault = RequestTokenError<NoReply, BasicRevocationErrorResponse>;
+
+fn cause_name(cause: ParseCause) -> &'static str
+    ensures { result.now ≡ cause_name cause }
+{
+    match cause {
+        ParseCause::NotJson => "NotJson",
+        ParseCause::NotObject => "NotObject",
+        ParseCause::Missing => "Missing",
+        ParseCause::WrongType => "WrongType",
+        ParseCause::NotWhole => "NotWhole",
+        ParseCause::OutOfRange => "OutOfRange",
+        ParseCause::BadUrl => "BadUrl",
+        ParseCause::BothNames => "BothNames",
+        ParseCause::Refused => "Refused",
+    }
+}
+
+// Four words in a line.
+fn print_words(
+    lines: &mut String,
+    first: &str,
+    second: &str,
+    third: &str,
+    fourth: &str,
+) -> Result<(), AllocError>
+    ensures { OnOk result (string_bytes lines.new ≡ string_bytes lines.old
+        ++ line (first.now ++ codes " " ++ second.now ++ codes " " ++ third.now ++ codes " " ++ fourth.now)) }
+{
+    writeln!(lines, "{first} {second} {third} {fourth}")
+}
+
+#[tactic(auto, unfolding(crate::specs::Exchange::unread_line))]
+fn print_unread(
+    alloc: Global,
+    lines: &mut String,
+    member: &str,
+    cause: &str,
+) -> Result<(), AllocError>
+    ensures { OnOk result (string_bytes lines.new ≡ string_bytes lines.old ++ unread_line member.now cause.now) }
+{
+    let display = quoted(alloc, "Failed to parse server response")?;
+    let member = quoted(alloc, member)?;
+    print_words(
+        lines,
+        "answer fault",
+        display.as_str(),
+        member.as_str(),
+        cause,
+    )?;
+    Ok(())
+}
+
+fn print_parse_fault(
+    alloc: Global,
+    lines: &mut String,
+    fault: &ParseFault,
+) -> Result<(), AllocError>
+    ensures { OnOk result (string_bytes lines.new ≡ string_bytes lines.old
+        ++ unread_line (string_bytes fault.now.member) (cause_name fault.now.cause)) }
+{
+    let cause = cause_name(fault.cause);
+    print_unread(alloc, lines, fault.member.as_str(), cause)
+}
+
+/// The fault of a request, where the server's error is shown as some text.
+pub fn show_fault<T: Display>(
+    alloc: Global,
+    lines: &mut String,
+    fault: &RequestTokenError<NoReply, T>,
+) -> Result<RunStatus, AllocError>
+    ensures { IfOk result (λ status. (text : T → List ℕ) → ((e : T) → T.output e ≡ Some (text e))
+        → Prints (string_bytes lines.old) (string_bytes lines.new) status (fault_output text fault.now)) }
+{
+    if let RequestTokenError::Parse(fault, _) = fault {
+        print_parse_fault(alloc, lines, fault)?;
+    } else {
+        let text = fault.to_string(alloc)?;
+        print_fault(alloc, lines, text.as_str())?;
+    }
+    Ok(RunStatus::Fault)
+}
+
+// The compact JSON of what is written without a fault and holds no float.
+fn json_of<T: ToJson>(alloc: Global, value: &T) -> Result<String, AllocError>
+    requires { IsOkAnd (T.writing value.now) (λ d. has_float d ≡ false) }
+    ensures { IfOk result (λ s. (d : Data) → T.writing value.now ≡ Ok d → string_bytes s ≡ compact_text d) }
+{
+    match compact(alloc, value) {
+        Ok(json) => Ok(json),
+        Err(WriteError::Memory) => Err(AllocError),
+        Err(WriteError::NameClash) => unreachable!(),
+        Err(WriteError::Float) => unreachable!(),
+    }
+}
+
+/// The end of a request for a token.
+pub fn show_token(
+    alloc: Global,
+    lines: &mut String,
+    end: &Result<BasicTokenResponse, Fault>,
+) -> Result<RunStatus, AllocError>
+    ensures { IfOk result (λ status. Prints (string_bytes lines.old) (string_bytes lines.new) status
+        (token_output end.now)) }
+{
+    match end {
+        Ok(token) => {
+            let json = json_of(alloc, token)?;
+            print_answer(lines, json.as_str())?;
+            Ok(RunStatus::Answered)
+        }
+        Err(fault) => show_fault(alloc, lines, fault),
+    }
+}
+
+/// The end of a device's request for its codes.
+pub fn show_device_authorization(
+    alloc: Global,
+    lines: &mut String,
+    end: &Result<StandardDeviceAuthorizationResponse, Fault>,
+) -> Result<RunStatus, AllocError>
+    ensures { IfOk result (λ status. Prints (string_bytes lines.old) (string_bytes lines.new) status
+        (device_authorization_output end.now)) }
+{
+    match end {
+        Ok(device) => {
+            let json = json_of(alloc, device)?;
+            print_answer(lines, json.as_str())?;
+            Ok(RunStatus::Answered)
+        }
+        Err(fault) => show_fault(alloc, lines, fault),
+    }
+}
+
+/// The end of a poll for a device's token.
+pub fn show_poll(
+    alloc: Global,
+    lines: &mut String,
+    end: &Result<BasicTokenResponse, DeviceFault>,
+) -> Result<RunStatus, AllocError>
+    ensures { IfOk result (λ status. Prints (string_bytes lines.old) (string_bytes lines.new) status
+        (poll_output end.now)) }
+{
+    match end {
+        Ok(token) => {
+            let json = json_of(alloc, token)?;
+            print_answer(lines, json.as_str())?;
+            Ok(RunStatus::Answered)
+        }
+        Err(fault) => show_fault(alloc, lines, fault),
+    }
+}
+
+/// The end of an introspection.
+pub fn show_introspection(
+    alloc: Global,
+    lines: &mut String,
+    end: &Result<BasicTokenIntrospectionResponse, Fault>,
+) -> Result<RunStatus, AllocError>
+    ensures { IfOk result (λ status. Prints (string_bytes lines.old) (string_bytes lines.new) status
+        (introspection_output end.now)) }
+{
+    match end {
+        Ok(response) => {
+            let json = json_of(alloc, response)?;
+            print_answer(lines, json.as_str())?;
+            Ok(RunStatus::Answered)
+        }
+        Err(fault) => show_fault(alloc, lines, fault),
+    }
+}
+
+/// The end of a revocation.
+pub fn show_revocation(
+    alloc: Global,
+    lines: &mut String,
+    end: &Result<(), RevocationFault>,
+) -> Result<RunStatus, AllocError>
+    ensures { IfOk result (λ status. Prints (string_bytes lines.old) (string_bytes lines.new) status
+        (revocation_output end.now)) }
+{
+    match end {
+        Ok(()) => {
+            print_answer(lines, "null")?;
+            Ok(RunStatus::Answered)
+        }
+        Err(fault) => show_fault(alloc, lines, fault),
+    }
+}
+
+/// An endpoint of the client is missing, or its URL is not an `https` URL.
+pub fn show_configuration_error(
+    alloc: Global,
+    lines: &mut String,
+    error: &ConfigurationError,
+) -> Result<RunStatus, AllocError>
+    ensures { IfOk result (λ status. Prints (string_bytes lines.old) (string_bytes lines.new) status
+        (configuration_output error.now)) }
+{
+    let text = error.to_string(alloc)?;
+    print_fault(alloc, lines, text.as_str())?;
+    Ok(RunStatus::Fault)
+}

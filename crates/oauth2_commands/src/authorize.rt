@@ -1,0 +1,139 @@
+//! The command `authorize`: the URL to send a user to.
+
+ghost use Rattle.std.specs.Prelude.{◌≡◌, ◌++◌, Some, IfSome, IfNone, IsOkAnd, IsErrAnd, OnOk, IfOk, codes, map, unwrap_or, string_bytes};
+ghost use Rattle.oauth2_wire.specs.ServerView.{pair_texts};
+ghost use Rattle.oauth2_wire.specs.ConfigurationError.{IsMissingUrl};
+ghost use Rattle.oauth2_commands.specs.Authorize as spec;
+ghost use Rattle.oauth2.specs.NewRequest.{new_authorization};
+ghost use Rattle.oauth2_commands.specs.Client.{given_or};
+ghost use Rattle.oauth2_commands.specs.private.Added.{Adds};
+ghost use Rattle.oauth2_script.specs.Views.{authorize_view};
+
+use crate::answer::show_configuration_error;
+use crate::client::ScriptClient;
+use crate::lines::{print_answer, quoted};
+use crate::status::RunStatus;
+use oauth2::{
+    AuthorizationRequest, ConfigurationError, CsrfToken, ParamText, PkceCodeChallenge, RedirectRef,
+    RedirectUrl, ResponseType,
+};
+use oauth2_script::AuthorizeParams;
+use std::alloc::{AllocError, Global};
+
+fn start<'a>(
+    alloc: Global,
+    client: &'a ScriptClient,
+    state: CsrfToken,
+) -> Result<AuthorizationRequest<'a>, ConfigurationError>
+    ensures there { IfSome client.now.auth_url (λ url. IsOkAnd result (λ r. r ≡ new_authorization client.now url state)) }
+    ensures missing { IfNone client.now.auth_url (IsErrAnd result (IsMissingUrl (codes "authorization"))) }
+{
+    client.authorize_url(alloc, move || state)
+}
+
+fn with_challenge<'a>(
+    request: AuthorizationRequest<'a>,
+    challenge: Option<PkceCodeChallenge>,
+) -> AuthorizationRequest<'a>
+    ensures { result ≡ record request.entry { pkce_challenge = given_or challenge request.entry.pkce_challenge } }
+{
+    match challenge {
+        Some(challenge) => request.set_pkce_challenge(challenge),
+        None => request,
+    }
+}
+
+fn with_redirect<'a>(
+    request: AuthorizationRequest<'a>,
+    redirect: Option<RedirectUrl>,
+) -> AuthorizationRequest<'a>
+    ensures { result ≡ record request.entry { redirect_url = given_or redirect request.entry.redirect_url } }
+{
+    match redirect {
+        Some(redirect) => request.set_redirect_uri(RedirectRef::Owned(redirect)),
+        None => request,
+    }
+}
+
+fn with_response_type<'a>(
+    alloc: Global,
+    request: AuthorizationRequest<'a>,
+    response_type: Option<ResponseType>,
+) -> Result<AuthorizationRequest<'a>, AllocError>
+    ensures { IfOk result (λ r. r ≡ record request.entry {
+      response_type = unwrap_or response_type request.entry.response_type;
+    }) }
+{
+    match response_type {
+        Some(response_type) => request.set_response_type(alloc, &response_type),
+        None => Ok(request),
+    }
+}
+
+fn with_extra<'a>(
+    request: AuthorizationRequest<'a>,
+    extra: &'a [(String, String)],
+) -> Result<AuthorizationRequest<'a>, AllocError>
+    ensures { IfOk result (λ r. r ≡ record request.entry {
+      extra_params = request.entry.extra_params ++ map pair_texts extra.now;
+    }) }
+{
+    let mut request = request;
+    for (name, value) in extra {
+        request = request.add_extra_param(
+            ParamText::Borrowed(name.as_str()),
+            ParamText::Borrowed(value.as_str()),
+        )?;
+    }
+    Ok(request)
+}
+
+#[tactic(auto, unfolding(crate::specs::Authorize::url_line))]
+fn print_url(alloc: Global, lines: &mut String, url: &str) -> Result<(), AllocError>
+    ensures { OnOk result (string_bytes lines.new ≡ string_bytes lines.old ++ spec.url_line url.now) }
+{
+    let url = quoted(alloc, url)?;
+    writeln!(lines, "url {url}")
+}
+
+// The URL of the request, and its state.
+fn show_url(
+    alloc: Global,
+    lines: &mut String,
+    request: AuthorizationRequest<'_>,
+) -> Result<RunStatus, AllocError>
+    ensures { IfOk result (λ status. Adds (string_bytes lines.old) (string_bytes lines.new) status (spec.IsUrlShown request.entry)) }
+{
+    match request.url(alloc) {
+        Ok((url, state)) => {
+            print_url(alloc, lines, url.as_str())?;
+            let json = quoted(alloc, state.secret().as_str())?;
+            print_answer(lines, json.as_str())?;
+            Ok(RunStatus::Answered)
+        }
+        Err(_) => Err(AllocError),
+    }
+}
+
+/// Shows the URL to send a user to, and the state.
+pub fn run_authorize(
+    alloc: Global,
+    client: &ScriptClient,
+    params: AuthorizeParams,
+    lines: &mut String,
+) -> Result<RunStatus, AllocError>
+    ensures { IfOk result (λ status. Adds (string_bytes lines.old) (string_bytes lines.new) status
+        (spec.IsAuthorizeOutput client.now (authorize_view params))) }
+{
+    match start(alloc, client, params.state) {
+        Ok(request) => {
+            let challenged = with_challenge(request, params.challenge);
+            let redirected = with_redirect(challenged, params.redirect);
+            let typed = with_response_type(alloc, redirected, params.response_type)?;
+            let scoped = typed.add_scopes(params.scopes)?;
+            let asked = with_extra(scoped, params.extra.as_slice())?;
+            show_url(alloc, lines, asked)
+        }
+        Err(error) => show_configuration_error(alloc, lines, &error),
+    }
+}

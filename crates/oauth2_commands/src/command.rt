@@ -1,0 +1,65 @@
+//! The commands of a script.
+
+ghost use Rattle.std.specs.Prelude.{◌≡◌, false, string_bytes, IfOk};
+ghost use Rattle.oauth2_commands.specs.private.Added.{Adds};
+ghost use Rattle.oauth2_commands.specs.private.Replay.{replies_of};
+ghost use Rattle.oauth2_commands.specs.Run.{IsCommandOutput};
+ghost use Rattle.oauth2_script.specs.Views.{command_view};
+
+use crate::authorize::run_authorize;
+use crate::client::ScriptClient;
+use crate::client_credentials::run_client_credentials;
+use crate::code::run_code;
+use crate::device_authorization::run_device_authorization;
+use crate::device_poll::run_device_poll;
+use crate::introspect::run_introspect;
+use crate::keeper::run_keeper;
+use crate::password::run_password;
+use crate::refresh::run_refresh;
+use crate::revoke::run_revoke;
+use crate::status::RunStatus;
+use crate::world::ScriptedWorld;
+use oauth2_script::Command;
+use std::alloc::{AllocError, Global};
+
+/// Runs a command, and gathers its lines.
+pub fn run_command(
+    alloc: Global,
+    client: &ScriptClient,
+    command: Command,
+    world: &mut ScriptedWorld,
+) -> Result<RunStatus, AllocError>
+    ensures { IfOk result (λ status. world.new.http_client.is_starved ≡ false
+        → Adds (string_bytes world.old.http_client.lines) (string_bytes world.new.http_client.lines) status
+        (IsCommandOutput client.now world.old.clock (replies_of world.old.http_client) (command_view command))) }
+{
+    let http_client = &mut world.http_client;
+    match command {
+        Command::Code(params) => run_code(alloc, client, params, http_client),
+        Command::Refresh(params) => run_refresh(alloc, client, params, http_client),
+        Command::Password(params) => run_password(alloc, client, params, http_client),
+        Command::ClientCredentials(params) => run_client_credentials(
+            alloc,
+            client,
+            params,
+            http_client,
+        ),
+        Command::Introspect(params) => run_introspect(alloc, client, params, http_client),
+        Command::Revoke(params) => run_revoke(alloc, client, params, http_client),
+        Command::DeviceAuthorization(params) => run_device_authorization(
+            alloc,
+            client,
+            params,
+            http_client,
+        ),
+        Command::DevicePoll(params) => run_device_poll(alloc, client, params, world),
+        Command::Keeper(params) => run_keeper(
+            alloc,
+            client,
+            params,
+            world.clock.moments(),
+            http_client,
+        ),
+        Command::Authorize(params) => run_authorize(alloc, client, params, &mut http_client.lines),
+    }
+}

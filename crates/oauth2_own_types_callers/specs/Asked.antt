@@ -1,0 +1,89 @@
+-- What the requests of a client with types of its own ask for.
+use Rattle.std.specs.Prelude.{ℕ, List, Result}
+use Rattle.serde_json.specs.Data.{Data}
+use Rattle.oauth2_json.specs.Reading.{Reading}
+use Rattle.oauth2_urls.specs.Addressed.{Addressed}
+use Rattle.oauth2_codes.specs.declared.error_response.StandardErrorResponse.{StandardErrorResponse}
+use Rattle.oauth2_codes.specs.ErrorResponse.{ErrorParts, parts_of, error_reading as response_reading}
+use Rattle.oauth2_replies.specs.Device.{DeviceAuthorization, device_seen, device_reading}
+use Rattle.oauth2_replies.specs.Introspection.{Introspection, introspection_seen, introspection_reading}
+use Rattle.oauth2_replies.specs.Token.{Token, token_seen, token_reading}
+use Rattle.oauth2_wire.specs.declared.content_type.ReplyRule.{ReplyRule}
+use Rattle.oauth2_wire.specs.declared.error.RequestTokenError.{RequestTokenError}
+use Rattle.oauth2_wire.specs.Expected.{Configuration}
+use Rattle.oauth2_wire.specs.OneShot.{HttpRequest}
+use Rattle.oauth2_wire.specs.Reply.{HttpResponse}
+use Rattle.oauth2_requests.specs.Once.{AsksOnce, AsksOnceStatusOnly}
+use Rattle.oauth2_device.specs.DeviceToken.{DeviceToken}
+use Rattle.oauth2_device.specs.Events.{Event}
+use Rattle.oauth2_device.specs.Poll.{PollError, Polls}
+use Rattle.oauth2_own_types_callers.specs.declared.colorful_error.ColorfulErrorResponseType.{ColorfulErrorResponseType}
+use Rattle.oauth2_own_types_callers.specs.declared.colorful_fields.ColorfulFields.{ColorfulFields}
+use Rattle.oauth2_own_types_callers.specs.declared.colorful_token_type.ColorfulTokenType.{ColorfulTokenType}
+use Rattle.oauth2_own_types_callers.specs.declared.custom_error.CustomErrorResponse.{CustomErrorResponse}
+use Rattle.oauth2_own_types_callers.specs.ColorErrors.{error_reading}
+use Rattle.oauth2_own_types_callers.specs.Colors.{color_reading}
+use Rattle.oauth2_own_types_callers.specs.CustomError.{custom_reading, custom_seen}
+use Rattle.oauth2_own_types_callers.specs.Fields.{Fields, fields_seen, fields_reading}
+
+-- ---- the responses, as this server tells them and as they are read
+
+abbrev pub ColorfulToken : Type 0
+ColorfulToken = Token ColorfulFields ColorfulTokenType
+
+abbrev pub colorful_token_seen : ColorfulToken → Token Fields ColorfulTokenType
+colorful_token_seen token = token_seen fields_seen (λ color. color) token
+
+abbrev pub colorful_token_reading : Data → Reading (Token Fields ColorfulTokenType)
+colorful_token_reading d = token_reading fields_reading color_reading d
+
+abbrev pub ColorfulIntrospection : Type 0
+ColorfulIntrospection = Introspection ColorfulFields ColorfulTokenType
+
+abbrev pub colorful_introspection_seen : ColorfulIntrospection → Introspection Fields ColorfulTokenType
+colorful_introspection_seen response = introspection_seen fields_seen (λ color. color) response
+
+abbrev pub colorful_introspection_reading : Data → Reading (Introspection Fields ColorfulTokenType)
+colorful_introspection_reading d = introspection_reading fields_reading color_reading d
+
+abbrev pub ColorfulError : Type 0
+ColorfulError = StandardErrorResponse ColorfulErrorResponseType
+
+abbrev pub colorful_error_seen : ColorfulError → ErrorParts ColorfulErrorResponseType
+colorful_error_seen response = parts_of (λ error. error) response
+
+abbrev pub colorful_error_reading : Data → Reading (ErrorParts ColorfulErrorResponseType)
+colorful_error_reading d = response_reading error_reading d
+
+-- ---- one request and its answer
+
+module _ {RE C : Type 0} (step : C → HttpRequest → Result HttpResponse RE → C → Type 0) (rule : ReplyRule) (configuration : Configuration) (endpoint : Addressed) (before : C) where
+  -- for a token
+  abbrev pub AsksForToken : Result ColorfulToken (RequestTokenError RE ColorfulError) → C → Type 0
+  AsksForToken result after =
+      AsksOnce colorful_token_seen colorful_error_seen colorful_token_reading colorful_error_reading step rule configuration endpoint before result after
+
+  -- the same where an error response is not the standard's
+  abbrev pub AsksForCustomToken : Result ColorfulToken (RequestTokenError RE CustomErrorResponse) → C → Type 0
+  AsksForCustomToken result after =
+      AsksOnce colorful_token_seen custom_seen colorful_token_reading custom_reading step rule configuration endpoint before result after
+
+  abbrev pub AsksForIntrospection : Result ColorfulIntrospection (RequestTokenError RE ColorfulError) → C → Type 0
+  AsksForIntrospection result after =
+      AsksOnce colorful_introspection_seen colorful_error_seen colorful_introspection_reading colorful_error_reading step rule configuration endpoint before result after
+
+  -- for the codes of a device
+  abbrev pub AsksForCodes : Result (DeviceAuthorization ColorfulFields) (RequestTokenError RE ColorfulError) → C → Type 0
+  AsksForCodes result after =
+      AsksOnce (device_seen fields_seen) colorful_error_seen (device_reading fields_reading) colorful_error_reading step rule configuration endpoint before result after
+
+module _ {RE C : Type 0} (step : C → HttpRequest → Result HttpResponse RE → C → Type 0) (configuration : Configuration) (endpoint : Addressed) (before : C) where
+  -- for a revocation
+  abbrev pub AsksForRevocation : Result Unit (RequestTokenError RE ColorfulError) → C → Type 0
+  AsksForRevocation result after =
+      AsksOnceStatusOnly colorful_error_seen colorful_error_reading step configuration endpoint before result after
+
+-- the poll of a device for a token, as long as its code is good
+abbrev pub PollsForToken : {RE : Type 0} → DeviceToken → ℕ → List (Event RE) → Result ColorfulToken (PollError RE) → Type 0
+PollsForToken request max_polls e result =
+    Polls colorful_token_seen colorful_token_reading request request.expires_in max_polls e result

@@ -1,0 +1,28 @@
+-- Error codes of a server of colors.
+use Rattle.std.specs.Prelude.{ℕ, List, [], ◌∷◌, Ok, Err, codes}
+use Rattle.serde_json.specs.Data.{Data, string}
+use Rattle.oauth2_json.specs.Reading.{Reading, whole, read_then}
+use Rattle.oauth2_json.specs.Writing.{Writing}
+use Rattle.oauth2_json.specs.Values.{text}
+use Rattle.oauth2_json.specs.declared.read.ParseCause.TheVariants as cause
+use Rattle.oauth2_codes.specs.Codes.{code_in}
+use Rattle.oauth2_own_types_callers.specs.declared.colorful_error.ColorfulErrorResponseType.{ColorfulErrorResponseType}
+use Rattle.oauth2_own_types_callers.specs.declared.colorful_error.ColorfulErrorResponseType.TheVariants.{TooDark, TooLight, WrongColorSpace}
+
+abbrev pub error_text : ColorfulErrorResponseType → List ℕ
+error_text TooDark = codes "too_dark"
+error_text TooLight = codes "too_light"
+error_text WrongColorSpace = codes "wrong_color_space"
+
+abbrev pub error_of : List ℕ → Reading ColorfulErrorResponseType
+error_of s =
+    code_in
+    ((codes "too_dark", Ok TooDark) ∷ (codes "too_light", Ok TooLight) ∷ (codes "wrong_color_space", Ok WrongColorSpace) ∷ [])
+    (Err (whole cause.Refused))
+    s
+
+abbrev pub error_reading : Data → Reading ColorfulErrorResponseType
+error_reading d = read_then (text d) error_of
+
+abbrev pub error_writing : ColorfulErrorResponseType → Writing
+error_writing error = Ok (string (error_text error))

@@ -1,0 +1,38 @@
+-- Extra fields that are a struct: an optional shape and a height.
+use Rattle.std.specs.Prelude.{ℕ, ◌^◌, nat_lt, List, [], ◌∷◌, if◌then◌else◌, Option, Some, Ok, Err, codes, option_map, string_bytes}
+use Rattle.serde_json.specs.Data.{Data, Members, no_members, number, unsigned, string, object}
+use Rattle.serde_json.specs.Find.{get_member}
+use Rattle.oauth2_json.specs.Reading.{Reading, read_then, ◌⊛◌}
+use Rattle.oauth2_json.specs.Writing.{Writing}
+use Rattle.oauth2_json.specs.Members.{members_of_object, needed, optional}
+use Rattle.oauth2_json.specs.Values.{text, whole_number}
+use Rattle.oauth2_json.specs.Puts.{put_all}
+use Rattle.oauth2_json.specs.declared.read.ParseCause.TheVariants as cause
+use Rattle.oauth2_own_types_callers.specs.declared.colorful_fields.ColorfulFields.{ColorfulFields}
+
+-- the fields, without where the text lies in memory
+abbrev pub Fields : Type 0
+Fields = Option (List ℕ) × ℕ
+
+abbrev pub fields_seen : ColorfulFields → Fields
+fields_seen fields = (option_map string_bytes fields.shape, fields.height)
+
+-- a number of 32 bits
+abbrev pub height_of : ℕ → Reading ℕ
+height_of n = if nat_lt n (2 ^ 32) then Ok n else Err (record { member = codes "height"; cause = cause.OutOfRange })
+
+-- the shape may be absent, the height has to be there; of two faults the shape's
+abbrev pub fields_row : Members → Reading Fields
+fields_row ms =
+    Ok (λ shape height. (shape, height))
+    ⊛ optional text (codes "shape") (get_member (codes "shape") ms)
+    ⊛ read_then (needed whole_number (codes "height") (get_member (codes "height") ms)) height_of
+
+abbrev pub fields_reading : Data → Reading Fields
+fields_reading d = read_then (members_of_object d) fields_row
+
+abbrev pub fields_members : Fields → Members
+fields_members f = put_all ((codes "shape", option_map string f.0) ∷ (codes "height", Some (number (unsigned f.1))) ∷ []) no_members
+
+abbrev pub fields_writing : Fields → Writing
+fields_writing f = Ok (object (fields_members f))

@@ -1,0 +1,67 @@
+//! Error codes that are an enum: the server tells these and no others.
+
+ghost use Rattle.std.specs.Prelude.{Some};
+ghost use Rattle.oauth2_own_types_callers.specs.ColorErrors.{error_text, error_reading, error_writing};
+ghost use Rattle.oauth2_own_types_callers.specs.declared.colorful_error.ColorfulErrorResponseType.{ColorfulErrorResponseType};
+
+use oauth2::{ErrorResponseType, FromJson, ParseCause, ReadError, ToJson, WriteError};
+use serde_json::Value;
+use std::alloc::Global;
+use std::convert::AsStr;
+use std::fmt;
+
+/// Why a server of colors refuses; another text is refused.
+#[derive(Clone, Copy, Debug, PartialEq, Eq, Drop)]
+pub enum ColorfulErrorResponseType {
+    TooDark,
+    TooLight,
+    WrongColorSpace,
+}
+
+impl AsStr for ColorfulErrorResponseType {
+    ghost text = { error_text };
+
+    fn as_str(&self) -> &str {
+        match self {
+            ColorfulErrorResponseType::TooDark => "too_dark",
+            ColorfulErrorResponseType::TooLight => "too_light",
+            ColorfulErrorResponseType::WrongColorSpace => "wrong_color_space",
+        }
+    }
+}
+
+impl FromJson for ColorfulErrorResponseType {
+    ghost Meaning = { ColorfulErrorResponseType };
+
+    ghost meaning = { λ error. error };
+
+    ghost reading = { error_reading };
+
+    fn from_json(alloc: Global, value: Value) -> Result<ColorfulErrorResponseType, ReadError> {
+        let text = String::from_json(alloc, value)?;
+        match text.as_str() {
+            "too_dark" => Ok(ColorfulErrorResponseType::TooDark),
+            "too_light" => Ok(ColorfulErrorResponseType::TooLight),
+            "wrong_color_space" => Ok(ColorfulErrorResponseType::WrongColorSpace),
+            _ => Err(ReadError::whole(alloc, ParseCause::Refused)),
+        }
+    }
+}
+
+impl ToJson for ColorfulErrorResponseType {
+    ghost writing = { error_writing };
+
+    fn to_json(&self, alloc: Global) -> Result<Value, WriteError> {
+        Ok(Value::try_from_str(alloc, self.as_str())?)
+    }
+}
+
+impl fmt::Display for ColorfulErrorResponseType {
+    ghost output = { λ error. Some (error_text error) };
+
+    fn fmt<W: fmt::Write>(&self, f: &mut fmt::Formatter<W>) -> fmt::Result {
+        f.write_str(self.as_str())
+    }
+}
+
+impl ErrorResponseType for ColorfulErrorResponseType {}

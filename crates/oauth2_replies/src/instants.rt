@@ -1,0 +1,82 @@
+//! Instants as members: whole seconds since 1970-01-01T00:00:00Z.
+
+ghost use Rattle.std.specs.Prelude.{◌≡◌, ℕ, ℤ, List, Ok, IfSome, option_map};
+ghost use Rattle.serde_json.specs.View.{view};
+ghost use Rattle.oauth2_json.specs.Reading.{ReadsAs};
+ghost use Rattle.oauth2_json.specs.Members.{optional};
+ghost use Rattle.oauth2_json.specs.Values.{instant, instant_at, second_of, second_data, IsWholeSeconds};
+
+use jiff::Timestamp;
+use oauth2_json::{FromJson, ParseCause, ReadError, members};
+use serde_json::Value;
+use std::alloc::Global;
+
+/// An instant of whole seconds.
+#[derive(Drop)]
+struct Instant(Timestamp);
+
+fn at_second(alloc: Global, second: i64) -> Result<Instant, ReadError>
+    ensures { ReadsAs (λ t. t.0.nanosecond) result (instant_at second) }
+{
+    match Timestamp::from_second(second) {
+        Ok(at) => Ok(Instant(at)),
+        Err(_) => Err(ReadError::whole(alloc, ParseCause::OutOfRange)),
+    }
+}
+
+impl FromJson for Instant {
+    ghost Meaning = { ℤ };
+
+    ghost meaning = { λ t. t.0.nanosecond };
+
+    ghost reading = { instant };
+
+    fn from_json(alloc: Global, value: Value) -> Result<Instant, ReadError> {
+        match value {
+            Value::Number(number) => {
+                if let Some(second) = number.as_i64() {
+                    at_second(alloc, second)
+                } else if number.is_f64() {
+                    Err(ReadError::whole(alloc, ParseCause::NotWhole))
+                } else {
+                    Err(ReadError::whole(alloc, ParseCause::OutOfRange))
+                }
+            }
+            _ => Err(ReadError::whole(alloc, ParseCause::WrongType)),
+        }
+    }
+}
+
+/// An instant that may be absent or null.
+pub fn optional_time(
+    alloc: Global,
+    name: &str,
+    found: Option<Value>,
+) -> Result<Option<Timestamp>, ReadError>
+    ensures { ReadsAs (option_map (λ t. t.nanosecond)) result
+        (optional instant name.now (option_map view found)) }
+{
+    match members::optional::<Instant>(alloc, name, found)? {
+        Some(Instant(at)) => Ok(Some(at)),
+        None => Ok(None),
+    }
+}
+
+/// The whole seconds of an instant, rounded down.
+fn second_of(at: Timestamp) -> i64
+    ensures { result ≡ second_of at.nanosecond }
+{
+    at.as_nanosecond().div_euclid(1_000_000_000) as i64
+}
+
+/// The value of an instant that may be absent: its whole seconds, rounded down.
+pub fn time_value(at: Option<Timestamp>) -> Option<Value>
+    ensures value { option_map view result ≡ option_map second_data (option_map (λ t. t.nanosecond) at) }
+    ensures reads_back { (name : List ℕ) → IfSome (option_map (λ t. t.nanosecond) at) IsWholeSeconds
+        → optional instant name (option_map view result) ≡ Ok (option_map (λ t. t.nanosecond) at) }
+{
+    match at {
+        Some(at) => Some(Value::from(second_of(at))),
+        None => None,
+    }
+}

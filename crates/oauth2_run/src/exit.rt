@@ -1,0 +1,20 @@
+//! The status that the process ends with.
+
+ghost use Rattle.std.specs.Prelude.{◌≡◌};
+ghost use Rattle.std.specs.Process.{exit_status};
+ghost use Rattle.oauth2_run.specs.Exit.{status_of};
+
+use oauth2_commands::{RunFault, RunStatus};
+use std::process::ExitCode;
+
+/// The status that the process ends with.
+pub fn exit_of(run: Result<RunStatus, RunFault>) -> ExitCode
+    ensures { exit_status result ≡ status_of run }
+{
+    match run {
+        Ok(RunStatus::Answered) => ExitCode::from(0),
+        Ok(RunStatus::Fault) => ExitCode::from(1),
+        Ok(RunStatus::BadScript) => ExitCode::from(2),
+        Err(_) => ExitCode::from(3),
+    }
+}

@@ -1,0 +1,33 @@
+//! Runs the scripts that standard input holds, one a line, and shows of each the lines that its run
+//! writes and how it ends.
+//!
+//! A line that begins with `#` is a heading, and is shown as it is. The scripts stand in the file
+//! `stdin` beside `src`, and what is wanted of them in the file `stdout`.
+#![tactic(auto)]
+
+#[cfg(test)]
+mod streams;
+
+use oauth2_commands::run_script;
+use std::alloc::Global;
+use std::io::{self, BufRead, BufReader, Write};
+
+fn show_run<W: Write>(alloc: Global, script: &str, writer: &mut W) -> io::Result<()> {
+    let mut input = script.as_bytes();
+    let ended = run_script(alloc, &mut input, &mut *writer);
+    writeln!(writer, "{ended:?}")
+}
+
+fn main(rt: HostRuntime) -> io::Result<()> {
+    let alloc = rt.alloc();
+    let mut writer = io::writer(&rt);
+    for line in BufReader::new(alloc, rt.reader())?.lines(alloc) {
+        let line = line?;
+        if line.starts_with('#') {
+            writeln!(writer, "{line}")?;
+        } else {
+            show_run(alloc, line.as_str(), &mut writer)?;
+        }
+    }
+    Ok(())
+}
