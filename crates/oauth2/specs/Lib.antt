@@ -19,7 +19,7 @@ pub use Rattle.oauth2_json.specs.Challenge
 pub use Rattle.oauth2_json.specs.Helpers
 pub use Rattle.oauth2_replies.specs.Kept
 pub use Rattle.oauth2_replies.specs.Token
-pub use Rattle.oauth2_replies.specs.Introspection
+pub use Rattle.oauth2_introspection.specs.Introspection
 pub use Rattle.oauth2_replies.specs.Device
 pub use Rattle.oauth2_replies.specs.Revocable
 pub use Rattle.oauth2_replies.specs.Extra

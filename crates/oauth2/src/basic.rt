@@ -4,5 +4,6 @@ pub use crate::client::BasicClient;
 pub use oauth2_codes::{
     BasicErrorResponse, BasicErrorResponseType, BasicRevocationErrorResponse, BasicTokenType,
 };
-pub use oauth2_replies::{BasicTokenIntrospectionResponse, BasicTokenResponse};
+pub use oauth2_introspection::BasicTokenIntrospectionResponse;
+pub use oauth2_replies::BasicTokenResponse;
 pub use oauth2_wire::BasicRequestTokenError;

@@ -6,7 +6,8 @@ ghost use Rattle.oauth2_wire.specs.declared.request.AuthType.TheVariants.{BasicA
 
 use crate::endpoint::{EndpointMaybeSet, EndpointNotSet, EndpointSet, EndpointState};
 use oauth2_codes::{BasicErrorResponse, BasicRevocationErrorResponse};
-use oauth2_replies::{BasicTokenIntrospectionResponse, BasicTokenResponse, StandardRevocableToken};
+use oauth2_introspection::BasicTokenIntrospectionResponse;
+use oauth2_replies::{BasicTokenResponse, StandardRevocableToken};
 use oauth2_types::{ClientId, ClientSecret, TryClone};
 use oauth2_urls::{
     AuthUrl, DeviceAuthorizationUrl, IntrospectionUrl, RedirectUrl, RevocationUrl, TokenUrl,

@@ -17,16 +17,16 @@ use Rattle.oauth2_wire.specs.declared.error.RequestTokenError.TheVariants.{Serve
 use Rattle.oauth2_wire.specs.declared.request.RequestFault.TheVariants as fault
 use Rattle.oauth2_commands.specs.private.Asked.{Asks}
 use Rattle.oauth2_commands.specs.Exchange.{answer_output, reply_output, IsSent, IsExchange, other_text}
-use Rattle.oauth2_commands.specs.Lines.{basic_line, pair_lines, expected_lines, authorization_text}
-use Rattle.oauth2_commands.specs.private.RequestLines.{read_lines, view_lines, request_lines}
+use Rattle.oauth2_world.specs.Lines.{basic_line, pair_lines, expected_lines, authorization_text}
+use Rattle.oauth2_world.specs.RequestLines.{read_lines, view_lines, request_lines}
 use Rattle.oauth2_commands.specs.Out.{Output, failed, starved, after}
 use Rattle.oauth2_commands.specs.private.Added.{Prints, Adds}
-use Rattle.oauth2_commands.specs.private.Replay.{Replays, replied, replies_of}
+use Rattle.oauth2_world.specs.Replay.{Replays, replied, replies_of}
 use Rattle.oauth2_script.specs.Replies.{Reply}
-use Rattle.oauth2_commands.specs.Replies.{next_reply}
+use Rattle.oauth2_world.specs.Replies.{next_reply}
 use Rattle.oauth2_commands.specs.private.Results.{end_output}
-use Rattle.oauth2_commands.specs.declared.replay.ScriptedClient.{ScriptedClient}
-use Rattle.oauth2_commands.specs.declared.replay.NoReply.{NoReply}
+use Rattle.oauth2_world.specs.declared.replay.ScriptedClient.{ScriptedClient}
+use Rattle.oauth2_world.specs.declared.replay.NoReply.{NoReply}
 use Rattle.oauth2_commands.specs.declared.status.RunStatus.{RunStatus}
 
 -- ---- the lines of the request that a configuration asks for

@@ -20,16 +20,16 @@ use Rattle.oauth2_script.specs.Replies.{Reply}
 use Rattle.oauth2_commands.specs.Client.{WithEndpoint, WithToken, missing}
 use Rattle.oauth2_commands.specs.Exchange.{other_text, token_answer}
 use Rattle.oauth2_commands.specs.Keeper.{Standing, IsCall, IsRenewal, IsSentAt, AreCalls, IsKeeperOutput, kept_after_reply, renewal_output, both, joined, nothing}
-use Rattle.oauth2_commands.specs.Lines.{expected_lines, quoted}
+use Rattle.oauth2_world.specs.Lines.{expected_lines, quoted}
 use Rattle.oauth2_commands.specs.Out.{Output, after, answered, failed as shown_fault, starved}
 use Rattle.oauth2_commands.specs.private.Added.{Adds, Prints}
 use Rattle.oauth2_commands.specs.private.Asked.{AsksForToken}
 use Rattle.oauth2_commands.specs.private.Kept.{standing, told_by, AreKept, ShowsCall}
-use Rattle.oauth2_commands.specs.private.Replay.{Replays, replies_of}
+use Rattle.oauth2_world.specs.Replay.{Replays, replies_of}
 use Rattle.oauth2_commands.specs.private.Results.{Fault, TokenSeen, token_meaning, error_seen, fault_output}
-use Rattle.oauth2_commands.specs.Replies.{next_reply, later_replies}
-use Rattle.oauth2_commands.specs.declared.replay.NoReply.{NoReply}
-use Rattle.oauth2_commands.specs.declared.replay.ScriptedClient.{ScriptedClient}
+use Rattle.oauth2_world.specs.Replies.{next_reply, later_replies}
+use Rattle.oauth2_world.specs.declared.replay.NoReply.{NoReply}
+use Rattle.oauth2_world.specs.declared.replay.ScriptedClient.{ScriptedClient}
 use Rattle.oauth2_commands.specs.declared.status.RunStatus.{RunStatus}
 use Rattle.oauth2_commands.specs.declared.status.RunStatus.TheVariants as status
 use Rattle.oauth2_commands.proofs.Exchanges.{request_lines-expected}

@@ -1,9 +1,7 @@
-pub mod ViewLines
 pub mod NoFloats
 pub mod Results
 pub mod Exchanges
 pub mod Commands
 pub mod Scopes
 pub mod Polls
-pub mod Sleeps
 pub mod Kept

@@ -13,7 +13,7 @@ use Rattle.oauth2_json.specs.Puts.{Row, put_all}
 use Rattle.oauth2_json.specs.Values.{second_data, second_of, text_items}
 use Rattle.oauth2_json.specs.Words.{joined}
 use Rattle.oauth2_replies.specs.Device.{own_rows as device_rows}
-use Rattle.oauth2_replies.specs.Introspection.{own_rows as introspection_rows}
+use Rattle.oauth2_introspection.specs.Introspection.{own_rows as introspection_rows}
 use Rattle.oauth2_replies.specs.Token.{own_rows as token_rows}
 use Rattle.oauth2_commands.specs.Exchange.{BasicToken, token_data}
 use Rattle.oauth2_commands.specs.DeviceAuthorization.{BasicDevice, device_data}

@@ -20,19 +20,19 @@ use Rattle.oauth2_poll.specs.Trace.{Ending, TooLong, OutOfRange, Late, Decided, 
 use Rattle.oauth2_device.specs.DeviceToken.{DeviceToken, device_token_configuration}
 use Rattle.oauth2_device.specs.Events.{Event, Reading, Sent, Slept, Leads, EachRequest, last_reply}
 use Rattle.oauth2_device.specs.Poll.{DeviceError, device_answer, device_error, class_of, plain, input_of, IsDeviceRequest, SaysOther, SaysExpired, IsAnswerAt, IsPoll, Polls}
-use Rattle.oauth2_commands.specs.Clock.{reading_of, readings_of}
+use Rattle.oauth2_world.specs.Clock.{reading_of, readings_of}
 use Rattle.oauth2_commands.specs.DevicePoll.{calls_of, last_call, poll_answer, class_of_call, AreLinesOf, device_error_display, shown_at, IsPolled}
 use Rattle.oauth2_commands.specs.Exchange.{BasicToken, other_text, token_json}
-use Rattle.oauth2_commands.specs.Lines.{expected_lines, sleep_line}
+use Rattle.oauth2_world.specs.Lines.{expected_lines, sleep_line}
 use Rattle.oauth2_commands.specs.Out.{Output, after, failed, starved}
-use Rattle.oauth2_commands.specs.Replies.{next_reply}
+use Rattle.oauth2_world.specs.Replies.{next_reply}
 use Rattle.oauth2_commands.specs.private.Added.{Prints as PrintsOutput, Adds}
-use Rattle.oauth2_commands.specs.private.Replay.{ReplaysOrStarves, replied, replies_of}
+use Rattle.oauth2_world.specs.Replay.{ReplaysOrStarves, replied, replies_of}
 use Rattle.oauth2_commands.specs.private.Results.{TokenSeen, token_meaning, DeviceFault, poll_output}
-use Rattle.oauth2_commands.specs.private.World.{Reads, Sends, Prints, Sleeps}
-use Rattle.oauth2_commands.specs.declared.replay.NoReply.{NoReply}
+use Rattle.oauth2_world.specs.World.{Reads, Sends, Prints, Sleeps}
+use Rattle.oauth2_world.specs.declared.replay.NoReply.{NoReply}
 use Rattle.oauth2_commands.specs.declared.status.RunStatus.{RunStatus}
-use Rattle.oauth2_commands.specs.declared.world.ScriptedWorld.{ScriptedWorld}
+use Rattle.oauth2_world.specs.declared.world.ScriptedWorld.{ScriptedWorld}
 use Rattle.oauth2_commands.proofs.Exchanges.{request_lines-expected, judged}
 
 -- what a reply says to the device

@@ -11,7 +11,7 @@ use Rattle.oauth2_json.specs.Writing.{Writing}
 use Rattle.oauth2_json.specs.declared.read.ParseFault.{ParseFault}
 use Rattle.oauth2_codes.specs.declared.token_type.BasicTokenType.{BasicTokenType}
 use Rattle.oauth2_replies.specs.Device.{device_writing}
-use Rattle.oauth2_replies.specs.Introspection.{introspection_writing}
+use Rattle.oauth2_introspection.specs.Introspection.{introspection_writing}
 use Rattle.oauth2_replies.specs.Token.{token_writing}
 use Rattle.oauth2_wire.specs.Display.{configuration_text, fault_text}
 use Rattle.oauth2_wire.specs.declared.error.ConfigurationError.{ConfigurationError}
@@ -21,13 +21,13 @@ use Rattle.oauth2_wire.specs.declared.error.RequestTokenError.TheVariants.{Serve
 use Rattle.oauth2_commands.specs.Exchange.{token_data, token_json, error_display}
 use Rattle.oauth2_commands.specs.DeviceAuthorization.{device_data, device_json}
 use Rattle.oauth2_commands.specs.Introspect.{introspection_data, introspection_json}
-use Rattle.oauth2_commands.specs.Lines.{fault_line}
+use Rattle.oauth2_world.specs.Lines.{fault_line}
 use Rattle.oauth2_commands.specs.private.Added.{Prints}
 use Rattle.oauth2_commands.specs.private.Results.{configuration_output, fault_output}
 use Rattle.oauth2_commands.specs.private.Results.{TokenSeen, token_meaning, token_text, IntrospectionSeen, introspection_meaning, introspection_text}
 use Rattle.oauth2_commands.specs.private.Results.{DeviceSeen, device_meaning, device_text, DeviceErrorResponse, device_error_seen}
 use Rattle.oauth2_commands.specs.private.Results.{ErrorResponse, error_seen, RevocationErrorResponse, revocation_error_seen}
-use Rattle.oauth2_commands.specs.declared.replay.NoReply.{NoReply}
+use Rattle.oauth2_world.specs.declared.replay.NoReply.{NoReply}
 use Rattle.oauth2_commands.proofs.NoFloats.{token_data-no_float, device_data-no_float, introspection_data-no_float}
 use Rattle.oauth2_commands.specs.declared.status.RunStatus.TheVariants as status
 

@@ -6,7 +6,7 @@ use Rattle.oauth2_requests.specs.Authorization.{Authorization, query_pairs}
 use Rattle.oauth2_requests.specs.Query.{ExtendsQuery}
 use Rattle.oauth2.specs.Settings.{Settings}
 use Rattle.oauth2_commands.specs.Client.{WithEndpoint, given_or}
-use Rattle.oauth2_commands.specs.Lines.{line, quoted}
+use Rattle.oauth2_world.specs.Lines.{line, quoted}
 use Rattle.oauth2_commands.specs.Out.{Output, answered, after}
 use Rattle.oauth2_script.specs.AuthorizeParams.{AuthorizeParams}
 

@@ -21,11 +21,11 @@ use Rattle.oauth2_device.specs.Poll.{class_of_answer, input_of}
 use Rattle.oauth2.specs.NewRequest.{base_of}
 use Rattle.oauth2.specs.Settings.{Settings}
 use Rattle.oauth2_commands.specs.Client.{WithToken}
-use Rattle.oauth2_commands.specs.Clock.{Clock, readings_of}
+use Rattle.oauth2_world.specs.Clock.{Clock, readings_of}
 use Rattle.oauth2_commands.specs.Exchange.{BasicToken, IsTarget, error_display, other_text, refused_text, reply_output, token_json}
-use Rattle.oauth2_commands.specs.Lines.{expected_lines, sleep_line}
+use Rattle.oauth2_world.specs.Lines.{expected_lines, sleep_line}
 use Rattle.oauth2_commands.specs.Out.{Output, after, failed, starved}
-use Rattle.oauth2_commands.specs.Replies.{next_reply, later_replies}
+use Rattle.oauth2_world.specs.Replies.{next_reply, later_replies}
 use Rattle.oauth2_script.specs.DevicePollParams.{DevicePollParams}
 use Rattle.oauth2_script.specs.Replies.{Reply}
 

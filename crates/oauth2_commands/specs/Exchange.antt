@@ -19,10 +19,10 @@ use Rattle.oauth2_wire.specs.declared.content_type.ReplyRule.{ReplyRule}
 use Rattle.oauth2_wire.specs.Expected.{Configuration}
 use Rattle.oauth2_wire.specs.OneShot.{not_http_text}
 use Rattle.oauth2_wire.specs.Reply.{Answer, accepted, refused, unread, other, ReplyView, answer_of}
-use Rattle.oauth2_commands.specs.Lines.{line, quoted, expected_lines}
+use Rattle.oauth2_world.specs.Lines.{line, quoted, expected_lines}
 use Rattle.oauth2_commands.specs.Out.{Output, answered, failed, starved, after}
 use Rattle.oauth2_script.specs.Replies.{Reply}
-use Rattle.oauth2_commands.specs.Replies.{next_reply}
+use Rattle.oauth2_world.specs.Replies.{next_reply}
 use Rattle.oauth2_commands.specs.declared.status.RunStatus.TheVariants as status
 
 -- ---- the target of a URL's text, in the forms of RFC 9112, 3.2, where it has one

@@ -6,7 +6,7 @@ use Rattle.oauth2_codes.specs.Codes.{TokenCode, token_code_text, token_code_read
 use Rattle.oauth2_codes.specs.ErrorCodes.{ErrorCode, error_code_text, error_code_reading}
 use Rattle.oauth2_codes.specs.ErrorResponse.{ErrorParts, error_reading}
 use Rattle.oauth2_json.specs.Puts.{put_all}
-use Rattle.oauth2_replies.specs.Introspection.{Introspection, introspection_reading, own_rows}
+use Rattle.oauth2_introspection.specs.Introspection.{Introspection, introspection_reading, own_rows}
 use Rattle.oauth2_replies.specs.Kept.{any_object}
 use Rattle.oauth2_urls.specs.Addressed.{Addressed}
 use Rattle.oauth2_wire.specs.declared.content_type.ReplyRule.{ReplyRule}

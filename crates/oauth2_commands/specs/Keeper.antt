@@ -11,9 +11,9 @@ use Rattle.oauth2.specs.Settings.{Settings}
 use Rattle.oauth2_keeper.specs.Keeper.{Keeper, Given, is_good, accept, renewal}
 use Rattle.oauth2_commands.specs.Client.{WithToken}
 use Rattle.oauth2_commands.specs.Exchange.{BasicToken, IsTarget, error_display, other_text, reply_output, token_answer}
-use Rattle.oauth2_commands.specs.Lines.{expected_lines, quoted}
+use Rattle.oauth2_world.specs.Lines.{expected_lines, quoted}
 use Rattle.oauth2_commands.specs.Out.{Output, after, answered, failed, starved}
-use Rattle.oauth2_commands.specs.Replies.{next_reply, later_replies}
+use Rattle.oauth2_world.specs.Replies.{next_reply, later_replies}
 use Rattle.oauth2_commands.specs.declared.status.RunStatus.{RunStatus}
 use Rattle.oauth2_commands.specs.declared.status.RunStatus.TheVariants as status
 use Rattle.oauth2_script.specs.KeeperParams.{KeeperParams}

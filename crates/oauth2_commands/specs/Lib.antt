@@ -1,12 +1,9 @@
-pub mod Lines
 pub mod Out
 pub mod Client
-pub mod Replies
 pub mod Exchange
 pub mod Authorize
 pub mod ClientCredentials
 pub mod Code
-pub mod Clock
 pub mod DeviceAuthorization
 pub mod DevicePoll
 pub mod Introspect

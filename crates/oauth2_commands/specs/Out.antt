@@ -1,6 +1,6 @@
 -- What a run writes, and how it ends.
 use Rattle.std.specs.Prelude.{◌≡◌, ℕ, List, ◌++◌, codes}
-use Rattle.oauth2_commands.specs.Lines.{answer_line, fault_line}
+use Rattle.oauth2_world.specs.Lines.{answer_line, fault_line}
 use Rattle.oauth2_commands.specs.declared.status.RunStatus.{RunStatus}
 use Rattle.oauth2_commands.specs.declared.status.RunStatus.TheVariants as status
 

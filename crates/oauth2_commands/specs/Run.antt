@@ -4,7 +4,7 @@ use Rattle.oauth2.specs.Settings.{Settings}
 use Rattle.oauth2_commands.specs.Authorize.{IsAuthorizeOutput}
 use Rattle.oauth2_commands.specs.ClientCredentials.{IsClientCredentialsOutput}
 use Rattle.oauth2_commands.specs.Code.{IsCodeOutput}
-use Rattle.oauth2_commands.specs.Clock.{Clock, new_clock}
+use Rattle.oauth2_world.specs.Clock.{Clock, new_clock}
 use Rattle.oauth2_commands.specs.DeviceAuthorization.{IsDeviceAuthorizationOutput}
 use Rattle.oauth2_commands.specs.DevicePoll.{IsDevicePollOutput}
 use Rattle.oauth2_commands.specs.Introspect.{IsIntrospectOutput}
@@ -12,7 +12,7 @@ use Rattle.oauth2_commands.specs.Keeper.{IsKeeperOutput}
 use Rattle.oauth2_commands.specs.Password.{IsPasswordOutput}
 use Rattle.oauth2_commands.specs.Refresh.{IsRefreshOutput}
 use Rattle.oauth2_commands.specs.Revoke.{IsRevokeOutput}
-use Rattle.oauth2_commands.specs.Lines.{line}
+use Rattle.oauth2_world.specs.Lines.{line}
 use Rattle.oauth2_commands.specs.Out.{Output}
 use Rattle.oauth2_script.specs.Command.{Command, code, refresh, password, client_credentials, introspect, revoke, device_authorization, device_poll, keeper, authorize}
 use Rattle.oauth2_script.specs.Script.{Script, script_in}

@@ -3,7 +3,4 @@ pub mod Added
 pub mod Asked
 pub mod Extra
 pub mod Kept
-pub mod Replay
-pub mod RequestLines
 pub mod Results
-pub mod World

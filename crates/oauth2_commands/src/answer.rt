@@ -4,14 +4,12 @@ ghost use Rattle.std.specs.Prelude.{◌≡◌, ◌++◌, ℕ, List, Some, false,
 ghost use Rattle.serde_json.specs.Data.{Data};
 ghost use Rattle.serde_json.specs.Written.{compact_text, has_float};
 ghost use Rattle.oauth2_commands.specs.Exchange.{cause_name, unread_line};
-ghost use Rattle.oauth2_commands.specs.Lines.{line};
+ghost use Rattle.oauth2_world.specs.Lines.{line};
 ghost use Rattle.oauth2_commands.specs.private.Added.{Prints};
 ghost use Rattle.oauth2_commands.specs.private.Results.{token_output, introspection_output, revocation_output};
 ghost use Rattle.oauth2_commands.specs.private.Results.{device_authorization_output, poll_output};
 ghost use Rattle.oauth2_commands.specs.private.Results.{configuration_output, fault_output};
 
-use crate::lines::{print_answer, print_fault, quoted};
-use crate::replay::NoReply;
 use crate::status::RunStatus;
 use oauth2::basic::{
     BasicErrorResponse, BasicRevocationErrorResponse, BasicTokenIntrospectionResponse,
@@ -21,6 +19,7 @@ use oauth2::{
     ConfigurationError, DeviceCodeErrorResponse, ParseCause, ParseFault, RequestTokenError,
     StandardDeviceAuthorizationResponse, ToJson, WriteError, compact,
 };
+use oauth2_world::{NoReply, print_answer, print_fault, quoted};
 use std::alloc::{AllocError, Global};
 use std::fmt::Display;
 

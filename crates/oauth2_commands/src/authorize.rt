@@ -11,13 +11,13 @@ ghost use Rattle.oauth2_script.specs.Views.{authorize_view};
 
 use crate::answer::show_configuration_error;
 use crate::client::ScriptClient;
-use crate::lines::{print_answer, quoted};
 use crate::status::RunStatus;
 use oauth2::{
     AuthorizationRequest, ConfigurationError, CsrfToken, ParamText, PkceCodeChallenge, RedirectRef,
     RedirectUrl, ResponseType,
 };
 use oauth2_script::AuthorizeParams;
+use oauth2_world::{print_answer, quoted};
 use std::alloc::{AllocError, Global};
 
 fn start<'a>(

@@ -2,7 +2,7 @@
 
 ghost use Rattle.std.specs.Prelude.{◌≡◌, false, string_bytes, IfOk};
 ghost use Rattle.oauth2_commands.specs.private.Added.{Adds};
-ghost use Rattle.oauth2_commands.specs.private.Replay.{replies_of};
+ghost use Rattle.oauth2_world.specs.Replay.{replies_of};
 ghost use Rattle.oauth2_commands.specs.Run.{IsCommandOutput};
 ghost use Rattle.oauth2_script.specs.Views.{command_view};
 
@@ -18,8 +18,8 @@ use crate::password::run_password;
 use crate::refresh::run_refresh;
 use crate::revoke::run_revoke;
 use crate::status::RunStatus;
-use crate::world::ScriptedWorld;
 use oauth2_script::Command;
+use oauth2_world::ScriptedWorld;
 use std::alloc::{AllocError, Global};
 
 /// Runs a command, and gathers its lines.

@@ -4,17 +4,17 @@ ghost use Rattle.std.specs.Prelude.{◌≡◌, false, string_bytes, IfOk};
 ghost use Rattle.oauth2_requests.specs.DeviceAuthorization.{device_authorization_configuration};
 ghost use Rattle.oauth2_commands.specs.DeviceAuthorization as spec;
 ghost use Rattle.oauth2_commands.specs.private.Added.{Adds};
-ghost use Rattle.oauth2_commands.specs.private.Replay.{replies_of};
+ghost use Rattle.oauth2_world.specs.Replay.{replies_of};
 ghost use Rattle.oauth2_script.specs.Views.{device_authorization_view};
 
 use crate::answer::{show_configuration_error, show_device_authorization};
 use crate::client::ScriptClient;
 use crate::extra::{Extensible, with_extra};
-use crate::replay::ScriptedClient;
 use crate::status::RunStatus;
 use oauth2::basic::BasicErrorResponse;
 use oauth2::{DeviceAuthorizationRequest, ParamText};
 use oauth2_script::DeviceAuthorizationParams;
+use oauth2_world::ScriptedClient;
 use std::alloc::{AllocError, Global};
 
 type DeviceAuthorization<'a> = DeviceAuthorizationRequest<'a, BasicErrorResponse>;

@@ -5,17 +5,17 @@ ghost use Rattle.oauth2_requests.specs.TokenIntrospection.{introspection_configu
 ghost use Rattle.oauth2_commands.specs.Client.{given_or};
 ghost use Rattle.oauth2_commands.specs.Introspect as spec;
 ghost use Rattle.oauth2_commands.specs.private.Added.{Adds};
-ghost use Rattle.oauth2_commands.specs.private.Replay.{replies_of};
+ghost use Rattle.oauth2_world.specs.Replay.{replies_of};
 ghost use Rattle.oauth2_script.specs.Views.{introspect_view};
 
 use crate::answer::{show_configuration_error, show_introspection};
 use crate::client::ScriptClient;
 use crate::extra::{Extensible, with_extra};
-use crate::replay::ScriptedClient;
 use crate::status::RunStatus;
 use oauth2::basic::{BasicErrorResponse, BasicTokenIntrospectionResponse};
 use oauth2::{IntrospectionRequest, ParamText};
 use oauth2_script::IntrospectParams;
+use oauth2_world::ScriptedClient;
 use std::alloc::{AllocError, Global};
 
 type Introspection<'a> = IntrospectionRequest<

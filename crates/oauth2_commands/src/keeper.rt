@@ -3,23 +3,22 @@
 ghost use Rattle.std.specs.Prelude.{◌≡◌, Some, false, string_bytes, codes, IfOk, map};
 ghost use Rattle.oauth2_commands.specs.Keeper as spec;
 ghost use Rattle.oauth2_commands.specs.Client.{missing};
-ghost use Rattle.oauth2_commands.specs.Lines.{quoted};
+ghost use Rattle.oauth2_world.specs.Lines.{quoted};
 ghost use Rattle.oauth2_commands.specs.Out.{Output, answered};
 ghost use Rattle.oauth2_commands.specs.private.Added.{Adds, Prints};
 ghost use Rattle.oauth2_commands.specs.private.Kept.{standing, AreKept};
-ghost use Rattle.oauth2_commands.specs.private.Replay.{replies_of};
+ghost use Rattle.oauth2_world.specs.Replay.{replies_of};
 ghost use Rattle.oauth2_script.specs.Views.{keeper_view};
 
 use crate::answer::{show_configuration_error, show_fault};
 use crate::client::ScriptClient;
-use crate::lines::{print_answer, quoted};
-use crate::replay::ScriptedClient;
 use crate::status::RunStatus;
 use jiff::Timestamp;
 use oauth2::basic::BasicClient;
 use oauth2::{AccessToken, ConfigurationError, EndpointMaybeSet, EndpointSet, TokenUrl, TryClone};
 use oauth2_keeper::{BasicTokenKeeper, TokenKeeper};
 use oauth2_script::KeeperParams;
+use oauth2_world::{ScriptedClient, print_answer, quoted};
 use std::alloc::{AllocError, Global};
 
 /// A client of a script that has a token endpoint.

@@ -3,18 +3,18 @@
 ghost use Rattle.std.specs.Prelude.{◌≡◌, false, string_bytes, IfOk};
 ghost use Rattle.oauth2_commands.specs.Password as spec;
 ghost use Rattle.oauth2_commands.specs.private.Added.{Adds};
-ghost use Rattle.oauth2_commands.specs.private.Replay.{replies_of};
+ghost use Rattle.oauth2_world.specs.Replay.{replies_of};
 ghost use Rattle.oauth2_script.specs.Views.{password_view};
 
 use crate::answer::{Fault, show_configuration_error};
 use crate::client::ScriptClient;
 use crate::extra::{Extensible, with_extra};
-use crate::replay::ScriptedClient;
 use crate::status::RunStatus;
 use crate::token_request::{TokenRequest, exchange};
 use oauth2::basic::{BasicErrorResponse, BasicTokenResponse};
 use oauth2::{ParamText, PasswordTokenRequest};
 use oauth2_script::PasswordParams;
+use oauth2_world::ScriptedClient;
 use std::alloc::{AllocError, Global};
 
 type PasswordRequest<'a> = PasswordTokenRequest<'a, BasicErrorResponse, BasicTokenResponse>;

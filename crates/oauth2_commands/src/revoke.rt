@@ -5,17 +5,17 @@ ghost use Rattle.oauth2_replies.specs.Revocable.{hint_of, secret_of};
 ghost use Rattle.oauth2_requests.specs.TokenRevocation.{revocation_configuration};
 ghost use Rattle.oauth2_commands.specs.Revoke as spec;
 ghost use Rattle.oauth2_commands.specs.private.Added.{Adds};
-ghost use Rattle.oauth2_commands.specs.private.Replay.{replies_of};
+ghost use Rattle.oauth2_world.specs.Replay.{replies_of};
 ghost use Rattle.oauth2_script.specs.Views.{revoke_view};
 
 use crate::answer::{show_configuration_error, show_revocation};
 use crate::client::ScriptClient;
 use crate::extra::{Extensible, with_extra};
-use crate::replay::ScriptedClient;
 use crate::status::RunStatus;
 use oauth2::basic::BasicRevocationErrorResponse;
 use oauth2::{AccessToken, ParamText, RefreshToken, RevocationRequest, StandardRevocableToken};
 use oauth2_script::{RevokeParams, TokenKind};
+use oauth2_world::ScriptedClient;
 use std::alloc::{AllocError, Global};
 
 type Revocation<'a> = RevocationRequest<'a, StandardRevocableToken, BasicRevocationErrorResponse>;

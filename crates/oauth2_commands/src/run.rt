@@ -7,13 +7,11 @@ ghost use Rattle.oauth2_commands.specs.Run.{IsScriptOutput, IsOutputOf};
 ghost use Rattle.oauth2_script.specs.Views.{script_view};
 
 use crate::client::client_of;
-use crate::clock::ScriptedClock;
 use crate::command::run_command;
 use crate::input::{Source, read_input};
-use crate::replay::ScriptedClient;
 use crate::status::{RunFault, RunStatus};
-use crate::world::ScriptedWorld;
 use oauth2_script::{Script, ScriptError, script_in};
+use oauth2_world::{ScriptedClient, ScriptedClock, ScriptedWorld};
 use std::alloc::{AllocError, Global};
 use std::io::{Read, Write};
 

@@ -3,12 +3,12 @@
 ghost use Rattle.std.specs.Prelude.{◌≡◌, false, string_bytes, IfOk};
 ghost use Rattle.oauth2_commands.specs.Exchange.{IsTokenExchange};
 ghost use Rattle.oauth2_commands.specs.private.Added.{Adds};
-ghost use Rattle.oauth2_commands.specs.private.Replay.{replies_of};
+ghost use Rattle.oauth2_world.specs.Replay.{replies_of};
 
 use crate::answer::{Fault, show_token};
-use crate::replay::ScriptedClient;
 use crate::status::RunStatus;
 use oauth2::basic::BasicTokenResponse;
+use oauth2_world::ScriptedClient;
 use std::alloc::{AllocError, Global};
 
 /// A request for a token.

@@ -1,7 +1,8 @@
 //! What is shown of the errors of reading and writing.
 
-use crate::support::{is_displayed_as, text};
+use crate::support::is_displayed_as;
 use oauth2::{ParseCause, ParseFault, ReadError, WriteError};
+use oauth2_shared_tests::text;
 use std::error::Error;
 use std::process::Abort;
 

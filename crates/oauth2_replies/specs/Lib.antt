@@ -1,6 +1,5 @@
 pub mod Kept
 pub mod Token
-pub mod Introspection
 pub mod Device
 pub mod Revocable
 pub mod Extra

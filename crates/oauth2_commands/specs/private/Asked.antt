@@ -12,10 +12,10 @@ use Rattle.oauth2_wire.specs.Reply.{Answer, ReplyView, reply_of}
 use Rattle.oauth2_wire.specs.Request.{IsRequestOf, view_of}
 use Rattle.oauth2_wire.specs.declared.error.RequestTokenError.{RequestTokenError}
 use Rattle.oauth2_commands.specs.Exchange.{token_answer}
-use Rattle.oauth2_commands.specs.private.Replay.{ReplaysOrStarves}
+use Rattle.oauth2_world.specs.Replay.{ReplaysOrStarves}
 use Rattle.oauth2_commands.specs.private.Results.{Fault, TokenSeen, token_meaning}
-use Rattle.oauth2_commands.specs.declared.replay.NoReply.{NoReply}
-use Rattle.oauth2_commands.specs.declared.replay.ScriptedClient.{ScriptedClient}
+use Rattle.oauth2_world.specs.declared.replay.NoReply.{NoReply}
+use Rattle.oauth2_world.specs.declared.replay.ScriptedClient.{ScriptedClient}
 
 -- one call of it at most, with the request of the configuration, whose reply says the result
 abbrev pub Asks : {D A T E : Type 0} → (D → A) → (T → E) → (ReplyView → Answer A E) → Configuration → Addressed

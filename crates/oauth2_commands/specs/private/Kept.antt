@@ -5,12 +5,12 @@ use Rattle.oauth2_keeper.specs.Keeper.{Keeper, Given}
 use Rattle.oauth2_script.specs.KeeperParams.{KeeperParams}
 use Rattle.oauth2_script.specs.Replies.{Reply}
 use Rattle.oauth2_commands.specs.Keeper.{Standing, AreCalls, given_in, new_keeper}
-use Rattle.oauth2_commands.specs.Lines.{quoted}
+use Rattle.oauth2_world.specs.Lines.{quoted}
 use Rattle.oauth2_commands.specs.Out.{Output, answered}
 use Rattle.oauth2_commands.specs.private.Added.{Prints}
-use Rattle.oauth2_commands.specs.private.Replay.{replies_of}
+use Rattle.oauth2_world.specs.Replay.{replies_of}
 use Rattle.oauth2_commands.specs.private.Results.{Fault, TokenSeen, token_meaning, error_seen, fault_output}
-use Rattle.oauth2_commands.specs.declared.replay.ScriptedClient.{ScriptedClient}
+use Rattle.oauth2_world.specs.declared.replay.ScriptedClient.{ScriptedClient}
 use Rattle.oauth2_commands.specs.declared.status.RunStatus.{RunStatus}
 
 abbrev pub standing : Keeper → ScriptedClient → Standing

@@ -11,7 +11,7 @@ use Rattle.oauth2_codes.specs.declared.revocation_error.RevocationErrorResponseT
 use Rattle.oauth2_codes.specs.declared.token_type.BasicTokenType.{BasicTokenType}
 use Rattle.oauth2_replies.specs.Device.{DeviceAuthorization, device_seen}
 use Rattle.oauth2_replies.specs.declared.device.EmptyExtraDeviceAuthorizationFields.{EmptyExtraDeviceAuthorizationFields}
-use Rattle.oauth2_replies.specs.Introspection.{Introspection, introspection_seen}
+use Rattle.oauth2_introspection.specs.Introspection.{Introspection, introspection_seen}
 use Rattle.oauth2_replies.specs.Token.{Token, token_seen}
 use Rattle.oauth2_replies.specs.declared.token.EmptyExtraTokenFields.{EmptyExtraTokenFields}
 use Rattle.oauth2_wire.specs.declared.error.ConfigurationError.{ConfigurationError}
@@ -25,7 +25,7 @@ use Rattle.oauth2_commands.specs.Exchange.{BasicToken, not_read, refused_text, o
 use Rattle.oauth2_commands.specs.Introspect.{BasicIntrospection, introspection_json}
 use Rattle.oauth2_commands.specs.Revoke.{insecure}
 use Rattle.oauth2_commands.specs.Out.{Output, answered, failed, starved}
-use Rattle.oauth2_commands.specs.declared.replay.NoReply.{NoReply}
+use Rattle.oauth2_world.specs.declared.replay.NoReply.{NoReply}
 
 module _ {T : Type 0} (text : T → List ℕ) where
   -- a fault, where the server's error is shown as `text`

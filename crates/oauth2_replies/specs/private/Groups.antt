@@ -5,6 +5,3 @@ pair a b = (a, b)
 
 abbrev pub triple : {A B C : Type 0} → A → B → C → A × B × C
 triple a b c = (a, b, c)
-
-abbrev pub quadruple : {A B C D : Type 0} → A → B → C → D → A × B × C × D
-quadruple a b c d = (a, b, c, d)

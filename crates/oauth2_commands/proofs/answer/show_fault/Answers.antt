@@ -1,5 +1,5 @@
 use Rattle.std.proofs.Common.{◌≡◌, ◌++◌, string_bytes}
-use Rattle.oauth2_commands.specs.Lines.{fault_line}
+use Rattle.oauth2_world.specs.Lines.{fault_line}
 use Rattle.oauth2_commands.proofs.Results.{fault_shown}
 use Rattle.oauth2_commands.proofs.answer.show_fault.Goals as goal
 

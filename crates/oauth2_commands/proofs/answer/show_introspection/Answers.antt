@@ -1,6 +1,6 @@
 use Rattle.std.proofs.Common.{◌≡◌, ◌++◌, string_bytes, refl}
 use Rattle.std.proofs.lemmas.Result.{IfOk-weaker}
-use Rattle.oauth2_commands.specs.Lines.{answer_line}
+use Rattle.oauth2_world.specs.Lines.{answer_line}
 use Rattle.oauth2_commands.specs.private.Results.{introspection_text, error_seen}
 use Rattle.oauth2_commands.proofs.Results.{introspection_free, introspection_shown, error_told}
 use Rattle.oauth2_commands.proofs.answer.show_introspection.Goals as goal

@@ -1,7 +1,7 @@
 use Rattle.std.proofs.Common.{◌≡◌, ◌++◌, string_bytes, refl, append_assoc}
 use Rattle.url.specs.Parts.{serialize}
 use Rattle.oauth2_commands.specs.Authorize.{url_line}
-use Rattle.oauth2_commands.specs.Lines.{quoted, answer_line}
+use Rattle.oauth2_world.specs.Lines.{quoted, answer_line}
 use Rattle.oauth2_commands.specs.Out.{Output, answered, after}
 use Rattle.oauth2_commands.proofs.authorize.show_url.Goals as goal
 

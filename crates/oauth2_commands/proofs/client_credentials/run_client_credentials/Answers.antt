@@ -8,7 +8,7 @@ use Rattle.oauth2_script.specs.ClientCredentialsParams.{ClientCredentialsParams}
 use Rattle.oauth2_script.specs.Views.{client_credentials_view}
 use Rattle.oauth2_commands.specs.Exchange.{IsTokenExchange}
 use Rattle.oauth2_commands.specs.ClientCredentials.{client_credentials_request}
-use Rattle.oauth2_commands.specs.private.Replay.{replies_of}
+use Rattle.oauth2_world.specs.Replay.{replies_of}
 use Rattle.oauth2_commands.proofs.Commands.{missing_told, command_told}
 use Rattle.oauth2_commands.proofs.Scopes.{every_item}
 use Rattle.oauth2_commands.proofs.client_credentials.run_client_credentials.Goals as goal

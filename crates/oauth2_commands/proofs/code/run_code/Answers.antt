@@ -7,7 +7,7 @@ use Rattle.oauth2_script.specs.Views.{code_view}
 use Rattle.oauth2_commands.specs.Client.{given_or}
 use Rattle.oauth2_commands.specs.Exchange.{IsTokenExchange}
 use Rattle.oauth2_commands.specs.Code.{code_request}
-use Rattle.oauth2_commands.specs.private.Replay.{replies_of}
+use Rattle.oauth2_world.specs.Replay.{replies_of}
 use Rattle.oauth2_commands.proofs.Commands.{given_or-none, missing_told, command_told}
 use Rattle.oauth2_commands.proofs.code.run_code.Goals as goal
 

@@ -7,7 +7,7 @@ use Rattle.oauth2.specs.NewRequest.{new_device_request}
 use Rattle.oauth2_script.specs.DeviceAuthorizationParams.{DeviceAuthorizationParams}
 use Rattle.oauth2_script.specs.Views.{device_authorization_view}
 use Rattle.oauth2_commands.specs.DeviceAuthorization.{device_request, IsDeviceAuthorized}
-use Rattle.oauth2_commands.specs.private.Replay.{replies_of}
+use Rattle.oauth2_world.specs.Replay.{replies_of}
 use Rattle.oauth2_commands.proofs.Commands.{missing_told, command_told}
 use Rattle.oauth2_commands.proofs.Scopes.{every_item}
 use Rattle.oauth2_commands.proofs.device_authorization.run_device_authorization.Goals as goal

@@ -7,7 +7,7 @@ use Rattle.oauth2.specs.NewRequest.{new_device_token_request}
 use Rattle.oauth2_script.specs.DevicePollParams.{DevicePollParams}
 use Rattle.oauth2_script.specs.Views.{device_poll_view}
 use Rattle.oauth2_commands.specs.DevicePoll.{device_token, IsPolled}
-use Rattle.oauth2_commands.specs.private.Replay.{replies_of}
+use Rattle.oauth2_world.specs.Replay.{replies_of}
 use Rattle.oauth2_commands.proofs.Commands.{missing_told, command_told}
 use Rattle.oauth2_commands.proofs.device_poll.run_device_poll.Goals as goal
 

@@ -6,7 +6,7 @@ use Rattle.oauth2_script.specs.IntrospectParams.{IntrospectParams}
 use Rattle.oauth2_script.specs.Views.{introspect_view}
 use Rattle.oauth2_commands.specs.Client.{given_or}
 use Rattle.oauth2_commands.specs.Introspect.{introspection_request, IsIntrospected}
-use Rattle.oauth2_commands.specs.private.Replay.{replies_of}
+use Rattle.oauth2_world.specs.Replay.{replies_of}
 use Rattle.oauth2_commands.proofs.Commands.{given_or-none, missing_told, command_told}
 use Rattle.oauth2_commands.proofs.introspect.run_introspect.Goals as goal
 

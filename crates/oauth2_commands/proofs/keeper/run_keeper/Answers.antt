@@ -1,7 +1,7 @@
 use Rattle.std.proofs.Common.{rules, ◌≡◌, None, string_bytes, codes, map}
 use Rattle.std.proofs.lemmas.Result.{IfOk-weaker}
 use Rattle.oauth2_script.specs.Views.{keeper_view}
-use Rattle.oauth2_commands.specs.private.Replay.{replies_of}
+use Rattle.oauth2_world.specs.Replay.{replies_of}
 use Rattle.oauth2_commands.proofs.Kept.{keeper_told, unset_told}
 use Rattle.oauth2_commands.proofs.keeper.run_keeper.Goals as goal
 

@@ -8,7 +8,7 @@ use Rattle.oauth2_script.specs.PasswordParams.{PasswordParams}
 use Rattle.oauth2_script.specs.Views.{password_view}
 use Rattle.oauth2_commands.specs.Exchange.{IsTokenExchange}
 use Rattle.oauth2_commands.specs.Password.{password_request}
-use Rattle.oauth2_commands.specs.private.Replay.{replies_of}
+use Rattle.oauth2_world.specs.Replay.{replies_of}
 use Rattle.oauth2_commands.proofs.Commands.{missing_told, command_told}
 use Rattle.oauth2_commands.proofs.Scopes.{every_item}
 use Rattle.oauth2_commands.proofs.password.run_password.Goals as goal

@@ -8,7 +8,7 @@ use Rattle.oauth2_script.specs.RefreshParams.{RefreshParams}
 use Rattle.oauth2_script.specs.Views.{refresh_view}
 use Rattle.oauth2_commands.specs.Exchange.{IsTokenExchange}
 use Rattle.oauth2_commands.specs.Refresh.{refresh_request}
-use Rattle.oauth2_commands.specs.private.Replay.{replies_of}
+use Rattle.oauth2_world.specs.Replay.{replies_of}
 use Rattle.oauth2_commands.proofs.Commands.{missing_told, command_told}
 use Rattle.oauth2_commands.proofs.Scopes.{every_item}
 use Rattle.oauth2_commands.proofs.refresh.run_refresh.Goals as goal

@@ -6,7 +6,7 @@ use Rattle.oauth2.specs.NewRequest.{new_revocation_request}
 use Rattle.oauth2_script.specs.RevokeParams.{RevokeParams}
 use Rattle.oauth2_script.specs.Views.{revoke_view}
 use Rattle.oauth2_commands.specs.Revoke.{revocation_request, IsRevoked}
-use Rattle.oauth2_commands.specs.private.Replay.{replies_of}
+use Rattle.oauth2_world.specs.Replay.{replies_of}
 use Rattle.oauth2_commands.proofs.Commands.{refusal_told, https_told}
 use Rattle.oauth2_commands.proofs.revoke.run_revoke.Goals as goal
 

@@ -1,0 +1,2 @@
+pub mod Introspection
+pub mod private

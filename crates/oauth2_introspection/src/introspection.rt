@@ -1,0 +1,423 @@
+//! The response of an introspection endpoint (RFC 7662, section 2.2).
+
+ghost use Rattle.std.specs.Prelude.{◌≡◌, ℕ, List, None, IfOk, map, option_map, option_copied, string_bytes};
+ghost use Rattle.oauth2_introspection.specs.Introspection.{Introspection, introspection_seen};
+
+use jiff::Timestamp;
+use oauth2_codes::{BasicTokenType, TokenType};
+use oauth2_json::{FromJson, ToJson};
+use oauth2_replies::{EmptyExtraTokenFields, ExtraTokenFields};
+use oauth2_types::{ClientId, Scope, TryClone};
+use std::alloc::{AllocError, Global};
+use std::fmt;
+use std::marker::Model;
+
+/// The introspection response without extra fields, of the token types that the standard names.
+pub type BasicTokenIntrospectionResponse = StandardTokenIntrospectionResponse<
+    EmptyExtraTokenFields,
+    BasicTokenType,
+>;
+
+/// What every introspection response tells.
+pub trait TokenIntrospectionResponse: FromJson + ToJson + fmt::Debug {
+    ghost use Rattle.std.specs.Prelude.{◌≡◌, ℕ, ℤ, Bool, List, Option, map, option_map, option_copied, string_bytes};
+
+    type TokenType: TokenType;
+
+    ghost active: { Self → Bool };
+
+    ghost scopes: { Self → Option (List (List ℕ)) };
+
+    ghost client_id: { Self → Option (List ℕ) };
+
+    ghost username: { Self → Option (List ℕ) };
+
+    ghost token_type: { Self → Option Self.TokenType };
+
+    /// In nanoseconds since 1970-01-01T00:00:00Z, as are the next two.
+    ghost exp: { Self → Option ℤ };
+
+    ghost iat: { Self → Option ℤ };
+
+    ghost nbf: { Self → Option ℤ };
+
+    ghost sub: { Self → Option (List ℕ) };
+
+    ghost aud: { Self → Option (List (List ℕ)) };
+
+    ghost iss: { Self → Option (List ℕ) };
+
+    ghost jti: { Self → Option (List ℕ) };
+
+    /// Whether the token is active.
+    fn active(&self) -> bool
+        ensures { result ≡ active self.now };
+
+    fn scopes(&self) -> Option<&Vec<Scope>>
+        ensures { option_map (λ list. list.now.items) result ≡ scopes self.now };
+
+    /// The client that asked for the token.
+    fn client_id(&self) -> Option<&ClientId>
+        ensures { option_copied result ≡ client_id self.now };
+
+    /// The resource owner who authorized the token.
+    fn username(&self) -> Option<&str>
+        ensures { option_copied result ≡ username self.now };
+
+    fn token_type(&self) -> Option<&Self::TokenType>
+        ensures { option_copied result ≡ token_type self.now };
+
+    /// When the token expires.
+    fn exp(&self) -> Option<Timestamp>
+        ensures { option_map (λ time. time.nanosecond) result ≡ exp self.now };
+
+    /// When the token was issued.
+    fn iat(&self) -> Option<Timestamp>
+        ensures { option_map (λ time. time.nanosecond) result ≡ iat self.now };
+
+    /// Before when the token is not to be used.
+    fn nbf(&self) -> Option<Timestamp>
+        ensures { option_map (λ time. time.nanosecond) result ≡ nbf self.now };
+
+    /// The subject of the token.
+    fn sub(&self) -> Option<&str>
+        ensures { option_copied result ≡ sub self.now };
+
+    /// For whom the token is meant.
+    fn aud(&self) -> Option<&Vec<String>>
+        ensures { option_map (λ list. map string_bytes list.now.items) result ≡ aud self.now };
+
+    /// Who issued the token.
+    fn iss(&self) -> Option<&str>
+        ensures { option_copied result ≡ iss self.now };
+
+    /// The identifier of the token.
+    fn jti(&self) -> Option<&str>
+        ensures { option_copied result ≡ jti self.now };
+}
+
+/// The introspection response of the standard, with extra fields `EF` and token types `TT`.
+#[derive(Debug, Drop)]
+pub struct StandardTokenIntrospectionResponse<EF, TT> {
+    pub(crate) active: bool,
+    pub(crate) scopes: Option<Vec<Scope>>,
+    pub(crate) client_id: Option<ClientId>,
+    pub(crate) username: Option<String>,
+    pub(crate) token_type: Option<TT>,
+    pub(crate) exp: Option<Timestamp>,
+    pub(crate) iat: Option<Timestamp>,
+    pub(crate) nbf: Option<Timestamp>,
+    pub(crate) sub: Option<String>,
+    pub(crate) aud: Option<Vec<String>>,
+    pub(crate) iss: Option<String>,
+    pub(crate) jti: Option<String>,
+    pub(crate) extra_fields: EF,
+}
+
+impl<EF, TT> Model for StandardTokenIntrospectionResponse<EF, TT> {
+    ghost use Rattle.std.specs.Prelude.{map, option_map, string_bytes};
+    ghost use Rattle.oauth2_introspection.specs.Introspection.{Introspection};
+
+    ghost Value = { Introspection EF TT };
+
+    ghost view = { λ r. record {
+      active = r.active;
+      scopes = option_map (λ list. list.items) r.scopes;
+      client_id = r.client_id;
+      username = option_map string_bytes r.username;
+      token_type = r.token_type;
+      exp = option_map (λ time. time.nanosecond) r.exp;
+      iat = option_map (λ time. time.nanosecond) r.iat;
+      nbf = option_map (λ time. time.nanosecond) r.nbf;
+      sub = option_map string_bytes r.sub;
+      aud = option_map (λ list. map string_bytes list.items) r.aud;
+      iss = option_map string_bytes r.iss;
+      jti = option_map string_bytes r.jti;
+      extra_fields = r.extra_fields;
+    } };
+}
+
+impl<EF: Drop, TT: Drop> StandardTokenIntrospectionResponse<EF, TT> {
+    ghost use Rattle.oauth2_introspection.specs.Introspection.{introspection};
+
+    /// A response that tells nothing else.
+    pub fn new(active: bool, extra_fields: EF) -> Self
+        ensures { result
+            ≡ introspection active None None None None None None None None None None None extra_fields }
+    {
+        StandardTokenIntrospectionResponse {
+            active,
+            scopes: None,
+            client_id: None,
+            username: None,
+            token_type: None,
+            exp: None,
+            iat: None,
+            nbf: None,
+            sub: None,
+            aud: None,
+            iss: None,
+            jti: None,
+            extra_fields,
+        }
+    }
+
+    pub fn set_active(&mut self, active: bool)
+        ensures { self.new ≡ record self.old { active = active } }
+    {
+        self.active = active;
+    }
+
+    pub fn set_scopes(&mut self, scopes: Option<Vec<Scope>>)
+        ensures { self.new ≡ record self.old { scopes = option_map (λ list. list.items) scopes } }
+    {
+        self.scopes = scopes;
+    }
+
+    pub fn set_client_id(&mut self, client_id: Option<ClientId>)
+        ensures { self.new ≡ record self.old { client_id = client_id } }
+    {
+        self.client_id = client_id;
+    }
+
+    pub fn set_username(&mut self, username: Option<String>)
+        ensures { self.new ≡ record self.old { username = option_map string_bytes username } }
+    {
+        self.username = username;
+    }
+
+    pub fn set_token_type(&mut self, token_type: Option<TT>)
+        ensures { self.new ≡ record self.old { token_type = token_type } }
+    {
+        self.token_type = token_type;
+    }
+
+    pub fn set_exp(&mut self, exp: Option<Timestamp>)
+        ensures { self.new ≡ record self.old { exp = option_map (λ time. time.nanosecond) exp } }
+    {
+        self.exp = exp;
+    }
+
+    pub fn set_iat(&mut self, iat: Option<Timestamp>)
+        ensures { self.new ≡ record self.old { iat = option_map (λ time. time.nanosecond) iat } }
+    {
+        self.iat = iat;
+    }
+
+    pub fn set_nbf(&mut self, nbf: Option<Timestamp>)
+        ensures { self.new ≡ record self.old { nbf = option_map (λ time. time.nanosecond) nbf } }
+    {
+        self.nbf = nbf;
+    }
+
+    pub fn set_sub(&mut self, sub: Option<String>)
+        ensures { self.new ≡ record self.old { sub = option_map string_bytes sub } }
+    {
+        self.sub = sub;
+    }
+
+    pub fn set_aud(&mut self, aud: Option<Vec<String>>)
+        ensures { self.new ≡ record self.old { aud = option_map (λ list. map string_bytes list.items) aud } }
+    {
+        self.aud = aud;
+    }
+
+    pub fn set_iss(&mut self, iss: Option<String>)
+        ensures { self.new ≡ record self.old { iss = option_map string_bytes iss } }
+    {
+        self.iss = iss;
+    }
+
+    pub fn set_jti(&mut self, jti: Option<String>)
+        ensures { self.new ≡ record self.old { jti = option_map string_bytes jti } }
+    {
+        self.jti = jti;
+    }
+
+    pub fn extra_fields(&self) -> &EF
+        ensures { result.now ≡ self.now.extra_fields }
+    {
+        &self.extra_fields
+    }
+
+    pub fn set_extra_fields(&mut self, extra_fields: EF)
+        ensures { self.new ≡ record self.old { extra_fields = extra_fields } }
+    {
+        self.extra_fields = extra_fields;
+    }
+}
+
+fn text_of(text: &Option<String>) -> Option<&str>
+    ensures { option_copied result ≡ option_map string_bytes text.now }
+{
+    match text {
+        Some(text) => Some(text.as_str()),
+        None => None,
+    }
+}
+
+impl<EF: ExtraTokenFields + Drop, TT: TokenType + Drop> TokenIntrospectionResponse
+    for StandardTokenIntrospectionResponse<EF, TT> {
+    type TokenType = TT;
+
+    ghost active = { λ r. r.active };
+
+    ghost scopes = { λ r. r.scopes };
+
+    ghost client_id = { λ r. r.client_id };
+
+    ghost username = { λ r. r.username };
+
+    ghost token_type = { λ r. r.token_type };
+
+    ghost exp = { λ r. r.exp };
+
+    ghost iat = { λ r. r.iat };
+
+    ghost nbf = { λ r. r.nbf };
+
+    ghost sub = { λ r. r.sub };
+
+    ghost aud = { λ r. r.aud };
+
+    ghost iss = { λ r. r.iss };
+
+    ghost jti = { λ r. r.jti };
+
+    fn active(&self) -> bool {
+        self.active
+    }
+
+    fn scopes(&self) -> Option<&Vec<Scope>> {
+        self.scopes.as_ref()
+    }
+
+    fn client_id(&self) -> Option<&ClientId> {
+        self.client_id.as_ref()
+    }
+
+    fn username(&self) -> Option<&str> {
+        text_of(&self.username)
+    }
+
+    fn token_type(&self) -> Option<&TT> {
+        self.token_type.as_ref()
+    }
+
+    fn exp(&self) -> Option<Timestamp> {
+        self.exp
+    }
+
+    fn iat(&self) -> Option<Timestamp> {
+        self.iat
+    }
+
+    fn nbf(&self) -> Option<Timestamp> {
+        self.nbf
+    }
+
+    fn sub(&self) -> Option<&str> {
+        text_of(&self.sub)
+    }
+
+    fn aud(&self) -> Option<&Vec<String>> {
+        self.aud.as_ref()
+    }
+
+    fn iss(&self) -> Option<&str> {
+        text_of(&self.iss)
+    }
+
+    fn jti(&self) -> Option<&str> {
+        text_of(&self.jti)
+    }
+}
+
+/// What was granted, and to whom.
+#[derive(Drop)]
+pub(crate) struct Grant {
+    pub(crate) active: bool,
+    pub(crate) scopes: Option<Vec<Scope>>,
+    pub(crate) client_id: Option<ClientId>,
+    pub(crate) username: Option<String>,
+}
+
+/// What the token is, and when it is good.
+#[derive(Drop)]
+pub(crate) struct Validity<TT> {
+    pub(crate) token_type: Option<TT>,
+    pub(crate) exp: Option<Timestamp>,
+    pub(crate) iat: Option<Timestamp>,
+    pub(crate) nbf: Option<Timestamp>,
+}
+
+/// Whom the token names, and its own name.
+#[derive(Drop)]
+pub(crate) struct Claims {
+    pub(crate) sub: Option<String>,
+    pub(crate) aud: Option<Vec<String>>,
+    pub(crate) iss: Option<String>,
+    pub(crate) jti: Option<String>,
+}
+
+impl<EF, TT> StandardTokenIntrospectionResponse<EF, TT> {
+    fn copied_grant(&self, alloc: Global) -> Result<Grant, AllocError>
+        ensures active { IfOk result (λ g. g.active ≡ self.now.active) }
+        ensures scopes { IfOk result (λ g. option_map (λ list. list.items) g.scopes ≡ self.now.scopes) }
+        ensures client_id { IfOk result (λ g. g.client_id ≡ self.now.client_id) }
+        ensures username { IfOk result (λ g. option_map string_bytes g.username ≡ self.now.username) }
+    {
+        Ok(Grant {
+            active: self.active,
+            scopes: self.scopes.try_clone(alloc)?,
+            client_id: self.client_id.try_clone(alloc)?,
+            username: self.username.try_clone(alloc)?,
+        })
+    }
+
+    fn copied_claims(&self, alloc: Global) -> Result<Claims, AllocError>
+        ensures sub { IfOk result (λ c. option_map string_bytes c.sub ≡ self.now.sub) }
+        ensures aud { IfOk result (λ c. option_map (λ list. map string_bytes list.items) c.aud ≡ self.now.aud) }
+        ensures iss { IfOk result (λ c. option_map string_bytes c.iss ≡ self.now.iss) }
+        ensures jti { IfOk result (λ c. option_map string_bytes c.jti ≡ self.now.jti) }
+    {
+        Ok(Claims {
+            sub: self.sub.try_clone(alloc)?,
+            aud: self.aud.try_clone(alloc)?,
+            iss: self.iss.try_clone(alloc)?,
+            jti: self.jti.try_clone(alloc)?,
+        })
+    }
+}
+
+impl<EF: TryClone + Drop, TT: TryClone + Drop> TryClone
+    for StandardTokenIntrospectionResponse<EF, TT> {
+    ghost Seen = { Introspection EF.Seen TT.Seen };
+
+    ghost seen = { introspection_seen EF.seen TT.seen };
+
+    fn try_clone(
+        &self,
+        alloc: Global,
+    ) -> Result<StandardTokenIntrospectionResponse<EF, TT>, AllocError> {
+        let grant = self.copied_grant(alloc)?;
+        let claims = self.copied_claims(alloc)?;
+        let token_type = self.token_type.try_clone(alloc)?;
+        let extra_fields = self.extra_fields.try_clone(alloc)?;
+        Ok(StandardTokenIntrospectionResponse {
+            active: grant.active,
+            scopes: grant.scopes,
+            client_id: grant.client_id,
+            username: grant.username,
+            token_type,
+            exp: self.exp,
+            iat: self.iat,
+            nbf: self.nbf,
+            sub: claims.sub,
+            aud: claims.aud,
+            iss: claims.iss,
+            jti: claims.jti,
+            extra_fields,
+        })
+    }
+}

@@ -1,0 +1,11 @@
+//! The response of an OAuth 2.0 server to an introspection (RFC 7662), and the instants in it.
+#![tactic(auto)]
+
+mod instants;
+mod introspection;
+mod introspection_json;
+
+pub use instants::{optional_time, time_value};
+pub use introspection::{
+    BasicTokenIntrospectionResponse, StandardTokenIntrospectionResponse, TokenIntrospectionResponse,
+};

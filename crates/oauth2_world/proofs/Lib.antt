@@ -1,0 +1,2 @@
+pub mod ViewLines
+pub mod Sleeps

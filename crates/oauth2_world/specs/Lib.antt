@@ -1,0 +1,6 @@
+pub mod Lines
+pub mod RequestLines
+pub mod Replies
+pub mod Replay
+pub mod Clock
+pub mod World

@@ -1,0 +1,29 @@
+-- The scripted client: what one call prints and answers.
+use Rattle.std.specs.Prelude.{◌≡◌, List, ◌++◌, true, Option, Some, None, Result, Ok, Err, map, string_bytes, ◌⊎◌}
+use Rattle.oauth2_wire.specs.OneShot.{HttpRequest}
+use Rattle.oauth2_wire.specs.Reply.{HttpResponse, ReplyView, reply_of}
+use Rattle.oauth2_wire.specs.Request.{view_of}
+use Rattle.oauth2_script.specs.Replies.{Reply}
+use Rattle.oauth2_world.specs.Replies.{next_reply, later_replies}
+use Rattle.oauth2_world.specs.RequestLines.{request_lines}
+use Rattle.oauth2_script.specs.Views as script_views
+use Rattle.oauth2_world.specs.declared.replay.ScriptedClient.{ScriptedClient}
+use Rattle.oauth2_world.specs.declared.replay.NoReply.{NoReply}
+
+abbrev pub replied : Result HttpResponse NoReply → Option ReplyView
+replied (Ok reply) = Some (reply_of reply)
+replied (Err e) = None
+
+abbrev pub replies_of : ScriptedClient → List Reply
+replies_of c = map script_views.reply_view c.replies.items
+
+-- one call
+pub record Replays (old : ScriptedClient) (request : HttpRequest) (answer : Result HttpResponse NoReply) (new : ScriptedClient) : Type 0 where
+  pub answers : replied answer ≡ next_reply (replies_of old)
+  pub goes_on : replies_of new ≡ later_replies (replies_of old)
+  pub prints : string_bytes new.lines ≡ string_bytes old.lines ++ request_lines (view_of request)
+  pub is_fed : new.is_starved ≡ old.is_starved
+
+-- one call, unless it was refused memory
+abbrev pub ReplaysOrStarves : ScriptedClient → HttpRequest → Result HttpResponse NoReply → ScriptedClient → Type 0
+ReplaysOrStarves old request answer new = (new.is_starved ≡ true) ⊎ Replays old request answer new

@@ -1,0 +1,75 @@
+//! A client that answers from a script and gathers what is to be printed.
+
+ghost use Rattle.std.specs.Prelude.{◌≡◌, IfOk};
+ghost use Rattle.oauth2_wire.specs.Reply.{reply_of};
+ghost use Rattle.oauth2_script.specs.Views.{http_reply_view};
+ghost use Rattle.oauth2_world.specs.Replies.{reply_view};
+
+use crate::lines::print_request;
+use http::Response;
+use http::response::Parts;
+use http_header::{CONTENT_TYPE, HeaderMapError};
+use oauth2_script::{HttpReply, Reply};
+use oauth2_wire::{HttpRequest, HttpResponse, SyncHttpClient};
+use std::alloc::{AllocError, Global};
+use std::collections::VecDeque;
+
+/// The script failed the call, or had no further reply.
+#[derive(Clone, Copy, Debug, PartialEq, Eq)]
+pub struct NoReply;
+
+/// Answers from a script, in order, and then fails.
+#[derive(Drop)]
+pub struct ScriptedClient {
+    pub alloc: Global,
+    pub replies: VecDeque<Reply>,
+    /// What its calls print.
+    pub lines: String,
+    /// Memory for a line or a reply was refused.
+    pub is_starved: bool,
+}
+
+fn response_of(alloc: Global, reply: HttpReply) -> Result<HttpResponse, AllocError>
+    ensures { IfOk result (λ response. reply_of response ≡ reply_view (http_reply_view reply)) }
+{
+    let HttpReply {
+        status,
+        content_type,
+        body,
+    } = reply;
+    let mut parts = Parts::new(alloc);
+    parts.status = status;
+    if let Some(value) = content_type {
+        match parts.headers.insert(CONTENT_TYPE, value) {
+            Ok(_) => {}
+            Err(HeaderMapError::OutOfMemory) => return Err(AllocError),
+            Err(HeaderMapError::MaxSizeReached) => unreachable!(),
+        }
+    }
+    Ok(Response::from_parts(parts, body.into_bytes()))
+}
+
+impl SyncHttpClient for ScriptedClient {
+    ghost use Rattle.oauth2_world.specs.Replay.{ReplaysOrStarves};
+
+    type Error = NoReply;
+
+    ghost step = { ReplaysOrStarves };
+
+    fn call(&mut self, request: HttpRequest) -> Result<HttpResponse, NoReply> {
+        if print_request(self.alloc, &mut self.lines, &request).is_err() {
+            self.is_starved = true;
+        }
+        match self.replies.pop_front() {
+            Some(Reply::Replied(reply)) => match response_of(self.alloc, reply) {
+                Ok(response) => Ok(response),
+                Err(_) => {
+                    self.is_starved = true;
+                    Err(NoReply)
+                }
+            },
+            Some(Reply::Failed) => Err(NoReply),
+            None => Err(NoReply),
+        }
+    }
+}
