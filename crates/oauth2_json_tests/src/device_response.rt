@@ -1,10 +1,9 @@
 //! Device authorization responses (RFC 8628, section 3.2).
 
-use crate::support::{copy_is_kept, is_refused, is_rewritten, read};
+use crate::support::{copy_is_kept, is_equal, is_refused, is_rewritten, read};
 use oauth2::{
     EmptyExtraDeviceAuthorizationFields, ParseCause, StandardDeviceAuthorizationResponse,
 };
-use oauth2_shared_tests::is_equal;
 use std::ops::Deref;
 use std::process::Abort;
 use std::time::Duration;

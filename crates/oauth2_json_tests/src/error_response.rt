@@ -1,12 +1,11 @@
 //! Error codes and error responses (RFC 6749, section 5.2), and the body that holds one.
 
-use crate::support::{is_displayed_as, is_fault, is_refused, is_written_as, read};
+use crate::support::{is_displayed_as, is_equal, is_fault, is_refused, is_written_as, read, text};
 use oauth2::basic::{BasicErrorResponse, BasicErrorResponseType};
 use oauth2::{
     DeviceCodeErrorResponseType, ErrorResponse, ParseCause, StandardErrorResponse,
     TextErrorResponseType, TryClone, compact, read_body,
 };
-use oauth2_shared_tests::{is_equal, text};
 use std::convert::AsStr;
 use std::process::Abort;
 

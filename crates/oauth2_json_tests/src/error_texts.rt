@@ -1,8 +1,7 @@
 //! What is shown of the errors of reading and writing.
 
-use crate::support::is_displayed_as;
+use crate::support::{is_displayed_as, text};
 use oauth2::{ParseCause, ParseFault, ReadError, WriteError};
-use oauth2_shared_tests::text;
 use std::error::Error;
 use std::process::Abort;
 

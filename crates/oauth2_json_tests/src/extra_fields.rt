@@ -1,13 +1,12 @@
 //! Responses with extra fields of a user's own.
 
-use crate::support::{is_kept, is_refused, is_rewritten, read};
+use crate::support::{is_kept, is_refused, is_rewritten, is_so_at, read, text};
 use oauth2::basic::{BasicTokenResponse, BasicTokenType};
 use oauth2::{
     AccessToken, DeviceAuthorizationResponse, ExtraFields, ParseCause, StandardTokenResponse,
     ToJson, WriteError,
 };
 use oauth2_own_types_callers::ColorfulTokenResponse;
-use oauth2_shared_tests::{is_so_at, text};
 use std::process::Abort;
 
 type RawToken = StandardTokenResponse<ExtraFields, BasicTokenType>;

@@ -1,13 +1,12 @@
 //! Introspection responses (RFC 7662, section 2.2).
 
-use crate::support::{copy_is_kept, is_refused, is_rewritten, is_written_as};
+use crate::support::{copy_is_kept, is_refused, is_rewritten, is_written_as, text};
 use jiff::Timestamp;
 use oauth2::basic::{BasicTokenIntrospectionResponse, BasicTokenType};
 use oauth2::{
     ClientId, EmptyExtraTokenFields, ParseCause, Scope, StandardTokenIntrospectionResponse,
     TokenIntrospectionResponse,
 };
-use oauth2_shared_tests::text;
 
 #[test]
 fn first_fault_of_an_introspection_response(rt: HostRuntime) {

@@ -1,13 +1,12 @@
 //! The helpers for types of a user's own: lists in one text, audiences, codes and variants.
 
-use crate::support::{is_fault, is_written_as, parsed};
+use crate::support::{is_equal, is_fault, is_written_as, parsed, text};
 use oauth2::basic::BasicTokenType;
 use oauth2::helpers::{
     VariantName, deserialize_optional_string_or_vec_string, deserialize_space_delimited_vec,
     deserialize_untagged_enum_case_insensitive, serialize_space_delimited_vec, variant_name,
 };
 use oauth2::{ParseCause, Scope, TokenType, members};
-use oauth2_shared_tests::{is_equal, text};
 use serde_json::Value;
 use std::convert::AsStr;
 use std::process::Abort;

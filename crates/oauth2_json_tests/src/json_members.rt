@@ -1,10 +1,9 @@
 //! The members of an object: read by name, taken out, and written beside others.
 
-use crate::support::{is_fault, parsed};
+use crate::support::{is_equal, is_fault, is_so_at, parsed, text};
 use jiff::Timestamp;
 use oauth2::basic::BasicTokenType;
 use oauth2::{EndUserVerificationUrl, ParseCause, Scope, WriteError, members};
-use oauth2_shared_tests::{is_equal, is_so_at, text};
 use serde_json::{Map, Value};
 use std::process::Abort;
 

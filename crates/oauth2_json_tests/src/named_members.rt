@@ -2,14 +2,13 @@
 
 ghost use Rattle.std.specs.Prelude.{codes};
 
-use crate::support::{copy_is_kept, is_kept, is_refused, is_rewritten, read};
+use crate::support::{copy_is_kept, is_kept, is_refused, is_rewritten, read, text};
 use oauth2::basic::BasicTokenType;
 use oauth2::{
     DeviceAuthorizationResponse, EmptyExtraDeviceAuthorizationFields, EmptyExtraTokenFields,
     ExtraFields, NamedMember, ParseCause, StandardTokenIntrospectionResponse,
     StandardTokenResponse, ToJson, WithMember, WriteError,
 };
-use oauth2_shared_tests::text;
 use serde_json::Value;
 use std::process::Abort;
 

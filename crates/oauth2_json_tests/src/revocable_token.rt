@@ -1,9 +1,8 @@
 //! Tokens that can be revoked (RFC 7009, section 2.1).
 
-use crate::support::{copy_is_kept, is_refused};
+use crate::support::{copy_is_kept, is_equal, is_refused, text};
 use oauth2::helpers::variant_name;
 use oauth2::{AccessToken, ParseCause, RefreshToken, RevocableToken, StandardRevocableToken};
-use oauth2_shared_tests::{is_equal, text};
 use std::process::Abort;
 
 #[test]

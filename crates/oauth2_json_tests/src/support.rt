@@ -1,10 +1,13 @@
 //! What the tests of several subjects share.
 
 use oauth2::{FromJson, ParseCause, ReadError, ToJson, TryClone, compact, read_body};
-use oauth2_shared_tests::is_equal;
 use serde_json::Value;
 use std::fmt::{Debug, Display};
 use std::process::Abort;
+
+pub fn text(rt: &(impl Abort + AllocGlobal), text: &str) -> String {
+    String::from_str(rt.alloc(), text).expect(rt, "a text")
+}
 
 /// The JSON value of a text.
 pub fn parsed(rt: &(impl Abort + AllocGlobal), text: &str) -> Value {
@@ -14,6 +17,16 @@ pub fn parsed(rt: &(impl Abort + AllocGlobal), text: &str) -> Value {
 /// What the body reads to.
 pub fn read<T: FromJson>(rt: &(impl Abort + AllocGlobal), body: &str) -> T {
     read_body::<T>(rt.alloc(), body.as_bytes()).expect(rt, "a value")
+}
+
+/// The two are equal. (A call costs a proof far less than the assertion would in its place.)
+pub fn is_equal<T: PartialEq + Debug + Drop>(rt: &impl Abort, found: T, wanted: T) {
+    assert_eq!(rt; found, wanted);
+}
+
+/// It is so, at this row of a table.
+pub fn is_so_at(rt: &impl Abort, is_so: bool, row: &str) {
+    assert!(rt; is_so, "at {row}");
 }
 
 /// The value is shown as this text.

@@ -1,9 +1,8 @@
 //! Token responses (RFC 6749, section 5.1).
 
-use crate::support::{copy_is_kept, is_refused, is_written_as, read};
+use crate::support::{copy_is_kept, is_equal, is_refused, is_written_as, read, text};
 use oauth2::basic::{BasicTokenResponse, BasicTokenType};
 use oauth2::{AccessToken, EmptyExtraTokenFields, ParseCause, RefreshToken, Scope, TokenResponse};
-use oauth2_shared_tests::{is_equal, text};
 use std::process::Abort;
 use std::time::Duration;
 

@@ -9,7 +9,6 @@ use oauth2::{
     ClientId, ClientSecret, HttpRequest, HttpResponse, RefreshToken, SyncHttpClient, TokenUrl,
 };
 use oauth2_keeper::{BasicTokenKeeper, TokenKeeper};
-use oauth2_shared_tests::text;
 use std::alloc::{AllocError, Global};
 use std::process::Abort;
 use std::time::Duration;
@@ -117,6 +116,10 @@ fn replying<'a>(replies: &'a [(u16, &'a str)]) -> Run<'a> {
         life: Duration::from_secs(0),
         replies,
     }
+}
+
+fn text(rt: &(impl Abort + AllocGlobal), text: &str) -> String {
+    String::from_str(rt.alloc(), text).expect(rt, "a text")
 }
 
 fn client(rt: &(impl Abort + AllocGlobal), token_url: &str) -> KeeperClient {

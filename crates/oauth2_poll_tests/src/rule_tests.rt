@@ -10,7 +10,6 @@ use oauth2::{
     ClientId, DeviceCodeErrorResponse, HttpRequest, HttpResponse, PollWorld, ReplyRule,
     RequestTokenError, StandardDeviceAuthorizationResponse, TokenUrl, read_body,
 };
-use oauth2_shared_tests::text;
 use std::alloc::{AllocError, Global};
 use std::process::Abort;
 use std::time::Duration;
@@ -54,6 +53,10 @@ impl PollWorld for JsonFoo {
     fn sleep(&mut self, _duration: Duration) {
         self.sleeps = self.sleeps.saturating_add(1);
     }
+}
+
+fn text(rt: &(impl Abort + AllocGlobal), text: &str) -> String {
+    String::from_str(rt.alloc(), text).expect(rt, "a text")
 }
 
 fn client(rt: &(impl Abort + AllocGlobal), rule: ReplyRule) -> DeviceClient {

@@ -10,7 +10,6 @@ use oauth2::{
     ParamText, PollWorld, RequestTokenError, StandardDeviceAuthorizationResponse, TokenResponse,
     TokenUrl, read_body,
 };
-use oauth2_shared_tests::text;
 use std::alloc::{AllocError, Global};
 use std::process::Abort;
 use std::time::Duration;
@@ -91,6 +90,10 @@ impl PollWorld for Recorder<'_> {
     fn sleep(&mut self, duration: Duration) {
         self.note(Seen::Sleep(duration));
     }
+}
+
+fn text(rt: &(impl Abort + AllocGlobal), text: &str) -> String {
+    String::from_str(rt.alloc(), text).expect(rt, "a text")
 }
 
 fn client(rt: &(impl Abort + AllocGlobal), token_url: &str) -> DeviceClient {

@@ -1,11 +1,11 @@
 //! Clients: made, copied, and where a login leads.
 
+use crate::support::{is_equal, is_text, text};
 use oauth2::basic::BasicClient;
 use oauth2::{
     AuthUrl, AuthorizationRequest, Client, ClientId, ClientSecret, CsrfToken, EndpointMaybeSet,
     EndpointNotSet, EndpointSet, ReplyRule, TokenUrl, TryClone,
 };
-use oauth2_shared_tests::{is_equal, is_text, text};
 use std::process::Abort;
 
 type PlainClient<HasAuthUrl = EndpointNotSet, HasTokenUrl = EndpointNotSet> = BasicClient<

@@ -1,6 +1,7 @@
 //! A login from its URL to the exchange of its code, at once and in the two steps of an application.
 
 use crate::constant_generator::ConstantGenerator;
+use crate::support::{is_equal, is_text, text};
 use oauth2::http::Response;
 use oauth2::{
     AuthUrl, AuthorizationCode, Client, ClientId, ClientSecret, CodeFlow, CodeFlowError, CsrfToken,
@@ -9,7 +10,6 @@ use oauth2::{
 use oauth2_callers::{
     CannedClient, CodeClient, LoginError, OpenIdClient, finish_login, start_login,
 };
-use oauth2_shared_tests::{is_equal, is_text, text};
 use std::process::Abort;
 
 const AUTH: &str = "https://example.com/auth";

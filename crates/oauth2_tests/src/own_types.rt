@@ -1,6 +1,7 @@
 //! A client of a server with types of its own: token types, extra fields, error codes, an error
 //! response and a kind of tokens to revoke.
 
+use crate::support::{is_equal, is_text, text};
 use oauth2::http::response::Parts;
 use oauth2::http::{Response, StatusCode};
 use oauth2::{
@@ -13,7 +14,6 @@ use oauth2_own_types_callers::{
     ColorfulTokenResponse, ColorfulTokenType, colorful_client, custom_error_client, reread,
     restored_token, revocation, stored_token, token_for_code, token_or_custom_error,
 };
-use oauth2_shared_tests::{is_equal, is_text, text};
 use std::fmt::Display;
 use std::process::Abort;
 

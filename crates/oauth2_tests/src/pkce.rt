@@ -1,9 +1,8 @@
 //! Code challenges (RFC 7636), and the random texts of states and verifiers.
 
 use crate::constant_generator::ConstantGenerator;
-use crate::support::is_shown_as;
+use crate::support::{is_equal, is_shown_as, is_text, text};
 use oauth2::{CsrfToken, PkceCodeChallenge, PkceCodeChallengeMethod, PkceCodeVerifier, TryClone};
-use oauth2_shared_tests::{is_equal, is_text, text};
 use std::process::Abort;
 
 /// The verifier of RFC 7636, appendix B.

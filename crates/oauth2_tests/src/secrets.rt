@@ -2,12 +2,11 @@
 
 ghost use Rattle.std.specs.Prelude.{◌≡◌, IsTrue};
 
-use crate::support::compares;
+use crate::support::{compares, is_text, text};
 use oauth2::{
     AccessToken, AuthorizationCode, ClientSecret, CsrfToken, DeviceCode, RefreshToken,
     ResourceOwnerPassword, TryClone, UserCode, VerificationUriComplete,
 };
-use oauth2_shared_tests::{is_text, text};
 
 #[test]
 fn secrets_of_clients(rt: HostRuntime) {

@@ -1,13 +1,13 @@
 //! The requests that a client starts at its device authorization, introspection and revocation
 //! endpoints.
 
+use crate::support::{is_equal, text};
 use oauth2::basic::BasicClient;
 use oauth2::{
     AccessToken, Client, ClientId, ClientSecret, ConfigurationError, DeviceAuthorizationRequest,
     DeviceAuthorizationUrl, EndpointMaybeSet, EndpointNotSet, EndpointSet, HttpRequest,
     IntrospectionUrl, RefreshToken, RevocationUrl, Scope, StandardRevocableToken,
 };
-use oauth2_shared_tests::{is_equal, text};
 use std::process::Abort;
 
 type PlainClient<HasDeviceAuthUrl, HasIntrospectionUrl, HasRevocationUrl> = BasicClient<

@@ -1,10 +1,9 @@
 //! Texts that are no secrets: shown, compared, copied and taken apart.
 
-use crate::support::compares;
+use crate::support::{compares, is_text, text};
 use oauth2::{
     ClientId, PkceCodeChallengeMethod, ResourceOwnerUsername, ResponseType, Scope, TryClone,
 };
-use oauth2_shared_tests::{is_text, text};
 use std::convert::AsStr;
 
 #[test]

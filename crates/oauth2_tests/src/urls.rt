@@ -2,13 +2,12 @@
 
 ghost use Rattle.std.specs.Prelude.{IsTrue};
 
-use crate::support::{copies_alike, is_shown_as};
+use crate::support::{copies_alike, is_shown_as, is_text, text};
 use oauth2::url::{ParseError, Url};
 use oauth2::{
     AuthUrl, DeviceAuthorizationUrl, EndUserVerificationUrl, IntrospectionUrl, RedirectUrl,
     RevocationUrl, TokenUrl, TryClone,
 };
-use oauth2_shared_tests::{is_text, text};
 use std::alloc::{AllocError, Global};
 use std::cmp::Ordering;
 use std::fmt::{Debug, Display};

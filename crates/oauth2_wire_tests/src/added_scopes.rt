@@ -1,10 +1,11 @@
 //! Scopes and parameters of the caller's, in each kind of request that takes them.
 
+use crate::every_request::{client, password, refresh_token, username};
+use crate::support::{is_equal, is_text, text};
 use oauth2::{
     CsrfToken, HttpRequest, PkceCodeChallenge, PkceCodeChallengeMethod, RedirectRef, RedirectUrl,
     ResponseType, Scope,
 };
-use oauth2_shared_tests::{client, is_equal, is_text, password, refresh_token, text, username};
 use std::process::Abort;
 
 fn scope(rt: &(impl Abort + AllocGlobal), word: &str) -> Scope {

@@ -1,9 +1,9 @@
 //! The header of HTTP Basic credentials (RFC 6749, section 2.3.1).
 
+use crate::support::{is_equal, text};
 use crate::views::{header, request_with, shows_basic, view_of};
 use http_header::HeaderValue;
 use oauth2::basic_header;
-use oauth2_shared_tests::{is_equal, text};
 use std::process::Abort;
 
 /// A server reads the two texts of a request with this header.

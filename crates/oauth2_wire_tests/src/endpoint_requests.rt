@@ -1,6 +1,7 @@
 //! Requests to an endpoint: their bodies (RFC 6749, sections 4 and 6, and what extends them), their
 //! headers and their targets.
 
+use crate::support::{is_equal, is_text, text, url};
 use crate::views::{shows_basic, shows_no_basic, view_of};
 use oauth2::AuthType::{BasicAuth, RequestBody};
 use oauth2::url::Url;
@@ -8,7 +9,6 @@ use oauth2::{
     AuthType, ClientId, ClientSecret, HttpRequest, ParamText, RedirectRef, RedirectUrl,
     RequestFault, Scope, TryClone, endpoint_request,
 };
-use oauth2_shared_tests::{is_equal, is_text, text, url};
 use std::process::Abort;
 
 const CREDENTIALS: [(&str, &str); 1] = [("grant_type", "client_credentials")];

@@ -1,7 +1,7 @@
 //! What a form writes for each byte (URL Standard, section 5.2).
 
+use crate::support::{is_equal, text, url};
 use oauth2::{AuthType, ClientId, HttpRequest, ParamText, endpoint_request};
-use oauth2_shared_tests::{is_equal, text, url};
 use std::process::Abort;
 
 /// A request with these extra parameters.

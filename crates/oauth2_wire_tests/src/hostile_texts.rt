@@ -1,12 +1,12 @@
 //! Identifiers, secrets and parameters of odd characters, in each kind of request.
 
 use crate::basic_headers::every_character;
+use crate::every_request::{
+    WholeClient, access_token, client, code, device, password, refresh_token, username,
+};
+use crate::support::{is_equal, is_so_at, is_text};
 use crate::views::{shows_basic, view_of};
 use oauth2::{AuthType, HttpRequest, StandardRevocableToken};
-use oauth2_shared_tests::{
-    WholeClient, access_token, client, code, device, is_equal, is_so_at, is_text, password,
-    refresh_token, username,
-};
 use std::process::Abort;
 
 /// A parameter of the caller's: its name and its value.

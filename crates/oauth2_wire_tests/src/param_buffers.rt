@@ -1,9 +1,9 @@
 //! Scopes and parameters that are encoded as they are added.
 
+use crate::support::{is_equal, text, url};
 use oauth2::{
     AuthType, ClientId, ClientSecret, HttpRequest, ParamBuffer, endpoint_request_encoded,
 };
-use oauth2_shared_tests::{is_equal, text, url};
 use std::process::Abort;
 
 /// A client credentials request with the parameters of a buffer.

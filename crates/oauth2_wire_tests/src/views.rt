@@ -1,9 +1,9 @@
 //! What a server that only decodes reads of a request.
 
+use crate::support::{is_equal, is_so_at, text};
 use http_header::{AUTHORIZATION, HeaderValue};
 use oauth2::http::Request;
 use oauth2::{HttpRequest, ServerView, ViewError, server_view};
-use oauth2_shared_tests::{is_equal, is_so_at, text};
 use std::process::Abort;
 
 pub fn view_of(rt: &(impl Abort + AllocGlobal), request: &HttpRequest) -> ServerView {

@@ -1,5 +1,6 @@
 //! The sending of one request by a client, which is called once at most.
 
+use crate::support::{is_equal, is_text};
 use oauth2::basic::BasicRequestTokenError;
 use oauth2::http::response::Parts;
 use oauth2::http::{Request, Response, StatusCode};
@@ -8,7 +9,6 @@ use oauth2::{
     RevocationErrorResponseType, StandardErrorResponse, SyncHttpClient, send_once,
     send_once_status_only,
 };
-use oauth2_shared_tests::{is_equal, is_text};
 use std::alloc::Global;
 use std::process::Abort;
 

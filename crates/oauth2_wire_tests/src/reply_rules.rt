@@ -1,5 +1,6 @@
 //! The rule by which the Content-Type of a reply is judged (RFC 9110, section 8.3.1).
 
+use crate::support::{is_equal, is_text, text};
 use http_header::{CONTENT_TYPE, HeaderValue};
 use oauth2::basic::{BasicClient, BasicRequestTokenError};
 use oauth2::http::response::Parts;
@@ -9,7 +10,6 @@ use oauth2::{
     HttpResponse, IntrospectionUrl, ReplyRule, RevocationUrl, StandardRevocableToken,
     SyncHttpClient, TokenUrl, TryClone, endpoint_response_with, send_once,
 };
-use oauth2_shared_tests::{is_equal, is_text, text};
 use std::alloc::Global;
 use std::fmt::Display;
 use std::process::Abort;

@@ -1,5 +1,6 @@
 //! What replies say (RFC 6749, sections 5.1 and 5.2; RFC 7009, section 2.2).
 
+use crate::support::is_text;
 use http_header::{CONTENT_TYPE, HeaderValue};
 use oauth2::basic::BasicRequestTokenError;
 use oauth2::http::response::Parts;
@@ -8,7 +9,6 @@ use oauth2::{
     HttpResponse, RequestTokenError, RevocationErrorResponseType, StandardErrorResponse,
     endpoint_response, endpoint_response_status_only,
 };
-use oauth2_shared_tests::is_text;
 use std::process::Abort;
 
 type RevocationError = RequestTokenError<u8, StandardErrorResponse<RevocationErrorResponseType>>;

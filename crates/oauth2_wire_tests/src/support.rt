@@ -1,4 +1,4 @@
-//! How tests compare, and the texts that they compare.
+//! What the tests of several subjects share.
 
 use oauth2::url::Url;
 use std::fmt::Debug;

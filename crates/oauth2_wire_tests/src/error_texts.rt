@@ -1,7 +1,7 @@
 //! The texts of errors.
 
+use crate::support::{is_text, text};
 use oauth2::{ConfigurationError, HttpClientError, RequestFault, RequestTokenError, ViewError};
-use oauth2_shared_tests::{is_text, text};
 use std::alloc::AllocError;
 use std::error::Error;
 use std::io;

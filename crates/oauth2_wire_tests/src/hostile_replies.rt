@@ -1,15 +1,15 @@
 //! Replies of a server that errs or means ill, to each kind of request.
 
+use crate::every_request::{
+    OPEN, WholeClient, access_token, client, code, device, password, refresh_token, username,
+};
 use crate::replies::reply_of;
+use crate::support::{is_equal, is_text, text};
 use jiff::Timestamp;
 use oauth2::basic::{BasicRequestTokenError, BasicTokenResponse};
 use oauth2::{
     HttpRequest, HttpResponse, ParseCause, RequestTokenError, StandardDeviceAuthorizationResponse,
     StandardRevocableToken, SyncHttpClient, endpoint_response,
-};
-use oauth2_shared_tests::{
-    OPEN, WholeClient, access_token, client, code, device, is_equal, is_text, password,
-    refresh_token, text, username,
 };
 use std::fmt::Display;
 use std::process::Abort;
