@@ -34,7 +34,7 @@ fn secret_with_a_colon(rt: HostRuntime) {
 }
 
 /// The characters of the first 256 code points.
-pub fn every_character(rt: &(impl Abort + AllocGlobal)) -> String {
+fn every_character(rt: &(impl Abort + AllocGlobal)) -> String {
     let mut characters = text(rt, "");
     for code in 0..256u32 {
         if let Some(c) = char::from_u32(code) {

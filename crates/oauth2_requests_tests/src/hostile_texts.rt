@@ -1,12 +1,10 @@
 //! Identifiers, secrets and parameters of odd characters, in each kind of request.
 
-use crate::basic_headers::every_character;
 use crate::every_request::{
     WholeClient, access_token, client, code, device, password, refresh_token, username,
 };
-use crate::support::{is_equal, is_so_at, is_text};
-use crate::views::{shows_basic, view_of};
-use oauth2::{AuthType, HttpRequest, StandardRevocableToken};
+use crate::support::{is_equal, is_so_at, is_text, text};
+use oauth2::{AuthType, HttpRequest, ServerView, StandardRevocableToken, server_view};
 use std::process::Abort;
 
 /// A parameter of the caller's: its name and its value.
@@ -158,11 +156,33 @@ fn name_of_the_character_0(rt: HostRuntime) {
     }
 }
 
+/// The characters of the first 256 code points.
+fn every_character(rt: &(impl Abort + AllocGlobal)) -> String {
+    let mut characters = text(rt, "");
+    for code in 0..256u32 {
+        if let Some(c) = char::from_u32(code) {
+            characters.push(c).expect(rt, "a text");
+        }
+    }
+    characters
+}
+
+fn view_of(rt: &(impl Abort + AllocGlobal), request: &HttpRequest) -> ServerView {
+    server_view(rt.alloc(), request).expect(rt, "a view")
+}
+
 /// The server reads this as the last of the pairs.
 fn has_last_pair(rt: &impl Abort, form: &[(String, String)], name: &str, value: &str) {
     let (read_name, read_value) = form.last().expect(rt, "a pair");
     is_text(rt, read_name.as_str(), name);
     is_text(rt, read_value.as_str(), value);
+}
+
+/// The server reads this as identifier and as secret.
+fn shows_twice(rt: &impl Abort, view: ServerView, wanted: &str) {
+    let (id, secret) = view.basic.expect(rt, "credentials");
+    is_text(rt, id.as_str(), wanted);
+    is_text(rt, secret.as_str(), wanted);
 }
 
 #[test]
@@ -173,7 +193,7 @@ fn every_character_in_the_header(rt: HostRuntime) {
     for request in each_request(&rt, &client, (every, every)) {
         let view = view_of(&rt, &request);
         has_last_pair(&rt, view.form.as_slice(), every, every);
-        shows_basic(&rt, view, every, every);
+        shows_twice(&rt, view, every);
     }
 }
 

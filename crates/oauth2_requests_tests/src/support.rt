@@ -1,0 +1,22 @@
+//! What the tests of several subjects share.
+
+use std::fmt::Debug;
+use std::process::Abort;
+
+pub fn text(rt: &(impl Abort + AllocGlobal), text: &str) -> String {
+    String::from_str(rt.alloc(), text).expect(rt, "a text")
+}
+
+/// The two are equal. (A call costs a proof far less than the assertion would in its place.)
+pub fn is_equal<T: PartialEq + Debug + Drop>(rt: &impl Abort, found: T, wanted: T) {
+    assert_eq!(rt; found, wanted);
+}
+
+/// It is so, at this row of a table.
+pub fn is_so_at(rt: &impl Abort, is_so: bool, row: &str) {
+    assert!(rt; is_so, "at {row}");
+}
+
+pub fn is_text(rt: &impl Abort, found: &str, wanted: &str) {
+    assert_eq!(rt; found, wanted);
+}
