@@ -1,9 +1,7 @@
 //! The keeper of a token for its users: a caller with a contract of its own, and worked runs.
 #![tactic(auto)]
 
+#[cfg(test)]
 mod callers;
-
-pub use callers::{KeeperClient, bearer};
-
 #[cfg(test)]
 mod tests;
