@@ -27,6 +27,12 @@ def below():
     return {name: all_below(name) for name in uses}
 
 
+def check_flags(folder):
+    """The flag by which a check of a crate reads its tests too, where it has functions that are compiled with them alone."""
+    roots = [os.path.join(folder, 'src', name) for name in ('lib.rt', 'main.rt')]
+    return ['--test'] if any('#[cfg(test)]' in open(it).read() for it in roots if os.path.exists(it)) else []
+
+
 def link_or_copy(source, target):
     """A second name for a file that is only read, or a copy where that can't be."""
     try:

@@ -1,34 +1,33 @@
-//! Callers of the client's calls at concrete types, with contracts of their own.
+//! Callers of the client's calls at concrete types, with contracts of their own, and tests that call
+//! them. All is compiled with the tests alone: a library would pass on all that its public names
+//! mention.
 #![tactic(auto)]
 
+#[cfg(test)]
 mod application;
+#[cfg(test)]
+mod application_tests;
+#[cfg(test)]
 mod authorization;
+#[cfg(test)]
 mod client;
+#[cfg(test)]
 mod device;
+#[cfg(test)]
 mod example;
+#[cfg(test)]
 mod exchange;
+#[cfg(test)]
+mod login_tests;
+#[cfg(test)]
 mod openid;
+#[cfg(test)]
 mod own_extra_fields;
+#[cfg(test)]
 mod refresh;
+#[cfg(test)]
 mod revocation;
+#[cfg(test)]
+mod support;
+#[cfg(test)]
 mod transport;
-
-pub use application::{
-    CannedClient, CannedError, IdentityClient, IdentityTokenResponse, canned_id_token, id_token,
-    id_token_for_code, identity_client, own_token, token_response,
-};
-pub use authorization::{challenged_login, checked_login, login_url, login_url_if_set};
-pub use client::{
-    CodeClient, PlainClient, TokenClient, code_client, copy_of, every_endpoint, token_client,
-    token_url,
-};
-pub use device::{DeviceClient, device_codes, polled_token};
-pub use example::{TokenOnlyClient, new_client, token_for_code};
-pub use exchange::{
-    code_request, lacks_token_url, password_token, refresh_request, with_all_scopes,
-};
-pub use openid::{Login, LoginError, OpenIdClient, finish_login, start_login};
-pub use own_extra_fields::{ExtExpiresIn, IdToken, IdentityFields};
-pub use refresh::refreshed_token;
-pub use revocation::{RevocationClient, sign_out};
-pub use transport::token_over;

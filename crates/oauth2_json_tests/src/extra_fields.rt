@@ -1,4 +1,4 @@
-//! Responses with extra fields of a user's own.
+//! Responses with extra fields.
 
 use crate::support::{is_kept, is_refused, is_rewritten, is_so_at, read, text};
 use oauth2::basic::{BasicTokenResponse, BasicTokenType};
@@ -6,41 +6,12 @@ use oauth2::{
     AccessToken, DeviceAuthorizationResponse, ExtraFields, ParseCause, StandardTokenResponse,
     ToJson, WriteError,
 };
-use oauth2_own_types_callers::ColorfulTokenResponse;
 use std::process::Abort;
 
 type RawToken = StandardTokenResponse<ExtraFields, BasicTokenType>;
 
 #[test]
-fn extra_fields_are_read_last(rt: HostRuntime) {
-    for (body, member, cause) in [
-        (
-            "{\"access_token\":\"12/34\",\"token_type\":\"blue\"}",
-            "token_type",
-            ParseCause::Refused,
-        ),
-        (
-            "{\"access_token\":\"12/34\",\"token_type\":\"red\"}",
-            "height",
-            ParseCause::Missing,
-        ),
-        (
-            "{\"access_token\":\"12/34\",\"token_type\":\"red\",\"height\":4294967296}",
-            "height",
-            ParseCause::OutOfRange,
-        ),
-    ] {
-        is_refused::<ColorfulTokenResponse>(&rt, body, member, cause);
-    }
-}
-
-#[test]
-fn extra_fields_are_written_beside(rt: HostRuntime) {
-    is_rewritten::<ColorfulTokenResponse>(
-        &rt,
-        "{\"access_token\":\"12/34\",\"token_type\":\"GREEN\",\"shape\":\"round\",\"height\":12}",
-        "{\"access_token\":\"12/34\",\"height\":12,\"shape\":\"round\",\"token_type\":\"green\"}",
-    );
+fn other_members_are_dropped(rt: HostRuntime) {
     is_rewritten::<BasicTokenResponse>(
         &rt,
         "{\"access_token\":\"t\",\"token_type\":\"bearer\",\"f\":1.5}",

@@ -1,28 +1,18 @@
 //! Types of a user's own: a token type, extra fields, error codes, an error response and a token to
-//! revoke, and a client that asks every endpoint with them.
+//! revoke; a client that asks every endpoint with them, and its tests. The functions are compiled
+//! with the tests alone: a library would pass on all that its public names mention.
 #![tactic(auto)]
 
+#[cfg(test)]
 mod client;
 mod colorful_error;
 mod colorful_fields;
 mod colorful_token;
 mod colorful_token_type;
+#[cfg(test)]
 mod custom_client;
 mod custom_error;
+#[cfg(test)]
 mod kept;
-
-pub use client::{
-    ColorfulClient, ColorfulErrorResponse, ColorfulIntrospectionResponse, ColorfulTokenResponse,
-    colorful_client, device_codes, device_token, introspection, revocation, revoke, token_for_code,
-    token_for_password, token_for_refresh_token, token_of_its_own,
-};
-pub use colorful_error::ColorfulErrorResponseType;
-pub use colorful_fields::ColorfulFields;
-pub use colorful_token::ColorfulRevocableToken;
-pub use colorful_token_type::ColorfulTokenType;
-pub use custom_client::{CustomErrorClient, custom_error_client, token_or_custom_error};
-pub use custom_error::CustomErrorResponse;
-pub use kept::{
-    codes_value, error_value, fields_are_kept, introspection_value, reread, restored_token,
-    stored_token,
-};
+#[cfg(test)]
+mod tests;

@@ -1,8 +1,8 @@
 //! Code challenges (RFC 7636), and the random texts of states and verifiers.
 
-use crate::constant_generator::ConstantGenerator;
 use crate::support::{is_equal, is_shown_as, is_text, text};
 use oauth2::{CsrfToken, PkceCodeChallenge, PkceCodeChallengeMethod, PkceCodeVerifier, TryClone};
+use oauth2_value_rows_tests::Repeated;
 use std::process::Abort;
 
 /// The verifier of RFC 7636, appendix B.
@@ -74,7 +74,7 @@ fn plain_challenge_in_lines(rt: HostRuntime) {
 
 #[test]
 fn random_states(rt: HostRuntime) {
-    let state = CsrfToken::new_random(rt.alloc(), &mut ConstantGenerator(0)).expect(&rt, "a state");
+    let state = CsrfToken::new_random(rt.alloc(), &mut Repeated(0)).expect(&rt, "a state");
     is_text(&rt, state.secret().as_str(), "AAAAAAAAAAAAAAAAAAAAAA");
     let rows = [
         (0, 0, ""),
@@ -83,7 +83,7 @@ fn random_states(rt: HostRuntime) {
         (3, 0xbe_effb, "----"),
     ];
     for (n, word, wanted) in rows {
-        let state = CsrfToken::new_random_len(rt.alloc(), &mut ConstantGenerator(word), n).expect(
+        let state = CsrfToken::new_random_len(rt.alloc(), &mut Repeated(word), n).expect(
             &rt, "a state",
         );
         is_text(&rt, state.secret().as_str(), wanted);
@@ -100,7 +100,7 @@ const SHORTEST: &str = "AAAAAAAAAAAAAAAAAAAAAAAAAAAAAAAAAAAAAAAAAAA";
 fn longest_random_verifier(rt: HostRuntime) {
     let (_, verifier) = PkceCodeChallenge::new_random_sha256_len(
         rt.alloc(),
-        &mut ConstantGenerator(0),
+        &mut Repeated(0),
         96,
     ).expect(&rt, "a verifier");
     is_text(&rt, verifier.secret().as_str(), LONGEST);
@@ -108,10 +108,10 @@ fn longest_random_verifier(rt: HostRuntime) {
 
 #[test]
 fn random_verifier(rt: HostRuntime) {
-    let (_, verifier) = PkceCodeChallenge::new_random_sha256(
-        rt.alloc(),
-        &mut ConstantGenerator(0),
-    ).expect(&rt, "a verifier");
+    let (_, verifier) = PkceCodeChallenge::new_random_sha256(rt.alloc(), &mut Repeated(0)).expect(
+        &rt,
+        "a verifier",
+    );
     is_text(&rt, verifier.secret().as_str(), SHORTEST);
 }
 
@@ -119,7 +119,7 @@ fn random_verifier(rt: HostRuntime) {
 fn random_plain_challenge(rt: HostRuntime) {
     let (challenge, verifier) = PkceCodeChallenge::new_random_plain(
         rt.alloc(),
-        &mut ConstantGenerator(0),
+        &mut Repeated(0),
     ).expect(&rt, "a verifier");
     is_text(&rt, challenge.as_str(), SHORTEST);
     is_text(&rt, verifier.secret().as_str(), SHORTEST);

@@ -1,5 +1,6 @@
 //! The rows without a client of the calls that are refused memory: challenges, JSON and the poll over
-//! lists; and what every row is made of: its name, how it ends and its lines.
+//! lists; what every row is made of: its name, how it ends and its lines; and a generator of one word
+//! for all tests.
 #![tactic(auto)]
 
 mod ended;
@@ -12,6 +13,7 @@ mod values;
 
 pub use ended::{Ended, Want, text};
 pub use names::read_names;
+pub use repeated::Repeated;
 pub use show::{show_fault, show_sleep, show_text};
 pub use table::find;
 pub use value_rows::{ValueRow, show_value_row, value_row};

@@ -1,23 +1,55 @@
 //! A client of a server with types of its own: token types, extra fields, error codes, an error
 //! response and a kind of tokens to revoke.
 
-use crate::support::{is_equal, is_text, text};
+use crate::client::{
+    ColorfulClient, ColorfulErrorResponse, ColorfulTokenResponse, colorful_client, revocation,
+    token_for_code,
+};
+use crate::colorful_error::ColorfulErrorResponseType;
+use crate::colorful_token::ColorfulRevocableToken;
+use crate::colorful_token_type::ColorfulTokenType;
+use crate::custom_client::{custom_error_client, token_or_custom_error};
+use crate::kept::{reread, restored_token, stored_token};
 use oauth2::http::response::Parts;
 use oauth2::http::{Response, StatusCode};
 use oauth2::{
-    AuthorizationCode, ClientId, ClientSecret, DeviceAuthorizationUrl, HttpResponse,
-    IntrospectionUrl, RequestTokenError, RevocationUrl, TokenResponse, TokenUrl,
+    AuthorizationCode, ClientId, ClientSecret, DeviceAuthorizationUrl, HttpRequest, HttpResponse,
+    IntrospectionUrl, ParseCause, ReadError, RequestTokenError, RevocationUrl, SyncHttpClient,
+    TokenResponse, TokenUrl,
 };
-use oauth2_callers::{CannedClient, CannedError};
-use oauth2_own_types_callers::{
-    ColorfulClient, ColorfulErrorResponse, ColorfulErrorResponseType, ColorfulRevocableToken,
-    ColorfulTokenResponse, ColorfulTokenType, colorful_client, custom_error_client, reread,
-    restored_token, revocation, stored_token, token_for_code, token_or_custom_error,
-};
-use std::fmt::Display;
+use std::fmt::{Debug, Display};
 use std::process::Abort;
 
-type Answer = Result<ColorfulTokenResponse, RequestTokenError<CannedError, ColorfulErrorResponse>>;
+/// The reply was handed out before.
+#[derive(Debug, Drop)]
+struct Spent;
+
+/// An HTTP client that hands out one reply.
+#[derive(Drop)]
+struct Replying(Option<HttpResponse>);
+
+impl SyncHttpClient for Replying {
+    type Error = Spent;
+
+    fn call(&mut self, _request: HttpRequest) -> Result<HttpResponse, Spent> {
+        self.0.take().ok_or(Spent)
+    }
+}
+
+type Answer = Result<ColorfulTokenResponse, RequestTokenError<Spent, ColorfulErrorResponse>>;
+
+fn text(rt: &(impl Abort + AllocGlobal), text: &str) -> String {
+    String::from_str(rt.alloc(), text).expect(rt, "a text")
+}
+
+/// The two are equal. (A call costs a proof far less than the assertion would in its place.)
+fn is_equal<T: PartialEq + Debug + Drop>(rt: &impl Abort, found: T, wanted: T) {
+    assert_eq!(rt; found, wanted);
+}
+
+fn is_text(rt: &impl Abort, found: &str, wanted: &str) {
+    assert_eq!(rt; found, wanted);
+}
 
 fn token_url(rt: &(impl Abort + AllocGlobal)) -> TokenUrl {
     TokenUrl::new(rt.alloc(), text(rt, "https://example.com/token")).expect(rt, "a URL")
@@ -53,7 +85,7 @@ fn is_displayed_as<T: Display>(rt: &(impl Abort + AllocGlobal), value: &T, wante
 /// The token for a code, of a server that replies like this.
 fn answer(rt: &(impl Abort + AllocGlobal), status: u16, body: &str) -> Answer {
     let client = client(rt);
-    let mut http_client = CannedClient::new(reply(rt, status, body));
+    let mut http_client = Replying(Some(reply(rt, status, body)));
     let code = AuthorizationCode::new(text(rt, "ccc"));
     token_for_code(rt.alloc(), &client, &mut http_client, code)
 }
@@ -87,6 +119,46 @@ fn token_that_is_kept(rt: HostRuntime) {
 }
 
 #[test]
+fn extra_fields_are_written_beside(rt: HostRuntime) {
+    let body = r#"{"access_token":"12/34","token_type":"GREEN","shape":"round","height":12}"#;
+    let token = restored_token(rt.alloc(), body).expect(&rt, "a token");
+    let kept = stored_token(rt.alloc(), &token).expect(&rt, "a text");
+    is_text(&rt, kept.as_str(), TOKEN);
+}
+
+/// The text of a token does not read: the member at fault, and the cause.
+fn is_refused(rt: &(impl Abort + AllocGlobal), body: &str, member: &str, cause: ParseCause) {
+    let Err(ReadError::Fault(fault)) = restored_token(rt.alloc(), body) else {
+        panic!(rt; "no fault");
+    };
+    is_text(rt, fault.member.as_str(), member);
+    is_equal(rt, fault.cause, cause);
+}
+
+#[test]
+fn extra_fields_are_read_last(rt: HostRuntime) {
+    for (body, member, cause) in [
+        (
+            r#"{"access_token":"12/34","token_type":"blue"}"#,
+            "token_type",
+            ParseCause::Refused,
+        ),
+        (
+            r#"{"access_token":"12/34","token_type":"red"}"#,
+            "height",
+            ParseCause::Missing,
+        ),
+        (
+            r#"{"access_token":"12/34","token_type":"red","height":4294967296}"#,
+            "height",
+            ParseCause::OutOfRange,
+        ),
+    ] {
+        is_refused(&rt, body, member, cause);
+    }
+}
+
+#[test]
 fn token_that_is_read_again(rt: HostRuntime) {
     let token = token(&rt);
     let again = reread(rt.alloc(), &token).expect(&rt, "a token");
@@ -107,7 +179,7 @@ fn error_code_of_ones_own(rt: HostRuntime) {
 fn error_response_of_ones_own(rt: HostRuntime) {
     let client = custom_error_client(ClientId::new(text(&rt, "aaa")), token_url(&rt));
     let body = r#"{"custom_error":"non-compliant"}"#;
-    let mut http_client = CannedClient::new(reply(&rt, 400, body));
+    let mut http_client = Replying(Some(reply(&rt, 400, body)));
     let answer = token_or_custom_error(rt.alloc(), &client, &mut http_client);
     let error = answer.err().expect(&rt, "an error");
     is_displayed_as(&rt, &error, "Server returned error response: non-compliant");

@@ -1,15 +1,15 @@
 //! A login from its URL to the exchange of its code, at once and in the two steps of an application.
 
-use crate::constant_generator::ConstantGenerator;
+use crate::application::{CannedClient, CannedError};
+use crate::client::CodeClient;
+use crate::openid::{LoginError, OpenIdClient, finish_login, start_login};
 use crate::support::{is_equal, is_text, text};
 use oauth2::http::Response;
 use oauth2::{
     AuthUrl, AuthorizationCode, Client, ClientId, ClientSecret, CodeFlow, CodeFlowError, CsrfToken,
     HttpResponse, PkceCodeVerifier, TokenUrl, code_flow,
 };
-use oauth2_callers::{
-    CannedClient, CodeClient, LoginError, OpenIdClient, finish_login, start_login,
-};
+use oauth2_value_rows_tests::Repeated;
 use std::process::Abort;
 
 const AUTH: &str = "https://example.com/auth";
@@ -110,9 +110,9 @@ fn ends(
     rt: &(impl Abort + AllocGlobal),
     state: &str,
     body: &str,
-) -> Result<String, LoginError<oauth2_callers::CannedError>> {
+) -> Result<String, LoginError<CannedError>> {
     let client = open_id_client(rt);
-    let mut rng = ConstantGenerator(0);
+    let mut rng = Repeated(0);
     let (url, login) = start_login(rt.alloc(), &client, &mut rng, "n-0S6_WzA2Mj").expect(
         rt, "a login",
     );

@@ -1,10 +1,10 @@
 //! An application with an HTTP client and an error of its own, which wants a member of the reply
 //! that the standard does not name.
 
+use crate::application::canned_id_token;
 use crate::support::{is_equal, text};
 use oauth2::HttpResponse;
 use oauth2::http::Response;
-use oauth2_callers::canned_id_token;
 use std::process::Abort;
 
 fn reply(rt: &(impl Abort + AllocGlobal), body: &str) -> HttpResponse {
