@@ -102,13 +102,45 @@ impl Endpoints {
     fn try_clone(&self, alloc: Global) -> Result<Endpoints, AllocError>
         ensures { IfOk result (λ copy. copy ≡ self.now) }
     {
+        let (auth_url, token_url) = self.copied_of_code(alloc)?;
+        let (introspection_url, revocation_url) = self.copied_of_tokens(alloc)?;
         Ok(Endpoints {
-            auth_url: self.auth_url.try_clone(alloc)?,
+            auth_url,
             device_authorization_url: self.device_authorization_url.try_clone(alloc)?,
-            introspection_url: self.introspection_url.try_clone(alloc)?,
-            revocation_url: self.revocation_url.try_clone(alloc)?,
-            token_url: self.token_url.try_clone(alloc)?,
+            introspection_url,
+            revocation_url,
+            token_url,
         })
+    }
+
+    // Copies of the two endpoints of the authorization code grant.
+    #[tactic(auto, using(std::proofs::lemmas::Iterator::Adapters::option_map_id))]
+    fn copied_of_code(
+        &self,
+        alloc: Global,
+    ) -> Result<(Option<AuthUrl>, Option<TokenUrl>), AllocError>
+        ensures auth { IfOk result (λ urls. urls.0 ≡ self.now.auth_url) }
+        ensures token { IfOk result (λ urls. urls.1 ≡ self.now.token_url) }
+    {
+        Ok((
+            self.auth_url.try_clone(alloc)?,
+            self.token_url.try_clone(alloc)?,
+        ))
+    }
+
+    // Copies of the two endpoints that are asked about a token.
+    #[tactic(auto, using(std::proofs::lemmas::Iterator::Adapters::option_map_id))]
+    fn copied_of_tokens(
+        &self,
+        alloc: Global,
+    ) -> Result<(Option<IntrospectionUrl>, Option<RevocationUrl>), AllocError>
+        ensures introspection { IfOk result (λ urls. urls.0 ≡ self.now.introspection_url) }
+        ensures revocation { IfOk result (λ urls. urls.1 ≡ self.now.revocation_url) }
+    {
+        Ok((
+            self.introspection_url.try_clone(alloc)?,
+            self.revocation_url.try_clone(alloc)?,
+        ))
     }
 }
 

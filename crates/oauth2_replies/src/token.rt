@@ -1,6 +1,6 @@
 //! The response of a token endpoint (RFC 6749, section 5.1).
 
-ghost use Rattle.std.specs.Prelude.{◌≡◌, ℕ, ◌*◌, ◌/◌, Ok, None, option_map};
+ghost use Rattle.std.specs.Prelude.{◌≡◌, ℕ, ◌*◌, ◌/◌, Ok, None, IfOk, option_map};
 ghost use Rattle.std.specs.Duration.{as_nanos};
 ghost use Rattle.oauth2_replies.specs.Token.{Token, token_seen};
 
@@ -189,19 +189,45 @@ impl<EF: ExtraTokenFields + Drop, TT: TokenType + Drop> TokenResponse
     }
 }
 
+/// For how long and for what the token is good, and how to get the next one.
+#[derive(Drop)]
+pub(crate) struct Terms {
+    pub(crate) expires_in: Option<u64>,
+    pub(crate) refresh_token: Option<RefreshToken>,
+    pub(crate) scopes: Option<Vec<Scope>>,
+}
+
+impl<EF, TT> StandardTokenResponse<EF, TT> {
+    fn copied_terms(&self, alloc: Global) -> Result<Terms, AllocError>
+        ensures expires_in { IfOk result (λ t. t.expires_in ≡ self.now.expires_in) }
+        ensures refresh_token { IfOk result (λ t. t.refresh_token ≡ self.now.refresh_token) }
+        ensures scopes { IfOk result (λ t. option_map (λ list. list.items) t.scopes ≡ self.now.scopes) }
+    {
+        Ok(Terms {
+            expires_in: self.expires_in,
+            refresh_token: self.refresh_token.try_clone(alloc)?,
+            scopes: self.scopes.try_clone(alloc)?,
+        })
+    }
+}
+
 impl<EF: TryClone + Drop, TT: TryClone + Drop> TryClone for StandardTokenResponse<EF, TT> {
     ghost Seen = { Token EF.Seen TT.Seen };
 
     ghost seen = { token_seen EF.seen TT.seen };
 
     fn try_clone(&self, alloc: Global) -> Result<StandardTokenResponse<EF, TT>, AllocError> {
+        let access_token = self.access_token.try_clone(alloc)?;
+        let terms = self.copied_terms(alloc)?;
+        let token_type = self.token_type.try_clone(alloc)?;
+        let extra_fields = self.extra_fields.try_clone(alloc)?;
         Ok(StandardTokenResponse {
-            access_token: self.access_token.try_clone(alloc)?,
-            token_type: self.token_type.try_clone(alloc)?,
-            expires_in: self.expires_in,
-            refresh_token: self.refresh_token.try_clone(alloc)?,
-            scopes: self.scopes.try_clone(alloc)?,
-            extra_fields: self.extra_fields.try_clone(alloc)?,
+            access_token,
+            token_type,
+            expires_in: terms.expires_in,
+            refresh_token: terms.refresh_token,
+            scopes: terms.scopes,
+            extra_fields,
         })
     }
 }

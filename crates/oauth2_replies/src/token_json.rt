@@ -13,11 +13,11 @@ ghost use Rattle.oauth2_replies.specs.private.Groups.{pair, triple};
 ghost use Rattle.oauth2_replies.specs.private.TokenRows.{credential_names, credential_reading, terms_names, terms_reading, in_turn};
 
 use crate::scopes;
-use crate::token::{ExtraTokenFields, StandardTokenResponse};
+use crate::token::{ExtraTokenFields, StandardTokenResponse, Terms};
 use oauth2_codes::TokenType;
 use oauth2_json::{FromJson, ReadError, ToJson, WriteError, members};
 use oauth2_object::Object;
-use oauth2_types::{AccessToken, RefreshToken, Scope};
+use oauth2_types::{AccessToken, RefreshToken};
 use serde_json::{Map, Value};
 use std::alloc::{AllocError, Global};
 
@@ -51,14 +51,6 @@ impl<EF: ExtraTokenFields + Drop, TT: TokenType + Drop> FromJson for StandardTok
 struct Credential<TT> {
     access_token: AccessToken,
     token_type: TT,
-}
-
-/// For how long and for what the token is good, and how to get the next one.
-#[derive(Drop)]
-struct Terms {
-    expires_in: Option<u64>,
-    refresh_token: Option<RefreshToken>,
-    scopes: Option<Vec<Scope>>,
 }
 
 #[tactic(auto, unfolding(crate::specs::private::TokenRows::credential_reading))]
