@@ -1,19 +1,37 @@
 //! From the bytes that are read to the bytes that are written.
 
-ghost use Rattle.std.specs.Prelude.{◌≡◌, List, ℕ, Some, string_bytes, IfOk, IfSome};
+ghost use Rattle.std.specs.Prelude.{◌≡◌, List, ℕ, Some, false, string_bytes, IfOk, IfSome};
 ghost use Rattle.std.specs.Io.KnownBytes.{Appends};
 ghost use Rattle.oauth2_commands.specs.Out.{Shows};
-ghost use Rattle.oauth2_commands.specs.Run.{IsScriptOutput, IsOutputOf};
-ghost use Rattle.oauth2_script.specs.Views.{script_view};
+ghost use Rattle.oauth2_commands.specs.Client.{settings_of};
+ghost use Rattle.oauth2_commands.specs.Run.{IsCommandOutput, IsScriptOutput, IsOutputOf};
+ghost use Rattle.oauth2_commands.specs.private.Added.{Adds};
+ghost use Rattle.oauth2_script.specs.Views.{client_view, command_view, script_view};
+ghost use Rattle.oauth2_world.specs.Replay.{replies_of};
 
 use crate::client::client_of;
 use crate::command::run_command;
 use crate::input::{Source, read_input};
 use crate::status::{RunFault, RunStatus};
-use oauth2_script::{Script, ScriptError, script_in};
+use oauth2_script::{ClientPart, Command, Script, ScriptError, script_in};
 use oauth2_world::{ScriptedClient, ScriptedClock, ScriptedWorld};
 use std::alloc::{AllocError, Global};
 use std::io::{Read, Write};
+
+// Runs a command by the client that a script names, and lets go of that client.
+fn run_by(
+    alloc: Global,
+    client: ClientPart,
+    command: Command,
+    world: &mut ScriptedWorld,
+) -> Result<RunStatus, AllocError>
+    ensures { IfOk result (λ status. world.new.http_client.is_starved ≡ false
+        → Adds (string_bytes world.old.http_client.lines) (string_bytes world.new.http_client.lines) status
+        (IsCommandOutput (settings_of (client_view client)) world.old.clock
+        (replies_of world.old.http_client) (command_view command))) }
+{
+    run_command(alloc, &client_of(client), command, world)
+}
 
 // The lines of a script, and how its run ends.
 fn run_lines(alloc: Global, script: Script) -> Result<(String, RunStatus), AllocError>
@@ -34,7 +52,7 @@ fn run_lines(alloc: Global, script: Script) -> Result<(String, RunStatus), Alloc
         },
         clock: ScriptedClock::new(readings),
     };
-    let status = run_command(alloc, &client_of(client), command, &mut world)?;
+    let status = run_by(alloc, client, command, &mut world)?;
     let http_client = world.http_client;
     if http_client.is_starved {
         return Err(AllocError);

@@ -1,13 +1,10 @@
 use Rattle.std.proofs.Common.{◌≡◌, map, string_bytes}
-use Rattle.oauth2_commands.specs.Client.{settings_of}
 use Rattle.oauth2_world.specs.Clock.{new_clock}
-use Rattle.oauth2_script.specs.Views.{client_view}
 use Rattle.oauth2_commands.proofs.Commands.{Shows-from_Adds}
 use Rattle.oauth2_commands.proofs.run.run_lines.Goals as goal
 
 pub returns : goal.returns
 returns c =
-    let is : c.client_of.result ≡ settings_of (client_view c.args.script.client) = c.client_of.ensures in
     let clock : c.new-2.result ≡ new_clock (map (λ t. t.nanosecond) c.args.script.readings.items) = c.new-2.ensures in
-    Shows-from_Adds (string_bytes c.new.result) (string_bytes c.run_command-2.new.world.http_client.lines) c.in_ok-status.status _ c.new.ensures.bytes
-    (rw (is, clock) at c.in_ok-status.ensures c.if-http_client.false)
+    Shows-from_Adds (string_bytes c.new.result) (string_bytes c.run_by.new.world.http_client.lines) c.in_ok-status.status _ c.new.ensures.bytes
+    (rw clock at c.in_ok-status.ensures c.if-http_client.false)
