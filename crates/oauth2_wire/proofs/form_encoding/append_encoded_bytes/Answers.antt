@@ -1,4 +1,4 @@
-use Rattle.std.proofs.Common.{◌≡◌, ◌≢◌, suc, ◌+◌, ◌++◌, ◌∷◌, [], length, ap, sym, ◌∙◌, arith, rules}
+use Rattle.std.proofs.Common.{◌≡◌, ◌≢◌, suc, ◌++◌, ◌∷◌, [], length, ap, sym, ◌∙◌, arith, rules}
 use Rattle.percent_encoding.specs.Percent.{percent_encode_byte}
 use Rattle.form_urlencoded.specs.Form.{byte_serialize}
 use Rattle.oauth2_wire.proofs.FormEncodingLemmas.{serialize_byte-single, serialize_byte-escape, byte_written, nothing_left, IsPrefix_longer}
