@@ -85,7 +85,7 @@ fn show_call(
 fn show_calls(
     alloc: Global,
     keeper: &mut ScriptKeeper<'_>,
-    readings: &[Timestamp],
+    readings: &[jiff_core::Timestamp],
     http_client: &mut ScriptedClient,
 ) -> Result<RunStatus, AllocError>
     ensures { IfOk result (λ status. http_client.new.is_starved ≡ false
@@ -95,7 +95,7 @@ fn show_calls(
 {
     let mut status = RunStatus::Answered;
     for now in readings {
-        let later = show_call(alloc, keeper, *now, http_client)?;
+        let later = show_call(alloc, keeper, Timestamp::from_plain(*now), http_client)?;
         status = both(status, later);
     }
     Ok(status)
@@ -118,7 +118,7 @@ fn show_new_keeper(
     alloc: Global,
     client: &KeptClient,
     params: KeeperParams,
-    readings: &[Timestamp],
+    readings: &[jiff_core::Timestamp],
     http_client: &mut ScriptedClient,
 ) -> Result<RunStatus, AllocError>
     ensures { IfOk result (λ status. http_client.new.is_starved ≡ false
@@ -148,7 +148,7 @@ pub fn run_keeper(
     alloc: Global,
     client: &ScriptClient,
     params: KeeperParams,
-    readings: &[Timestamp],
+    readings: &[jiff_core::Timestamp],
     http_client: &mut ScriptedClient,
 ) -> Result<RunStatus, AllocError>
     ensures { IfOk result (λ status. http_client.new.is_starved ≡ false

@@ -12,7 +12,7 @@ use crate::part::Part;
 use crate::script_error::ScriptError;
 use http::StatusCode;
 use http_header::HeaderValue;
-use jiff::Timestamp;
+use jiff_core::Timestamp;
 use oauth2_types::{PkceCodeChallenge, PkceCodeVerifier};
 use serde_json::Value;
 use std::alloc::Global;
@@ -115,13 +115,13 @@ fn moment_at(second: i64) -> Result<Timestamp, ScriptError>
     ensures { Gives (λ t. t.nanosecond) result
         (option_map (λ z. z *ℤ pos 1_000_000_000) (spec.second_of second)) }
 {
-    match Timestamp::from_second(second) {
+    match Timestamp::from_nanosecond(second as i128 * 1_000_000_000) {
         Ok(moment) => Ok(moment),
         Err(_) => Err(ScriptError::Bad),
     }
 }
 
-/// Whole seconds since 1970, inside the range of `jiff`.
+/// Whole seconds since 1970, inside the range of `jiff`, whose plain value this is.
 impl Part for Timestamp {
     ghost Meaning = { ℤ };
 

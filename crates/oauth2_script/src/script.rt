@@ -12,7 +12,7 @@ use crate::command::{Command, command_of};
 use crate::part::{listed, needed};
 use crate::reply::Reply;
 use crate::script_error::ScriptError;
-use jiff::Timestamp;
+use jiff_core::Timestamp;
 use serde_json::{Map, Value};
 use std::alloc::Global;
 use std::collections::VecDeque;

@@ -10,8 +10,8 @@ use std::marker::Model;
 /// Shows its moments in turn, and the last one ever after.
 #[derive(Drop)]
 pub struct ScriptedClock {
-    moments: VecDeque<Timestamp>,
-    last: Timestamp,
+    moments: VecDeque<jiff_core::Timestamp>,
+    last: jiff_core::Timestamp,
 }
 
 impl Model for ScriptedClock {
@@ -28,12 +28,12 @@ impl Model for ScriptedClock {
 
 impl ScriptedClock {
     /// A clock with these readings; one with none shows the first moment of 1970.
-    pub fn new(readings: Vec<Timestamp>) -> ScriptedClock
+    pub fn new(readings: Vec<jiff_core::Timestamp>) -> ScriptedClock
         ensures { result ≡ new_clock (map (λ t. t.nanosecond) readings.items) }
     {
         ScriptedClock {
             moments: VecDeque::from(readings),
-            last: Timestamp::UNIX_EPOCH,
+            last: jiff_core::Timestamp::UNIX_EPOCH,
         }
     }
 
@@ -45,11 +45,11 @@ impl ScriptedClock {
         if let Some(moment) = self.moments.pop_front() {
             self.last = moment;
         }
-        self.last
+        Timestamp::from_plain(self.last)
     }
 
     /// What it has still to show, in order.
-    pub fn moments(&mut self) -> &[Timestamp]
+    pub fn moments(&mut self) -> &[jiff_core::Timestamp]
         ensures { map (λ t. t.nanosecond) result.now ≡ self.old.moments }
     {
         self.moments.make_contiguous()
