@@ -9,6 +9,6 @@ loop-now-preserved c = λ fed.
     let so_far = c.loop-now.invariant call.0 in
     rw c.both-status.ensures
     (calls_more (standing c.args.keeper.now c.args.http_client.now) (standing c.loop-now.keeper c.loop-now.http_client) (standing c.show_call.new.keeper c.show_call.new.http_client)
-    c.args.readings.now c.loop-now.now-index c.now-item.result c.loop-now-test.true c.now-item.is
+    c.args.readings.now c.loop-now.now-index c.from_plain.result c.loop-now-test.true (rw c.from_plain.ensures c.now-item.is)
     (string_bytes c.args.http_client.now.lines) (string_bytes c.loop-now.http_client.lines) (string_bytes c.show_call.new.http_client.lines)
     c.loop-now.status c.in_ok-later.later so_far call.1))
