@@ -185,17 +185,28 @@ fn error_response_of_ones_own(rt: HostRuntime) {
     is_displayed_as(&rt, &error, "Server returned error response: non-compliant");
 }
 
+fn revocation_request(
+    rt: &(impl Abort + AllocGlobal),
+    client: &ColorfulClient,
+    token: ColorfulRevocableToken,
+) -> HttpRequest {
+    revocation(rt.alloc(), client, token)
+        .expect(rt, "an endpoint")
+        .prepare_request(rt.alloc())
+        .expect(rt, "a request")
+}
+
+fn has_body(rt: &impl Abort, request: HttpRequest, body: &[u8]) {
+    is_equal(rt, request.body().as_slice(), body);
+}
+
 #[test]
 fn revocation_of_a_red_token(rt: HostRuntime) {
-    let client = client(&rt);
     let token = ColorfulRevocableToken(text(&rt, "colorful_token_123"));
-    let request = revocation(rt.alloc(), &client, token)
-        .expect(&rt, "an endpoint")
-        .prepare_request(rt.alloc())
-        .expect(&rt, "a request");
-    is_equal(
+    let request = revocation_request(&rt, &client(&rt), token);
+    has_body(
         &rt,
-        request.body().as_slice(),
+        request,
         b"token=colorful_token_123&token_type_hint=red_token".as_slice(),
     );
 }
