@@ -11,7 +11,7 @@ use Rattle.oauth2_codes.specs.declared.device_error.DeviceCodeErrorResponseType.
 use Rattle.oauth2_codes.specs.declared.revocation_error.RevocationErrorResponseType.{RevocationErrorResponseType}
 use Rattle.oauth2_codes.specs.declared.revocation_error.RevocationErrorResponseType.TheVariants as revocations
 
--- RFC 6749, 4.1.2.1 and 5.2: the code of a token endpoint's error, without where its text lies in memory
+-- RFC 6749, 5.2: the code of a token endpoint's error, without where its text lies in memory
 pub data ErrorCode : Type 0 where
   invalid_client : ErrorCode
   invalid_grant : ErrorCode

@@ -15,11 +15,17 @@ use std::fmt;
 /// The code of a token endpoint's error, written as its text.
 #[derive(PartialEq, Eq, Drop)]
 pub enum BasicErrorResponseType {
+    /// The client's authentication failed.
     InvalidClient,
+    /// The grant or the refresh token is invalid, expired, revoked or another client's.
     InvalidGrant,
+    /// A parameter is missing, repeated or malformed.
     InvalidRequest,
+    /// The scope is invalid, unknown or wider than was granted.
     InvalidScope,
+    /// This client may not use this grant.
     UnauthorizedClient,
+    /// The server does not know this grant.
     UnsupportedGrantType,
     /// Every other text.
     Extension(String),

@@ -16,9 +16,13 @@ use std::fmt;
 /// The code of an error while a device polls, written as its text.
 #[derive(PartialEq, Eq, Drop)]
 pub enum DeviceCodeErrorResponseType {
+    /// The user has not decided yet; a poll goes on.
     AuthorizationPending,
+    /// The same, and five seconds more between two requests from now on.
     SlowDown,
+    /// The user refused.
     AccessDenied,
+    /// The device code has expired.
     ExpiredToken,
     /// A code of the basic table.
     Basic(BasicErrorResponseType),

@@ -28,6 +28,7 @@ impl<T> StandardErrorResponse<T> {
     ghost use Rattle.std.specs.Prelude.{◌≡◌, option_map, option_copied, string_bytes};
     ghost use Rattle.oauth2_codes.specs.ErrorResponse.{parts, parts_of};
 
+    /// An error response of these parts.
     pub fn new(
         error: T,
         error_description: Option<String>,
@@ -43,12 +44,14 @@ impl<T> StandardErrorResponse<T> {
         }
     }
 
+    /// The code.
     pub fn error(&self) -> &T
         ensures { result.now ≡ (parts_of (λ t. t) self.now).error }
     {
         &self.error
     }
 
+    /// What went wrong, for the developer of the client.
     pub fn error_description(&self) -> Option<&String>
         ensures { option_map string_bytes (option_copied result)
             ≡ (parts_of (λ t. t) self.now).description }
@@ -56,6 +59,7 @@ impl<T> StandardErrorResponse<T> {
         self.error_description.as_ref()
     }
 
+    /// A page about it, for the same reader.
     pub fn error_uri(&self) -> Option<&String>
         ensures { option_map string_bytes (option_copied result) ≡ (parts_of (λ t. t) self.now).uri }
     {

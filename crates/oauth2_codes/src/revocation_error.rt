@@ -16,6 +16,7 @@ use std::fmt;
 /// The code of a revocation endpoint's error, written as its text.
 #[derive(PartialEq, Eq, Drop)]
 pub enum RevocationErrorResponseType {
+    /// The server does not revoke tokens of this type.
     UnsupportedTokenType,
     /// A code of the basic table.
     Basic(BasicErrorResponseType),

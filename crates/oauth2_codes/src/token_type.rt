@@ -14,7 +14,9 @@ use std::fmt;
 /// A token type by its text, case and all.
 #[derive(Debug, PartialEq, Eq, Drop)]
 pub enum BasicTokenType {
+    /// `bearer` (RFC 6750).
     Bearer,
+    /// `mac`.
     Mac,
     /// Every other text.
     Extension(String),

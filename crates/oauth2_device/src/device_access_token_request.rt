@@ -117,7 +117,8 @@ impl<'a, TR, EF, T> DeviceAccessTokenRequest<'a, TR, EF, T> {
         self
     }
 
-    /// The HTTP request.
+    /// The POST that each round of a poll sends. `NotHttp` where the endpoint's URL is no HTTP
+    /// target.
     pub fn prepare_request(&self, alloc: Global) -> Result<HttpRequest, RequestFault>
         ensures ok { IfOk result (IsDeviceRequest self.now.request) }
         ensures not_http { result ≡ Err RequestFault.NotHttp

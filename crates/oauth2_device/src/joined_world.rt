@@ -44,7 +44,7 @@ where
     }
 }
 
-// Ends a loan.
+// Does nothing: the use ties what became of a loan to the parameter that lent it.
 pub(crate) fn take_back<T>(lent: &mut T)
     ensures { lent.new ≡ lent.old }
 {}

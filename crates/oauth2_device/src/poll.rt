@@ -19,7 +19,13 @@ use std::time::Duration;
 
 impl<'a, TR: TokenResponse, EF, T> DeviceAccessTokenRequest<'a, TR, EF, T> {
     /// Polls in a world, for the given time or as long as the device's code is good, with so many
-    /// requests at most.
+    /// requests at most (RFC 8628, section 3.5).
+    ///
+    /// It ends with the first reply that decides; a call that fails, `authorization_pending` and
+    /// `slow_down` do not. A reading after the deadline ends it with `ServerResponse`, whose code is
+    /// `ExpiredToken`; the last request without a decision with `Other`, "polling limit reached"; a
+    /// timeout that cannot be used with `Other`, "failed to convert the timeout" or "failed to
+    /// calculate timeout".
     pub fn poll_with<W: PollWorld>(
         self,
         alloc: Global,
@@ -120,6 +126,7 @@ impl<'a, TR: TokenResponse, EF, T> DeviceAccessTokenRequest<'a, TR, EF, T> {
                     world.sleep(duration);
                     None
                 }
+                // `Done` follows a deciding answer alone, which is no `Again`.
                 PollStep::Limit | PollStep::Done => {
                     Some(Err(other(alloc, "polling limit reached", true)))
                 }

@@ -18,7 +18,7 @@ where
     F: FnMut() -> Timestamp + Drop,
 {
     /// Polls by the clock that was set, a client and a sleep function: `poll_with` in the world
-    /// that they are together.
+    /// that they are together, with its ends and errors.
     pub fn request<C: SyncHttpClient, S: FnMut(Duration)>(
         self,
         alloc: Global,

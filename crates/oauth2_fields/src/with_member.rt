@@ -17,10 +17,12 @@ use std::alloc::{AllocError, Global};
 pub trait NamedMember {
     ghost use Rattle.std.specs.Prelude.{◌≡◌, ℕ, List};
 
+    /// The kind of its value.
     type Value: MemberValue;
 
     ghost name: { List ℕ };
 
+    /// Its name.
     fn name() -> &'static str
         ensures { result.now ≡ name };
 }
@@ -33,6 +35,7 @@ pub struct WithMember<M: NamedMember, Rest> {
 }
 
 impl<M: NamedMember, Rest> WithMember<M, Rest> {
+    /// Fields of this value, where it is there, and the rest.
     pub fn new(value: Option<M::Value>, rest: Rest) -> WithMember<M, Rest>
         ensures value { result.value ≡ value }
         ensures rest { result.rest ≡ rest }
@@ -47,6 +50,7 @@ impl<M: NamedMember, Rest> WithMember<M, Rest> {
         self.value.as_ref()
     }
 
+    /// The other fields.
     pub fn rest(&self) -> &Rest
         ensures { result.now ≡ self.now.rest }
     {

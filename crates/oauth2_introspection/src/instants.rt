@@ -47,7 +47,8 @@ impl FromJson for Instant {
     }
 }
 
-/// An instant that may be absent or null.
+/// An instant in whole seconds since 1970 that may be absent or null. A fraction is `NotWhole`, an
+/// instant outside the range of `Timestamp` `OutOfRange`.
 pub fn optional_time(
     alloc: Global,
     name: &str,

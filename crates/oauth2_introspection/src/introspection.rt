@@ -12,7 +12,7 @@ use std::alloc::{AllocError, Global};
 use std::fmt;
 use std::marker::Model;
 
-/// The introspection response without extra fields, of the token types that the standard names.
+/// The introspection response without extra fields, whose token type is a `BasicTokenType`.
 pub type BasicTokenIntrospectionResponse = StandardTokenIntrospectionResponse<
     EmptyExtraTokenFields,
     BasicTokenType,
@@ -53,6 +53,7 @@ pub trait TokenIntrospectionResponse: FromJson + ToJson + fmt::Debug {
     fn active(&self) -> bool
         ensures { result ≡ active self.now };
 
+    /// The scope of the token.
     fn scopes(&self) -> Option<&Vec<Scope>>
         ensures { option_map (λ list. list.now.items) result ≡ scopes self.now };
 
@@ -64,6 +65,7 @@ pub trait TokenIntrospectionResponse: FromJson + ToJson + fmt::Debug {
     fn username(&self) -> Option<&str>
         ensures { option_copied result ≡ username self.now };
 
+    /// How the token is to be used (RFC 6749, section 7.1).
     fn token_type(&self) -> Option<&Self::TokenType>
         ensures { option_copied result ≡ token_type self.now };
 
@@ -192,6 +194,7 @@ impl<EF: Drop, TT: Drop> StandardTokenIntrospectionResponse<EF, TT> {
         self.token_type = token_type;
     }
 
+    /// Written as whole seconds, rounded down, as are the next two.
     pub fn set_exp(&mut self, exp: Option<Timestamp>)
         ensures { self.new ≡ record self.old { exp = option_map (λ time. time.nanosecond) exp } }
     {
@@ -234,6 +237,7 @@ impl<EF: Drop, TT: Drop> StandardTokenIntrospectionResponse<EF, TT> {
         self.jti = jti;
     }
 
+    /// The members that the standard does not name.
     pub fn extra_fields(&self) -> &EF
         ensures { result.now ≡ self.now.extra_fields }
     {

@@ -72,6 +72,7 @@ pub trait VariantName {
 
     ghost variant: { Self → List ℕ };
 
+    /// The name of the value's variant.
     fn variant_name(&self) -> &'static str
         ensures { result.now ≡ variant self.now };
 }

@@ -88,13 +88,18 @@ pub fn optional_number(
     }
 }
 
-/// A number that is `n` where it is absent or null.
-pub fn number_or(alloc: Global, name: &str, n: u64, found: Option<Value>) -> Result<u64, ReadError>
-    ensures { ReadsAs (λ n. n) result (defaulted whole_number name.now n (option_map view found)) }
+/// A number that is `default` where it is absent or null.
+pub fn number_or(
+    alloc: Global,
+    name: &str,
+    default: u64,
+    found: Option<Value>,
+) -> Result<u64, ReadError>
+    ensures { ReadsAs (λ n. n) result (defaulted whole_number name.now default (option_map view found)) }
 {
     match member_readers::optional::<WholeNumber>(alloc, name, found)? {
         Some(WholeNumber(n)) => Ok(n),
-        None => Ok(n),
+        None => Ok(default),
     }
 }
 

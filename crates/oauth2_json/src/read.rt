@@ -34,14 +34,18 @@ pub enum ParseCause {
 /// The member at fault, empty where it is the whole value.
 #[derive(Debug, PartialEq, Eq, Drop)]
 pub struct ParseFault {
+    /// The name of the member.
     pub member: String,
+    /// Why it reads to nothing.
     pub cause: ParseCause,
 }
 
 /// Why nothing was read.
 #[derive(Debug, PartialEq, Eq, Drop)]
 pub enum ReadError {
+    /// The value reads to nothing.
     Fault(ParseFault),
+    /// Memory ran out.
     Memory,
 }
 

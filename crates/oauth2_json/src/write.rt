@@ -7,11 +7,14 @@ use serde_json::Value;
 use std::alloc::{AllocError, AllocFailed, Global};
 use std::fmt;
 
-/// Why nothing was written: an extra member bears a name of the type's own, or holds a float.
+/// Why nothing was written.
 #[derive(Clone, Copy, Debug, PartialEq, Eq, Drop)]
 pub enum WriteError {
+    /// Memory ran out.
     Memory,
+    /// An extra member bears one of the type's own names.
     NameClash,
+    /// An extra member holds a float, at any depth.
     Float,
 }
 

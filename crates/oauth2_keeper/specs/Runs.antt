@@ -42,7 +42,8 @@ abbrev pub last_refresh_token : List Call → Option (List ℕ)
 last_refresh_token [] = None
 last_refresh_token (call ∷ calls) = option_or (last_refresh_token calls) (given_refresh_token (accepted_by call.outcome))
 
--- what is kept after calls, where each but the last accepted reply is forgotten
+-- what is kept after calls: the token of the last accepted reply, and the refresh token of the last
+-- one that gave one
 abbrev pub keeps_last : Keeper → List Call → Keeper
 keeps_last keeper calls = record keeper {
   token = option_or (last_token keeper.life calls) keeper.token;

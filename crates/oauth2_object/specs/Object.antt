@@ -36,6 +36,8 @@ abbrev pub has_name : List ℕ → List (List ℕ) → Bool
 has_name name [] = false
 has_name name (k ∷ ks) = bytes_eq k name || has_name name ks
 
+-- the members of these names are those of all; where the others are kept too, nothing is missing,
+-- and else nothing is said of the others
 pub record Keeps (names : List (List ℕ)) (with_others : Bool) (all kept : Members) : Type 0 where
   pub own : (name : List ℕ) → has_name name names ≡ true → get_member name kept ≡ get_member name all
   pub rest : with_others ≡ true → kept ≡ all

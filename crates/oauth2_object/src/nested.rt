@@ -31,7 +31,8 @@ pub(crate) fn owned(alloc: Global, value: &json::Value<'_>) -> Result<Value, Rea
     }
 }
 
-/// Whether that text is a value; only a number and what holds one may be none.
+/// Whether that text is a value; only a number and what holds one may be none. An array or an object
+/// is read in full and let go.
 pub(crate) fn pass(alloc: Global, value: &json::Value<'_>) -> Result<(), ReadError>
     ensures { ReadsAs (λ _. true) result
         (or_not_json (option_map (λ _. true) (of_json (value_view value.now)))) }

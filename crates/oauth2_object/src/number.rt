@@ -1,4 +1,4 @@
-//! Numbers as `serde_json` holds them.
+//! Numbers as `serde_json` holds them. Its own reader of a number's text is not public.
 
 ghost use Rattle.std.specs.Prelude.{◌≡◌, ◌<◌, ◌==◌, length, slice_index, option_map, IsTrue, true, false};
 ghost use Rattle.serde_json.specs.Read.{number_of, number_from, float_of};

@@ -45,7 +45,7 @@ impl<'a> Object<'a> {
     }
 
     /// The members of the object that a whole body is: those of these names, and the others where
-    /// they are kept too. Their names stay in the body.
+    /// they are kept too; else nothing is said of the others. Their names stay in the body.
     pub fn of_body(
         alloc: Global,
         bytes: &'a [u8],

@@ -90,13 +90,15 @@ impl<EF> DeviceAuthorizationResponse<EF> {
         Duration::from_secs(self.expires_in)
     }
 
-    /// How long the device waits between two requests, at least.
+    /// How long the device waits between two requests, at least: 5 seconds where the server tells
+    /// nothing (RFC 8628, section 3.2).
     pub fn interval(&self) -> Duration
         ensures { as_nanos result ≡ self.now.interval * 1_000_000_000 }
     {
         Duration::from_secs(self.interval)
     }
 
+    /// The members that the standard does not name.
     pub fn extra_fields(&self) -> &EF
         ensures { result.now ≡ self.now.extra_fields }
     {

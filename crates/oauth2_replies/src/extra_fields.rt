@@ -25,6 +25,7 @@ pub struct ExtraFields {
 impl ExtraFields {
     ghost use Rattle.oauth2_replies.specs.Extra.{extra_members};
 
+    /// These members, with whatever names and values.
     pub fn new(members: Map<String, Value>) -> ExtraFields
         ensures { extra_members result ≡ members_view members.entries }
     {

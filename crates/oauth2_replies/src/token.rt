@@ -13,10 +13,10 @@ use std::fmt;
 use std::marker::Model;
 use std::time::Duration;
 
-/// The token response without extra fields, of the token types that the standard names.
+/// The token response without extra fields, whose token type is a `BasicTokenType`.
 pub type BasicTokenResponse = StandardTokenResponse<EmptyExtraTokenFields, BasicTokenType>;
 
-/// Members of a token response that the standard does not name.
+/// Members of a token response, or of an introspection response, that the standard does not name.
 pub trait ExtraTokenFields: FromJson + ToJson + fmt::Debug {
     ghost use Rattle.std.specs.Prelude.{◌≡◌, Ok};
     ghost use Rattle.serde_json.specs.Data.{Data, Members, object};
@@ -48,6 +48,7 @@ pub trait TokenResponse: FromJson + ToJson + fmt::Debug {
     fn access_token(&self) -> &AccessToken
         ensures { result.now ≡ access_token self.now };
 
+    /// How the token is to be used (RFC 6749, section 7.1).
     fn token_type(&self) -> &Self::TokenType
         ensures { result.now ≡ token_type self.now };
 
@@ -59,7 +60,8 @@ pub trait TokenResponse: FromJson + ToJson + fmt::Debug {
     fn refresh_token(&self) -> Option<&RefreshToken>
         ensures { option_copied result ≡ refresh_token self.now };
 
-    /// The scope of the access token, where it differs from the one that was asked for.
+    /// The scope of the access token, where the server tells it, as it has to where it is not the
+    /// one that was asked for (RFC 6749, section 5.1).
     fn scopes(&self) -> Option<&Vec<Scope>>
         ensures { option_map (λ list. list.now.items) result ≡ scopes self.now };
 }
@@ -138,6 +140,7 @@ impl<EF: Drop, TT: Drop> StandardTokenResponse<EF, TT> {
         self.scopes = scopes;
     }
 
+    /// The members that the standard does not name.
     pub fn extra_fields(&self) -> &EF
         ensures { result.now ≡ self.now.extra_fields }
     {

@@ -1,6 +1,6 @@
 //! What every request to an endpoint holds.
 
-ghost use Rattle.std.specs.Prelude.{◌≡◌, ◌++◌, ◌∷◌, [], Some, None, IfOk, OnOk, List, ℕ, Err, map, option_copied};
+ghost use Rattle.std.specs.Prelude.{◌≡◌, ◌++◌, ◌∷◌, [], Some, None, IfOk, OnOk, OnErr, List, ℕ, Err, map, option_copied};
 ghost use Rattle.std.specs.Iterator.{Drains, IsFinite};
 ghost use Rattle.form_urlencoded.specs.Form.{pair_text};
 ghost use Rattle.http_uri.specs.Uri.{SpellsNone};
@@ -109,14 +109,16 @@ impl<'a> BaseRequest<'a> {
     }
 
     /// Adds a parameter. It may bear a name that a request itself sends, and both are then sent.
+    /// Refused memory leaves the request as it was.
     pub fn add_extra_param(
         &mut self,
         name: ParamText<'_>,
         value: ParamText<'_>,
     ) -> Result<(), AllocError>
-        ensures { OnOk result (self.new ≡ record self.old {
+        ensures ok { OnOk result (self.new ≡ record self.old {
           extra_params = self.old.extra_params ++ (param_bytes name.entry, param_bytes value.entry) ∷ [];
         }) }
+        ensures err { OnErr result (self.new ≡ self.old) }
     {
         self.params.add_extra(name.as_str(), value.as_str())?;
         Ok(())

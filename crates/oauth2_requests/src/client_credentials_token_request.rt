@@ -95,7 +95,7 @@ impl<'a, TE, TR> ClientCredentialsTokenRequest<'a, TE, TR> {
         Ok(self)
     }
 
-    /// The HTTP request.
+    /// The POST that `request` sends. `NotHttp` where the endpoint's URL is no HTTP target.
     pub fn prepare_request(&self, alloc: Global) -> Result<HttpRequest, RequestFault>
         ensures ok { IfOk result (λ r. IsRequestOf (client_credentials_configuration self.now)
             (serialize self.now.token_url.url) (view_of r)) }

@@ -106,7 +106,7 @@ impl<'a, TE, TR> CodeTokenRequest<'a, TE, TR> {
         self
     }
 
-    /// The HTTP request.
+    /// The POST that `request` sends. `NotHttp` where the endpoint's URL is no HTTP target.
     pub fn prepare_request(&self, alloc: Global) -> Result<HttpRequest, RequestFault>
         ensures ok { IfOk result (λ r. IsRequestOf (code_configuration self.now)
             (serialize self.now.token_url.url) (view_of r)) }

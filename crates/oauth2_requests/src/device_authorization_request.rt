@@ -96,7 +96,7 @@ impl<'a, TE> DeviceAuthorizationRequest<'a, TE> {
         Ok(self)
     }
 
-    /// The HTTP request.
+    /// The POST that `request` sends. `NotHttp` where the endpoint's URL is no HTTP target.
     pub fn prepare_request(&self, alloc: Global) -> Result<HttpRequest, RequestFault>
         ensures ok { IfOk result (λ r. IsRequestOf (device_authorization_configuration self.now)
             (serialize self.now.device_authorization_url.url) (view_of r)) }

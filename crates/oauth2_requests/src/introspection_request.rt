@@ -92,7 +92,7 @@ impl<'a, TE, TIR> IntrospectionRequest<'a, TE, TIR> {
         Ok(self)
     }
 
-    /// The HTTP request.
+    /// The POST that `request` sends. `NotHttp` where the endpoint's URL is no HTTP target.
     pub fn prepare_request(&self, alloc: Global) -> Result<HttpRequest, RequestFault>
         ensures ok { IfOk result (λ r. IsRequestOf (introspection_configuration self.now)
             (serialize self.now.introspection_url.url) (view_of r)) }

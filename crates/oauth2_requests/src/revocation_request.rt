@@ -66,7 +66,7 @@ impl<'a, RT: RevocableToken, TRE> RevocationRequest<'a, RT, TRE> {
         }
     }
 
-    /// The HTTP request.
+    /// The POST that `request` sends. `NotHttp` where the endpoint's URL is no HTTP target.
     pub fn prepare_request(&self, alloc: Global) -> Result<HttpRequest, RequestFault>
         ensures ok { IfOk result (λ r. IsRequestOf (revocation_configuration self.now)
             (serialize self.now.revocation_url.url) (view_of r)) }

@@ -40,6 +40,7 @@ pub struct ClientPart {
     pub endpoints: Endpoints,
 }
 
+/// The endpoints of a client that a script sets.
 #[derive(Drop)]
 pub struct Endpoints {
     pub auth: Option<AuthUrl>,

@@ -24,10 +24,12 @@ pub trait Part: Sized {
     /// What a value says.
     ghost reading: { Data → Option Meaning };
 
+    /// Reads a value: `Bad` where it says none.
     fn from_value(alloc: Global, value: &Value) -> Result<Self, ScriptError>
         ensures { Gives meaning result (reading (view value.now)) };
 }
 
+/// The member of this name; without it the object is `Bad`.
 #[tactic(auto, unfolding(crate::specs::Part::needed))]
 pub fn needed<T: Part>(alloc: Global, object: &Value, name: &str) -> Result<T, ScriptError>
     ensures { Gives T.meaning result (spec.needed T.reading name.now (view object.now)) }
@@ -36,6 +38,7 @@ pub fn needed<T: Part>(alloc: Global, object: &Value, name: &str) -> Result<T, S
     T::from_value(alloc, value)
 }
 
+/// The member of this name, which may be absent and may not be null.
 #[tactic(auto, unfolding(crate::specs::Part::optional))]
 pub fn optional<T: Part>(
     alloc: Global,
@@ -62,7 +65,7 @@ fn each<T: Part + Drop>(alloc: Global, values: &[Value]) -> Result<Vec<T>, Scrip
     Ok(parts)
 }
 
-/// An absent list is empty.
+/// The list under this name; an absent one is empty.
 #[tactic(auto, unfolding(crate::specs::Part::listed))]
 pub fn listed<T: Part + Drop>(
     alloc: Global,

@@ -9,9 +9,12 @@ use http_header::HeaderValueError;
 use std::alloc::{AllocError, AllocFailed};
 use url::ParseError;
 
+/// Why bytes gave no script.
 #[derive(Clone, Copy, Debug, PartialEq, Eq)]
 pub enum ScriptError {
+    /// They are none.
     Bad,
+    /// Memory ran out before this was known.
     Memory,
 }
 

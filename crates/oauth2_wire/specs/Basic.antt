@@ -22,7 +22,8 @@ abbrev pub pair_of_decoded : Result (List ℕ) DecodeError → Option Pair
 pair_of_decoded (Ok text) = pair_of_text text
 pair_of_decoded (Err e) = None
 
--- what a header value says: `Basic `, and then padded standard base64 of such a text
+-- what a header value says: `Basic `, and then padded standard base64 of such a text (RFC 7617,
+-- section 2)
 unfoldable pub basic : List ℕ → Option Pair
 basic value =
     if bytes_eq (take 6 value) (codes "Basic ") then pair_of_decoded (decode_of standard (drop 6 value)) else None

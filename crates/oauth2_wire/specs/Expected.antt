@@ -18,13 +18,14 @@ pub record Configuration : Type 0 where
   pub redirect_uri : Option (List ℕ)
   pub extra_pairs : List Pair
 
--- scopes as one text, where there are any
+-- scopes as one text, where there are any (RFC 6749, section 3.3)
 abbrev pub joined_scope : Option (List (List ℕ)) → Option (List ℕ)
 joined_scope None = None
 joined_scope (Some []) = None
 joined_scope (Some (first ∷ rest)) = Some (join_by (λ s. s) (codes " ") (first ∷ rest))
 
--- the credentials that go into the header: under `BasicAuth`, where there is a secret
+-- the credentials that go into the header: under `BasicAuth`, where there is a secret (RFC 6749,
+-- section 2.3.1)
 abbrev pub basic_credentials : AuthType → List ℕ → Option (List ℕ) → Option Pair
 basic_credentials BasicAuth id (Some secret) = Some (id, secret)
 basic_credentials BasicAuth id None = None
@@ -36,7 +37,7 @@ abbrev pub optional_pair : List ℕ → Option (List ℕ) → List Pair
 optional_pair name None = []
 optional_pair name (Some value) = (name, value) ∷ []
 
--- the credentials that go into the body: where none go into the header
+-- the credentials that go into the body: where none go into the header (the same section)
 abbrev pub body_credentials : Option Pair → List ℕ → Option (List ℕ) → List Pair
 body_credentials None id secret = (codes "client_id", id) ∷ optional_pair (codes "client_secret") secret
 body_credentials (Some pair) id secret = []
@@ -46,7 +47,7 @@ abbrev pub expected_basic : Configuration → Option Pair
 expected_basic c = basic_credentials c.auth_type c.client_id c.client_secret
 
 -- the pairs that are set: the request's own, the scope, the credentials that go into the body, and
--- the redirect URL
+-- the redirect URL (RFC 6749, section 4.1.3)
 abbrev pub set_pairs : Configuration → List Pair
 set_pairs c =
     c.own_pairs ++ optional_pair (codes "scope") c.scope ++ body_credentials (expected_basic c) c.client_id c.client_secret

@@ -57,13 +57,13 @@ module _ {A E : Type 0} where
   success_answer rule reading (Some value) body =
       if is_json_type rule value then body_answer reading body else other (unexpected_type_text value)
 
-  -- any other reply: the Content-Type plays no part (RFC 6749, section 5.2)
+  -- any other reply is an error response (RFC 6749, section 5.2), whatever its Content-Type says
   abbrev pub failure_answer : (Data → Reading E) → List ℕ → Answer A E
   failure_answer reading body =
       if length body == 0 then other (codes "server returned empty error response")
       else refused_reading body (body_reading reading body)
 
-  -- status 200 alone is a success
+  -- status 200 alone is a success (RFC 6749, section 5.1)
   abbrev pub answer_of : ReplyRule → (Data → Reading A) → (Data → Reading E) → ReplyView → Answer A E
   answer_of rule reading error_reading reply =
       if reply.status == 200 then success_answer rule reading reply.content_type reply.body

@@ -114,7 +114,7 @@ impl<RE, T> From<RE> for RequestTokenError<RE, T> {
 pub enum HttpClientError<RE> {
     /// The client library's error.
     Reqwest(Box<RE>),
-    /// A part of a request or a reply that is none.
+    /// A part of a request or of a reply that is not valid.
     Http(http::Error),
     /// An error of input or output.
     Io(io::Error),

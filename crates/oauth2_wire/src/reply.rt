@@ -12,7 +12,8 @@ use http_header::CONTENT_TYPE;
 use oauth2_json::{FromJson, ReadError, read_body};
 use std::alloc::{AllocError, Global};
 
-/// What a reply says to a request for a `DO` (RFC 6749, section 5), by the rule `Prefix`.
+/// What a reply says to a request for a `DO` (RFC 6749, section 5), by the rule `Prefix`. Want of
+/// memory is `Memory { sent: true }`, here and in the next two.
 pub fn endpoint_response<RE, TE: FromJson, DO: FromJson>(
     alloc: Global,
     reply: HttpResponse,

@@ -20,7 +20,7 @@ use std::fmt;
 pub struct ServerView {
     /// The method.
     pub method: String,
-    /// The target.
+    /// The target: scheme, `://`, authority and path, and `?` and the query where there is one.
     pub target: String,
     /// The identifier and the secret of the first Authorization header, if there is one.
     pub basic: Option<(String, String)>,

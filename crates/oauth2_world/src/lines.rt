@@ -161,6 +161,7 @@ pub fn print_sleep(lines: &mut String, duration: Duration) -> Result<(), AllocEr
     writeln!(lines, "sleep {seconds}.{nanos:09}")
 }
 
+/// The line of an answer, as JSON.
 #[tactic(auto, unfolding(crate::specs::Lines::answer_line))]
 pub fn print_answer(lines: &mut String, json: &str) -> Result<(), AllocError>
     ensures { OnOk result (string_bytes lines.new ≡ string_bytes lines.old
@@ -169,6 +170,7 @@ pub fn print_answer(lines: &mut String, json: &str) -> Result<(), AllocError>
     writeln!(lines, "answer ok {json}")
 }
 
+/// The line of a fault, by its text.
 #[tactic(auto, unfolding(crate::specs::Lines::fault_line))]
 pub fn print_fault(alloc: Global, lines: &mut String, text: &str) -> Result<(), AllocError>
     ensures { OnOk result (string_bytes lines.new ≡ string_bytes lines.old
