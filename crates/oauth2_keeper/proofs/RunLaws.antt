@@ -7,7 +7,7 @@ use Rattle.oauth2_wire.specs.declared.content_type.ReplyRule.{ReplyRule}
 use Rattle.oauth2_wire.specs.declared.error.RequestTokenError.{RequestTokenError}
 use Rattle.oauth2_wire.specs.Expected.{Configuration}
 use Rattle.oauth2_keeper.specs.Keeper.{Keeper, Given, Outcome, quiet, accepted, failed, kept_after, IsOutcome}
-use Rattle.oauth2_keeper.specs.Runs.{Call, keeps_last, calls_at, replies_of, reply_of, EachRunKeepsTheLast, EachRunIsItsReplies}
+use Rattle.oauth2_keeper.specs.Runs.{Call, keeps_last, calls_at, replies_of, reply_of, EachRunKeepsTheLast, EachRunFollowsFromItsReplies}
 
 pub option_or-assoc : {X : Type 0} (a b c : Option X) → option_or a (option_or b c) ≡ option_or (option_or a b) c
 option_or-assoc None b c = refl
@@ -33,7 +33,7 @@ module _ {D T RE C : Type 0} (asks : ReplyRule → Configuration → Addressed �
   one_more keeper now before after result (accepted given) calls is rest = rw is.0 (ap (λ (l : List Call). record { now = now; outcome = accepted given } ∷ l) rest)
   one_more keeper now before after result failed calls is rest = rw is.0 (ap (λ (l : List Call). record { now = now; outcome = failed } ∷ l) rest)
 
-  pub is_its_replies : EachRunIsItsReplies asks told
+  pub is_its_replies : EachRunFollowsFromItsReplies asks told
   is_its_replies keeper kept before after [] run = refl
   is_its_replies keeper kept before after (call ∷ calls) run =
       one_more keeper call.now before run.1 run.0 call.outcome calls run.2 (is_its_replies (kept_after keeper call.now call.outcome) kept run.1 after calls run.3)

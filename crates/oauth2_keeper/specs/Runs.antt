@@ -85,7 +85,7 @@ module _ {D T RE C : Type 0} (asks : ReplyRule → Configuration → Addressed �
   EachRunKeepsTheLast = (keeper kept : Keeper) (before after : C) (calls : List Call) → Runs asks told keeper before calls after kept → kept ≡ keeps_last keeper calls
 
   -- which calls ask is a function of the moments and of the replies
-  abbrev pub EachRunIsItsReplies : Type 0
-  EachRunIsItsReplies =
+  abbrev pub EachRunFollowsFromItsReplies : Type 0
+  EachRunFollowsFromItsReplies =
       (keeper kept : Keeper) (before after : C) (calls : List Call) → Runs asks told keeper before calls after kept
       → calls ≡ calls_at keeper (map (λ call. call.now) calls) (replies_of calls)

@@ -2,7 +2,7 @@
 
 ghost use Rattle.oauth2_requests.specs.Once.{AsksOnce};
 ghost use Rattle.oauth2_keeper.specs.Keeper.{given_by};
-ghost use Rattle.oauth2_keeper.specs.Runs.{EachRunKeepsTheLast, EachRunIsItsReplies};
+ghost use Rattle.oauth2_keeper.specs.Runs.{EachRunKeepsTheLast, EachRunFollowsFromItsReplies};
 
 use oauth2::{ErrorResponse, SyncHttpClient, TokenResponse};
 
@@ -17,7 +17,7 @@ pub fn each_run_keeps_the_last<C: SyncHttpClient, TE: ErrorResponse, TR: TokenRe
 /// Which of any calls ask, and so what is kept after each, is a function of their moments and of the
 /// replies to their requests.
 #[tactic(auto, using(crate::proofs::RunLaws::is_its_replies))]
-pub fn each_run_is_its_replies<C: SyncHttpClient, TE: ErrorResponse, TR: TokenResponse>()
-    ensures { EachRunIsItsReplies (AsksOnce TR.meaning TE.meaning TR.reading TE.reading C.step)
+pub fn each_run_follows_from_its_replies<C: SyncHttpClient, TE: ErrorResponse, TR: TokenResponse>()
+    ensures { EachRunFollowsFromItsReplies (AsksOnce TR.meaning TE.meaning TR.reading TE.reading C.step)
         (given_by TR.access_token TR.expires_in TR.refresh_token) }
 {}

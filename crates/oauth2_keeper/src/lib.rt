@@ -7,5 +7,5 @@ mod kept_token;
 mod laws;
 mod token_keeper;
 
-pub use laws::{each_run_is_its_replies, each_run_keeps_the_last};
+pub use laws::{each_run_follows_from_its_replies, each_run_keeps_the_last};
 pub use token_keeper::{BasicTokenKeeper, TokenKeeper};
