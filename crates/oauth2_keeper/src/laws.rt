@@ -14,10 +14,11 @@ pub fn each_run_keeps_the_last<C: SyncHttpClient, TE: ErrorResponse, TR: TokenRe
         (given_by TR.access_token TR.expires_in TR.refresh_token) }
 {}
 
-/// Which of any calls ask, and so what is kept after each, is a function of their moments and of the
-/// replies to their requests.
+/// Which of any calls ask, and so what is kept after each, is a function of their moments and of
+/// the replies to their requests.
 #[tactic(auto, using(crate::proofs::RunLaws::is_its_replies))]
 pub fn each_run_follows_from_its_replies<C: SyncHttpClient, TE: ErrorResponse, TR: TokenResponse>()
-    ensures { EachRunFollowsFromItsReplies (AsksOnce TR.meaning TE.meaning TR.reading TE.reading C.step)
+    ensures { EachRunFollowsFromItsReplies
+        (AsksOnce TR.meaning TE.meaning TR.reading TE.reading C.step)
         (given_by TR.access_token TR.expires_in TR.refresh_token) }
 {}
