@@ -104,6 +104,7 @@ fn reads_fail(rt: HostRuntime) -> Result<(), Fail> {
             return Ok(());
         }
         ends(&rt, result, Err(RunFault::Read));
+        assert!(rt; reader.reads == at);
         assert!(rt; written.is_empty());
         at = at.saturating_add(1);
     }
@@ -165,6 +166,35 @@ fn nothing_is_taken(rt: HostRuntime) -> Result<(), Fail> {
         let result = run_script(rt.alloc(), &mut input, &mut FullWriter);
         ends(&rt, result, Err(RunFault::Write));
     }
+    Ok(())
+}
+
+/// Takes every byte, and fails when it is flushed.
+#[derive(Drop)]
+struct UnflushedWriter {
+    taken: Vec<u8>,
+}
+
+impl Write for UnflushedWriter {
+    fn write(&mut self, buf: &[u8]) -> io::Result<usize> {
+        self.taken.extend_from_slice(buf)?;
+        Ok(buf.len())
+    }
+
+    fn flush(&mut self) -> io::Result<()> {
+        Err(Error::from(ErrorKind::Other))
+    }
+}
+
+#[test]
+fn flush_fails(rt: HostRuntime) -> Result<(), Fail> {
+    let mut input = SCRIPT.as_bytes();
+    let mut writer = UnflushedWriter {
+        taken: Vec::new(rt.alloc()),
+    };
+    let result = run_script(rt.alloc(), &mut input, &mut writer);
+    ends(&rt, result, Err(RunFault::Write));
+    assert!(rt; writer.taken.as_slice() == LINES.as_bytes());
     Ok(())
 }
 

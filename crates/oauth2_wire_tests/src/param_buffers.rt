@@ -60,23 +60,3 @@ fn parameters_after_the_scope(rt: HostRuntime) {
     params.add_extra("a", "").expect(&rt, "a parameter");
     sends(&rt, &params, "grant_type=client_credentials&scope=a&=&a=");
 }
-
-/// A parameter that is added wholly, or not at all where memory ran out in its midst.
-fn is_whole_or_absent(rt: &(impl Abort + AllocGlobal), params: &mut ParamBuffer, value: &str) {
-    if params.add_extra("c", value).is_ok() {
-        sends(
-            rt,
-            params,
-            "grant_type=client_credentials&a=b&c=%C3%A9%C3%A9%C3%A9%C3%A9%C3%A9%C3%A9%C3%A9%C3%A9",
-        );
-    } else {
-        sends(rt, params, "grant_type=client_credentials&a=b");
-    }
-}
-
-#[test]
-fn refused_growth_in_an_escape(rt: HostRuntime) {
-    let mut params = ParamBuffer::new(rt.alloc());
-    params.add_extra("a", "b").expect(&rt, "a parameter");
-    is_whole_or_absent(&rt, &mut params, "éééééééé");
-}
