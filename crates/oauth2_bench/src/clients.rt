@@ -1,24 +1,15 @@
 //! The client whose calls are timed.
 
 use crate::fault::Fault;
-use oauth2::basic::{
-    BasicClient, BasicErrorResponseType, BasicTokenIntrospectionResponse, BasicTokenResponse,
-};
+use oauth2::basic::BasicClient;
 use oauth2::{
     AuthUrl, Client, ClientId, ClientSecret, EndpointNotSet, EndpointSet, IntrospectionUrl,
-    RedirectUrl, StandardErrorResponse, TokenUrl,
+    RedirectUrl, TokenUrl,
 };
 use std::alloc::Global;
 
-pub type BasicErrorResponse = StandardErrorResponse<BasicErrorResponseType>;
-
 /// A client with an authorization endpoint and a token endpoint.
-pub type BenchClient = Client<
-    BasicErrorResponse,
-    BasicTokenResponse,
-    BasicTokenIntrospectionResponse,
-    (),
-    (),
+pub type BenchClient = BasicClient<
     EndpointSet,
     EndpointNotSet,
     EndpointNotSet,

@@ -5,10 +5,10 @@ ghost use Rattle.oauth2_wire.specs.Reply.{accepted, answer_of};
 ghost use Rattle.oauth2_bench.specs.Canned.{canned_reply};
 
 use crate::canned::CannedClient;
-use crate::clients::{BasicErrorResponse, BenchClient, client};
+use crate::clients::{BenchClient, client};
 use crate::fault::Fault;
 use crate::operation::{Done, Operation};
-use oauth2::basic::BasicTokenResponse;
+use oauth2::basic::{BasicErrorResponse, BasicTokenResponse};
 use oauth2::{AuthorizationCode, FromJson, RequestTokenError, TokenResponse};
 use std::alloc::{AllocError, Global};
 

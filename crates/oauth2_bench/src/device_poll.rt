@@ -59,17 +59,17 @@ impl PollWorld for LateWorld {
 
 /// A poll that is answered so often before the token comes.
 #[derive(Drop)]
-pub struct DevicePoll {
+pub struct PollOperation {
     client: BenchClient,
     device: StandardDeviceAuthorizationResponse,
     world: LateWorld,
     pending: u32,
 }
 
-impl DevicePoll {
+impl PollOperation {
     /// The poll that this body answers, after so many replies that the user has not decided.
-    pub fn new(alloc: Global, token: String, pending: u32) -> Result<DevicePoll, Fault> {
-        Ok(DevicePoll {
+    pub fn new(alloc: Global, token: String, pending: u32) -> Result<PollOperation, Fault> {
+        Ok(PollOperation {
             client: client(alloc)?,
             device: read_body(alloc, DEVICE.as_bytes())?,
             world: LateWorld {
@@ -83,7 +83,7 @@ impl DevicePoll {
     }
 }
 
-impl Operation for DevicePoll {
+impl Operation for PollOperation {
     fn run(&mut self, alloc: Global) -> Result<Done, Fault> {
         self.world.pending = self.pending;
         let polls = self.pending as u64 + 1;

@@ -14,15 +14,15 @@ use std::alloc::{AllocError, Global};
 
 /// The introspection of the token `access_token_123`.
 #[derive(Drop)]
-pub struct IntrospectionRequest {
+pub struct IntrospectionOperation {
     client: IntrospectionClient,
     token: AccessToken,
     http_client: CannedClient,
 }
 
-impl IntrospectionRequest {
+impl IntrospectionOperation {
     /// The introspection that this body answers.
-    pub fn new(alloc: Global, body: String) -> Result<IntrospectionRequest, Fault> {
+    pub fn new(alloc: Global, body: String) -> Result<IntrospectionOperation, Fault> {
         let client = introspection_client(alloc)?;
         let token = AccessToken::new(String::from_str(alloc, "access_token_123")?);
         let http_client = CannedClient {
@@ -30,7 +30,7 @@ impl IntrospectionRequest {
             body,
             sent: 0,
         };
-        Ok(IntrospectionRequest {
+        Ok(IntrospectionOperation {
             client,
             token,
             http_client,
@@ -54,7 +54,7 @@ fn introspect(
     client.introspect(alloc, token).request(alloc, http_client)
 }
 
-impl Operation for IntrospectionRequest {
+impl Operation for IntrospectionOperation {
     fn run(&mut self, alloc: Global) -> Result<Done, Fault> {
         let answer = introspect(alloc, &self.client, &self.token, &mut self.http_client)?;
         let Some(scopes) = answer.scopes() else {

@@ -4,10 +4,10 @@ use crate::authorization_url::AuthorizationUrl;
 use crate::challenge::Challenge;
 use crate::client_credentials::ClientCredentials;
 use crate::code_exchange::CodeExchange;
-use crate::device_poll::DevicePoll;
+use crate::device_poll::PollOperation;
 use crate::fault::Fault;
 use crate::inputs::{introspection, long_token, params, scopes, short_token};
-use crate::introspection_request::IntrospectionRequest;
+use crate::introspection_request::IntrospectionOperation;
 use crate::operation::{Run, timed};
 use crate::reading::{IntrospectionReading, TokenReading};
 use std::alloc::Global;
@@ -92,7 +92,7 @@ impl<C: Clock> Bench<'_, C> {
 
     fn introspection(&self) -> Result<Run, Fault> {
         let body = introspection(self.alloc)?;
-        let operation = IntrospectionRequest::new(self.alloc, body)?;
+        let operation = IntrospectionOperation::new(self.alloc, body)?;
         timed(self.clock, self.alloc, operation, self.iterations)
     }
 
@@ -118,7 +118,7 @@ impl<C: Clock> Bench<'_, C> {
 
     fn device_poll(&self, pending: u32) -> Result<Run, Fault> {
         let body = short_token(self.alloc)?;
-        let operation = DevicePoll::new(self.alloc, body, pending)?;
+        let operation = PollOperation::new(self.alloc, body, pending)?;
         timed(self.clock, self.alloc, operation, self.iterations)
     }
 

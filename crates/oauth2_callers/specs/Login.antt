@@ -1,4 +1,6 @@
--- The pairs of a login.
+-- The pairs of a login;
+-- the request that its exchange sent, and the reply that answered it;
+-- and the result of that exchange, which is asked for at most once.
 use Rattle.std.specs.Prelude.{◌≡◌, ℕ, List, [], ◌∷◌, ◌++◌, codes, Option, Some, Result, Ok, option_and_then, option_map}
 use Rattle.serde_json.specs.Data.{Data, Members}
 use Rattle.serde_json.specs.Find.{as_str, get_member}

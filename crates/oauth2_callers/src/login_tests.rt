@@ -9,15 +9,12 @@ use oauth2::{
     AuthUrl, AuthorizationCode, Client, ClientId, ClientSecret, CodeFlow, CodeFlowError, CsrfToken,
     HttpResponse, PkceCodeVerifier, TokenUrl, code_flow,
 };
-use oauth2_value_rows_tests::Repeated;
+use oauth2_value_rows_tests::{Repeated, VERIFIER};
 use std::process::Abort;
 
 const AUTH: &str = "https://example.com/auth";
 
 const TOKEN: &str = "https://example.com/token";
-
-/// The verifier of RFC 7636, appendix B.
-const VERIFIER: &str = "dBjftJeZ4CVP-mB92K27uhbUJU1p1r_wW1gFWFOEjXk";
 
 fn auth_url(rt: &(impl Abort + AllocGlobal), url: &str) -> AuthUrl {
     AuthUrl::new(rt.alloc(), text(rt, url)).expect(rt, "a URL")

@@ -12,17 +12,17 @@ use std::time::Duration;
 fn refused_device_responses(rt: HostRuntime) {
     for (body, member, cause) in [
         (
-            "{\"device_code\":\"d\",\"user_code\":\"u\",\"verification_uri\":\"https://v/\",\"verification_url\":\"https://v/\",\"expires_in\":300}",
+            r#"{"device_code":"d","user_code":"u","verification_uri":"https://v/","verification_url":"https://v/","expires_in":300}"#,
             "verification_uri",
             ParseCause::BothNames,
         ),
         (
-            "{\"device_code\":\"d\",\"user_code\":\"u\",\"verification_url\":\"x\",\"expires_in\":300}",
+            r#"{"device_code":"d","user_code":"u","verification_url":"x","expires_in":300}"#,
             "verification_uri",
             ParseCause::BadUrl,
         ),
         (
-            "{\"device_code\":\"d\",\"user_code\":\"u\",\"verification_url\":\"https://v/\",\"expires_in\":300,\"interval\":\"1\"}",
+            r#"{"device_code":"d","user_code":"u","verification_url":"https://v/","expires_in":300,"interval":"1"}"#,
             "interval",
             ParseCause::WrongType,
         ),
@@ -34,13 +34,13 @@ fn refused_device_responses(rt: HostRuntime) {
 #[test]
 fn address_stands_under_one_name(rt: HostRuntime) {
     for body in [
-        "{\"device_code\":\"d\",\"user_code\":\"u\",\"verification_url\":\"https://v/\",\"expires_in\":300}",
-        "{\"device_code\":\"d\",\"user_code\":\"u\",\"verification_uri\":\"https://v/\",\"expires_in\":300,\"interval\":null}",
+        r#"{"device_code":"d","user_code":"u","verification_url":"https://v/","expires_in":300}"#,
+        r#"{"device_code":"d","user_code":"u","verification_uri":"https://v/","expires_in":300,"interval":null}"#,
     ] {
         is_rewritten::<StandardDeviceAuthorizationResponse>(
             &rt,
             body,
-            "{\"device_code\":\"d\",\"expires_in\":300,\"interval\":5,\"user_code\":\"u\",\"verification_uri\":\"https://v/\"}",
+            r#"{"device_code":"d","expires_in":300,"interval":5,"user_code":"u","verification_uri":"https://v/"}"#,
         );
     }
 }

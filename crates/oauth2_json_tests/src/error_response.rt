@@ -11,7 +11,7 @@ use std::process::Abort;
 
 #[test]
 fn codes_are_compared_with_case(rt: HostRuntime) {
-    let error = read::<BasicErrorResponseType>(&rt, "\"Invalid_Client\"");
+    let error = read::<BasicErrorResponseType>(&rt, r#""Invalid_Client""#);
     let shown = format!(in rt.alloc(); "{error}").expect(&rt, "a text");
     is_equal(&rt, shown.as_str(), "Invalid_Client");
     let debug = format!(in rt.alloc(); "{error:?}").expect(&rt, "a text");
@@ -25,16 +25,16 @@ fn written_code_reads_as_its_own_variant(rt: HostRuntime) {
     let basic = BasicErrorResponseType::Extension(text(&rt, "slow_down"));
     let error = DeviceCodeErrorResponseType::Basic(basic);
     let written = compact(rt.alloc(), &error).expect(&rt, "a text");
-    is_equal(&rt, written.as_str(), "\"slow_down\"");
+    is_equal(&rt, written.as_str(), r#""slow_down""#);
     let read = read::<DeviceCodeErrorResponseType>(&rt, written.as_str());
     assert!(rt; read == DeviceCodeErrorResponseType::SlowDown);
 }
 
 #[test]
 fn code_of_any_text(rt: HostRuntime) {
-    let code = read::<TextErrorResponseType>(&rt, "\"Invalid_Client\"");
+    let code = read::<TextErrorResponseType>(&rt, r#""Invalid_Client""#);
     is_displayed_as(&rt, &code, "Invalid_Client");
-    is_written_as(&rt, &code, "\"Invalid_Client\"");
+    is_written_as(&rt, &code, r#""Invalid_Client""#);
     let copy = code.try_clone(rt.alloc()).expect(&rt, "a copy");
     assert!(rt; copy == code);
     is_refused::<TextErrorResponseType>(&rt, "1", "", ParseCause::WrongType);
@@ -42,7 +42,7 @@ fn code_of_any_text(rt: HostRuntime) {
 
 #[test]
 fn response_with_a_code_of_any_text(rt: HostRuntime) {
-    let written = "{\"error\":\"too_many_requests\",\"error_description\":\"wait\"}";
+    let written = r#"{"error":"too_many_requests","error_description":"wait"}"#;
     let response = read::<StandardErrorResponse<TextErrorResponseType>>(&rt, written);
     is_shown_as(&rt, &response, "too_many_requests: wait");
     is_written_as(&rt, &response, written);
@@ -72,7 +72,7 @@ fn error_response_is_shown(rt: HostRuntime) {
 }
 
 const WRITTEN: &str =
-    "{\"error\":\"invalid_client\",\"error_description\":\"Invalid client_id\",\"error_uri\":\"https://example.com/errors/invalid_client\"}";
+    r#"{"error":"invalid_client","error_description":"Invalid client_id","error_uri":"https://example.com/errors/invalid_client"}"#;
 
 #[test]
 fn error_response_is_written(rt: HostRuntime) {
@@ -85,11 +85,11 @@ fn error_response_is_written(rt: HostRuntime) {
 #[test]
 fn refused_error_responses(rt: HostRuntime) {
     for (body, member, cause) in [
-        ("{\"access_token\":\"t\"}", "error", ParseCause::Missing),
-        ("{\"error\":1}", "error", ParseCause::WrongType),
+        (r#"{"access_token":"t"}"#, "error", ParseCause::Missing),
+        (r#"{"error":1}"#, "error", ParseCause::WrongType),
         ("[]", "", ParseCause::NotObject),
-        ("{\"error\":\"x\"", "", ParseCause::NotJson),
-        ("{\"error\":\"x\"}x", "", ParseCause::NotJson),
+        (r#"{"error":"x""#, "", ParseCause::NotJson),
+        (r#"{"error":"x"}x"#, "", ParseCause::NotJson),
     ] {
         is_refused::<BasicErrorResponse>(&rt, body, member, cause);
     }
@@ -109,7 +109,7 @@ fn body_is_utf8(rt: HostRuntime) {
 
 /// An error response with a member that makes the nesting this deep in all.
 fn nested(rt: &(impl Abort + AllocGlobal), depth: usize) -> String {
-    let mut text = text(rt, "{\"error\":\"x\",\"more\":");
+    let mut text = text(rt, r#"{"error":"x","more":"#);
     for _ in 1..depth {
         text.push_str("[").expect(rt, "a text");
     }

@@ -14,8 +14,8 @@ type RawToken = StandardTokenResponse<ExtraFields, BasicTokenType>;
 fn other_members_are_dropped(rt: HostRuntime) {
     is_rewritten::<BasicTokenResponse>(
         &rt,
-        "{\"access_token\":\"t\",\"token_type\":\"bearer\",\"f\":1.5}",
-        "{\"access_token\":\"t\",\"token_type\":\"bearer\"}",
+        r#"{"access_token":"t","token_type":"bearer","f":1.5}"#,
+        r#"{"access_token":"t","token_type":"bearer"}"#,
     );
 }
 
@@ -24,7 +24,7 @@ fn members_left_are_extra_fields(rt: HostRuntime) {
     is_rewritten::<RawToken>(
         &rt,
         "{\"z\":1,\"token_type\":\"Bearer\",\"y\":{\"b\":[\"\\u0061\",{\"c\":null}],\"a\":-1},\"access_token\":\"t\",\"z\":true}",
-        "{\"access_token\":\"t\",\"token_type\":\"bearer\",\"y\":{\"a\":-1,\"b\":[\"a\",{\"c\":null}]},\"z\":true}",
+        r#"{"access_token":"t","token_type":"bearer","y":{"a":-1,"b":["a",{"c":null}]},"z":true}"#,
     );
 }
 
@@ -32,14 +32,14 @@ fn members_left_are_extra_fields(rt: HostRuntime) {
 fn extra_fields_of_a_device_response(rt: HostRuntime) {
     is_rewritten::<DeviceAuthorizationResponse<ExtraFields>>(
         &rt,
-        "{\"device_code\":\"d\",\"user_code\":\"u\",\"verification_url\":\"https://v/\",\"expires_in\":1,\"z\":[]}",
-        "{\"device_code\":\"d\",\"expires_in\":1,\"interval\":5,\"user_code\":\"u\",\"verification_uri\":\"https://v/\",\"z\":[]}",
+        r#"{"device_code":"d","user_code":"u","verification_url":"https://v/","expires_in":1,"z":[]}"#,
+        r#"{"device_code":"d","expires_in":1,"interval":5,"user_code":"u","verification_uri":"https://v/","z":[]}"#,
     );
 }
 
 #[test]
 fn members_that_are_left(rt: HostRuntime) {
-    let fields = read::<ExtraFields>(&rt, "{\"id_token\":\"x\",\"n\":1}");
+    let fields = read::<ExtraFields>(&rt, r#"{"id_token":"x","n":1}"#);
     assert!(rt; fields.text("id_token") == Some("x"));
     assert!(rt; fields.text("n").is_none());
     let number = fields.get("n").expect(&rt, "a member");
@@ -51,11 +51,11 @@ fn members_that_are_left(rt: HostRuntime) {
 fn members_that_are_left_are_kept(rt: HostRuntime) {
     is_kept::<StandardTokenResponse<ExtraFields, BasicTokenType>>(
         &rt,
-        "{\"access_token\":\"t\",\"id_token\":\"x\",\"n\":1,\"token_type\":\"bearer\"}",
+        r#"{"access_token":"t","id_token":"x","n":1,"token_type":"bearer"}"#,
     );
     is_kept::<DeviceAuthorizationResponse<ExtraFields>>(
         &rt,
-        "{\"device_code\":\"d\",\"expires_in\":1,\"interval\":5,\"user_code\":\"u\",\"verification_uri\":\"https://v/\",\"z\":[]}",
+        r#"{"device_code":"d","expires_in":1,"interval":5,"user_code":"u","verification_uri":"https://v/","z":[]}"#,
     );
     is_refused::<ExtraFields>(&rt, "[]", "", ParseCause::NotObject);
 }
@@ -70,12 +70,9 @@ fn with_raw(rt: &(impl Abort + AllocGlobal), fields: &str) -> RawToken {
 #[test]
 fn clash_is_refused_before_a_float(rt: HostRuntime) {
     for (fields, refusal) in [
-        ("{\"scope\":\"x\"}", WriteError::NameClash),
-        ("{\"a\":{\"b\":[1.5]}}", WriteError::Float),
-        (
-            "{\"a\":{\"b\":[1.5]},\"scope\":\"x\"}",
-            WriteError::NameClash,
-        ),
+        (r#"{"scope":"x"}"#, WriteError::NameClash),
+        (r#"{"a":{"b":[1.5]}}"#, WriteError::Float),
+        (r#"{"a":{"b":[1.5]},"scope":"x"}"#, WriteError::NameClash),
     ] {
         let token = with_raw(&rt, fields);
         let refused = token.to_json(rt.alloc()).err();

@@ -11,20 +11,20 @@ use oauth2::{
 #[test]
 fn first_fault_of_an_introspection_response(rt: HostRuntime) {
     for (body, member, cause) in [
-        ("{\"active\":\"yes\"}", "active", ParseCause::WrongType),
+        (r#"{"active":"yes"}"#, "active", ParseCause::WrongType),
         (
-            "{\"active\":true,\"aud\":[\"a\",1]}",
+            r#"{"active":true,"aud":["a",1]}"#,
             "aud",
             ParseCause::WrongType,
         ),
-        ("{\"active\":true,\"exp\":1.5}", "exp", ParseCause::NotWhole),
+        (r#"{"active":true,"exp":1.5}"#, "exp", ParseCause::NotWhole),
         (
-            "{\"active\":true,\"exp\":18446744073709551615}",
+            r#"{"active":true,"exp":18446744073709551615}"#,
             "exp",
             ParseCause::OutOfRange,
         ),
         (
-            "{\"active\":true,\"token_type\":null}",
+            r#"{"active":true,"token_type":null}"#,
             "token_type",
             ParseCause::WrongType,
         ),
@@ -37,17 +37,17 @@ fn first_fault_of_an_introspection_response(rt: HostRuntime) {
 fn audience_of_one_is_written_as_a_list(rt: HostRuntime) {
     is_rewritten::<BasicTokenIntrospectionResponse>(
         &rt,
-        "{\"active\":true,\"aud\":\"demo\",\"exp\":-1}",
-        "{\"active\":true,\"aud\":[\"demo\"],\"exp\":-1}",
+        r#"{"active":true,"aud":"demo","exp":-1}"#,
+        r#"{"active":true,"aud":["demo"],"exp":-1}"#,
     );
 }
 
 #[test]
 fn copy_of_an_introspection_response_is_written_alike(rt: HostRuntime) {
     let written = concat!(
-        "{\"active\":true,\"aud\":[\"audience\"],\"client_id\":\"aaa\",\"exp\":3,\"iat\":1,",
-        "\"iss\":\"issuer\",\"jti\":\"identifier\",\"nbf\":2,\"scope\":\"read write\",",
-        "\"sub\":\"subject\",\"token_type\":\"bearer\",\"username\":\"demo\"}",
+        r#"{"active":true,"aud":["audience"],"client_id":"aaa","exp":3,"iat":1,"#,
+        r#""iss":"issuer","jti":"identifier","nbf":2,"scope":"read write","#,
+        r#""sub":"subject","token_type":"bearer","username":"demo"}"#,
     );
     copy_is_kept::<BasicTokenIntrospectionResponse>(&rt, written);
 }
@@ -61,7 +61,7 @@ fn times_are_rounded_down(rt: HostRuntime) {
     let time = Timestamp::from_nanosecond(-500_000_000).expect(&rt, "a time");
     let mut response = active();
     response.set_exp(Some(time));
-    is_written_as(&rt, &response, "{\"active\":true,\"exp\":-1}");
+    is_written_as(&rt, &response, r#"{"active":true,"exp":-1}"#);
 }
 
 #[test]
@@ -81,7 +81,7 @@ fn times_are_set(rt: HostRuntime) {
     is_written_as(
         &rt,
         &response,
-        "{\"active\":false,\"exp\":3,\"iat\":1,\"nbf\":2}",
+        r#"{"active":false,"exp":3,"iat":1,"nbf":2}"#,
     );
 }
 
@@ -97,7 +97,7 @@ fn texts_are_set(rt: HostRuntime) {
     is_written_as(
         &rt,
         &response,
-        "{\"active\":true,\"iss\":\"issuer\",\"jti\":\"identifier\",\"sub\":\"subject\",\"username\":\"demo\"}",
+        r#"{"active":true,"iss":"issuer","jti":"identifier","sub":"subject","username":"demo"}"#,
     );
 }
 
@@ -114,7 +114,7 @@ fn lists_are_set(rt: HostRuntime) {
     is_written_as(
         &rt,
         &response,
-        "{\"active\":true,\"aud\":[\"audience\"],\"scope\":\"read\"}",
+        r#"{"active":true,"aud":["audience"],"scope":"read"}"#,
     );
 }
 
@@ -127,6 +127,6 @@ fn client_and_token_type_are_set(rt: HostRuntime) {
     is_written_as(
         &rt,
         &response,
-        "{\"active\":true,\"client_id\":\"aaa\",\"token_type\":\"bearer\"}",
+        r#"{"active":true,"client_id":"aaa","token_type":"bearer"}"#,
     );
 }

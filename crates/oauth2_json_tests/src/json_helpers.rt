@@ -24,13 +24,13 @@ fn copy_is_written_as<T: TokenType + Drop>(
 
 #[test]
 fn ascii_letters_are_lowered(rt: HostRuntime) {
-    let value = parsed(&rt, "\"ÄB\"");
+    let value = parsed(&rt, r#""ÄB""#);
     let read = deserialize_untagged_enum_case_insensitive::<BasicTokenType>(
         rt.alloc(),
         value,
     ).expect(&rt, "a token type");
     is_equal(&rt, read.as_str(), "Äb");
-    copy_is_written_as(&rt, &read, "\"Äb\"");
+    copy_is_written_as(&rt, &read, r#""Äb""#);
 }
 
 /// The list is written as this text, which reads to so many scopes.
@@ -46,9 +46,9 @@ fn is_split(rt: &(impl Abort + AllocGlobal), scopes: Vec<Scope>, written: &str, 
 
 #[test]
 fn scopes_are_split_at_every_space(rt: HostRuntime) {
-    is_split(&rt, Vec::new(rt.alloc()), "\"\"", 1);
+    is_split(&rt, Vec::new(rt.alloc()), r#""""#, 1);
     let scopes = vec![in rt.alloc(); Scope::new(text(&rt, "a b"))].expect(&rt, "a list");
-    is_split(&rt, scopes, "\"a b\"", 2);
+    is_split(&rt, scopes, r#""a b""#, 2);
 }
 
 #[test]
@@ -66,8 +66,8 @@ fn no_scopes_are_null(rt: HostRuntime) {
 #[test]
 fn audience_is_a_text_or_a_list(rt: HostRuntime) {
     for (text, wanted) in [
-        ("\"a\"", "[\"a\"]"),
-        ("[\"a\",\"b\"]", "[\"a\",\"b\"]"),
+        (r#""a""#, r#"["a"]"#),
+        (r#"["a","b"]"#, r#"["a","b"]"#),
         ("[]", "[]"),
     ] {
         let list = deserialize_optional_string_or_vec_string(rt.alloc(), parsed(&rt, text)).expect(
@@ -83,7 +83,7 @@ fn audience_is_a_text_or_a_list(rt: HostRuntime) {
 
 #[test]
 fn audience_is_of_texts_alone(rt: HostRuntime) {
-    let mixed = deserialize_optional_string_or_vec_string(rt.alloc(), parsed(&rt, "[\"a\",1]"));
+    let mixed = deserialize_optional_string_or_vec_string(rt.alloc(), parsed(&rt, r#"["a",1]"#));
     assert!(rt; is_fault(mixed, "", ParseCause::WrongType));
 }
 

@@ -15,7 +15,7 @@ fn refused_numbers(rt: HostRuntime) {
         ("1e2", ParseCause::NotWhole),
         ("18446744073709551616", ParseCause::NotWhole),
         ("-1", ParseCause::OutOfRange),
-        ("\"1\"", ParseCause::WrongType),
+        (r#""1""#, ParseCause::WrongType),
     ] {
         let found = Some(parsed(&rt, text));
         let read = members::optional_number(rt.alloc(), "expires_in", found);
@@ -69,7 +69,7 @@ fn refused_times(rt: HostRuntime) {
         ("1.5", ParseCause::NotWhole),
         ("18446744073709551615", ParseCause::OutOfRange),
         ("253402207201", ParseCause::OutOfRange),
-        ("\"1\"", ParseCause::WrongType),
+        (r#""1""#, ParseCause::WrongType),
     ] {
         let found = Some(parsed(&rt, text));
         let read = members::optional_time(rt.alloc(), "exp", found);
@@ -79,7 +79,7 @@ fn refused_times(rt: HostRuntime) {
 
 #[test]
 fn token_type_is_lowered_first(rt: HostRuntime) {
-    let upper = Some(parsed(&rt, "\"BEARER\""));
+    let upper = Some(parsed(&rt, r#""BEARER""#));
     let read = members::needed_lowered::<BasicTokenType>(rt.alloc(), "token_type", upper).expect(
         &rt,
         "a token type",
@@ -106,7 +106,7 @@ const ADDRESS: &str = "verification_uri";
 
 #[test]
 fn either_of_two_names(rt: HostRuntime) {
-    let url = Some(parsed(&rt, "\"https://v/\""));
+    let url = Some(parsed(&rt, r#""https://v/""#));
     let read = members::either_name::<EndUserVerificationUrl>(
         rt.alloc(),
         ADDRESS,
@@ -118,11 +118,11 @@ fn either_of_two_names(rt: HostRuntime) {
 
 #[test]
 fn not_both_of_two_names(rt: HostRuntime) {
-    let url = Some(parsed(&rt, "\"https://v/\""));
+    let url = Some(parsed(&rt, r#""https://v/""#));
     let null = Some(Value::Null);
     let both = members::either_name::<EndUserVerificationUrl>(rt.alloc(), ADDRESS, url, null);
     assert!(rt; is_fault(both, ADDRESS, ParseCause::BothNames));
-    let other = Some(parsed(&rt, "\"x\""));
+    let other = Some(parsed(&rt, r#""x""#));
     let bad = members::either_name::<EndUserVerificationUrl>(rt.alloc(), ADDRESS, None, other);
     assert!(rt; is_fault(bad, ADDRESS, ParseCause::BadUrl));
 }
@@ -152,7 +152,7 @@ fn words_member(rt: &(impl Abort + AllocGlobal), word: &str) -> Option<Value> {
 
 #[test]
 fn extra_members_stand_beside_the_own(rt: HostRuntime) {
-    let mut beside = members::beside(&["a", "b"], parsed(&rt, "{\"c\":1}")).expect(
+    let mut beside = members::beside(&["a", "b"], parsed(&rt, r#"{"c":1}"#)).expect(
         &rt,
         "the members",
     );
@@ -165,16 +165,16 @@ fn extra_members_stand_beside_the_own(rt: HostRuntime) {
     is_equal(
         &rt,
         written.as_str(),
-        "{\"a\":\"w\",\"b\":\"mac\",\"c\":1,\"d\":\"s\"}",
+        r#"{"a":"w","b":"mac","c":1,"d":"s"}"#,
     );
 }
 
 #[test]
 fn refused_extra_members(rt: HostRuntime) {
     for (text, refusal) in [
-        ("{\"b\":1}", WriteError::NameClash),
-        ("{\"b\":[1.5]}", WriteError::NameClash),
-        ("{\"c\":[{\"d\":1.5}]}", WriteError::Float),
+        (r#"{"b":1}"#, WriteError::NameClash),
+        (r#"{"b":[1.5]}"#, WriteError::NameClash),
+        (r#"{"c":[{"d":1.5}]}"#, WriteError::Float),
     ] {
         let refused = members::beside(&["a", "b"], parsed(&rt, text)).err();
         is_so_at(&rt, refused == Some(refusal), text);
@@ -183,10 +183,10 @@ fn refused_extra_members(rt: HostRuntime) {
 
 #[test]
 fn members_are_taken_out(rt: HostRuntime) {
-    let mut members = members::of_object(
-        rt.alloc(),
-        parsed(&rt, "{\"a\":\"x\",\"b\":\"y z\"}"),
-    ).expect(&rt, "the members");
+    let mut members = members::of_object(rt.alloc(), parsed(&rt, r#"{"a":"x","b":"y z"}"#)).expect(
+        &rt,
+        "the members",
+    );
     let first = members::take(&mut members, "a");
     let first = members::needed::<String>(rt.alloc(), "a", first).expect(&rt, "a text");
     is_equal(&rt, first.as_str(), "x");
@@ -209,23 +209,23 @@ fn members_that_are_there(rt: HostRuntime) {
     let seven = Some(parsed(&rt, "7"));
     let read = members::number_or(rt.alloc(), "interval", 5, seven).expect(&rt, "a number");
     is_equal(&rt, read, 7);
-    let word = Some(parsed(&rt, "\"x\""));
+    let word = Some(parsed(&rt, r#""x""#));
     let read = members::optional::<String>(rt.alloc(), "c", word).expect(&rt, "a text or none");
     assert!(rt; read.as_deref() == Some("x"));
-    let word = Some(parsed(&rt, "\"x\""));
+    let word = Some(parsed(&rt, r#""x""#));
     let read = members::present::<String>(rt.alloc(), "c", word).expect(&rt, "a text or none");
     assert!(rt; read.as_deref() == Some("x"));
 }
 
 #[test]
 fn codes_and_lists_that_are_there(rt: HostRuntime) {
-    let mac = Some(parsed(&rt, "\"MAC\""));
+    let mac = Some(parsed(&rt, r#""MAC""#));
     let read = members::present_lowered::<BasicTokenType>(rt.alloc(), "token_type", mac).expect(
         &rt,
         "a token type or none",
     );
     assert!(rt; read == Some(BasicTokenType::Mac));
-    let words = Some(parsed(&rt, "[\"x\",\"y\"]"));
+    let words = Some(parsed(&rt, r#"["x","y"]"#));
     let read = members::optional_texts(rt.alloc(), "c", words)
         .expect(&rt, "texts or none")
         .expect(&rt, "texts");

@@ -41,7 +41,7 @@ fn secrets_are_kept(rt: HostRuntime) {
 
 #[test]
 fn urls_are_kept_as_given(rt: HostRuntime) {
-    let text = "\"https://example.com\"";
+    let text = r#""https://example.com""#;
     is_kept::<AuthUrl>(&rt, text);
     is_kept::<DeviceAuthorizationUrl>(&rt, text);
     is_kept::<EndUserVerificationUrl>(&rt, text);
@@ -53,16 +53,20 @@ fn urls_are_kept_as_given(rt: HostRuntime) {
 
 #[test]
 fn refused_urls(rt: HostRuntime) {
-    is_refused::<AuthUrl>(&rt, "\"x\"", "", ParseCause::BadUrl);
+    is_refused::<AuthUrl>(&rt, r#""x""#, "", ParseCause::BadUrl);
     is_refused::<AuthUrl>(&rt, "1", "", ParseCause::WrongType);
 }
 
 #[test]
 fn codes_are_kept(rt: HostRuntime) {
-    for text in ["\"bearer\"", "\"mac\"", "\"Bearer\""] {
+    for text in [r#""bearer""#, r#""mac""#, r#""Bearer""#] {
         is_kept::<BasicTokenType>(&rt, text);
     }
-    for text in ["\"invalid_client\"", "\"slow_down\"", "\"Invalid_Client\""] {
+    for text in [
+        r#""invalid_client""#,
+        r#""slow_down""#,
+        r#""Invalid_Client""#,
+    ] {
         is_kept::<BasicErrorResponseType>(&rt, text);
         is_kept::<DeviceCodeErrorResponseType>(&rt, text);
         is_kept::<RevocationErrorResponseType>(&rt, text);
@@ -72,10 +76,10 @@ fn codes_are_kept(rt: HostRuntime) {
 #[test]
 fn copies_of_codes_are_written_alike(rt: HostRuntime) {
     for text in [
-        "\"slow_down\"",
-        "\"unsupported_token_type\"",
-        "\"invalid_grant\"",
-        "\"x\"",
+        r#""slow_down""#,
+        r#""unsupported_token_type""#,
+        r#""invalid_grant""#,
+        r#""x""#,
     ] {
         copy_is_kept::<BasicErrorResponseType>(&rt, text);
         copy_is_kept::<DeviceCodeErrorResponseType>(&rt, text);
@@ -85,7 +89,7 @@ fn copies_of_codes_are_written_alike(rt: HostRuntime) {
 
 #[test]
 fn copies_of_error_responses_are_written_alike(rt: HostRuntime) {
-    let text = "{\"error\":\"slow_down\",\"error_description\":\"d\",\"error_uri\":\"u\"}";
+    let text = r#"{"error":"slow_down","error_description":"d","error_uri":"u"}"#;
     copy_is_kept::<BasicErrorResponse>(&rt, text);
     copy_is_kept::<BasicRevocationErrorResponse>(&rt, text);
     copy_is_kept::<DeviceCodeErrorResponse>(&rt, text);
@@ -95,20 +99,20 @@ fn copies_of_error_responses_are_written_alike(rt: HostRuntime) {
 fn copies_of_extra_fields_are_written_alike(rt: HostRuntime) {
     copy_is_kept::<EmptyExtraTokenFields>(&rt, "{}");
     copy_is_kept::<EmptyExtraDeviceAuthorizationFields>(&rt, "{}");
-    copy_is_kept::<ExtraFields>(&rt, "{\"a\":[1,null,\"x\"],\"b\":{\"c\":true}}");
-    is_rewritten::<EmptyExtraTokenFields>(&rt, "{\"a\":1}", "{}");
-    is_rewritten::<EmptyExtraDeviceAuthorizationFields>(&rt, "{\"a\":1}", "{}");
+    copy_is_kept::<ExtraFields>(&rt, r#"{"a":[1,null,"x"],"b":{"c":true}}"#);
+    is_rewritten::<EmptyExtraTokenFields>(&rt, r#"{"a":1}"#, "{}");
+    is_rewritten::<EmptyExtraDeviceAuthorizationFields>(&rt, r#"{"a":1}"#, "{}");
 }
 
 #[test]
 fn challenge_is_kept(rt: HostRuntime) {
     is_kept::<PkceCodeChallenge>(
         &rt,
-        "{\"code_challenge\":\"c\",\"code_challenge_method\":\"S256\"}",
+        r#"{"code_challenge":"c","code_challenge_method":"S256"}"#,
     );
     is_refused::<PkceCodeChallenge>(
         &rt,
-        "{\"code_challenge\":\"c\"}",
+        r#"{"code_challenge":"c"}"#,
         "code_challenge_method",
         ParseCause::Missing,
     );

@@ -72,7 +72,7 @@ type IdentityToken = StandardTokenResponse<IdentityFields, BasicTokenType>;
 fn named_members_are_told(rt: HostRuntime) {
     let fields = read::<IdentityFields>(
         &rt,
-        "{\"n\":1,\"id_token\":\"x\",\"ext_expires_in\":7,\"offline\":true,\"cnf\":[]}",
+        r#"{"n":1,"id_token":"x","ext_expires_in":7,"offline":true,"cnf":[]}"#,
     );
     let id_token = fields.value().expect(&rt, "a text");
     assert!(rt; id_token.as_str() == "x");
@@ -89,8 +89,8 @@ fn named_members_are_told(rt: HostRuntime) {
 #[test]
 fn absent_and_null_members_are_none(rt: HostRuntime) {
     for body in [
-        "{\"ext_expires_in\":7}",
-        "{\"cnf\":null,\"ext_expires_in\":7,\"id_token\":null,\"offline\":null}",
+        r#"{"ext_expires_in":7}"#,
+        r#"{"cnf":null,"ext_expires_in":7,"id_token":null,"offline":null}"#,
     ] {
         let fields = read::<IdentityFields>(&rt, body);
         assert!(rt; fields.value().is_none());
@@ -103,25 +103,25 @@ fn absent_and_null_members_are_none(rt: HostRuntime) {
 #[test]
 fn members_of_another_kind_are_refused(rt: HostRuntime) {
     for (body, member, cause) in [
-        ("{\"id_token\":1}", "id_token", ParseCause::WrongType),
+        (r#"{"id_token":1}"#, "id_token", ParseCause::WrongType),
         (
-            "{\"ext_expires_in\":\"7\"}",
+            r#"{"ext_expires_in":"7"}"#,
             "ext_expires_in",
             ParseCause::WrongType,
         ),
         (
-            "{\"ext_expires_in\":-1}",
+            r#"{"ext_expires_in":-1}"#,
             "ext_expires_in",
             ParseCause::OutOfRange,
         ),
         (
-            "{\"ext_expires_in\":1.5}",
+            r#"{"ext_expires_in":1.5}"#,
             "ext_expires_in",
             ParseCause::NotWhole,
         ),
-        ("{\"offline\":0}", "offline", ParseCause::WrongType),
+        (r#"{"offline":0}"#, "offline", ParseCause::WrongType),
         (
-            "{\"ext_expires_in\":-1,\"id_token\":1}",
+            r#"{"ext_expires_in":-1,"id_token":1}"#,
             "id_token",
             ParseCause::WrongType,
         ),
@@ -134,27 +134,27 @@ fn members_of_another_kind_are_refused(rt: HostRuntime) {
 #[test]
 fn named_members_are_written(rt: HostRuntime) {
     let whole =
-        "{\"access_token\":\"t\",\"cnf\":[],\"ext_expires_in\":7,\"id_token\":\"x\",\"offline\":true,\"token_type\":\"bearer\"}";
+        r#"{"access_token":"t","cnf":[],"ext_expires_in":7,"id_token":"x","offline":true,"token_type":"bearer"}"#;
     is_kept::<IdentityToken>(&rt, whole);
     copy_is_kept::<IdentityToken>(&rt, whole);
     is_rewritten::<IdentityToken>(
         &rt,
-        "{\"access_token\":\"t\",\"token_type\":\"bearer\",\"n\":1,\"offline\":null,\"ext_expires_in\":7}",
-        "{\"access_token\":\"t\",\"ext_expires_in\":7,\"token_type\":\"bearer\"}",
+        r#"{"access_token":"t","token_type":"bearer","n":1,"offline":null,"ext_expires_in":7}"#,
+        r#"{"access_token":"t","ext_expires_in":7,"token_type":"bearer"}"#,
     );
     is_kept::<StandardTokenIntrospectionResponse<IdentityFields, BasicTokenType>>(
         &rt,
-        "{\"active\":true,\"id_token\":\"x\"}",
+        r#"{"active":true,"id_token":"x"}"#,
     );
     is_kept::<DeviceAuthorizationResponse<DeviceFields>>(
         &rt,
-        "{\"cnf\":[],\"device_code\":\"d\",\"expires_in\":1,\"interval\":5,\"user_code\":\"u\",\"verification_uri\":\"https://v/\"}",
+        r#"{"cnf":[],"device_code":"d","expires_in":1,"interval":5,"user_code":"u","verification_uri":"https://v/"}"#,
     );
 }
 
 #[test]
 fn name_that_the_rest_writes_is_refused(rt: HostRuntime) {
-    let rest = read::<ExtraFields>(&rt, "{\"id_token\":\"y\"}");
+    let rest = read::<ExtraFields>(&rt, r#"{"id_token":"y"}"#);
     let fields = WithMember::<IdToken, ExtraFields>::new(Some(text(&rt, "x")), rest);
     let refused = fields.to_json(rt.alloc()).err();
     assert!(rt; refused == Some(WriteError::NameClash));

@@ -8,19 +8,15 @@ use std::process::Abort;
 #[test]
 fn revocable_token_is_one_member(rt: HostRuntime) {
     for (body, member, cause) in [
-        ("{\"AccessToken\":1}", "AccessToken", ParseCause::WrongType),
+        (r#"{"AccessToken":1}"#, "AccessToken", ParseCause::WrongType),
         (
-            "{\"AccessToken\":\"a\",\"RefreshToken\":\"b\"}",
+            r#"{"AccessToken":"a","RefreshToken":"b"}"#,
             "",
             ParseCause::Refused,
         ),
-        (
-            "{\"AccessToken\":\"a\",\"x\":\"b\"}",
-            "",
-            ParseCause::Refused,
-        ),
+        (r#"{"AccessToken":"a","x":"b"}"#, "", ParseCause::Refused),
         ("{}", "", ParseCause::Refused),
-        ("\"AccessToken\"", "", ParseCause::NotObject),
+        (r#""AccessToken""#, "", ParseCause::NotObject),
     ] {
         is_refused::<StandardRevocableToken>(&rt, body, member, cause);
     }
@@ -28,7 +24,7 @@ fn revocable_token_is_one_member(rt: HostRuntime) {
 
 #[test]
 fn copy_of_a_revocable_token_is_written_alike(rt: HostRuntime) {
-    for text in ["{\"AccessToken\":\"a\"}", "{\"RefreshToken\":\"b\"}"] {
+    for text in [r#"{"AccessToken":"a"}"#, r#"{"RefreshToken":"b"}"#] {
         copy_is_kept::<StandardRevocableToken>(&rt, text);
     }
 }

@@ -10,7 +10,7 @@ use std::time::Duration;
 fn token_type_is_lowered_and_an_empty_scope_is_one_entry(rt: HostRuntime) {
     let token = read::<BasicTokenResponse>(
         &rt,
-        "{\"access_token\":\"t\",\"token_type\":\"BEARER\",\"scope\":\"\",\"expires_in\":null}",
+        r#"{"access_token":"t","token_type":"BEARER","scope":"","expires_in":null}"#,
     );
     assert!(rt; *token.token_type() == BasicTokenType::Bearer);
     assert!(rt; token.expires_in().is_none());
@@ -19,26 +19,30 @@ fn token_type_is_lowered_and_an_empty_scope_is_one_entry(rt: HostRuntime) {
     is_written_as(
         &rt,
         &token,
-        "{\"access_token\":\"t\",\"scope\":\"\",\"token_type\":\"bearer\"}",
+        r#"{"access_token":"t","scope":"","token_type":"bearer"}"#,
     );
 }
 
 #[test]
 fn first_fault_of_a_token_response(rt: HostRuntime) {
     for (body, member, cause) in [
-        ("{\"token_type\":null}", "access_token", ParseCause::Missing),
         (
-            "{\"access_token\":\"t\",\"token_type\":null}",
+            r#"{"token_type":null}"#,
+            "access_token",
+            ParseCause::Missing,
+        ),
+        (
+            r#"{"access_token":"t","token_type":null}"#,
             "token_type",
             ParseCause::WrongType,
         ),
         (
-            "{\"access_token\":\"t\",\"token_type\":\"x\",\"expires_in\":1.5}",
+            r#"{"access_token":"t","token_type":"x","expires_in":1.5}"#,
             "expires_in",
             ParseCause::NotWhole,
         ),
         (
-            "{\"access_token\":\"t\",\"token_type\":\"x\",\"expires_in\":-1}",
+            r#"{"access_token":"t","token_type":"x","expires_in":-1}"#,
             "expires_in",
             ParseCause::OutOfRange,
         ),
@@ -50,11 +54,11 @@ fn first_fault_of_a_token_response(rt: HostRuntime) {
 #[test]
 fn members_that_nobody_reads(rt: HostRuntime) {
     for (more, is_read) in [
-        ("{\"y\":[1,{\"z\":null}],\"y\":-0.5e3}", true),
+        (r#"{"y":[1,{"z":null}],"y":-0.5e3}"#, true),
         ("\"\\ud83d\\ude00\"", true),
         ("\"\\ud83d\"", false),
         ("1e999", false),
-        ("[{\"y\":-1e999}]", false),
+        (r#"[{"y":-1e999}]"#, false),
         ("01", false),
     ] {
         let body = format!(in rt.alloc();
@@ -74,7 +78,7 @@ fn members_that_nobody_reads(rt: HostRuntime) {
 #[test]
 fn copy_of_a_token_response_is_written_alike(rt: HostRuntime) {
     let written =
-        "{\"access_token\":\"t\",\"expires_in\":1,\"refresh_token\":\"r\",\"scope\":\"read write\",\"token_type\":\"bearer\"}";
+        r#"{"access_token":"t","expires_in":1,"refresh_token":"r","scope":"read write","token_type":"bearer"}"#;
     copy_is_kept::<BasicTokenResponse>(&rt, written);
 }
 
@@ -116,6 +120,6 @@ fn token_response_is_set(rt: HostRuntime) {
     is_written_as(
         &rt,
         &token,
-        "{\"access_token\":\"u\",\"refresh_token\":\"r\",\"scope\":\"read\",\"token_type\":\"bearer\"}",
+        r#"{"access_token":"u","refresh_token":"r","scope":"read","token_type":"bearer"}"#,
     );
 }

@@ -39,6 +39,7 @@ pub fn reread<EF: ExtraTokenFields + Drop, TT: TokenType + Drop>(
 pub fn fields_are_kept(fields: &ColorfulFields)
     ensures { AreFieldsKept fields_reading fields_seen (λ f. fields_writing (fields_seen f)) fields.now }
 {
+    // Read for the proof alone: a height is below 2^32.
     let _height = fields.height;
 }
 

@@ -2,21 +2,27 @@
 //! response and a kind of tokens to revoke.
 
 use crate::client::{
-    ColorfulClient, ColorfulErrorResponse, ColorfulTokenResponse, colorful_client, revocation,
-    token_for_code,
+    ColorfulClient, ColorfulErrorResponse, ColorfulIntrospectionResponse, ColorfulTokenResponse,
+    colorful_client, device_codes, introspection, revocation, revoke, token_for_code,
+    token_for_password, token_for_refresh_token, token_of_its_own,
 };
 use crate::colorful_error::ColorfulErrorResponseType;
+use crate::colorful_fields::ColorfulFields;
 use crate::colorful_token::ColorfulRevocableToken;
 use crate::colorful_token_type::ColorfulTokenType;
 use crate::custom_client::{custom_error_client, token_or_custom_error};
-use crate::kept::{reread, restored_token, stored_token};
+use crate::kept::{
+    codes_value, error_value, introspection_value, reread, restored_token, stored_token,
+};
 use oauth2::http::response::Parts;
 use oauth2::http::{Response, StatusCode};
 use oauth2::{
-    AuthorizationCode, ClientId, ClientSecret, DeviceAuthorizationUrl, HttpRequest, HttpResponse,
-    IntrospectionUrl, ParseCause, ReadError, RequestTokenError, RevocationUrl, SyncHttpClient,
-    TokenResponse, TokenUrl,
+    AccessToken, AuthorizationCode, ClientId, ClientSecret, DeviceAuthorizationResponse,
+    DeviceAuthorizationUrl, HttpRequest, HttpResponse, IntrospectionUrl, ParseCause, ReadError,
+    RefreshToken, RequestTokenError, ResourceOwnerPassword, ResourceOwnerUsername, RevocationUrl,
+    SyncHttpClient, TokenIntrospectionResponse, TokenResponse, TokenUrl,
 };
+use serde_json::Value;
 use std::fmt::{Debug, Display};
 use std::process::Abort;
 
@@ -77,6 +83,11 @@ fn reply(rt: &(impl Abort + AllocGlobal), status: u16, body: &str) -> HttpRespon
     Response::from_parts(head, body)
 }
 
+/// A client that hands out this reply, of status 200.
+fn answering(rt: &(impl Abort + AllocGlobal), body: &str) -> Replying {
+    Replying(Some(reply(rt, 200, body)))
+}
+
 fn is_displayed_as<T: Display>(rt: &(impl Abort + AllocGlobal), value: &T, wanted: &str) {
     let shown = format!(in rt.alloc(); "{value}").expect(rt, "a text");
     is_text(rt, shown.as_str(), wanted);
@@ -96,11 +107,14 @@ fn token(rt: &(impl Abort + AllocGlobal)) -> ColorfulTokenResponse {
     answer(rt, 200, TOKEN).expect(rt, "a token")
 }
 
-fn tells(rt: &(impl Abort + AllocGlobal), token: &ColorfulTokenResponse) {
-    assert!(rt; *token.token_type() == ColorfulTokenType::Green);
-    let fields = token.extra_fields();
+fn are_told(rt: &(impl Abort + AllocGlobal), fields: &ColorfulFields) {
     is_equal(rt, fields.height, 12);
     is_equal(rt, fields.shape.as_deref(), Some("round"));
+}
+
+fn tells(rt: &(impl Abort + AllocGlobal), token: &ColorfulTokenResponse) {
+    assert!(rt; *token.token_type() == ColorfulTokenType::Green);
+    are_told(rt, token.extra_fields());
 }
 
 #[test]
@@ -116,6 +130,17 @@ fn token_that_is_kept(rt: HostRuntime) {
     is_text(&rt, kept.as_str(), TOKEN);
     let restored = restored_token(rt.alloc(), kept.as_str()).expect(&rt, "a token");
     tells(&rt, &restored);
+}
+
+/// The smallest response of the Rust crate's tests.
+#[test]
+fn token_without_a_shape(rt: HostRuntime) {
+    let body = r#"{"access_token":"12/34","height":10,"token_type":"green"}"#;
+    let token = restored_token(rt.alloc(), body).expect(&rt, "a token");
+    is_equal(&rt, token.extra_fields().height, 10);
+    assert!(rt; token.extra_fields().shape.is_none());
+    let kept = stored_token(rt.alloc(), &token).expect(&rt, "a text");
+    is_text(&rt, kept.as_str(), body);
 }
 
 #[test]
@@ -209,4 +234,120 @@ fn revocation_of_a_red_token(rt: HostRuntime) {
         request,
         b"token=colorful_token_123&token_type_hint=red_token".as_slice(),
     );
+}
+
+/// The answer is the token above.
+fn is_token(rt: &(impl Abort + AllocGlobal), answer: Answer) {
+    let token = answer.expect(rt, "a token");
+    tells(rt, &token);
+}
+
+#[test]
+fn token_for_a_refresh_token(rt: HostRuntime) {
+    let answer = token_for_refresh_token(
+        rt.alloc(),
+        &client(&rt),
+        &mut answering(&rt, TOKEN),
+        &RefreshToken::new(text(&rt, "ccc")),
+    );
+    is_token(&rt, answer);
+}
+
+#[test]
+fn token_for_a_name_and_a_password(rt: HostRuntime) {
+    let answer = token_for_password(
+        rt.alloc(),
+        &client(&rt),
+        &mut answering(&rt, TOKEN),
+        &ResourceOwnerUsername::new(text(&rt, "user")),
+        &ResourceOwnerPassword::new(text(&rt, "pass")),
+    );
+    is_token(&rt, answer);
+}
+
+#[test]
+fn token_of_the_client(rt: HostRuntime) {
+    let answer = token_of_its_own(rt.alloc(), &client(&rt), &mut answering(&rt, TOKEN));
+    is_token(&rt, answer);
+}
+
+/// The value is written as this text.
+fn is_written_as(rt: &(impl Abort + AllocGlobal), value: Value, wanted: &str) {
+    let written = value.to_string(rt.alloc()).expect(rt, "a text");
+    is_text(rt, written.as_str(), wanted);
+}
+
+const ACTIVE: &str = r#"{"active":true,"height":12,"shape":"round","token_type":"green"}"#;
+
+fn introspected(rt: &(impl Abort + AllocGlobal)) -> ColorfulIntrospectionResponse {
+    introspection(
+        rt.alloc(),
+        &client(rt),
+        &mut answering(rt, ACTIVE),
+        &AccessToken::new(text(rt, "12/34")),
+    )
+    .expect(rt, "an introspection response")
+}
+
+#[test]
+fn introspection_with_a_color(rt: HostRuntime) {
+    let response = introspected(&rt);
+    assert!(rt; response.active());
+    assert!(rt; response.token_type() == Some(&ColorfulTokenType::Green));
+    are_told(&rt, response.extra_fields());
+}
+
+#[test]
+fn introspection_that_is_kept(rt: HostRuntime) {
+    let response = introspected(&rt);
+    let value = introspection_value(rt.alloc(), &response).expect(&rt, "a value");
+    is_written_as(&rt, value, ACTIVE);
+}
+
+const CODES: &str =
+    r#"{"device_code":"d","expires_in":300,"height":12,"interval":5,"shape":"round","user_code":"abcde","verification_uri":"https://v/"}"#;
+
+fn codes(rt: &(impl Abort + AllocGlobal)) -> DeviceAuthorizationResponse<ColorfulFields> {
+    device_codes(rt.alloc(), &client(rt), &mut answering(rt, CODES)).expect(rt, "the codes")
+}
+
+#[test]
+fn codes_of_a_device(rt: HostRuntime) {
+    let codes = codes(&rt);
+    is_text(&rt, codes.user_code().secret().as_str(), "abcde");
+    are_told(&rt, codes.extra_fields());
+}
+
+#[test]
+fn codes_that_are_kept(rt: HostRuntime) {
+    let codes = codes(&rt);
+    let value = codes_value(rt.alloc(), &codes).expect(&rt, "a value");
+    is_written_as(&rt, value, CODES);
+}
+
+#[test]
+fn error_that_is_kept(rt: HostRuntime) {
+    let description = Some(text(&rt, "color is too light"));
+    let error = ColorfulErrorResponse::new(ColorfulErrorResponseType::TooLight, description, None);
+    let value = error_value(rt.alloc(), &error).expect(&rt, "a value");
+    is_written_as(
+        &rt,
+        value,
+        r#"{"error":"too_light","error_description":"color is too light"}"#,
+    );
+}
+
+/// The revocation of a token at a server that replies with status 200.
+fn revoked(
+    rt: &(impl Abort + AllocGlobal),
+    client: &ColorfulClient,
+) -> Result<(), RequestTokenError<Spent, ColorfulErrorResponse>> {
+    let token = ColorfulRevocableToken(text(rt, "colorful_token_123"));
+    let request = revocation(rt.alloc(), client, token).expect(rt, "an endpoint");
+    revoke(rt.alloc(), request, &mut answering(rt, ""))
+}
+
+#[test]
+fn red_token_is_revoked(rt: HostRuntime) {
+    assert!(rt; revoked(&rt, &client(&rt)).is_ok());
 }

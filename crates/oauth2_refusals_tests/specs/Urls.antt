@@ -1,23 +1,10 @@
 -- The authorization URLs of the rows.
-use Rattle.std.specs.Prelude.{◌≡◌, ℕ, List, [], codes, Some, None}
+use Rattle.std.specs.Prelude.{◌≡◌, ℕ, List, Some}
 use Rattle.url.specs.Parts.{Parts}
 use Rattle.oauth2_urls.specs.Addressed.{Addressed}
 use Rattle.oauth2_requests.specs.Authorization.{Authorization, query_pairs}
 use Rattle.oauth2_requests.specs.Query.{ExtendsQuery}
 use Rattle.oauth2.specs.Settings.{Settings}
-
--- a request for a code, with nothing set (RFC 6749, section 4.1.1)
-abbrev pub plain : Settings → Addressed → List ℕ → Authorization
-plain client url state = record {
-  auth_url = url;
-  client_id = client.client_id;
-  state = state;
-  response_type = codes "code";
-  pkce_challenge = None;
-  redirect_url = client.redirect_url;
-  scopes = [];
-  extra_params = [];
-}
 
 -- the URL is that of the client's endpoint, extended by what such a request sends there, and the
 -- state is the request's

@@ -1,7 +1,8 @@
 //! The URLs that a client leads its users to.
 
 ghost use Rattle.std.specs.Prelude.{◌∷◌, [], Some, IfOk};
-ghost use Rattle.oauth2_refusals_tests.specs.Urls.{LeadsTo, plain};
+ghost use Rattle.oauth2.specs.NewRequest.{new_authorization};
+ghost use Rattle.oauth2_refusals_tests.specs.Urls.{LeadsTo};
 
 use crate::clients::RowClient;
 use oauth2::url::Url;
@@ -15,7 +16,7 @@ pub fn authorization_url(
     client: &RowClient,
     state: CsrfToken,
 ) -> Result<(Url, CsrfToken), Ended>
-    ensures { IfOk result (LeadsTo client.now (λ url. plain client.now url state)) }
+    ensures { IfOk result (LeadsTo client.now (λ url. new_authorization client.now url state)) }
 {
     let request = client.authorize_url(alloc, move || state);
     Ok(request.url(alloc)?)
@@ -29,7 +30,7 @@ pub fn scoped_url(
     scope: Scope,
 ) -> Result<(Url, CsrfToken), Ended>
     ensures { IfOk result (LeadsTo client.now (λ url.
-        record (plain client.now url state) { scopes = scope ∷ [] })) }
+        record (new_authorization client.now url state) { scopes = scope ∷ [] })) }
 {
     let request = client.authorize_url(alloc, move || state).add_scope(scope)?;
     Ok(request.url(alloc)?)
@@ -43,7 +44,7 @@ pub fn redirected_url(
     redirect: RedirectUrl,
 ) -> Result<(Url, CsrfToken), Ended>
     ensures { IfOk result (LeadsTo client.now (λ url.
-        record (plain client.now url state) { redirect_url = Some redirect })) }
+        record (new_authorization client.now url state) { redirect_url = Some redirect })) }
 {
     let request = client
         .authorize_url(alloc, move || state)
@@ -61,7 +62,7 @@ pub fn typed_url(
     value: &str,
 ) -> Result<(Url, CsrfToken), Ended>
     ensures { IfOk result (LeadsTo client.now (λ url.
-        record (plain client.now url state) {
+        record (new_authorization client.now url state) {
           response_type = response_type.now;
           extra_params = (name.now, value.now) ∷ [];
         })) }

@@ -2,13 +2,10 @@
 
 use crate::support::{is_equal, is_shown_as, is_text, text};
 use oauth2::{CsrfToken, PkceCodeChallenge, PkceCodeChallengeMethod, PkceCodeVerifier, TryClone};
-use oauth2_value_rows_tests::Repeated;
+use oauth2_value_rows_tests::{Repeated, VERIFIER};
 use std::process::Abort;
 
-/// The verifier of RFC 7636, appendix B.
-const VERIFIER: &str = "dBjftJeZ4CVP-mB92K27uhbUJU1p1r_wW1gFWFOEjXk";
-
-/// Its challenge.
+/// The challenge of RFC 7636, appendix B.
 const CHALLENGE: &str = "E9Melhoa2OwvFrEMTJguCHaoeK1t8URWbuGJSstw-cM";
 
 #[test]
