@@ -1,17 +1,18 @@
 //! Callers with contracts of their own.
 ghost use Rattle.std.specs.Prelude.{◌≡◌, ◌+◌, ◌/◌, ◌<◌, ◌≤◌, map, IfOk, Some, List};
 ghost use Rattle.std.specs.Duration.{as_nanos};
-ghost use Rattle.oauth2_poll.specs.Pacing.{ClockIsHonest, requests_in};
+ghost use Rattle.oauth2_poll.specs.Pacing.{ClockIsHonest, SleepsArePaced, requests_in};
 ghost use Rattle.oauth2_poll.specs.Run.{event_of};
 ghost use Rattle.oauth2_urls.specs.Addressed.{Addressed};
-ghost use Rattle.oauth2_device.specs.Events.{ClientLeads, EachRequest, Event};
-ghost use Rattle.oauth2_device.specs.Poll.{IsDeviceRequest};
+ghost use Rattle.oauth2_device.specs.DeviceToken.{seconds};
+ghost use Rattle.oauth2_device.specs.Events.{ClientLeads, EachRequest, Event, SleepLeads};
+ghost use Rattle.oauth2_device.specs.Poll.{IsDeviceRequest, device_answer, plain};
 ghost use Rattle.oauth2.specs.NewRequest.{new_device_token_request};
 
 use jiff::Timestamp;
 use oauth2::basic::{BasicClient, BasicTokenResponse};
 use oauth2::{
-    DeviceCodeErrorResponse, EndpointNotSet, EndpointSet, RequestTokenError,
+    DeviceCodeErrorResponse, EndpointNotSet, EndpointSet, FromJson, RequestTokenError,
     StandardDeviceAuthorizationResponse, SyncHttpClient,
 };
 use oauth2_poll::{DevicePoll, PollAnswer, PollRun, PollSettings};
@@ -45,7 +46,8 @@ pub type DeviceClient = BasicClient<
 >;
 
 /// The token of a device, by a clock and a sleep function of the caller's: the client is asked for
-/// this device's token and for nothing else.
+/// this device's token and for nothing else, and the sleep function is called for sleeps alone that
+/// the response's interval and the answers before them pace.
 pub fn device_token<C: SyncHttpClient, F: FnMut() -> Timestamp + Drop, S: FnMut(Duration)>(
     alloc: Global,
     client: &DeviceClient,
@@ -57,9 +59,15 @@ pub fn device_token<C: SyncHttpClient, F: FnMut() -> Timestamp + Drop, S: FnMut(
     requires client { C.is_ready http_client.old }
     requires clock { F.IsAlwaysCallable time_fn }
     requires sleep { S.IsAlwaysCallable sleep_fn.old }
-    ensures { (endpoint : Addressed) × (client.now.token_url ≡ Some endpoint) × (e : List (Event C.Error))
+    ensures poll { (endpoint : Addressed) × (client.now.token_url ≡ Some endpoint)
+        × (e : List (Event C.Error))
         × ClientLeads C.step http_client.old e http_client.new
-        × EachRequest (IsDeviceRequest (new_device_token_request client.now endpoint response.now)) e }
+        × SleepLeads (λ s d v. S.step s d tt v) sleep_fn.old e sleep_fn.new
+        × EachRequest
+        (IsDeviceRequest (new_device_token_request client.now endpoint response.now)) e
+        × SleepsArePaced (seconds response.now.interval) (seconds 10)
+        (plain (device_answer client.now.reply_rule ⟦<BasicTokenResponse as FromJson>⟧.reading) e) }
+    ensures sleep { S.IsAlwaysCallable sleep_fn.new }
 {
     client
         .exchange_device_access_token(alloc, response)

@@ -6,6 +6,8 @@ mod callers;
 #[cfg(test)]
 mod rule_tests;
 #[cfg(test)]
+mod support;
+#[cfg(test)]
 mod tests;
 #[cfg(test)]
 mod world_tests;

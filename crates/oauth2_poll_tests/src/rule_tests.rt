@@ -1,23 +1,14 @@
 //! Polls by the rule of their client for the Content-Type of a reply.
 
-use crate::callers::DeviceClient;
+use crate::support::{ENDPOINT, TWO_SECONDS, TokenResult, client, device, is_fault, moment};
 use jiff::Timestamp;
-use oauth2::basic::{BasicClient, BasicTokenResponse};
 use oauth2::http::header::CONTENT_TYPE;
 use oauth2::http::response::Parts;
 use oauth2::http::{HeaderValue, Response};
-use oauth2::{
-    ClientId, DeviceCodeErrorResponse, HttpRequest, HttpResponse, PollWorld, ReplyRule,
-    RequestTokenError, StandardDeviceAuthorizationResponse, TokenUrl, read_body,
-};
+use oauth2::{HttpRequest, HttpResponse, PollWorld, ReplyRule};
 use std::alloc::{AllocError, Global};
 use std::process::Abort;
 use std::time::Duration;
-
-type TokenResult = Result<
-    BasicTokenResponse,
-    RequestTokenError<AllocError, DeviceCodeErrorResponse>,
->;
 
 /// A world whose clock stands still and whose client answers `application/jsonfoo` with a token,
 /// and which counts its requests and sleeps.
@@ -55,30 +46,13 @@ impl PollWorld for JsonFoo {
     }
 }
 
-fn text(rt: &(impl Abort + AllocGlobal), text: &str) -> String {
-    String::from_str(rt.alloc(), text).expect(rt, "a text")
-}
-
-fn client(rt: &(impl Abort + AllocGlobal), rule: ReplyRule) -> DeviceClient {
-    let token_url = TokenUrl::new(rt.alloc(), text(rt, "https://example.com/token"));
-    BasicClient::new(ClientId::new(text(rt, "aaa")))
-        .set_reply_rule(rule)
-        .set_token_uri(token_url.expect(rt, "a URL"))
-}
-
-const DEVICE: &[u8] =
-    b"{\"device_code\":\"12345\",\"user_code\":\"abcde\",\"verification_uri\":\"https://verify/here\",\"expires_in\":2,\"interval\":1}";
-
 /// The result of a poll by this rule, which makes one request and does not sleep.
 fn polled(rt: &(impl Abort + AllocGlobal), rule: ReplyRule) -> TokenResult {
-    let client = client(rt, rule);
-    let device: StandardDeviceAuthorizationResponse = read_body(rt.alloc(), DEVICE).expect(
-        rt,
-        "a response",
-    );
+    let client = client(rt, ENDPOINT).set_reply_rule(rule);
+    let device = device(rt, TWO_SECONDS);
     let mut world = JsonFoo {
         alloc: rt.alloc(),
-        moment: Timestamp::from_second(0).expect(rt, "a timestamp"),
+        moment: moment(rt, 0),
         requests: 0,
         sleeps: 0,
     };
@@ -97,13 +71,7 @@ fn a_prefix_is_enough(rt: HostRuntime) {
 
 #[test]
 fn another_media_type_ends_it(rt: HostRuntime) {
-    match polled(&rt, ReplyRule::MediaType) {
-        Ok(_) => panic!(rt; "a token"),
-        Err(error) => {
-            let found = format!(in rt.alloc(); "{error}").expect(&rt, "a text");
-            let wanted =
-                "Other error: unexpected response Content-Type: \"application/jsonfoo\", should be `application/json`";
-            assert_eq!(rt; found.as_str(), wanted);
-        }
-    }
+    let wanted =
+        "Other error: unexpected response Content-Type: \"application/jsonfoo\", should be `application/json`";
+    is_fault(&rt, polled(&rt, ReplyRule::MediaType), wanted);
 }

@@ -1,3 +1,4 @@
+use crate::support::{moment, moments};
 use jiff::Timestamp;
 use oauth2_poll::{DevicePoll, PollAnswer, PollEnd, PollEvent, PollReady, PollSettings, PollStep};
 use std::process::Abort;
@@ -18,18 +19,6 @@ struct PollInput<'a> {
 
 fn secs(seconds: u64) -> Duration {
     Duration::from_secs(seconds)
-}
-
-fn moment(rt: &impl Abort, second: i64) -> Timestamp {
-    Timestamp::from_second(second).expect(rt, "a timestamp")
-}
-
-fn moments(rt: &(impl Abort + AllocGlobal), seconds: &[i64]) -> Vec<Timestamp> {
-    let mut moments = Vec::new(rt.alloc());
-    for second in seconds.iter() {
-        moments.push(moment(rt, *second)).expect(rt, "a list");
-    }
-    moments
 }
 
 /// The run does this and ends so.

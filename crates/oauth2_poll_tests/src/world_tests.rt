@@ -1,23 +1,16 @@
 //! Polls over a world that keeps what it saw, in one list.
 
-use crate::callers::{DeviceClient, device_token};
+use crate::callers::device_token;
+use crate::support::{
+    ENDPOINT, TWO_SECONDS, TokenResult, client, device, is_fault, moment, moments,
+};
 use jiff::Timestamp;
-use oauth2::basic::{BasicClient, BasicTokenResponse};
 use oauth2::http::response::Parts;
 use oauth2::http::{Response, StatusCode};
-use oauth2::{
-    ClientId, ClientSecret, DeviceCodeErrorResponse, FnClient, HttpRequest, HttpResponse,
-    ParamText, PollWorld, RequestTokenError, StandardDeviceAuthorizationResponse, TokenResponse,
-    TokenUrl, read_body,
-};
+use oauth2::{FnClient, HttpRequest, HttpResponse, ParamText, PollWorld, TokenResponse};
 use std::alloc::{AllocError, Global};
 use std::process::Abort;
 use std::time::Duration;
-
-type TokenResult = Result<
-    BasicTokenResponse,
-    RequestTokenError<AllocError, DeviceCodeErrorResponse>,
->;
 
 const PENDING: (u16, &str) = (400, "{\"error\":\"authorization_pending\"}");
 
@@ -92,29 +85,9 @@ impl PollWorld for Recorder<'_> {
     }
 }
 
-fn text(rt: &(impl Abort + AllocGlobal), text: &str) -> String {
-    String::from_str(rt.alloc(), text).expect(rt, "a text")
-}
-
-fn client(rt: &(impl Abort + AllocGlobal), token_url: &str) -> DeviceClient {
-    let token_url = TokenUrl::new(rt.alloc(), text(rt, token_url)).expect(rt, "a URL");
-    BasicClient::new(ClientId::new(text(rt, "aaa")))
-        .set_client_secret(ClientSecret::new(text(rt, "bbb")))
-        .set_token_uri(token_url)
-}
-
-/// The response to the device; its interval is one second.
-fn device(rt: &(impl Abort + AllocGlobal), body: &str) -> StandardDeviceAuthorizationResponse {
-    read_body(rt.alloc(), body.as_bytes()).expect(rt, "a response")
-}
-
-const TWO_SECONDS: &str =
-    "{\"device_code\":\"12345\",\"user_code\":\"abcde\",\"verification_uri\":\"https://verify/here\",\"expires_in\":2,\"interval\":1}";
-
+/// The same response, but for a code that is good as long as one can be.
 const LONGEST: &str =
     "{\"device_code\":\"12345\",\"user_code\":\"abcde\",\"verification_uri\":\"https://verify/here\",\"expires_in\":18446744073709551615,\"interval\":1}";
-
-const ENDPOINT: &str = "https://example.com/token";
 
 /// A poll: where, for which device, for how long, with which cap, how often at most, by which clock
 /// and replies.
@@ -127,18 +100,6 @@ struct Poll<'a> {
     max_polls: u64,
     readings: &'a [i64],
     replies: &'a [(u16, &'a str)],
-}
-
-fn moment(rt: &impl Abort, second: i64) -> Timestamp {
-    Timestamp::from_second(second).expect(rt, "a timestamp")
-}
-
-fn moments(rt: &(impl Abort + AllocGlobal), seconds: &[i64]) -> Vec<Timestamp> {
-    let mut moments = Vec::new(rt.alloc());
-    for second in seconds.iter() {
-        moments.push(moment(rt, *second)).expect(rt, "a list");
-    }
-    moments
 }
 
 /// The poll's result, whose world saw these events.
@@ -172,13 +133,7 @@ fn polled(rt: &(impl Abort + AllocGlobal), poll: Poll<'_>, seen: &[Seen]) -> Tok
 
 /// The poll fails with this text, after these events.
 fn fails(rt: &(impl Abort + AllocGlobal), poll: Poll<'_>, seen: &[Seen], wanted: &str) {
-    match polled(rt, poll, seen) {
-        Ok(_) => panic!(rt; "a token"),
-        Err(error) => {
-            let found = format!(in rt.alloc(); "{error}").expect(rt, "a text");
-            assert_eq!(rt; found.as_str(), wanted);
-        }
-    }
+    is_fault(rt, polled(rt, poll, seen), wanted);
 }
 
 const WAITING: Poll<'static> = Poll {
@@ -431,7 +386,7 @@ fn a_clock_is_read_as_often_as_the_trace_says(rt: HostRuntime) {
         time_fn,
         &mut sleep_fn,
     );
-    assert!(rt; result.is_err());
+    is_fault(&rt, result, EXPIRED);
     drop(http_client.into_inner());
     assert_eq!(rt; (readings, requests, sleeps, others), (4, 2, 2, 0));
 }

@@ -1,10 +1,11 @@
-//! Scopes and parameters of the caller's, in each kind of request that takes them.
+//! Scopes and parameters of the caller's, in each kind of request that takes them, and the URL of a
+//! login.
 
-use crate::every_request::{client, password, refresh_token, username};
+use crate::every_request::{WholeClient, client, password, refresh_token, username};
 use crate::support::{is_equal, is_text, text};
 use oauth2::{
-    CsrfToken, HttpRequest, PkceCodeChallenge, PkceCodeChallengeMethod, RedirectRef, RedirectUrl,
-    ResponseType, Scope,
+    AuthUrl, AuthorizationRequest, CsrfToken, HttpRequest, PkceCodeChallenge,
+    PkceCodeChallengeMethod, RedirectRef, RedirectUrl, ResponseType, Scope,
 };
 use std::process::Abort;
 
@@ -98,23 +99,30 @@ fn scopes_of_a_device(rt: HostRuntime) {
     has_body(&rt, request, "scope=a+b+c+d&x=y");
 }
 
+/// The login of this client.
+fn login<'a>(rt: &(impl Abort + AllocGlobal), client: &'a WholeClient) -> AuthorizationRequest<'a> {
+    let state = CsrfToken::new(text(rt, "csrf_token"));
+    client.authorize_url(rt.alloc(), move || state)
+}
+
+fn has_url(rt: &(impl Abort + AllocGlobal), login: AuthorizationRequest<'_>, wanted: &str) {
+    let (url, _) = login.url(rt.alloc()).expect(rt, "a URL");
+    is_text(rt, url.as_str(), wanted);
+}
+
 #[test]
 fn scopes_of_a_login(rt: HostRuntime) {
     let client = client(&rt, "aaa", "bbb");
-    let state = CsrfToken::new(text(&rt, "csrf_token"));
-    let (url, _) = client
-        .authorize_url(rt.alloc(), move || state)
+    let login = login(&rt, &client)
         .add_scope(scope(&rt, "a"))
         .expect(&rt, "a scope")
         .add_scopes(two_scopes(&rt))
         .expect(&rt, "two scopes")
         .add_extra_param("x".into(), "y".into())
-        .expect(&rt, "a parameter")
-        .url(rt.alloc())
-        .expect(&rt, "a URL");
-    is_text(
+        .expect(&rt, "a parameter");
+    has_url(
         &rt,
-        url.as_str(),
+        login,
         "https://example.com/auth?response_type=code&client_id=aaa&state=csrf_token&scope=a+b+c+d&x=y",
     );
 }
@@ -138,14 +146,61 @@ fn members_of_a_login(rt: HostRuntime) {
     let client = client(&rt, "aaa", "bbb");
     let redirect = RedirectUrl::new(rt.alloc(), text(&rt, "https://localhost/alternative"));
     let response_type = ResponseType::new(text(&rt, "code token"));
-    let state = CsrfToken::new(text(&rt, "csrf_token"));
-    let (url, _) = client
-        .authorize_url(rt.alloc(), move || state)
+    let login = login(&rt, &client)
         .set_response_type(rt.alloc(), &response_type)
         .expect(&rt, "a response type")
         .set_pkce_challenge(challenge(&rt))
-        .set_redirect_uri(RedirectRef::Owned(redirect.expect(&rt, "a URL")))
-        .url(rt.alloc())
-        .expect(&rt, "a URL");
-    is_text(&rt, url.as_str(), LOGIN);
+        .set_redirect_uri(RedirectRef::Owned(redirect.expect(&rt, "a URL")));
+    has_url(&rt, login, LOGIN);
+}
+
+#[test]
+fn fragment_of_an_endpoint(rt: HostRuntime) {
+    let endpoint = AuthUrl::new(rt.alloc(), text(&rt, "https://example.com/auth#x"));
+    let client = client(&rt, "aaa", "bbb").set_auth_uri(endpoint.expect(&rt, "a URL"));
+    has_url(
+        &rt,
+        login(&rt, &client),
+        "https://example.com/auth?response_type=code&client_id=aaa&state=csrf_token#x",
+    );
+}
+
+#[test]
+fn empty_scopes_of_a_login(rt: HostRuntime) {
+    let client = client(&rt, "aaa", "bbb");
+    let login = login(&rt, &client)
+        .add_scope(scope(&rt, ""))
+        .expect(&rt, "a scope")
+        .add_scope(scope(&rt, ""))
+        .expect(&rt, "a scope");
+    has_url(
+        &rt,
+        login,
+        "https://example.com/auth?response_type=code&client_id=aaa&state=csrf_token&scope=+",
+    );
+}
+
+#[test]
+fn second_state_of_a_login(rt: HostRuntime) {
+    let client = client(&rt, "aaa", "bbb");
+    let login = login(&rt, &client)
+        .add_extra_param("state".into(), "z".into())
+        .expect(&rt, "a parameter");
+    has_url(
+        &rt,
+        login,
+        "https://example.com/auth?response_type=code&client_id=aaa&state=csrf_token&state=z",
+    );
+}
+
+#[test]
+fn no_scopes_of_a_client(rt: HostRuntime) {
+    let client = client(&rt, "aaa", "bbb");
+    let request = client
+        .exchange_client_credentials(rt.alloc())
+        .add_scopes(Vec::new(rt.alloc()))
+        .expect(&rt, "no scopes")
+        .prepare_request(rt.alloc())
+        .expect(&rt, "a request");
+    has_body(&rt, request, "grant_type=client_credentials");
 }
