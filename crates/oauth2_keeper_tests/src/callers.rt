@@ -1,6 +1,6 @@
 //! A caller of the keeper.
 
-ghost use Rattle.std.specs.Prelude.{◌≡◌, IsTrue};
+ghost use Rattle.std.specs.Prelude.{◌≡◌, ◌++◌, IsTrue, IfOk, IsSomeAnd, codes, string_bytes};
 ghost use Rattle.oauth2_keeper.specs.Keeper.{is_good};
 
 use jiff::Timestamp;
@@ -19,8 +19,8 @@ pub type KeeperClient = BasicClient<
     EndpointSet,
 >;
 
-/// What to send as `Authorization` to a resource (RFC 6750, section 2.1). While the kept token is
-/// good, nothing is sent for it.
+/// What to send as `Authorization` to a resource (RFC 6750, section 2.1): the kept token, by the
+/// scheme `Bearer`. While it is good, nothing is sent for it.
 pub fn bearer<C: SyncHttpClient>(
     alloc: Global,
     keeper: &mut BasicTokenKeeper<'_>,
@@ -30,6 +30,8 @@ pub fn bearer<C: SyncHttpClient>(
 where
     C::Error: fmt::Debug,
     requires { C.is_ready http_client.old }
+    ensures text { IfOk result (λ text. IsSomeAnd keeper.new.token
+        (λ token. string_bytes text ≡ codes "Bearer " ++ token.access_token)) }
     ensures quiet { IsTrue (is_good keeper.old now.nanosecond)
         → (keeper.new ≡ keeper.old) × (http_client.new ≡ http_client.old) }
     ensures ready { C.is_ready http_client.new }

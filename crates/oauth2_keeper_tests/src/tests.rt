@@ -185,44 +185,44 @@ const OWN: &str = "grant_type=client_credentials";
 
 const HUNDRED_SECONDS: (u16, &str) = (
     200,
-    "{\"access_token\":\"t1\",\"token_type\":\"bearer\",\"expires_in\":100,\"refresh_token\":\"r1\"}",
+    r#"{"access_token":"t1","token_type":"bearer","expires_in":100,"refresh_token":"r1"}"#,
 );
 
-const NEITHER: (u16, &str) = (200, "{\"access_token\":\"t2\",\"token_type\":\"bearer\"}");
+const NEITHER: (u16, &str) = (200, r#"{"access_token":"t2","token_type":"bearer"}"#);
 
 const OF_NULL: (u16, &str) = (
     200,
-    "{\"access_token\":\"t3\",\"token_type\":\"bearer\",\"expires_in\":null,\"refresh_token\":null}",
+    r#"{"access_token":"t3","token_type":"bearer","expires_in":null,"refresh_token":null}"#,
 );
 
 const ONE_SECOND: (u16, &str) = (
     200,
-    "{\"access_token\":\"u1\",\"token_type\":\"bearer\",\"expires_in\":1}",
+    r#"{"access_token":"u1","token_type":"bearer","expires_in":1}"#,
 );
 
 const TEN_SECONDS: (u16, &str) = (
     200,
-    "{\"access_token\":\"u2\",\"token_type\":\"bearer\",\"expires_in\":10}",
+    r#"{"access_token":"u2","token_type":"bearer","expires_in":10}"#,
 );
 
 const NO_TIME: (u16, &str) = (
     200,
-    "{\"access_token\":\"u3\",\"token_type\":\"bearer\",\"expires_in\":0}",
+    r#"{"access_token":"u3","token_type":"bearer","expires_in":0}"#,
 );
 
 const FOREVER: (u16, &str) = (
     200,
-    "{\"access_token\":\"u4\",\"token_type\":\"bearer\",\"expires_in\":18446744073709551615}",
+    r#"{"access_token":"u4","token_type":"bearer","expires_in":18446744073709551615}"#,
 );
 
 const NO_REFRESH: (u16, &str) = (
     200,
-    "{\"access_token\":\"u5\",\"token_type\":\"bearer\",\"refresh_token\":\"\"}",
+    r#"{"access_token":"u5","token_type":"bearer","refresh_token":""}"#,
 );
 
-const REFUSED: (u16, &str) = (400, "{\"error\":\"invalid_grant\"}");
+const REFUSED: (u16, &str) = (400, r#"{"error":"invalid_grant"}"#);
 
-const UNREAD: (u16, &str) = (200, "{\"access_token\":\"u6\"}");
+const UNREAD: (u16, &str) = (200, r#"{"access_token":"u6"}"#);
 
 const INVALID_GRANT: &str = "Server returned error response: invalid_grant";
 
@@ -248,14 +248,16 @@ fn a_token_is_kept_refreshed_and_kept_after_a_fault(rt: HostRuntime) {
 }
 
 #[test]
-fn a_lifetime_ends(rt: HostRuntime) {
-    // No lifetime at all.
+fn no_lifetime_at_all(rt: HostRuntime) {
     does(
         &rt,
         replying(&[NO_TIME, NO_TIME]),
         &[asked(5, "u3"), kept(5, "u3"), asked(6, "u3")],
     );
-    // A lifetime to its last nanosecond.
+}
+
+#[test]
+fn a_lifetime_lasts_to_its_last_nanosecond(rt: HostRuntime) {
     does(
         &rt,
         replying(&[ONE_SECOND, TEN_SECONDS]),
@@ -267,7 +269,11 @@ fn a_lifetime_ends(rt: HostRuntime) {
             failed(12, OWN, "Request failed"),
         ],
     );
-    // The keeper's own, where the reply tells none, and not where it tells one of 0.
+}
+
+/// It is the keeper's own where the reply tells none, and not where it tells one of 0.
+#[test]
+fn a_lifetime_of_the_keeper(rt: HostRuntime) {
     let own = Run {
         life: seconds(60),
         ..replying(&[NEITHER, OF_NULL, NO_TIME, NO_TIME])
@@ -284,7 +290,10 @@ fn a_lifetime_ends(rt: HostRuntime) {
             asked(123, "u3"),
         ],
     );
-    // The keeper's own of 0.
+}
+
+#[test]
+fn a_lifetime_of_the_keeper_of_0(rt: HostRuntime) {
     does(
         &rt,
         replying(&[NEITHER, NEITHER]),
@@ -293,8 +302,7 @@ fn a_lifetime_ends(rt: HostRuntime) {
 }
 
 #[test]
-fn a_margin_is_left(rt: HostRuntime) {
-    // One nanosecond of margin.
+fn a_margin_of_one_nanosecond(rt: HostRuntime) {
     let one = Run {
         margin: Duration::from_nanos(1),
         ..replying(&[ONE_SECOND, ONE_SECOND])
@@ -308,7 +316,11 @@ fn a_margin_is_left(rt: HostRuntime) {
             asked(1, "u1"),
         ],
     );
-    // A margin of the whole lifetime, and one past it: the token is answered and asked for anew.
+}
+
+/// Of the whole lifetime, and past it: the token is answered and asked for anew.
+#[test]
+fn a_margin_of_the_whole_lifetime(rt: HostRuntime) {
     let whole = Run {
         margin: seconds(10),
         ..replying(&[TEN_SECONDS, TEN_SECONDS, NO_TIME, NO_TIME])
@@ -324,7 +336,11 @@ fn a_margin_is_left(rt: HostRuntime) {
             asked(1, "u3"),
         ],
     );
-    // The greatest margin passes the greatest lifetime by less than a second.
+}
+
+/// It passes the greatest lifetime by less than a second.
+#[test]
+fn the_greatest_margin(rt: HostRuntime) {
     let greatest = Run {
         margin: Duration::MAX,
         ..replying(&[FOREVER, FOREVER])
@@ -421,14 +437,16 @@ fn a_refresh_token_is_the_last_one_given(rt: HostRuntime) {
 }
 
 #[test]
-fn a_fault_changes_nothing(rt: HostRuntime) {
-    // No token yet.
+fn a_fault_before_any_token(rt: HostRuntime) {
     does(
         &rt,
         replying(&[REFUSED, NEITHER]),
         &[failed(0, OWN, INVALID_GRANT), asked(0, "t2")],
     );
-    // A refused refresh grant is not followed by another.
+}
+
+#[test]
+fn a_refused_refresh_grant_is_not_followed_by_another(rt: HostRuntime) {
     let refused = Run {
         refresh_token: Some("r0"),
         ..replying(&[REFUSED, NEITHER])
@@ -441,7 +459,11 @@ fn a_fault_changes_nothing(rt: HostRuntime) {
             refreshed(0, REFRESH_FIRST, "t2"),
         ],
     );
-    // A reply that does not read, an error of the client.
+}
+
+/// A reply that does not read, and an error of the client.
+#[test]
+fn a_fault_changes_nothing(rt: HostRuntime) {
     does(
         &rt,
         replying(&[HUNDRED_SECONDS, UNREAD]),
@@ -452,7 +474,10 @@ fn a_fault_changes_nothing(rt: HostRuntime) {
             kept(100, "t1"),
         ],
     );
-    // An endpoint to which nothing can be sent.
+}
+
+#[test]
+fn an_endpoint_to_which_nothing_can_be_sent(rt: HostRuntime) {
     let no_target = Run {
         token_url: "data:text/plain,hello",
         ..replying(&[NEITHER])
