@@ -28,12 +28,13 @@ use Rattle.oauth2_commands.specs.Out.{Output, after, failed, starved}
 use Rattle.oauth2_world.specs.Replies.{next_reply}
 use Rattle.oauth2_commands.specs.private.Added.{Prints as PrintsOutput, Adds}
 use Rattle.oauth2_world.specs.Replay.{ReplaysOrStarves, replied, replies_of}
-use Rattle.oauth2_commands.specs.private.Results.{TokenSeen, token_meaning, DeviceFault, poll_output}
+use Rattle.oauth2_commands.specs.private.Results.{TokenSeen, token_meaning}
 use Rattle.oauth2_world.specs.World.{Reads, Sends, Prints, Sleeps}
 use Rattle.oauth2_world.specs.declared.replay.NoReply.{NoReply}
 use Rattle.oauth2_commands.specs.declared.status.RunStatus.{RunStatus}
 use Rattle.oauth2_world.specs.declared.world.ScriptedWorld.{ScriptedWorld}
 use Rattle.oauth2_commands.proofs.Exchanges.{request_lines-expected, judged}
+use Rattle.oauth2_commands.proofs.Results.{DeviceFault, poll_output}
 
 -- what a reply says to the device
 abbrev says : ReplyRule → HttpResponse → Answer BasicToken DeviceError

@@ -1,31 +1,35 @@
 -- What a run shows of the result of a request.
-use Rattle.std.proofs.Common.{◌≡◌, ℕ, List, ◌++◌, Option, Some, None, Ok, Vec, codes, false, refl}
+use Rattle.std.proofs.Common.{◌≡◌, ℕ, List, ◌++◌, Option, Some, None, Result, Ok, Vec, codes, false, refl}
 use Rattle.std.specs.Prelude.{IfSome, IsOkAnd}
 use Rattle.std.specs.declared.alloc.Global.{Global}
 use Rattle.serde_json.specs.Data.{Data, string, object, no_members}
-use Rattle.serde_json.specs.Written.{has_float, compact_text}
+use Rattle.serde_json.specs.Written.{has_float}
 use Rattle.oauth2_codes.specs.Codes.{token_code, token_code_text}
 use Rattle.oauth2_codes.specs.ErrorCodes.{error_code, error_code_text, device_error_code, device_error_code_text, revocation_error_code, revocation_error_code_text}
 use Rattle.oauth2_codes.specs.ErrorResponse.{error_text, parts_of}
 use Rattle.oauth2_json.specs.Writing.{Writing}
 use Rattle.oauth2_json.specs.declared.read.ParseFault.{ParseFault}
+use Rattle.oauth2_codes.specs.declared.device_error.DeviceCodeErrorResponseType.{DeviceCodeErrorResponseType}
+use Rattle.oauth2_codes.specs.declared.error_response.StandardErrorResponse.{StandardErrorResponse}
 use Rattle.oauth2_codes.specs.declared.token_type.BasicTokenType.{BasicTokenType}
-use Rattle.oauth2_replies.specs.Device.{device_writing}
-use Rattle.oauth2_introspection.specs.Introspection.{introspection_writing}
+use Rattle.oauth2_replies.specs.Device.{DeviceAuthorization, device_seen, device_writing}
+use Rattle.oauth2_replies.specs.declared.device.EmptyExtraDeviceAuthorizationFields.{EmptyExtraDeviceAuthorizationFields}
+use Rattle.oauth2_introspection.specs.Introspection.{Introspection, introspection_seen, introspection_writing}
 use Rattle.oauth2_replies.specs.Token.{token_writing}
+use Rattle.oauth2_replies.specs.declared.token.EmptyExtraTokenFields.{EmptyExtraTokenFields}
 use Rattle.oauth2_wire.specs.Display.{configuration_text, fault_text}
 use Rattle.oauth2_wire.specs.declared.error.ConfigurationError.{ConfigurationError}
 use Rattle.oauth2_wire.specs.declared.error.ConfigurationError.TheVariants.{MissingUrl, InsecureUrl}
 use Rattle.oauth2_wire.specs.declared.error.RequestTokenError.{RequestTokenError}
 use Rattle.oauth2_wire.specs.declared.error.RequestTokenError.TheVariants.{ServerResponse, Request, Parse, Other, Memory}
 use Rattle.oauth2_commands.specs.Exchange.{token_data, token_json, error_display}
-use Rattle.oauth2_commands.specs.DeviceAuthorization.{device_data, device_json}
-use Rattle.oauth2_commands.specs.Introspect.{introspection_data, introspection_json}
+use Rattle.oauth2_commands.specs.DeviceAuthorization.{BasicDevice, device_data}
+use Rattle.oauth2_commands.specs.DevicePoll.{device_error_display}
+use Rattle.oauth2_commands.specs.Introspect.{BasicIntrospection, introspection_data}
+use Rattle.oauth2_commands.specs.Out.{Output}
 use Rattle.oauth2_world.specs.Lines.{fault_line}
 use Rattle.oauth2_commands.specs.private.Added.{Prints}
-use Rattle.oauth2_commands.specs.private.Results.{configuration_output, fault_output}
-use Rattle.oauth2_commands.specs.private.Results.{TokenSeen, token_meaning, token_text, IntrospectionSeen, introspection_meaning, introspection_text}
-use Rattle.oauth2_commands.specs.private.Results.{DeviceSeen, device_meaning, device_text, DeviceErrorResponse, device_error_seen}
+use Rattle.oauth2_commands.specs.private.Results.{configuration_output, end_output, fault_output, TokenSeen, token_meaning}
 use Rattle.oauth2_commands.specs.private.Results.{ErrorResponse, error_seen, RevocationErrorResponse, revocation_error_seen}
 use Rattle.oauth2_world.specs.declared.replay.NoReply.{NoReply}
 use Rattle.oauth2_commands.proofs.NoFloats.{token_data-no_float, device_data-no_float, introspection_data-no_float}
@@ -47,18 +51,44 @@ pub configuration_shown : (e : ConfigurationError) (shown old new : List ℕ) �
 configuration_shown (MissingUrl name) shown old new told printed = (rw (← told) printed, refl)
 configuration_shown (InsecureUrl name) shown old new told printed = (rw (← told) printed, refl)
 
+-- ---- the answers and the errors of a server that uses no extension
+
+abbrev pub DeviceSeen : Type 0
+DeviceSeen = DeviceAuthorization EmptyExtraDeviceAuthorizationFields
+
+abbrev pub device_meaning : DeviceSeen → BasicDevice
+device_meaning r = device_seen (λ _. tt) r
+
+abbrev pub IntrospectionSeen : Type 0
+IntrospectionSeen = Introspection EmptyExtraTokenFields BasicTokenType
+
+abbrev pub introspection_meaning : IntrospectionSeen → BasicIntrospection
+introspection_meaning r = introspection_seen (λ _. tt) token_code r
+
+abbrev pub DeviceErrorResponse : Type 0
+DeviceErrorResponse = StandardErrorResponse DeviceCodeErrorResponseType
+
+abbrev pub DeviceFault : Type 0
+DeviceFault = RequestTokenError NoReply DeviceErrorResponse
+
+abbrev pub device_error_seen : DeviceErrorResponse → List ℕ
+device_error_seen e = device_error_display (parts_of device_error_code e)
+
+abbrev pub poll_output : Result TokenSeen DeviceFault → Output
+poll_output result = end_output device_error_seen (λ t. token_json (token_meaning t)) result
+
 -- what is written of a response without extra fields
 abbrev token_written : TokenSeen → Writing
 token_written t = token_writing (λ _. Ok (object no_members)) (λ k. Ok (string (token_code_text (token_code k)))) t
 
-token_written-data : (t : TokenSeen) → token_written t ≡ Ok (token_data (token_meaning t))
+pub token_written-data : (t : TokenSeen) → token_written t ≡ Ok (token_data (token_meaning t))
 unfolding token_data
 token_written-data t = refl
 
 abbrev introspection_written : IntrospectionSeen → Writing
 introspection_written r = introspection_writing (λ _. Ok (object no_members)) (λ k. Ok (string (token_code_text (token_code k)))) r
 
-introspection_written-data : (r : IntrospectionSeen) → introspection_written r ≡ Ok (introspection_data (introspection_meaning r))
+pub introspection_written-data : (r : IntrospectionSeen) → introspection_written r ≡ Ok (introspection_data (introspection_meaning r))
 unfolding introspection_data
 introspection_written-data r = by_type r.token_type refl
   where
@@ -69,7 +99,7 @@ introspection_written-data r = by_type r.token_type refl
 abbrev device_written : DeviceSeen → Writing
 device_written r = device_writing (λ _. Ok (object no_members)) r
 
-device_written-data : (r : DeviceSeen) → device_written r ≡ Ok (device_data (device_meaning r))
+pub device_written-data : (r : DeviceSeen) → device_written r ≡ Ok (device_data (device_meaning r))
 unfolding device_data
 device_written-data r = refl
 
@@ -86,18 +116,6 @@ introspection_free r =
 
 pub device_free : (r : DeviceSeen) → IsOkAnd (device_written r) (λ d. has_float d ≡ false)
 device_free r = free_of (device_written r) (device_data (device_meaning r)) (device_written-data r) (device_data-no_float (device_meaning r))
-
-pub device_shown : (r : DeviceSeen) (s : List ℕ) → ((d : Data) → device_written r ≡ Ok d → s ≡ compact_text d) → s ≡ device_text r
-unfolding device_json
-device_shown r s shows = shows (device_data (device_meaning r)) (device_written-data r)
-
-pub token_shown : (t : TokenSeen) (s : List ℕ) → ((d : Data) → token_written t ≡ Ok d → s ≡ compact_text d) → s ≡ token_text t
-unfolding token_json
-token_shown t s shows = shows (token_data (token_meaning t)) (token_written-data t)
-
-pub introspection_shown : (r : IntrospectionSeen) (s : List ℕ) → ((d : Data) → introspection_written r ≡ Ok d → s ≡ compact_text d) → s ≡ introspection_text r
-unfolding introspection_json
-introspection_shown r s shows = shows (introspection_data (introspection_meaning r)) (introspection_written-data r)
 
 -- how the server's error is shown
 pub error_told : (e : ErrorResponse) → error_text (Some (error_code_text (error_code e.error))) (parts_of (λ t. t) e) ≡ Some (error_seen e)

@@ -1,4 +1,4 @@
--- The command `client_credentials`: the client asks for a token of its own.
+-- The command `client_credentials`: the client asks for a token of its own (RFC 6749, 4.4.2).
 use Rattle.std.specs.Prelude.{List, None}
 use Rattle.oauth2_urls.specs.Addressed.{Addressed}
 use Rattle.oauth2_wire.specs.Params.{with_scopes}

@@ -1,4 +1,4 @@
--- The command `code`: a code is exchanged for a token.
+-- The command `code`: a code is exchanged for a token (RFC 6749, 4.1.3).
 use Rattle.std.specs.Prelude.{List}
 use Rattle.oauth2_urls.specs.Addressed.{Addressed}
 use Rattle.oauth2.specs.NewRequest.{base_of}

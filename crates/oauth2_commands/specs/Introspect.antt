@@ -1,4 +1,4 @@
--- The command `introspect`: the server is asked what a token is worth (RFC 7662).
+-- The command `introspect`: the server is asked what a token is worth (RFC 7662, 2.1).
 use Rattle.std.specs.Prelude.{ℕ, List, option_map, codes}
 use Rattle.serde_json.specs.Data.{Data, string, object, no_members}
 use Rattle.serde_json.specs.Written.{compact_text}

@@ -1,4 +1,5 @@
--- The command `password`: the name and the password of a resource owner are exchanged for a token.
+-- The command `password`: the name and the password of a resource owner are exchanged for a token
+-- (RFC 6749, 4.3.2).
 use Rattle.std.specs.Prelude.{List, None}
 use Rattle.oauth2_urls.specs.Addressed.{Addressed}
 use Rattle.oauth2_wire.specs.Params.{with_scopes}

@@ -1,4 +1,4 @@
--- The command `refresh`: a refresh token is exchanged for a token.
+-- The command `refresh`: a refresh token is exchanged for a token (RFC 6749, section 6).
 use Rattle.std.specs.Prelude.{List, None}
 use Rattle.oauth2_urls.specs.Addressed.{Addressed}
 use Rattle.oauth2_wire.specs.Params.{with_scopes}

@@ -1,4 +1,4 @@
--- The command `revoke`: a token is revoked (RFC 7009).
+-- The command `revoke`: a token is revoked (RFC 7009, 2.1).
 use Rattle.std.specs.Prelude.{◌≡◌, ◌⊎◌, ℕ, List, ◌++◌, Some, codes}
 use Rattle.oauth2_codes.specs.ErrorCodes.{RevocationErrorCode, revocation_error_code_text, revocation_error_code_reading}
 use Rattle.oauth2_codes.specs.ErrorResponse.{ErrorParts, error_reading}

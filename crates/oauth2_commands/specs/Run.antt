@@ -39,6 +39,8 @@ abbrev pub IsScriptOutput : Option Script → Output → Type 0
 IsScriptOutput None o = o ≡ bad_script
 IsScriptOutput (Some s) o = IsCommandOutput (settings_of s.client) (new_clock s.readings) s.replies s.command o
 
--- a function of the input but for the target, which is the one that its URL's text has
+-- a function of the input but for the target, which is the one that its URL's text has, and for
+-- where memory runs out inside a call of the client: before a request is made, behind it, or behind
+-- any beginning of a poll; the answer of that call is then `starved`
 unfoldable pub IsOutputOf : List ℕ → Output → Type 0
 IsOutputOf input o = IsScriptOutput (script_in input) o

@@ -6,18 +6,12 @@ ghost use Rattle.serde_json.specs.Written.{compact_text, has_float};
 ghost use Rattle.oauth2_commands.specs.Exchange.{cause_name, unread_line};
 ghost use Rattle.oauth2_world.specs.Lines.{line};
 ghost use Rattle.oauth2_commands.specs.private.Added.{Prints};
-ghost use Rattle.oauth2_commands.specs.private.Results.{token_output, introspection_output, revocation_output};
-ghost use Rattle.oauth2_commands.specs.private.Results.{device_authorization_output, poll_output};
-ghost use Rattle.oauth2_commands.specs.private.Results.{configuration_output, fault_output};
+ghost use Rattle.oauth2_commands.specs.private.Results.{configuration_output, end_output, fault_output, revocation_output};
 
 use crate::status::RunStatus;
-use oauth2::basic::{
-    BasicErrorResponse, BasicRevocationErrorResponse, BasicTokenIntrospectionResponse,
-    BasicTokenResponse,
-};
+use oauth2::basic::{BasicErrorResponse, BasicRevocationErrorResponse};
 use oauth2::{
-    ConfigurationError, DeviceCodeErrorResponse, ParseCause, ParseFault, RequestTokenError,
-    StandardDeviceAuthorizationResponse, ToJson, WriteError, compact,
+    ConfigurationError, ParseCause, ParseFault, RequestTokenError, ToJson, WriteError, compact,
 };
 use oauth2_world::{NoReply, print_answer, print_fault, quoted};
 use std::alloc::{AllocError, Global};
@@ -25,9 +19,6 @@ use std::fmt::Display;
 
 /// Why a run has no answer of the server.
 pub type Fault = RequestTokenError<NoReply, BasicErrorResponse>;
-
-/// Why a poll gave no token.
-pub type DeviceFault = RequestTokenError<NoReply, DeviceCodeErrorResponse>;
 
 /// Why a token is not revoked.
 pub type RevocationFault = RequestTokenError<NoReply, BasicRevocationErrorResponse>;
@@ -126,75 +117,21 @@ fn json_of<T: ToJson>(alloc: Global, value: &T) -> Result<String, AllocError>
     }
 }
 
-/// The end of a request for a token.
-pub fn show_token(
+/// The end of a request, whose answer is written without a fault and holds no float.
+pub fn show_end<A: ToJson, T: Display>(
     alloc: Global,
     lines: &mut String,
-    end: &Result<BasicTokenResponse, Fault>,
+    end: &Result<A, RequestTokenError<NoReply, T>>,
 ) -> Result<RunStatus, AllocError>
-    ensures { IfOk result (λ status. Prints (string_bytes lines.old) (string_bytes lines.new) status
-        (token_output end.now)) }
+    requires { (a : A) → IsOkAnd (A.writing a) (λ d. has_float d ≡ false) }
+    ensures { IfOk result (λ status. (value : A → Data) → ((a : A) → A.writing a ≡ Ok (value a))
+        → (text : T → List ℕ) → ((e : T) → T.output e ≡ Some (text e))
+        → Prints (string_bytes lines.old) (string_bytes lines.new) status
+        (end_output text (λ a. compact_text (value a)) end.now)) }
 {
     match end {
-        Ok(token) => {
-            let json = json_of(alloc, token)?;
-            print_answer(lines, json.as_str())?;
-            Ok(RunStatus::Answered)
-        }
-        Err(fault) => show_fault(alloc, lines, fault),
-    }
-}
-
-/// The end of a device's request for its codes.
-pub fn show_device_authorization(
-    alloc: Global,
-    lines: &mut String,
-    end: &Result<StandardDeviceAuthorizationResponse, Fault>,
-) -> Result<RunStatus, AllocError>
-    ensures { IfOk result (λ status. Prints (string_bytes lines.old) (string_bytes lines.new) status
-        (device_authorization_output end.now)) }
-{
-    match end {
-        Ok(device) => {
-            let json = json_of(alloc, device)?;
-            print_answer(lines, json.as_str())?;
-            Ok(RunStatus::Answered)
-        }
-        Err(fault) => show_fault(alloc, lines, fault),
-    }
-}
-
-/// The end of a poll for a device's token.
-pub fn show_poll(
-    alloc: Global,
-    lines: &mut String,
-    end: &Result<BasicTokenResponse, DeviceFault>,
-) -> Result<RunStatus, AllocError>
-    ensures { IfOk result (λ status. Prints (string_bytes lines.old) (string_bytes lines.new) status
-        (poll_output end.now)) }
-{
-    match end {
-        Ok(token) => {
-            let json = json_of(alloc, token)?;
-            print_answer(lines, json.as_str())?;
-            Ok(RunStatus::Answered)
-        }
-        Err(fault) => show_fault(alloc, lines, fault),
-    }
-}
-
-/// The end of an introspection.
-pub fn show_introspection(
-    alloc: Global,
-    lines: &mut String,
-    end: &Result<BasicTokenIntrospectionResponse, Fault>,
-) -> Result<RunStatus, AllocError>
-    ensures { IfOk result (λ status. Prints (string_bytes lines.old) (string_bytes lines.new) status
-        (introspection_output end.now)) }
-{
-    match end {
-        Ok(response) => {
-            let json = json_of(alloc, response)?;
+        Ok(answer) => {
+            let json = json_of(alloc, answer)?;
             print_answer(lines, json.as_str())?;
             Ok(RunStatus::Answered)
         }

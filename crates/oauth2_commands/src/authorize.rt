@@ -1,7 +1,6 @@
 //! The command `authorize`: the URL to send a user to.
 
-ghost use Rattle.std.specs.Prelude.{◌≡◌, ◌++◌, Some, IfSome, IfNone, IsOkAnd, IsErrAnd, OnOk, IfOk, codes, map, unwrap_or, string_bytes};
-ghost use Rattle.oauth2_wire.specs.ServerView.{pair_texts};
+ghost use Rattle.std.specs.Prelude.{◌≡◌, ◌++◌, Some, IfSome, IfNone, IsOkAnd, IsErrAnd, OnOk, IfOk, codes, unwrap_or, string_bytes};
 ghost use Rattle.oauth2_wire.specs.ConfigurationError.{IsMissingUrl};
 ghost use Rattle.oauth2_commands.specs.Authorize as spec;
 ghost use Rattle.oauth2.specs.NewRequest.{new_authorization};
@@ -11,6 +10,7 @@ ghost use Rattle.oauth2_script.specs.Views.{authorize_view};
 
 use crate::answer::show_configuration_error;
 use crate::client::ScriptClient;
+use crate::extra::{Extensible, with_extra};
 use crate::status::RunStatus;
 use oauth2::{
     AuthorizationRequest, ConfigurationError, CsrfToken, ParamText, PkceCodeChallenge, RedirectRef,
@@ -19,6 +19,26 @@ use oauth2::{
 use oauth2_script::AuthorizeParams;
 use oauth2_world::{print_answer, quoted};
 use std::alloc::{AllocError, Global};
+
+impl<'a> Extensible<'a> for AuthorizationRequest<'a> {
+    ghost use Rattle.std.proofs.Common.{List, ◌++◌, ap, append-nil, append_assoc};
+    ghost use Rattle.oauth2_wire.specs.Pairs.{Pair};
+
+    ghost extended = { λ r added. record r { extra_params = r.extra_params ++ added } };
+
+    ghost none = { λ r. ap (λ (pairs : List Pair). record r { extra_params = pairs }) (append-nil r.extra_params) };
+
+    ghost more = { λ r p q. ap (λ (pairs : List Pair). record r { extra_params = pairs })
+        (append_assoc r.extra_params p q) };
+
+    fn with_pair(
+        self,
+        name: &'a str,
+        value: &'a str,
+    ) -> Result<AuthorizationRequest<'a>, AllocError> {
+        self.add_extra_param(ParamText::Borrowed(name), ParamText::Borrowed(value))
+    }
+}
 
 fn start<'a>(
     alloc: Global,
@@ -68,24 +88,6 @@ fn with_response_type<'a>(
         Some(response_type) => request.set_response_type(alloc, &response_type),
         None => Ok(request),
     }
-}
-
-fn with_extra<'a>(
-    request: AuthorizationRequest<'a>,
-    extra: &'a [(String, String)],
-) -> Result<AuthorizationRequest<'a>, AllocError>
-    ensures { IfOk result (λ r. r ≡ record request.entry {
-      extra_params = request.entry.extra_params ++ map pair_texts extra.now;
-    }) }
-{
-    let mut request = request;
-    for (name, value) in extra {
-        request = request.add_extra_param(
-            ParamText::Borrowed(name.as_str()),
-            ParamText::Borrowed(value.as_str()),
-        )?;
-    }
-    Ok(request)
 }
 
 #[tactic(auto, unfolding(crate::specs::Authorize::url_line))]

@@ -7,12 +7,12 @@ ghost use Rattle.oauth2_commands.specs.private.Added.{Adds};
 ghost use Rattle.oauth2_world.specs.Replay.{replies_of};
 ghost use Rattle.oauth2_script.specs.Views.{device_authorization_view};
 
-use crate::answer::{show_configuration_error, show_device_authorization};
+use crate::answer::{Fault, show_configuration_error, show_end};
 use crate::client::ScriptClient;
 use crate::extra::{Extensible, with_extra};
 use crate::status::RunStatus;
 use oauth2::basic::BasicErrorResponse;
-use oauth2::{DeviceAuthorizationRequest, ParamText};
+use oauth2::{DeviceAuthorizationRequest, ParamText, StandardDeviceAuthorizationResponse};
 use oauth2_script::DeviceAuthorizationParams;
 use oauth2_world::ScriptedClient;
 use std::alloc::{AllocError, Global};
@@ -51,8 +51,11 @@ fn ask(
         (device_authorization_configuration request.entry)
         request.entry.device_authorization_url (replies_of http_client.old))) }
 {
-    let end = request.request(alloc, http_client);
-    show_device_authorization(alloc, &mut http_client.lines, &end)
+    let end: Result<StandardDeviceAuthorizationResponse, Fault> = request.request(
+        alloc,
+        http_client,
+    );
+    show_end(alloc, &mut http_client.lines, &end)
 }
 
 /// Asks for a device's codes, and shows what came of it.

@@ -9,7 +9,7 @@ ghost use Rattle.oauth2_commands.specs.private.Added.{Adds};
 ghost use Rattle.oauth2_world.specs.Replay.{replies_of};
 ghost use Rattle.oauth2_script.specs.Views.{device_poll_view};
 
-use crate::answer::{show_configuration_error, show_poll};
+use crate::answer::{show_configuration_error, show_end};
 use crate::client::ScriptClient;
 use crate::extra::{Extensible, with_extra};
 use crate::status::RunStatus;
@@ -69,7 +69,7 @@ fn poll(
         (non_zero_u64_get max_polls) world.old.clock (replies_of world.old.http_client))) }
 {
     let end = request.poll_with(alloc, world, timeout, max_polls.get());
-    show_poll(alloc, &mut world.http_client.lines, &end)
+    show_end(alloc, &mut world.http_client.lines, &end)
 }
 
 /// Polls for a device's token, and shows what came of it.

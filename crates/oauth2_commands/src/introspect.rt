@@ -8,7 +8,7 @@ ghost use Rattle.oauth2_commands.specs.private.Added.{Adds};
 ghost use Rattle.oauth2_world.specs.Replay.{replies_of};
 ghost use Rattle.oauth2_script.specs.Views.{introspect_view};
 
-use crate::answer::{show_configuration_error, show_introspection};
+use crate::answer::{show_configuration_error, show_end};
 use crate::client::ScriptClient;
 use crate::extra::{Extensible, with_extra};
 use crate::status::RunStatus;
@@ -63,7 +63,7 @@ fn ask(
         request.entry.introspection_url (replies_of http_client.old))) }
 {
     let end = request.request(alloc, http_client);
-    show_introspection(alloc, &mut http_client.lines, &end)
+    show_end(alloc, &mut http_client.lines, &end)
 }
 
 /// Asks what a token is worth, and shows what came of it.

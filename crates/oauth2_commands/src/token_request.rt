@@ -5,7 +5,7 @@ ghost use Rattle.oauth2_commands.specs.Exchange.{IsTokenExchange};
 ghost use Rattle.oauth2_commands.specs.private.Added.{Adds};
 ghost use Rattle.oauth2_world.specs.Replay.{replies_of};
 
-use crate::answer::{Fault, show_token};
+use crate::answer::{Fault, show_end};
 use crate::status::RunStatus;
 use oauth2::basic::BasicTokenResponse;
 use oauth2_world::ScriptedClient;
@@ -43,5 +43,5 @@ pub fn exchange<T: TokenRequest + Drop>(
         (IsTokenExchange (T.reply_rule request) (T.configuration request) (T.endpoint request) (replies_of http_client.old))) }
 {
     let end = request.send(alloc, http_client);
-    show_token(alloc, &mut http_client.lines, &end)
+    show_end(alloc, &mut http_client.lines, &end)
 }

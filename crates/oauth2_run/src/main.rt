@@ -1,4 +1,4 @@
-// Runs one command of a JSON script, with a client that answers from the script.
+//! Runs one command of a JSON script, with a client that answers from the script.
 #![tactic(auto)]
 
 mod exit;

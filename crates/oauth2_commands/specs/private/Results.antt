@@ -1,17 +1,13 @@
 -- What a run shows of the result of a request.
 use Rattle.std.specs.Prelude.{ℕ, List, Result, Ok, Err, string_bytes, codes}
 use Rattle.oauth2_codes.specs.Codes.{token_code}
-use Rattle.oauth2_codes.specs.ErrorCodes.{error_code, error_code_text, device_error_code, revocation_error_code, revocation_error_code_text}
+use Rattle.oauth2_codes.specs.ErrorCodes.{error_code, error_code_text, revocation_error_code, revocation_error_code_text}
 use Rattle.oauth2_codes.specs.ErrorResponse.{parts_of}
 use Rattle.oauth2_json.specs.Reading.{fault_of}
 use Rattle.oauth2_codes.specs.declared.basic_error.BasicErrorResponseType.{BasicErrorResponseType}
-use Rattle.oauth2_codes.specs.declared.device_error.DeviceCodeErrorResponseType.{DeviceCodeErrorResponseType}
 use Rattle.oauth2_codes.specs.declared.error_response.StandardErrorResponse.{StandardErrorResponse}
 use Rattle.oauth2_codes.specs.declared.revocation_error.RevocationErrorResponseType.{RevocationErrorResponseType}
 use Rattle.oauth2_codes.specs.declared.token_type.BasicTokenType.{BasicTokenType}
-use Rattle.oauth2_replies.specs.Device.{DeviceAuthorization, device_seen}
-use Rattle.oauth2_replies.specs.declared.device.EmptyExtraDeviceAuthorizationFields.{EmptyExtraDeviceAuthorizationFields}
-use Rattle.oauth2_introspection.specs.Introspection.{Introspection, introspection_seen}
 use Rattle.oauth2_replies.specs.Token.{Token, token_seen}
 use Rattle.oauth2_replies.specs.declared.token.EmptyExtraTokenFields.{EmptyExtraTokenFields}
 use Rattle.oauth2_wire.specs.declared.error.ConfigurationError.{ConfigurationError}
@@ -19,10 +15,7 @@ use Rattle.oauth2_wire.specs.declared.error.ConfigurationError.TheVariants.{Miss
 use Rattle.oauth2_wire.specs.declared.error.RequestTokenError.{RequestTokenError}
 use Rattle.oauth2_wire.specs.declared.error.RequestTokenError.TheVariants.{ServerResponse, Request, Parse, Other, Memory}
 use Rattle.oauth2_commands.specs.Client.{missing}
-use Rattle.oauth2_commands.specs.DeviceAuthorization.{BasicDevice, device_json}
-use Rattle.oauth2_commands.specs.DevicePoll.{device_error_display}
-use Rattle.oauth2_commands.specs.Exchange.{BasicToken, not_read, refused_text, other_text, token_json, error_display}
-use Rattle.oauth2_commands.specs.Introspect.{BasicIntrospection, introspection_json}
+use Rattle.oauth2_commands.specs.Exchange.{BasicToken, not_read, refused_text, other_text, error_display}
 use Rattle.oauth2_commands.specs.Revoke.{insecure}
 use Rattle.oauth2_commands.specs.Out.{Output, answered, failed, starved}
 use Rattle.oauth2_world.specs.declared.replay.NoReply.{NoReply}
@@ -36,6 +29,7 @@ module _ {T : Type 0} (text : T → List ℕ) where
   fault_output (Other given) = failed (other_text (string_bytes given))
   fault_output (Memory sent) = starved
 
+  -- the end of a request, where an answer is shown as `json`
   abbrev pub end_output : {D : Type 0} → (D → List ℕ) → Result D (RequestTokenError NoReply T) → Output
   end_output json (Ok answer) = answered (json answer)
   end_output json (Err fault) = fault_output fault
@@ -56,48 +50,6 @@ TokenSeen = Token EmptyExtraTokenFields BasicTokenType
 
 abbrev pub token_meaning : TokenSeen → BasicToken
 token_meaning t = token_seen (λ _. tt) token_code t
-
-abbrev pub token_text : TokenSeen → List ℕ
-token_text t = token_json (token_meaning t)
-
-abbrev pub token_output : Result TokenSeen Fault → Output
-token_output result = end_output error_seen token_text result
-
-abbrev pub DeviceSeen : Type 0
-DeviceSeen = DeviceAuthorization EmptyExtraDeviceAuthorizationFields
-
-abbrev pub device_meaning : DeviceSeen → BasicDevice
-device_meaning r = device_seen (λ _. tt) r
-
-abbrev pub device_text : DeviceSeen → List ℕ
-device_text r = device_json (device_meaning r)
-
-abbrev pub device_authorization_output : Result DeviceSeen Fault → Output
-device_authorization_output result = end_output error_seen device_text result
-
-abbrev pub DeviceErrorResponse : Type 0
-DeviceErrorResponse = StandardErrorResponse DeviceCodeErrorResponseType
-
-abbrev pub DeviceFault : Type 0
-DeviceFault = RequestTokenError NoReply DeviceErrorResponse
-
-abbrev pub device_error_seen : DeviceErrorResponse → List ℕ
-device_error_seen e = device_error_display (parts_of device_error_code e)
-
-abbrev pub poll_output : Result TokenSeen DeviceFault → Output
-poll_output result = end_output device_error_seen token_text result
-
-abbrev pub IntrospectionSeen : Type 0
-IntrospectionSeen = Introspection EmptyExtraTokenFields BasicTokenType
-
-abbrev pub introspection_meaning : IntrospectionSeen → BasicIntrospection
-introspection_meaning r = introspection_seen (λ _. tt) token_code r
-
-abbrev pub introspection_text : IntrospectionSeen → List ℕ
-introspection_text r = introspection_json (introspection_meaning r)
-
-abbrev pub introspection_output : Result IntrospectionSeen Fault → Output
-introspection_output result = end_output error_seen introspection_text result
 
 abbrev pub RevocationErrorResponse : Type 0
 RevocationErrorResponse = StandardErrorResponse RevocationErrorResponseType
