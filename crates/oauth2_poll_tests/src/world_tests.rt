@@ -102,11 +102,27 @@ struct Poll<'a> {
     replies: &'a [(u16, &'a str)],
 }
 
+/// The poll's result in this world.
+fn polled_in(
+    rt: &(impl Abort + AllocGlobal),
+    poll: Poll<'_>,
+    world: &mut Recorder<'_>,
+) -> TokenResult {
+    assert!(rt; 0 < poll.max_polls);
+    let device = device(rt, poll.device);
+    client(rt, poll.token_url)
+        .exchange_device_access_token(rt.alloc(), &device)
+        .set_max_backoff_interval(Duration::from_secs(poll.cap))
+        .poll_with(
+            rt.alloc(),
+            world,
+            poll.timeout.map(Duration::from_secs),
+            poll.max_polls,
+        )
+}
+
 /// The poll's result, whose world saw these events.
 fn polled(rt: &(impl Abort + AllocGlobal), poll: Poll<'_>, seen: &[Seen]) -> TokenResult {
-    assert!(rt; 0 < poll.max_polls);
-    let client = client(rt, poll.token_url);
-    let device = device(rt, poll.device);
     let readings = moments(rt, poll.readings);
     let mut world = Recorder {
         alloc: rt.alloc(),
@@ -117,15 +133,7 @@ fn polled(rt: &(impl Abort + AllocGlobal), poll: Poll<'_>, seen: &[Seen]) -> Tok
         seen: Vec::new(rt.alloc()),
         is_whole: true,
     };
-    let result = client
-        .exchange_device_access_token(rt.alloc(), &device)
-        .set_max_backoff_interval(Duration::from_secs(poll.cap))
-        .poll_with(
-            rt.alloc(),
-            &mut world,
-            poll.timeout.map(Duration::from_secs),
-            poll.max_polls,
-        );
+    let result = polled_in(rt, poll, &mut world);
     assert!(rt; world.is_whole);
     assert!(rt; world.seen.as_slice() == seen);
     result
@@ -152,16 +160,20 @@ const EXPIRED: &str =
 const NO_TARGET: &str =
     "Other error: failed to prepare request: endpoint URL is not an HTTP target";
 
-#[test]
-fn a_request_bears_the_grant_and_the_code(rt: HostRuntime) {
-    let client = client(&rt, ENDPOINT);
-    let device = device(&rt, TWO_SECONDS);
-    let request = client
+/// The request of a device for its token, with a parameter.
+fn device_request(rt: &(impl Abort + AllocGlobal)) -> HttpRequest {
+    let device = device(rt, TWO_SECONDS);
+    client(rt, ENDPOINT)
         .exchange_device_access_token(rt.alloc(), &device)
         .add_extra_param(ParamText::from("foo"), ParamText::from("bar"))
-        .expect(&rt, "a request")
+        .expect(rt, "a parameter")
         .prepare_request(rt.alloc())
-        .expect(&rt, "a request");
+        .expect(rt, "a request")
+}
+
+#[test]
+fn a_request_bears_the_grant_and_the_code(rt: HostRuntime) {
+    let request = device_request(&rt);
     let wanted: &[u8] =
         b"grant_type=urn%3Aietf%3Aparams%3Aoauth%3Agrant-type%3Adevice_code&device_code=12345&foo=bar";
     assert!(rt; request.body().as_slice() == wanted);
