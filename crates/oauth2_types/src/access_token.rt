@@ -22,6 +22,7 @@ impl Model for AccessToken {
 }
 
 impl AccessToken {
+    /// Takes any text, as it is: none is checked.
     pub fn new(secret: String) -> AccessToken
         ensures { result ≡ string_bytes secret }
     {

@@ -22,6 +22,7 @@ impl Model for AuthorizationCode {
 }
 
 impl AuthorizationCode {
+    /// Takes any text, as it is: none is checked.
     pub fn new(secret: String) -> AuthorizationCode
         ensures { result ≡ string_bytes secret }
     {

@@ -23,6 +23,7 @@ impl Model for ClientId {
 }
 
 impl ClientId {
+    /// Takes any text, as it is: none is checked.
     pub fn new(text: String) -> ClientId
         ensures { result ≡ string_bytes text }
     {

@@ -22,6 +22,7 @@ impl Model for ClientSecret {
 }
 
 impl ClientSecret {
+    /// Takes any text, as it is: none is checked.
     pub fn new(secret: String) -> ClientSecret
         ensures { result ≡ string_bytes secret }
     {

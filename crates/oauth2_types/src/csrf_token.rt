@@ -25,6 +25,7 @@ impl Model for CsrfToken {
 }
 
 impl CsrfToken {
+    /// Takes any text, as it is: none is checked.
     pub fn new(secret: String) -> CsrfToken
         ensures { result ≡ string_bytes secret }
     {

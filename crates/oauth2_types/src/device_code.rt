@@ -22,6 +22,7 @@ impl Model for DeviceCode {
 }
 
 impl DeviceCode {
+    /// Takes any text, as it is: none is checked.
     pub fn new(secret: String) -> DeviceCode
         ensures { result ≡ string_bytes secret }
     {

@@ -23,6 +23,7 @@ impl Model for PkceCodeChallengeMethod {
 }
 
 impl PkceCodeChallengeMethod {
+    /// Takes any text, as it is: none is checked.
     pub fn new(text: String) -> PkceCodeChallengeMethod
         ensures { result ≡ string_bytes text }
     {

@@ -21,6 +21,7 @@ impl Model for PkceCodeVerifier {
 }
 
 impl PkceCodeVerifier {
+    /// Takes any text, as it is; whether its length is valid, `has_valid_length` tells.
     pub fn new(secret: String) -> PkceCodeVerifier
         ensures { result ≡ string_bytes secret }
     {

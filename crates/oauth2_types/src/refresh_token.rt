@@ -22,6 +22,7 @@ impl Model for RefreshToken {
 }
 
 impl RefreshToken {
+    /// Takes any text, as it is: none is checked.
     pub fn new(secret: String) -> RefreshToken
         ensures { result ≡ string_bytes secret }
     {

@@ -22,6 +22,7 @@ impl Model for ResourceOwnerPassword {
 }
 
 impl ResourceOwnerPassword {
+    /// Takes any text, as it is: none is checked.
     pub fn new(secret: String) -> ResourceOwnerPassword
         ensures { result ≡ string_bytes secret }
     {

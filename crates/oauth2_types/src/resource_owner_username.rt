@@ -23,6 +23,7 @@ impl Model for ResourceOwnerUsername {
 }
 
 impl ResourceOwnerUsername {
+    /// Takes any text, as it is: none is checked.
     pub fn new(text: String) -> ResourceOwnerUsername
         ensures { result ≡ string_bytes text }
     {

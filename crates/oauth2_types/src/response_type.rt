@@ -23,6 +23,7 @@ impl Model for ResponseType {
 }
 
 impl ResponseType {
+    /// Takes any text, as it is: none is checked.
     pub fn new(text: String) -> ResponseType
         ensures { result ≡ string_bytes text }
     {

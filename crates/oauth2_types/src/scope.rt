@@ -24,6 +24,7 @@ impl Model for Scope {
 }
 
 impl Scope {
+    /// Takes any text, as it is: none is checked.
     pub fn new(text: String) -> Scope
         ensures { result ≡ string_bytes text }
     {

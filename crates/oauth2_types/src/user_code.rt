@@ -22,6 +22,7 @@ impl Model for UserCode {
 }
 
 impl UserCode {
+    /// Takes any text, as it is: none is checked.
     pub fn new(secret: String) -> UserCode
         ensures { result ≡ string_bytes secret }
     {

@@ -22,6 +22,7 @@ impl Model for VerificationUriComplete {
 }
 
 impl VerificationUriComplete {
+    /// Takes any text, as it is: none is checked.
     pub fn new(secret: String) -> VerificationUriComplete
         ensures { result ≡ string_bytes secret }
     {

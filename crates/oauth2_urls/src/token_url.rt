@@ -39,6 +39,7 @@ impl TokenUrl {
         Ok(TokenUrl(AddressedUrl::from_url(alloc, url)?))
     }
 
+    /// The URL beside the text; the text is what `deref` gives.
     pub fn url(&self) -> &Url
         ensures { result.now ≡ self.now.url }
     {
