@@ -10,7 +10,8 @@ use Rattle.serde_json.specs.Written.{has_float, items_have_float, members_have_f
 use Rattle.oauth2_codes.specs.Codes.{token_code_text}
 use Rattle.oauth2_json.specs.Members.{put_some}
 use Rattle.oauth2_json.specs.Puts.{Row, put_all}
-use Rattle.oauth2_json.specs.Values.{second_data, second_of, text_items}
+use Rattle.oauth2_json.specs.Values.{text_items}
+use Rattle.oauth2_introspection.specs.Instants.{second_data, second_of}
 use Rattle.oauth2_json.specs.Words.{joined}
 use Rattle.oauth2_replies.specs.Device.{own_rows as device_rows}
 use Rattle.oauth2_introspection.specs.Introspection.{own_rows as introspection_rows}

@@ -5,7 +5,8 @@ use Rattle.serde_json.specs.Find.{get_member}
 use Rattle.oauth2_json.specs.Reading.{Reading, ◌⊛◌}
 use Rattle.oauth2_json.specs.Writing.{Writing, write_then}
 use Rattle.oauth2_json.specs.Members.{members_of_object, present, others, clashes, beside, optional_writing}
-use Rattle.oauth2_json.specs.Values.{lowered, text_items, second_data, IsWholeSeconds}
+use Rattle.oauth2_json.specs.Values.{lowered, text_items}
+use Rattle.oauth2_introspection.specs.Instants.{second_data, IsWholeSeconds}
 use Rattle.oauth2_json.specs.Words.{joined}
 use Rattle.oauth2_json.specs.Puts.{put_all}
 use Rattle.oauth2_json.proofs.Puts.{found, rest}

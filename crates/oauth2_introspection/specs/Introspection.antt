@@ -5,7 +5,8 @@ use Rattle.serde_json.specs.Find.{get_member}
 use Rattle.oauth2_json.specs.Reading.{Reading, read_then, ◌⊛◌}
 use Rattle.oauth2_json.specs.Writing.{Writing, write_then}
 use Rattle.oauth2_json.specs.Members.{members_of_object, needed, optional, present, others, beside, optional_writing}
-use Rattle.oauth2_json.specs.Values.{text, flag, instant, lowered, spaced, texts, text_items, second_data, IsWholeSeconds}
+use Rattle.oauth2_json.specs.Values.{text, flag, lowered, spaced, texts, text_items}
+use Rattle.oauth2_introspection.specs.Instants.{instant, second_data, IsWholeSeconds}
 use Rattle.oauth2_json.specs.Words.{joined}
 use Rattle.oauth2_json.specs.Puts.{Row, put_all}
 use Rattle.oauth2_replies.specs.Kept.{IsTypeKept, AreFieldsKept, AreScopesKept}

@@ -1,2 +1,3 @@
+pub mod Instants
 pub mod Introspection
 pub mod private

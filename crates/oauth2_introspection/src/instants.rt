@@ -4,7 +4,7 @@ ghost use Rattle.std.specs.Prelude.{◌≡◌, ℕ, ℤ, List, Ok, IfSome, optio
 ghost use Rattle.serde_json.specs.View.{view};
 ghost use Rattle.oauth2_json.specs.Reading.{ReadsAs};
 ghost use Rattle.oauth2_json.specs.Members.{optional};
-ghost use Rattle.oauth2_json.specs.Values.{instant, instant_at, second_of, second_data, IsWholeSeconds};
+ghost use Rattle.oauth2_introspection.specs.Instants.{instant, instant_at, second_of, second_data, IsWholeSeconds};
 
 use jiff::Timestamp;
 use oauth2_json::{FromJson, ParseCause, ReadError, members};

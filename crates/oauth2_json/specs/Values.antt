@@ -1,11 +1,9 @@
 -- The kinds of values that members hold.
 use Rattle.url.specs.Parser.{parse_url}
 use Rattle.oauth2_urls.specs.Addressed.{Addressed}
-use Rattle.std.specs.Prelude.{◌≡◌, ℕ, ℤ, pos, neg_ℤ, ◌*ℤ◌, int_lt, not, ◌&&◌, List, [], ◌∷◌, map, Bool, if◌then◌else◌, None, Ok, Err}
+use Rattle.std.specs.Prelude.{ℕ, List, [], ◌∷◌, map, Bool, None, Ok, Err}
 use Rattle.std.specs.Char.{to_ascii_lowercase}
-use Rattle.std.specs.Int.{int_div_euclid}
 use Rattle.serde_json.specs.Data.{Num, unsigned, negative, float, Data, null, boolean, number, string, array, object, Items, no_items, item}
-use Rattle.serde_json.specs.Find.{of_integer}
 use Rattle.oauth2_json.specs.Reading.{Reading, whole, at_member, read_then, ◌⊛◌}
 use Rattle.oauth2_json.specs.Words.{pieces}
 use Rattle.oauth2_json.specs.declared.read.ParseCause.TheVariants as cause
@@ -45,41 +43,6 @@ whole_number (number n) = natural n
 whole_number (string s) = wrong_type
 whole_number (array ds) = wrong_type
 whole_number (object ms) = wrong_type
-
--- ---- instants, RFC 7662, 2.2: whole seconds since 1970-01-01T00:00:00Z, seen as nanoseconds
-
--- whether `jiff` has the instant of that many nanoseconds
-abbrev pub is_instant : ℤ → Bool
-is_instant n =
-    not (int_lt n (neg_ℤ (pos 377_705_023_201_000_000_000))) && not (int_lt (pos 253_402_207_200_999_999_999) n)
-
-abbrev pub instant_at : ℤ → Reading ℤ
-instant_at z =
-    if is_instant (z *ℤ pos 1_000_000_000) then Ok (z *ℤ pos 1_000_000_000) else Err (whole cause.OutOfRange)
-
-abbrev pub instant_of : Num → Reading ℤ
-instant_of (unsigned n) = instant_at (pos n)
-instant_of (negative z) = instant_at z
-instant_of (float x) = Err (whole cause.NotWhole)
-
-abbrev pub instant : Data → Reading ℤ
-instant null = wrong_type
-instant (boolean b) = wrong_type
-instant (number n) = instant_of n
-instant (string s) = wrong_type
-instant (array ds) = wrong_type
-instant (object ms) = wrong_type
-
--- the whole seconds of an instant, rounded down
-abbrev pub second_of : ℤ → ℤ
-second_of n = int_div_euclid n (pos 1_000_000_000)
-
--- an instant of whole seconds
-abbrev pub IsWholeSeconds : ℤ → Type 0
-IsWholeSeconds n = (z : ℤ) × (n ≡ z *ℤ pos 1_000_000_000)
-
-abbrev pub second_data : ℤ → Data
-second_data n = number (of_integer (second_of n))
 
 -- ---- URLs
 

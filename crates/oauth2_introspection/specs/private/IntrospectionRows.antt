@@ -5,7 +5,8 @@ use Rattle.serde_json.specs.Data.{Data, Members, boolean, string, array, object}
 use Rattle.serde_json.specs.Find.{get_member}
 use Rattle.oauth2_json.specs.Reading.{Reading, ◌⊛◌}
 use Rattle.oauth2_json.specs.Members.{needed, optional, present, others}
-use Rattle.oauth2_json.specs.Values.{text, flag, instant, lowered, spaced, texts, text_items, second_data, is_instant}
+use Rattle.oauth2_json.specs.Values.{text, flag, lowered, spaced, texts, text_items}
+use Rattle.oauth2_introspection.specs.Instants.{instant, second_data, is_instant}
 use Rattle.oauth2_json.specs.Words.{joined}
 use Rattle.oauth2_json.specs.Puts.{Row}
 use Rattle.oauth2_introspection.specs.Introspection.{Introspection, introspection}
