@@ -1,6 +1,6 @@
 //! Values that a text holds, as `serde_json` has them.
 
-ghost use Rattle.std.specs.Prelude.{true, option_map};
+ghost use Rattle.std.specs.Prelude.{◌≡◌, is_some};
 ghost use Rattle.json.specs.Value.{value_view, items_view as texts_view, members_view as named_view};
 ghost use Rattle.serde_json.specs.Data.{no_members};
 ghost use Rattle.serde_json.specs.Read.{of_json, of_items, of_members};
@@ -31,21 +31,6 @@ pub(crate) fn owned(alloc: Global, value: &json::Value<'_>) -> Result<Value, Rea
     }
 }
 
-/// Whether that text is a value; only a number and what holds one may be none. An array or an object
-/// is read in full and let go.
-pub(crate) fn pass(alloc: Global, value: &json::Value<'_>) -> Result<(), ReadError>
-    ensures { ReadsAs (λ _. true) result
-        (or_not_json (option_map (λ _. true) (of_json (value_view value.now)))) }
-{
-    match value {
-        json::Value::Null | json::Value::Bool(_) | json::Value::String(_) => Ok(()),
-        _ => {
-            drop(owned(alloc, value)?);
-            Ok(())
-        }
-    }
-}
-
 #[cycle(owned)]
 fn owned_items(alloc: Global, items: &Vec<json::Value<'_>>) -> Result<Vec<Value>, ReadError>
     ensures { ReadsAs (λ v. items_view v.items) result
@@ -72,4 +57,41 @@ fn owned_members(
         drop(map.insert(name, owned(alloc, &member.1)?)?);
     }
     Ok(map)
+}
+
+/// Whether that text is a value: whether each number in it is in range.
+#[cycle(is_value)]
+pub(crate) fn is_value(value: &json::Value<'_>) -> bool
+    ensures { is_some (of_json (value_view value.now)) ≡ result }
+{
+    match value {
+        json::Value::Null | json::Value::Bool(_) | json::Value::String(_) => true,
+        json::Value::Number(text) => number::number(*text).is_some(),
+        json::Value::Array(items) => are_values(items),
+        json::Value::Object(members) => have_values(members),
+    }
+}
+
+#[cycle(is_value)]
+fn are_values(items: &Vec<json::Value<'_>>) -> bool
+    ensures { is_some (of_items (texts_view items.now.items)) ≡ result }
+{
+    for item in items {
+        if !is_value(item) {
+            return false;
+        }
+    }
+    true
+}
+
+#[cycle(is_value)]
+fn have_values(members: &Vec<(&str, json::Value<'_>)>) -> bool
+    ensures { is_some (of_members (named_view members.now.items) no_members) ≡ result }
+{
+    for member in members {
+        if !is_value(&member.1) {
+            return false;
+        }
+    }
+    true
 }

@@ -126,7 +126,11 @@ fn pass_value(alloc: Global, reader: &mut Reader<'_>) -> Result<(), ReadError>
     ensures shorter { OnOk result (length reader.new < length reader.old) }
 {
     match json::Value::read(alloc, reader, DEPTH) {
-        Ok(value) => nested::pass(alloc, &value),
+        Ok(value) => if nested::is_value(&value) {
+            Ok(())
+        } else {
+            Err(ReadError::whole(alloc, ParseCause::NotJson))
+        },
         Err(Error::OutOfMemory) => Err(ReadError::Memory),
         Err(_) => Err(ReadError::whole(alloc, ParseCause::NotJson)),
     }
