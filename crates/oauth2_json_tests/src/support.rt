@@ -1,12 +1,24 @@
 //! What the tests of several subjects share.
 
-use oauth2::{FromJson, ParseCause, ReadError, ToJson, TryClone, compact, read_body};
+use oauth2::{
+    FromJson, ParseCause, ReadError, Scope, ToJson, TryClone, WriteError, compact, read_body,
+};
 use serde_json::Value;
 use std::fmt::{Debug, Display};
 use std::process::Abort;
 
 pub fn text(rt: &(impl Abort + AllocGlobal), text: &str) -> String {
     String::from_str(rt.alloc(), text).expect(rt, "a text")
+}
+
+/// A list of one scope.
+pub fn scope_list(rt: &(impl Abort + AllocGlobal), scope: &str) -> Vec<Scope> {
+    vec![in rt.alloc(); Scope::new(text(rt, scope))].expect(rt, "a list")
+}
+
+/// A copy of the value.
+pub fn copy_of<T: TryClone>(rt: &(impl Abort + AllocGlobal), value: &T) -> T {
+    value.try_clone(rt.alloc()).expect(rt, "a copy")
 }
 
 /// The JSON value of a text.
@@ -62,8 +74,18 @@ pub fn copy_is_kept<T: FromJson + ToJson + TryClone + Drop>(
     text: &str,
 ) {
     let value = read::<T>(rt, text);
-    let copy = value.try_clone(rt.alloc()).expect(rt, "a copy");
-    is_written_as(rt, &copy, text);
+    is_written_as(rt, &copy_of(rt, &value), text);
+}
+
+/// The value is not written, for this reason, at this row of a table.
+pub fn is_not_written<T: ToJson + Drop>(
+    rt: &(impl Abort + AllocGlobal),
+    value: T,
+    refusal: WriteError,
+    row: &str,
+) {
+    let refused = value.to_json(rt.alloc()).err();
+    is_so_at(rt, refused == Some(refusal), row);
 }
 
 /// Whether reading answers this fault.
