@@ -2,12 +2,14 @@
 
 ghost use Rattle.std.specs.Prelude.{codes};
 
-use crate::support::{copy_is_kept, is_kept, is_refused, is_rewritten, read, text};
+use crate::support::{
+    copy_is_kept, is_equal, is_kept, is_not_written, is_refused, is_rewritten, read, text,
+};
 use oauth2::basic::BasicTokenType;
 use oauth2::{
     DeviceAuthorizationResponse, EmptyExtraDeviceAuthorizationFields, EmptyExtraTokenFields,
-    ExtraFields, NamedMember, ParseCause, StandardTokenIntrospectionResponse,
-    StandardTokenResponse, ToJson, WithMember, WriteError,
+    ExtraFields, ExtraTokenFields, NamedMember, ParseCause, StandardTokenIntrospectionResponse,
+    StandardTokenResponse, TryClone, WithMember, WriteError,
 };
 use serde_json::Value;
 use std::process::Abort;
@@ -66,8 +68,6 @@ type IdentityFields = WithMember<IdToken, WithMember<ExtExpiresIn, OfflineFields
 
 type DeviceFields = WithMember<Confirmation, EmptyExtraDeviceAuthorizationFields>;
 
-type IdentityToken = StandardTokenResponse<IdentityFields, BasicTokenType>;
-
 #[test]
 fn named_members_are_told(rt: HostRuntime) {
     let fields = read::<IdentityFields>(
@@ -75,15 +75,23 @@ fn named_members_are_told(rt: HostRuntime) {
         r#"{"n":1,"id_token":"x","ext_expires_in":7,"offline":true,"cnf":[]}"#,
     );
     let id_token = fields.value().expect(&rt, "a text");
-    assert!(rt; id_token.as_str() == "x");
+    is_equal(&rt, id_token.as_str(), "x");
     let rest = fields.rest();
-    let lifetime = rest.value().expect(&rt, "a number");
-    assert!(rt; *lifetime == 7);
+    is_equal(&rt, rest.value(), Some(&7));
     let rest = rest.rest();
-    let offline = rest.value().expect(&rt, "a truth value");
-    assert!(rt; *offline);
+    is_equal(&rt, rest.value(), Some(&true));
     let confirmation = rest.rest().value().expect(&rt, "a value");
     assert!(rt; confirmation.is_array());
+}
+
+/// The lifetime is there, and no other member.
+fn is_lifetime_alone(rt: &impl Abort, fields: &IdentityFields) {
+    assert!(rt; fields.value().is_none());
+    let rest = fields.rest();
+    assert!(rt; rest.value().is_some());
+    let rest = rest.rest();
+    assert!(rt; rest.value().is_none());
+    assert!(rt; rest.rest().value().is_none());
 }
 
 #[test]
@@ -92,11 +100,7 @@ fn absent_and_null_members_are_none(rt: HostRuntime) {
         r#"{"ext_expires_in":7}"#,
         r#"{"cnf":null,"ext_expires_in":7,"id_token":null,"offline":null}"#,
     ] {
-        let fields = read::<IdentityFields>(&rt, body);
-        assert!(rt; fields.value().is_none());
-        assert!(rt; fields.rest().value().is_some());
-        assert!(rt; fields.rest().rest().value().is_none());
-        assert!(rt; fields.rest().rest().rest().value().is_none());
+        is_lifetime_alone(&rt, &read::<IdentityFields>(&rt, body));
     }
 }
 
@@ -131,21 +135,29 @@ fn members_of_another_kind_are_refused(rt: HostRuntime) {
     }
 }
 
-#[test]
-fn named_members_are_written(rt: HostRuntime) {
+/// Responses with these fields are written with them. (Generic, so that what the fields are is
+/// proved once, at the call, and not at each type of response.)
+fn identity_is_written<Fields: ExtraTokenFields + TryClone + Drop>(
+    rt: &(impl Abort + AllocGlobal),
+) {
     let whole =
         r#"{"access_token":"t","cnf":[],"ext_expires_in":7,"id_token":"x","offline":true,"token_type":"bearer"}"#;
-    is_kept::<IdentityToken>(&rt, whole);
-    copy_is_kept::<IdentityToken>(&rt, whole);
-    is_rewritten::<IdentityToken>(
-        &rt,
+    is_kept::<StandardTokenResponse<Fields, BasicTokenType>>(rt, whole);
+    copy_is_kept::<StandardTokenResponse<Fields, BasicTokenType>>(rt, whole);
+    is_rewritten::<StandardTokenResponse<Fields, BasicTokenType>>(
+        rt,
         r#"{"access_token":"t","token_type":"bearer","n":1,"offline":null,"ext_expires_in":7}"#,
         r#"{"access_token":"t","ext_expires_in":7,"token_type":"bearer"}"#,
     );
-    is_kept::<StandardTokenIntrospectionResponse<IdentityFields, BasicTokenType>>(
-        &rt,
+    is_kept::<StandardTokenIntrospectionResponse<Fields, BasicTokenType>>(
+        rt,
         r#"{"active":true,"id_token":"x"}"#,
     );
+}
+
+#[test]
+fn named_members_are_written(rt: HostRuntime) {
+    identity_is_written::<IdentityFields>(&rt);
     is_kept::<DeviceAuthorizationResponse<DeviceFields>>(
         &rt,
         r#"{"cnf":[],"device_code":"d","expires_in":1,"interval":5,"user_code":"u","verification_uri":"https://v/"}"#,
@@ -156,6 +168,5 @@ fn named_members_are_written(rt: HostRuntime) {
 fn name_that_the_rest_writes_is_refused(rt: HostRuntime) {
     let rest = read::<ExtraFields>(&rt, r#"{"id_token":"y"}"#);
     let fields = WithMember::<IdToken, ExtraFields>::new(Some(text(&rt, "x")), rest);
-    let refused = fields.to_json(rt.alloc()).err();
-    assert!(rt; refused == Some(WriteError::NameClash));
+    is_not_written(&rt, fields, WriteError::NameClash, "id_token");
 }
