@@ -1,23 +1,30 @@
 //! Error codes and error responses (RFC 6749, section 5.2), and the body that holds one.
 
-use crate::support::{is_displayed_as, is_equal, is_fault, is_refused, is_written_as, read, text};
+use crate::support::{
+    copy_of, is_displayed_as, is_equal, is_fault, is_refused, is_written_as, read, text,
+};
 use oauth2::basic::{BasicErrorResponse, BasicErrorResponseType};
 use oauth2::{
     DeviceCodeErrorResponseType, ErrorResponse, ParseCause, StandardErrorResponse,
-    TextErrorResponseType, TryClone, compact, read_body,
+    TextErrorResponseType, compact, read_body,
 };
 use std::convert::AsStr;
+use std::fmt::Debug;
 use std::process::Abort;
+
+/// The value is shown as this text where it is debugged.
+fn is_debugged_as<T: Debug>(rt: &(impl Abort + AllocGlobal), value: &T, wanted: &str) {
+    let shown = format!(in rt.alloc(); "{value:?}").expect(rt, "a text");
+    is_equal(rt, shown.as_str(), wanted);
+}
 
 #[test]
 fn codes_are_compared_with_case(rt: HostRuntime) {
     let error = read::<BasicErrorResponseType>(&rt, r#""Invalid_Client""#);
-    let shown = format!(in rt.alloc(); "{error}").expect(&rt, "a text");
-    is_equal(&rt, shown.as_str(), "Invalid_Client");
-    let debug = format!(in rt.alloc(); "{error:?}").expect(&rt, "a text");
-    is_equal(&rt, debug.as_str(), "Invalid_Client");
-    let copy = error.try_clone(rt.alloc()).expect(&rt, "a copy");
-    assert!(rt; copy == BasicErrorResponseType::Extension(shown));
+    is_displayed_as(&rt, &error, "Invalid_Client");
+    is_debugged_as(&rt, &error, "Invalid_Client");
+    let extension = BasicErrorResponseType::Extension(text(&rt, "Invalid_Client"));
+    is_equal(&rt, copy_of(&rt, &error), extension);
 }
 
 #[test]
@@ -35,8 +42,7 @@ fn code_of_any_text(rt: HostRuntime) {
     let code = read::<TextErrorResponseType>(&rt, r#""Invalid_Client""#);
     is_displayed_as(&rt, &code, "Invalid_Client");
     is_written_as(&rt, &code, r#""Invalid_Client""#);
-    let copy = code.try_clone(rt.alloc()).expect(&rt, "a copy");
-    assert!(rt; copy == code);
+    is_equal(&rt, copy_of(&rt, &code), code);
     is_refused::<TextErrorResponseType>(&rt, "1", "", ParseCause::WrongType);
 }
 
@@ -78,8 +84,11 @@ const WRITTEN: &str =
 fn error_response_is_written(rt: HostRuntime) {
     let response = full(&rt);
     is_written_as(&rt, &response, WRITTEN);
-    let copy = response.try_clone(rt.alloc()).expect(&rt, "a copy");
-    assert!(rt; read::<BasicErrorResponse>(&rt, WRITTEN) == copy);
+    is_equal(
+        &rt,
+        read::<BasicErrorResponse>(&rt, WRITTEN),
+        copy_of(&rt, &response),
+    );
 }
 
 #[test]
