@@ -1,10 +1,10 @@
 //! Responses with extra fields.
 
-use crate::support::{is_kept, is_refused, is_rewritten, is_so_at, read, text};
+use crate::support::{is_equal, is_kept, is_not_written, is_refused, is_rewritten, read, text};
 use oauth2::basic::{BasicTokenResponse, BasicTokenType};
 use oauth2::{
     AccessToken, DeviceAuthorizationResponse, ExtraFields, ParseCause, StandardTokenResponse,
-    ToJson, WriteError,
+    WriteError,
 };
 use std::process::Abort;
 
@@ -40,10 +40,10 @@ fn extra_fields_of_a_device_response(rt: HostRuntime) {
 #[test]
 fn members_that_are_left(rt: HostRuntime) {
     let fields = read::<ExtraFields>(&rt, r#"{"id_token":"x","n":1}"#);
-    assert!(rt; fields.text("id_token") == Some("x"));
-    assert!(rt; fields.text("n").is_none());
+    is_equal(&rt, fields.text("id_token"), Some("x"));
+    is_equal(&rt, fields.text("n"), None);
     let number = fields.get("n").expect(&rt, "a member");
-    assert!(rt; number.as_u64() == Some(1));
+    is_equal(&rt, number.as_u64(), Some(1));
     assert!(rt; fields.get("m").is_none());
 }
 
@@ -74,8 +74,6 @@ fn clash_is_refused_before_a_float(rt: HostRuntime) {
         (r#"{"a":{"b":[1.5]}}"#, WriteError::Float),
         (r#"{"a":{"b":[1.5]},"scope":"x"}"#, WriteError::NameClash),
     ] {
-        let token = with_raw(&rt, fields);
-        let refused = token.to_json(rt.alloc()).err();
-        is_so_at(&rt, refused == Some(refusal), fields);
+        is_not_written(&rt, with_raw(&rt, fields), refusal, fields);
     }
 }
