@@ -1,12 +1,15 @@
 //! Introspection responses (RFC 7662, section 2.2).
 
-use crate::support::{copy_is_kept, is_refused, is_rewritten, is_written_as, text};
+use crate::support::{
+    copy_is_kept, is_equal, is_refused, is_rewritten, is_written_as, scope_list, text,
+};
 use jiff::Timestamp;
 use oauth2::basic::{BasicTokenIntrospectionResponse, BasicTokenType};
 use oauth2::{
-    ClientId, EmptyExtraTokenFields, ParseCause, Scope, StandardTokenIntrospectionResponse,
+    ClientId, EmptyExtraTokenFields, ParseCause, StandardTokenIntrospectionResponse,
     TokenIntrospectionResponse,
 };
+use std::process::Abort;
 
 #[test]
 fn first_fault_of_an_introspection_response(rt: HostRuntime) {
@@ -64,20 +67,24 @@ fn times_are_rounded_down(rt: HostRuntime) {
     is_written_as(&rt, &response, r#"{"active":true,"exp":-1}"#);
 }
 
+fn time(rt: &impl Abort, second: i64) -> Timestamp {
+    Timestamp::from_second(second).expect(rt, "a time")
+}
+
 #[test]
 fn times_are_set(rt: HostRuntime) {
-    let exp = Timestamp::from_second(3).expect(&rt, "a time");
-    let iat = Timestamp::from_second(1).expect(&rt, "a time");
-    let nbf = Timestamp::from_second(2).expect(&rt, "a time");
+    let exp = time(&rt, 3);
+    let iat = time(&rt, 1);
+    let nbf = time(&rt, 2);
     let mut response = active();
     response.set_active(false);
     response.set_exp(Some(exp));
     response.set_iat(Some(iat));
     response.set_nbf(Some(nbf));
     assert!(rt; !response.active());
-    assert!(rt;
-        response.exp() == Some(exp) && response.iat() == Some(iat) && response.nbf() == Some(nbf)
-    );
+    is_equal(&rt, response.exp(), Some(exp));
+    is_equal(&rt, response.iat(), Some(iat));
+    is_equal(&rt, response.nbf(), Some(nbf));
     is_written_as(
         &rt,
         &response,
@@ -85,15 +92,25 @@ fn times_are_set(rt: HostRuntime) {
     );
 }
 
+fn set_texts(rt: &(impl Abort + AllocGlobal), response: &mut BasicTokenIntrospectionResponse) {
+    response.set_username(Some(text(rt, "demo")));
+    response.set_sub(Some(text(rt, "subject")));
+    response.set_iss(Some(text(rt, "issuer")));
+    response.set_jti(Some(text(rt, "identifier")));
+}
+
+fn has_texts(rt: &impl Abort, response: &BasicTokenIntrospectionResponse) {
+    is_equal(rt, response.username(), Some("demo"));
+    is_equal(rt, response.sub(), Some("subject"));
+    is_equal(rt, response.iss(), Some("issuer"));
+    is_equal(rt, response.jti(), Some("identifier"));
+}
+
 #[test]
 fn texts_are_set(rt: HostRuntime) {
     let mut response = active();
-    response.set_username(Some(text(&rt, "demo")));
-    response.set_sub(Some(text(&rt, "subject")));
-    assert!(rt; response.username() == Some("demo") && response.sub() == Some("subject"));
-    response.set_iss(Some(text(&rt, "issuer")));
-    response.set_jti(Some(text(&rt, "identifier")));
-    assert!(rt; response.iss() == Some("issuer") && response.jti() == Some("identifier"));
+    set_texts(&rt, &mut response);
+    has_texts(&rt, &response);
     is_written_as(
         &rt,
         &response,
@@ -103,10 +120,9 @@ fn texts_are_set(rt: HostRuntime) {
 
 #[test]
 fn lists_are_set(rt: HostRuntime) {
-    let scopes = vec![in rt.alloc(); Scope::new(text(&rt, "read"))].expect(&rt, "a list");
     let aud = vec![in rt.alloc(); text(&rt, "audience")].expect(&rt, "a list");
     let mut response = active();
-    response.set_scopes(Some(scopes));
+    response.set_scopes(Some(scope_list(&rt, "read")));
     response.set_aud(Some(aud));
     response.set_extra_fields(EmptyExtraTokenFields {});
     assert!(rt; response.scopes().is_some() && response.aud().is_some());
