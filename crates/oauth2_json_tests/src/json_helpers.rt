@@ -1,6 +1,6 @@
 //! The helpers for types of a user's own: lists in one text, audiences, codes and variants.
 
-use crate::support::{is_equal, is_fault, is_written_as, parsed, text};
+use crate::support::{copy_of, is_equal, is_fault, is_written_as, parsed, scope_list};
 use oauth2::basic::BasicTokenType;
 use oauth2::helpers::{
     VariantName, deserialize_optional_string_or_vec_string, deserialize_space_delimited_vec,
@@ -17,9 +17,8 @@ fn copy_is_written_as<T: TokenType + Drop>(
     value: &T,
     wanted: &str,
 ) {
-    let copy = value.try_clone(rt.alloc()).expect(rt, "a copy");
     is_written_as(rt, value, wanted);
-    is_written_as(rt, &copy, wanted);
+    is_written_as(rt, &copy_of(rt, value), wanted);
 }
 
 #[test]
@@ -47,8 +46,7 @@ fn is_split(rt: &(impl Abort + AllocGlobal), scopes: Vec<Scope>, written: &str, 
 #[test]
 fn scopes_are_split_at_every_space(rt: HostRuntime) {
     is_split(&rt, Vec::new(rt.alloc()), r#""""#, 1);
-    let scopes = vec![in rt.alloc(); Scope::new(text(&rt, "a b"))].expect(&rt, "a list");
-    is_split(&rt, scopes, r#""a b""#, 2);
+    is_split(&rt, scope_list(&rt, "a b"), r#""a b""#, 2);
 }
 
 #[test]
@@ -63,6 +61,18 @@ fn no_scopes_are_null(rt: HostRuntime) {
     assert!(rt; null.is_none());
 }
 
+/// The text reads to an audience that is written as this one.
+fn audience_is_written_as(rt: &(impl Abort + AllocGlobal), text: &str, wanted: &str) {
+    let list = deserialize_optional_string_or_vec_string(rt.alloc(), parsed(rt, text)).expect(
+        rt, "a list",
+    );
+    let value = members::texts_value(rt.alloc(), &list)
+        .expect(rt, "a value or none")
+        .expect(rt, "a value");
+    let written = value.to_string(rt.alloc()).expect(rt, "a text");
+    is_equal(rt, written.as_str(), wanted);
+}
+
 #[test]
 fn audience_is_a_text_or_a_list(rt: HostRuntime) {
     for (text, wanted) in [
@@ -70,14 +80,7 @@ fn audience_is_a_text_or_a_list(rt: HostRuntime) {
         (r#"["a","b"]"#, r#"["a","b"]"#),
         ("[]", "[]"),
     ] {
-        let list = deserialize_optional_string_or_vec_string(rt.alloc(), parsed(&rt, text)).expect(
-            &rt, "a list",
-        );
-        let value = members::texts_value(rt.alloc(), &list)
-            .expect(&rt, "a value or none")
-            .expect(&rt, "a value");
-        let written = value.to_string(rt.alloc()).expect(&rt, "a text");
-        is_equal(&rt, written.as_str(), wanted);
+        audience_is_written_as(&rt, text, wanted);
     }
 }
 
