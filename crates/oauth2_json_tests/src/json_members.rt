@@ -1,9 +1,9 @@
 //! The members of an object: read by name, taken out, and written beside others.
 
-use crate::support::{is_equal, is_fault, is_so_at, parsed, text};
+use crate::support::{is_equal, is_fault, is_so_at, parsed, scope_list, text};
 use jiff::Timestamp;
 use oauth2::basic::BasicTokenType;
-use oauth2::{EndUserVerificationUrl, ParseCause, Scope, WriteError, members};
+use oauth2::{EndUserVerificationUrl, ParseCause, ReadError, Scope, WriteError, members};
 use serde_json::{Map, Value};
 use std::process::Abort;
 
@@ -146,8 +146,7 @@ fn code_member(rt: &(impl Abort + AllocGlobal), code: BasicTokenType) -> Option<
 }
 
 fn words_member(rt: &(impl Abort + AllocGlobal), word: &str) -> Option<Value> {
-    let words = vec![in rt.alloc(); Scope::new(text(rt, word))].expect(rt, "a list");
-    members::words_value(rt.alloc(), &Some(words)).expect(rt, "a value")
+    members::words_value(rt.alloc(), &Some(scope_list(rt, word))).expect(rt, "a value")
 }
 
 #[test]
@@ -204,17 +203,23 @@ fn are_joined(rt: &(impl Abort + AllocGlobal), found: Option<Value>, wanted: &st
     is_equal(rt, joined.as_str(), wanted);
 }
 
+/// A text that may be absent was read, and is this one.
+fn is_text(rt: &impl Abort, read: Result<Option<String>, ReadError>, wanted: Option<&str>) {
+    let read = read.expect(rt, "a text or none");
+    is_equal(rt, read.as_deref(), wanted);
+}
+
 #[test]
 fn members_that_are_there(rt: HostRuntime) {
     let seven = Some(parsed(&rt, "7"));
     let read = members::number_or(rt.alloc(), "interval", 5, seven).expect(&rt, "a number");
     is_equal(&rt, read, 7);
     let word = Some(parsed(&rt, r#""x""#));
-    let read = members::optional::<String>(rt.alloc(), "c", word).expect(&rt, "a text or none");
-    assert!(rt; read.as_deref() == Some("x"));
+    let read = members::optional::<String>(rt.alloc(), "c", word);
+    is_text(&rt, read, Some("x"));
     let word = Some(parsed(&rt, r#""x""#));
-    let read = members::present::<String>(rt.alloc(), "c", word).expect(&rt, "a text or none");
-    assert!(rt; read.as_deref() == Some("x"));
+    let read = members::present::<String>(rt.alloc(), "c", word);
+    is_text(&rt, read, Some("x"));
 }
 
 #[test]
@@ -224,21 +229,25 @@ fn codes_and_lists_that_are_there(rt: HostRuntime) {
         &rt,
         "a token type or none",
     );
-    assert!(rt; read == Some(BasicTokenType::Mac));
-    let words = Some(parsed(&rt, r#"["x","y"]"#));
-    let read = members::optional_texts(rt.alloc(), "c", words)
-        .expect(&rt, "texts or none")
-        .expect(&rt, "texts");
-    let joined = read.concat(rt.alloc()).expect(&rt, "a text");
-    is_equal(&rt, joined.as_str(), "xy");
+    is_equal(&rt, read, Some(BasicTokenType::Mac));
+    are_concatenated(&rt, Some(parsed(&rt, r#"["x","y"]"#)), "xy");
+}
+
+/// The texts of a member, one after the other.
+fn are_concatenated(rt: &(impl Abort + AllocGlobal), found: Option<Value>, wanted: &str) {
+    let texts = members::optional_texts(rt.alloc(), "c", found)
+        .expect(rt, "texts or none")
+        .expect(rt, "texts");
+    let whole = texts.concat(rt.alloc()).expect(rt, "a text");
+    is_equal(rt, whole.as_str(), wanted);
 }
 
 #[test]
 fn absent_members(rt: HostRuntime) {
-    let none = members::optional::<String>(rt.alloc(), "c", None).expect(&rt, "a text or none");
-    assert!(rt; none.is_none());
-    let none = members::present::<String>(rt.alloc(), "c", None).expect(&rt, "a text or none");
-    assert!(rt; none.is_none());
+    let none = members::optional::<String>(rt.alloc(), "c", None);
+    is_text(&rt, none, None);
+    let none = members::present::<String>(rt.alloc(), "c", None);
+    is_text(&rt, none, None);
     let none = members::optional_texts(rt.alloc(), "c", None).expect(&rt, "texts or none");
     assert!(rt; none.is_none());
 }
