@@ -1,8 +1,8 @@
 //! Token responses (RFC 6749, section 5.1).
 
-use crate::support::{copy_is_kept, is_equal, is_refused, is_written_as, read, text};
+use crate::support::{copy_is_kept, is_equal, is_refused, is_written_as, read, scope_list, text};
 use oauth2::basic::{BasicTokenResponse, BasicTokenType};
-use oauth2::{AccessToken, EmptyExtraTokenFields, ParseCause, RefreshToken, Scope, TokenResponse};
+use oauth2::{AccessToken, EmptyExtraTokenFields, ParseCause, RefreshToken, TokenResponse};
 use std::process::Abort;
 use std::time::Duration;
 
@@ -51,9 +51,22 @@ fn first_fault_of_a_token_response(rt: HostRuntime) {
     }
 }
 
+/// A body with this value of a member that nobody reads, and with two access tokens.
+fn with_unread(rt: &(impl Abort + AllocGlobal), value: &str) -> String {
+    format!(in rt.alloc();
+        "{{\"access_token\":\"a\",\"x\":{value},\"token_type\":\"mac\",\"access_token\":\"t\"}}"
+    ).expect(rt, "a text")
+}
+
+/// The body reads to a response with this access token.
+fn has_access_token(rt: &(impl Abort + AllocGlobal), body: &str, wanted: &str) {
+    let token = read::<BasicTokenResponse>(rt, body);
+    is_equal(rt, token.access_token().secret().as_str(), wanted);
+}
+
 #[test]
 fn members_that_nobody_reads(rt: HostRuntime) {
-    for (more, is_read) in [
+    for (value, is_read) in [
         (r#"{"y":[1,{"z":null}],"y":-0.5e3}"#, true),
         ("\"\\ud83d\\ude00\"", true),
         ("\"\\ud83d\"", false),
@@ -61,14 +74,10 @@ fn members_that_nobody_reads(rt: HostRuntime) {
         (r#"[{"y":-1e999}]"#, false),
         ("01", false),
     ] {
-        let body = format!(in rt.alloc();
-            "{{\"access_token\":\"a\",\"x\":{more},\"token_type\":\"mac\",\"access_token\":\"t\"}}"
-        );
-        let body = body.expect(&rt, "a text");
+        let body = with_unread(&rt, value);
         if is_read {
             // The last member of a name counts.
-            let token = read::<BasicTokenResponse>(&rt, body.as_str());
-            is_equal(&rt, token.access_token().secret().as_str(), "t");
+            has_access_token(&rt, body.as_str(), "t");
         } else {
             is_refused::<BasicTokenResponse>(&rt, body.as_str(), "", ParseCause::NotJson);
         }
@@ -103,16 +112,11 @@ fn set_tokens(rt: &(impl Abort + AllocGlobal), token: &mut BasicTokenResponse) {
     token.set_refresh_token(Some(RefreshToken::new(text(rt, "r"))));
 }
 
-fn set_scopes(rt: &(impl Abort + AllocGlobal), token: &mut BasicTokenResponse) {
-    let scopes = vec![in rt.alloc(); Scope::new(text(rt, "read"))].expect(rt, "a list");
-    token.set_scopes(Some(scopes));
-}
-
 #[test]
 fn token_response_is_set(rt: HostRuntime) {
     let mut token = least(&rt);
     set_tokens(&rt, &mut token);
-    set_scopes(&rt, &mut token);
+    token.set_scopes(Some(scope_list(&rt, "read")));
     token.set_extra_fields(EmptyExtraTokenFields {});
     assert!(rt; *token.extra_fields() == EmptyExtraTokenFields {});
     assert!(rt; token.refresh_token().is_some());
