@@ -5,7 +5,8 @@ use crate::every_request::{WholeClient, client, password, refresh_token, usernam
 use crate::support::{is_equal, is_text, text};
 use oauth2::{
     AuthUrl, AuthorizationRequest, CsrfToken, HttpRequest, PkceCodeChallenge,
-    PkceCodeChallengeMethod, RedirectRef, RedirectUrl, ResponseType, Scope,
+    PkceCodeChallengeMethod, RedirectRef, RedirectUrl, RefreshToken, ResourceOwnerPassword,
+    ResourceOwnerUsername, ResponseType, Scope,
 };
 use std::process::Abort;
 
@@ -21,20 +22,26 @@ fn has_body(rt: &impl Abort, request: HttpRequest, body: &str) {
     is_equal(rt, request.body().as_slice(), body.as_bytes());
 }
 
+fn scoped_refresh(
+    rt: &(impl Abort + AllocGlobal),
+    client: &WholeClient,
+    token: &RefreshToken,
+) -> HttpRequest {
+    client
+        .exchange_refresh_token(rt.alloc(), token)
+        .add_scope(scope(rt, "a"))
+        .expect(rt, "a scope")
+        .add_scopes(two_scopes(rt))
+        .expect(rt, "two scopes")
+        .add_extra_param("x".into(), "y".into())
+        .expect(rt, "a parameter")
+        .prepare_request(rt.alloc())
+        .expect(rt, "a request")
+}
+
 #[test]
 fn scopes_of_a_refresh(rt: HostRuntime) {
-    let client = client(&rt, "aaa", "bbb");
-    let token = refresh_token(&rt);
-    let request = client
-        .exchange_refresh_token(rt.alloc(), &token)
-        .add_scope(scope(&rt, "a"))
-        .expect(&rt, "a scope")
-        .add_scopes(two_scopes(&rt))
-        .expect(&rt, "two scopes")
-        .add_extra_param("x".into(), "y".into())
-        .expect(&rt, "a parameter")
-        .prepare_request(rt.alloc())
-        .expect(&rt, "a request");
+    let request = scoped_refresh(&rt, &client(&rt, "aaa", "bbb"), &refresh_token(&rt));
     has_body(
         &rt,
         request,
@@ -42,20 +49,28 @@ fn scopes_of_a_refresh(rt: HostRuntime) {
     );
 }
 
+fn scoped_password(
+    rt: &(impl Abort + AllocGlobal),
+    client: &WholeClient,
+    username: &ResourceOwnerUsername,
+    password: &ResourceOwnerPassword,
+) -> HttpRequest {
+    client
+        .exchange_password(rt.alloc(), username, password)
+        .add_scope(scope(rt, "a"))
+        .expect(rt, "a scope")
+        .add_scopes(two_scopes(rt))
+        .expect(rt, "two scopes")
+        .add_extra_param("x".into(), "y".into())
+        .expect(rt, "a parameter")
+        .prepare_request(rt.alloc())
+        .expect(rt, "a request")
+}
+
 #[test]
 fn scopes_of_a_password(rt: HostRuntime) {
     let client = client(&rt, "aaa", "bbb");
-    let (username, password) = (username(&rt), password(&rt));
-    let request = client
-        .exchange_password(rt.alloc(), &username, &password)
-        .add_scope(scope(&rt, "a"))
-        .expect(&rt, "a scope")
-        .add_scopes(two_scopes(&rt))
-        .expect(&rt, "two scopes")
-        .add_extra_param("x".into(), "y".into())
-        .expect(&rt, "a parameter")
-        .prepare_request(rt.alloc())
-        .expect(&rt, "a request");
+    let request = scoped_password(&rt, &client, &username(&rt), &password(&rt));
     has_body(
         &rt,
         request,
@@ -63,19 +78,22 @@ fn scopes_of_a_password(rt: HostRuntime) {
     );
 }
 
+fn scoped_client_credentials(rt: &(impl Abort + AllocGlobal), client: &WholeClient) -> HttpRequest {
+    client
+        .exchange_client_credentials(rt.alloc())
+        .add_scope(scope(rt, "a"))
+        .expect(rt, "a scope")
+        .add_scopes(two_scopes(rt))
+        .expect(rt, "two scopes")
+        .add_extra_param("x".into(), "y".into())
+        .expect(rt, "a parameter")
+        .prepare_request(rt.alloc())
+        .expect(rt, "a request")
+}
+
 #[test]
 fn scopes_of_a_client(rt: HostRuntime) {
-    let client = client(&rt, "aaa", "bbb");
-    let request = client
-        .exchange_client_credentials(rt.alloc())
-        .add_scope(scope(&rt, "a"))
-        .expect(&rt, "a scope")
-        .add_scopes(two_scopes(&rt))
-        .expect(&rt, "two scopes")
-        .add_extra_param("x".into(), "y".into())
-        .expect(&rt, "a parameter")
-        .prepare_request(rt.alloc())
-        .expect(&rt, "a request");
+    let request = scoped_client_credentials(&rt, &client(&rt, "aaa", "bbb"));
     has_body(
         &rt,
         request,
@@ -83,19 +101,22 @@ fn scopes_of_a_client(rt: HostRuntime) {
     );
 }
 
+fn scoped_device(rt: &(impl Abort + AllocGlobal), client: &WholeClient) -> HttpRequest {
+    client
+        .exchange_device_code(rt.alloc())
+        .add_scope(scope(rt, "a"))
+        .expect(rt, "a scope")
+        .add_scopes(two_scopes(rt))
+        .expect(rt, "two scopes")
+        .add_extra_param("x".into(), "y".into())
+        .expect(rt, "a parameter")
+        .prepare_request(rt.alloc())
+        .expect(rt, "a request")
+}
+
 #[test]
 fn scopes_of_a_device(rt: HostRuntime) {
-    let client = client(&rt, "aaa", "bbb");
-    let request = client
-        .exchange_device_code(rt.alloc())
-        .add_scope(scope(&rt, "a"))
-        .expect(&rt, "a scope")
-        .add_scopes(two_scopes(&rt))
-        .expect(&rt, "two scopes")
-        .add_extra_param("x".into(), "y".into())
-        .expect(&rt, "a parameter")
-        .prepare_request(rt.alloc())
-        .expect(&rt, "a request");
+    let request = scoped_device(&rt, &client(&rt, "aaa", "bbb"));
     has_body(&rt, request, "scope=a+b+c+d&x=y");
 }
 
@@ -110,19 +131,24 @@ fn has_url(rt: &(impl Abort + AllocGlobal), login: AuthorizationRequest<'_>, wan
     is_text(rt, url.as_str(), wanted);
 }
 
+fn scoped_login<'a>(
+    rt: &(impl Abort + AllocGlobal),
+    client: &'a WholeClient,
+) -> AuthorizationRequest<'a> {
+    login(rt, client)
+        .add_scope(scope(rt, "a"))
+        .expect(rt, "a scope")
+        .add_scopes(two_scopes(rt))
+        .expect(rt, "two scopes")
+        .add_extra_param("x".into(), "y".into())
+        .expect(rt, "a parameter")
+}
+
 #[test]
 fn scopes_of_a_login(rt: HostRuntime) {
-    let client = client(&rt, "aaa", "bbb");
-    let login = login(&rt, &client)
-        .add_scope(scope(&rt, "a"))
-        .expect(&rt, "a scope")
-        .add_scopes(two_scopes(&rt))
-        .expect(&rt, "two scopes")
-        .add_extra_param("x".into(), "y".into())
-        .expect(&rt, "a parameter");
     has_url(
         &rt,
-        login,
+        scoped_login(&rt, &client(&rt, "aaa", "bbb")),
         "https://example.com/auth?response_type=code&client_id=aaa&state=csrf_token&scope=a+b+c+d&x=y",
     );
 }
@@ -141,23 +167,36 @@ const LOGIN: &str = concat!(
     "&redirect_uri=https%3A%2F%2Flocalhost%2Falternative",
 );
 
+fn alternative(rt: &(impl Abort + AllocGlobal)) -> RedirectUrl {
+    RedirectUrl::new(rt.alloc(), text(rt, "https://localhost/alternative")).expect(rt, "a URL")
+}
+
+fn login_with_members<'a>(
+    rt: &(impl Abort + AllocGlobal),
+    client: &'a WholeClient,
+    response_type: &ResponseType,
+) -> AuthorizationRequest<'a> {
+    login(rt, client)
+        .set_response_type(rt.alloc(), response_type)
+        .expect(rt, "a response type")
+        .set_pkce_challenge(challenge(rt))
+        .set_redirect_uri(RedirectRef::Owned(alternative(rt)))
+}
+
 #[test]
 fn members_of_a_login(rt: HostRuntime) {
     let client = client(&rt, "aaa", "bbb");
-    let redirect = RedirectUrl::new(rt.alloc(), text(&rt, "https://localhost/alternative"));
     let response_type = ResponseType::new(text(&rt, "code token"));
-    let login = login(&rt, &client)
-        .set_response_type(rt.alloc(), &response_type)
-        .expect(&rt, "a response type")
-        .set_pkce_challenge(challenge(&rt))
-        .set_redirect_uri(RedirectRef::Owned(redirect.expect(&rt, "a URL")));
-    has_url(&rt, login, LOGIN);
+    has_url(&rt, login_with_members(&rt, &client, &response_type), LOGIN);
+}
+
+fn endpoint_with_a_fragment(rt: &(impl Abort + AllocGlobal)) -> AuthUrl {
+    AuthUrl::new(rt.alloc(), text(rt, "https://example.com/auth#x")).expect(rt, "a URL")
 }
 
 #[test]
 fn fragment_of_an_endpoint(rt: HostRuntime) {
-    let endpoint = AuthUrl::new(rt.alloc(), text(&rt, "https://example.com/auth#x"));
-    let client = client(&rt, "aaa", "bbb").set_auth_uri(endpoint.expect(&rt, "a URL"));
+    let client = client(&rt, "aaa", "bbb").set_auth_uri(endpoint_with_a_fragment(&rt));
     has_url(
         &rt,
         login(&rt, &client),
@@ -165,42 +204,58 @@ fn fragment_of_an_endpoint(rt: HostRuntime) {
     );
 }
 
+fn login_of_empty_scopes<'a>(
+    rt: &(impl Abort + AllocGlobal),
+    client: &'a WholeClient,
+) -> AuthorizationRequest<'a> {
+    login(rt, client)
+        .add_scope(scope(rt, ""))
+        .expect(rt, "a scope")
+        .add_scope(scope(rt, ""))
+        .expect(rt, "a scope")
+}
+
 #[test]
 fn empty_scopes_of_a_login(rt: HostRuntime) {
-    let client = client(&rt, "aaa", "bbb");
-    let login = login(&rt, &client)
-        .add_scope(scope(&rt, ""))
-        .expect(&rt, "a scope")
-        .add_scope(scope(&rt, ""))
-        .expect(&rt, "a scope");
     has_url(
         &rt,
-        login,
+        login_of_empty_scopes(&rt, &client(&rt, "aaa", "bbb")),
         "https://example.com/auth?response_type=code&client_id=aaa&state=csrf_token&scope=+",
     );
 }
 
+fn login_of_two_states<'a>(
+    rt: &(impl Abort + AllocGlobal),
+    client: &'a WholeClient,
+) -> AuthorizationRequest<'a> {
+    login(rt, client)
+        .add_extra_param("state".into(), "z".into())
+        .expect(rt, "a parameter")
+}
+
 #[test]
 fn second_state_of_a_login(rt: HostRuntime) {
-    let client = client(&rt, "aaa", "bbb");
-    let login = login(&rt, &client)
-        .add_extra_param("state".into(), "z".into())
-        .expect(&rt, "a parameter");
     has_url(
         &rt,
-        login,
+        login_of_two_states(&rt, &client(&rt, "aaa", "bbb")),
         "https://example.com/auth?response_type=code&client_id=aaa&state=csrf_token&state=z",
     );
 }
 
-#[test]
-fn no_scopes_of_a_client(rt: HostRuntime) {
-    let client = client(&rt, "aaa", "bbb");
-    let request = client
+fn scopeless_client_credentials(
+    rt: &(impl Abort + AllocGlobal),
+    client: &WholeClient,
+) -> HttpRequest {
+    client
         .exchange_client_credentials(rt.alloc())
         .add_scopes(Vec::new(rt.alloc()))
-        .expect(&rt, "no scopes")
+        .expect(rt, "no scopes")
         .prepare_request(rt.alloc())
-        .expect(&rt, "a request");
+        .expect(rt, "a request")
+}
+
+#[test]
+fn no_scopes_of_a_client(rt: HostRuntime) {
+    let request = scopeless_client_credentials(&rt, &client(&rt, "aaa", "bbb"));
     has_body(&rt, request, "grant_type=client_credentials");
 }
