@@ -4,7 +4,10 @@ use crate::every_request::{
     WholeClient, access_token, client, code, device, password, refresh_token, username,
 };
 use crate::support::{is_equal, is_so_at, is_text, text};
-use oauth2::{AuthType, HttpRequest, ServerView, StandardRevocableToken, server_view};
+use oauth2::{
+    AccessToken, AuthType, HttpRequest, RefreshToken, ResourceOwnerPassword, ResourceOwnerUsername,
+    ServerView, StandardDeviceAuthorizationResponse, StandardRevocableToken, server_view,
+};
 use std::process::Abort;
 
 /// A parameter of the caller's: its name and its value.
@@ -26,10 +29,11 @@ fn code_request(
 fn refresh_request(
     rt: &(impl Abort + AllocGlobal),
     client: &WholeClient,
+    token: &RefreshToken,
     (name, value): Extra<'_>,
 ) -> HttpRequest {
     client
-        .exchange_refresh_token(rt.alloc(), &refresh_token(rt))
+        .exchange_refresh_token(rt.alloc(), token)
         .add_extra_param(name.into(), value.into())
         .expect(rt, "a parameter")
         .prepare_request(rt.alloc())
@@ -39,10 +43,12 @@ fn refresh_request(
 fn password_request(
     rt: &(impl Abort + AllocGlobal),
     client: &WholeClient,
+    username: &ResourceOwnerUsername,
+    password: &ResourceOwnerPassword,
     (name, value): Extra<'_>,
 ) -> HttpRequest {
     client
-        .exchange_password(rt.alloc(), &username(rt), &password(rt))
+        .exchange_password(rt.alloc(), username, password)
         .add_extra_param(name.into(), value.into())
         .expect(rt, "a parameter")
         .prepare_request(rt.alloc())
@@ -65,10 +71,11 @@ fn client_credentials_request(
 fn introspection_request(
     rt: &(impl Abort + AllocGlobal),
     client: &WholeClient,
+    token: &AccessToken,
     (name, value): Extra<'_>,
 ) -> HttpRequest {
     client
-        .introspect(rt.alloc(), &access_token(rt))
+        .introspect(rt.alloc(), token)
         .add_extra_param(name.into(), value.into())
         .expect(rt, "a parameter")
         .prepare_request(rt.alloc())
@@ -105,10 +112,11 @@ fn device_request(
 fn device_token_request(
     rt: &(impl Abort + AllocGlobal),
     client: &WholeClient,
+    device: &StandardDeviceAuthorizationResponse,
     (name, value): Extra<'_>,
 ) -> HttpRequest {
     client
-        .exchange_device_access_token(rt.alloc(), &device(rt))
+        .exchange_device_access_token(rt.alloc(), device)
         .add_extra_param(name.into(), value.into())
         .expect(rt, "a parameter")
         .prepare_request(rt.alloc())
@@ -123,13 +131,13 @@ fn each_request(
 ) -> Vec<HttpRequest> {
     vec![in rt.alloc();
         code_request(rt, client, extra),
-        refresh_request(rt, client, extra),
-        password_request(rt, client, extra),
+        refresh_request(rt, client, &refresh_token(rt), extra),
+        password_request(rt, client, &username(rt), &password(rt), extra),
         client_credentials_request(rt, client, extra),
-        introspection_request(rt, client, extra),
+        introspection_request(rt, client, &access_token(rt), extra),
         revocation_request(rt, client, extra),
         device_request(rt, client, extra),
-        device_token_request(rt, client, extra),
+        device_token_request(rt, client, &device(rt), extra),
     ]
     .expect(rt, "a list")
 }
@@ -148,8 +156,7 @@ const BODIES: [&str; 8] = [
 
 #[test]
 fn name_of_the_character_0(rt: HostRuntime) {
-    let client = client(&rt, "aaa", "bbb");
-    let requests = each_request(&rt, &client, ("\0", "~"));
+    let requests = each_request(&rt, &client(&rt, "aaa", "bbb"), ("\0", "~"));
     is_equal(&rt, requests.len(), BODIES.len());
     for (request, body) in requests.iter().zip(BODIES) {
         is_equal(&rt, request.body().as_slice(), body.as_bytes());
@@ -185,15 +192,20 @@ fn shows_twice(rt: &impl Abort, view: ServerView, wanted: &str) {
     is_text(rt, secret.as_str(), wanted);
 }
 
+/// The server reads this as credentials, from the header, and as the caller's parameter.
+fn is_read_in_the_header(rt: &(impl Abort + AllocGlobal), request: &HttpRequest, every: &str) {
+    let view = view_of(rt, request);
+    has_last_pair(rt, view.form.as_slice(), every, every);
+    shows_twice(rt, view, every);
+}
+
 #[test]
 fn every_character_in_the_header(rt: HostRuntime) {
     let every = every_character(&rt);
     let every = every.as_str();
-    let client = client(&rt, every, every);
-    for request in each_request(&rt, &client, (every, every)) {
-        let view = view_of(&rt, &request);
-        has_last_pair(&rt, view.form.as_slice(), every, every);
-        shows_twice(&rt, view, every);
+    let requests = each_request(&rt, &client(&rt, every, every), (every, every));
+    for request in &requests {
+        is_read_in_the_header(&rt, request, every);
     }
 }
 
@@ -209,16 +221,25 @@ fn is_read_by_name(rt: &impl Abort, form: &[(String, String)], name: &str, value
     is_so_at(rt, times == 1, name);
 }
 
+/// The server reads this as credentials, from the body alone, and as the caller's parameter.
+fn is_read_in_the_body(rt: &(impl Abort + AllocGlobal), request: &HttpRequest, every: &str) {
+    let view = view_of(rt, request);
+    assert!(rt; view.basic.is_none());
+    is_read_by_name(rt, view.form.as_slice(), "client_id", every);
+    is_read_by_name(rt, view.form.as_slice(), "client_secret", every);
+    has_last_pair(rt, view.form.as_slice(), every, every);
+}
+
 #[test]
 fn every_character_in_the_body(rt: HostRuntime) {
     let every = every_character(&rt);
     let every = every.as_str();
-    let client = client(&rt, every, every).set_auth_type(AuthType::RequestBody);
-    for request in each_request(&rt, &client, (every, every)) {
-        let view = view_of(&rt, &request);
-        assert!(rt; view.basic.is_none());
-        is_read_by_name(&rt, view.form.as_slice(), "client_id", every);
-        is_read_by_name(&rt, view.form.as_slice(), "client_secret", every);
-        has_last_pair(&rt, view.form.as_slice(), every, every);
+    let requests = each_request(
+        &rt,
+        &client(&rt, every, every).set_auth_type(AuthType::RequestBody),
+        (every, every),
+    );
+    for request in &requests {
+        is_read_in_the_body(&rt, request, every);
     }
 }
