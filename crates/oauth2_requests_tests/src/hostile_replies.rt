@@ -4,12 +4,12 @@ use crate::every_request::{
     OPEN, WholeClient, access_token, client, code, device, password, refresh_token, username,
 };
 use crate::replies::reply_of;
-use crate::support::{is_equal, is_text, text};
+use crate::support::{Replying, is_equal, is_text, shows, text};
 use jiff::Timestamp;
 use oauth2::basic::{BasicRequestTokenError, BasicTokenResponse};
 use oauth2::{
-    HttpRequest, HttpResponse, ParseCause, RequestTokenError, StandardDeviceAuthorizationResponse,
-    StandardRevocableToken, SyncHttpClient, endpoint_response,
+    HttpResponse, ParseCause, RequestTokenError, StandardDeviceAuthorizationResponse,
+    StandardRevocableToken, endpoint_response,
 };
 use std::fmt::Display;
 use std::process::Abort;
@@ -35,20 +35,6 @@ enum Outcome<'a> {
 
 const NO_JSON: Outcome<'static> = Outcome::Unread("", ParseCause::NotJson);
 
-/// A client that hands out one reply.
-#[derive(Drop)]
-struct Replying {
-    reply: Option<HttpResponse>,
-}
-
-impl SyncHttpClient for Replying {
-    type Error = u8;
-
-    fn call(&mut self, _request: HttpRequest) -> Result<HttpResponse, u8> {
-        self.reply.take().ok_or(7)
-    }
-}
-
 fn made(rt: &(impl Abort + AllocGlobal), reply: Reply<'_>) -> HttpResponse {
     reply_of(rt, reply.status, reply.types, reply.body)
 }
@@ -73,10 +59,7 @@ fn tells<T: Drop, E: Display + Drop>(
             is_equal(rt, fault.cause, cause);
             is_equal(rt, bytes.as_slice(), body);
         }
-        (Err(error), Outcome::Shown(text)) => {
-            let shown = format!(in rt.alloc(); "{error}").expect(rt, "a text");
-            is_text(rt, shown.as_str(), text);
-        }
+        (Err(error), Outcome::Shown(text)) => shows(rt, &error, text),
         _ => panic!(rt; "another answer"),
     }
 }
@@ -155,14 +138,13 @@ fn asks_for_codes(
 fn polls_once(
     rt: &(impl Abort + AllocGlobal),
     client: &WholeClient,
+    device: &StandardDeviceAuthorizationResponse,
     reply: Reply<'_>,
     wanted: Outcome<'_>,
 ) {
-    let device = device(rt);
-    let start = Timestamp::from_second(0).expect(rt, "a timestamp");
     let request = client
-        .exchange_device_access_token(rt.alloc(), &device)
-        .set_time_fn(|| start);
+        .exchange_device_access_token(rt.alloc(), device)
+        .set_time_fn(|| Timestamp::UNIX_EPOCH);
     let answer = request.request(
         rt.alloc(),
         &mut handing_out(rt, reply),
@@ -201,18 +183,27 @@ fn is_read(rt: &(impl Abort + AllocGlobal), reply: Reply<'_>, wanted: Outcome<'_
     tells(rt, answer, reply.body, wanted);
 }
 
-/// Each kind of request answers so.
+/// Each kind of request of this client answers so.
+fn each_request_answers(
+    rt: &(impl Abort + AllocGlobal),
+    client: &WholeClient,
+    reply: Reply<'_>,
+    wanted: Outcome<'_>,
+) {
+    exchanges_a_code(rt, client, reply, wanted);
+    refreshes(rt, client, reply, wanted);
+    shows_a_password(rt, client, reply, wanted);
+    shows_its_own_credentials(rt, client, reply, wanted);
+    introspects(rt, client, reply, wanted);
+    asks_for_codes(rt, client, reply, wanted);
+    polls_once(rt, client, &device(rt), reply, wanted);
+    revokes(rt, client, reply, wanted);
+}
+
+/// Each kind of request answers so, and the same is read where a caller sent the request.
 fn answers(rt: &(impl Abort + AllocGlobal), reply: Reply<'_>, wanted: Outcome<'_>) {
-    let client = client(rt, "aaa", "bbb");
     is_read(rt, reply, wanted);
-    exchanges_a_code(rt, &client, reply, wanted);
-    refreshes(rt, &client, reply, wanted);
-    shows_a_password(rt, &client, reply, wanted);
-    shows_its_own_credentials(rt, &client, reply, wanted);
-    introspects(rt, &client, reply, wanted);
-    asks_for_codes(rt, &client, reply, wanted);
-    polls_once(rt, &client, reply, wanted);
-    revokes(rt, &client, reply, wanted);
+    each_request_answers(rt, &client(rt, "aaa", "bbb"), reply, wanted);
 }
 
 /// The object with this end.

@@ -1,6 +1,6 @@
 //! What replies say (RFC 6749, sections 5.1 and 5.2; RFC 7009, section 2.2).
 
-use crate::support::is_text;
+use crate::support::{is_text, shows};
 use http_header::{CONTENT_TYPE, HeaderValue};
 use oauth2::basic::BasicRequestTokenError;
 use oauth2::http::response::Parts;
@@ -58,10 +58,7 @@ fn answers(
     let answer: Result<String, BasicRequestTokenError<u8>> = endpoint_response(rt.alloc(), reply);
     match answer {
         Ok(text) => is_text(rt, text.as_str(), wanted),
-        Err(error) => {
-            let text = format!(in rt.alloc(); "{error}").expect(rt, "a text");
-            is_text(rt, text.as_str(), wanted);
-        }
+        Err(error) => shows(rt, &error, wanted),
     }
 }
 
@@ -159,10 +156,7 @@ fn answers_by_status(rt: &(impl Abort + AllocGlobal), status: u16, body: &str, w
     let answer: Result<(), RevocationError> = endpoint_response_status_only(rt.alloc(), reply);
     match answer {
         Ok(()) => is_text(rt, "done", wanted),
-        Err(error) => {
-            let text = format!(in rt.alloc(); "{error}").expect(rt, "a text");
-            is_text(rt, text.as_str(), wanted);
-        }
+        Err(error) => shows(rt, &error, wanted),
     }
 }
 

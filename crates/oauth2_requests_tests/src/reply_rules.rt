@@ -1,16 +1,16 @@
 //! The rule by which the Content-Type of a reply is judged (RFC 9110, section 8.3.1).
 
-use crate::support::{is_equal, is_text, text};
-use http_header::{CONTENT_TYPE, HeaderValue};
-use oauth2::basic::{BasicClient, BasicRequestTokenError};
-use oauth2::http::response::Parts;
-use oauth2::http::{Response, StatusCode};
+use crate::replies::reply_of;
+use crate::support::{Replying, is_equal, is_text, shows, text};
+use oauth2::basic::{
+    BasicClient, BasicRequestTokenError, BasicRevocationErrorResponse,
+    BasicTokenIntrospectionResponse, BasicTokenResponse,
+};
 use oauth2::{
     AccessToken, AuthorizationCode, ClientId, EndpointNotSet, EndpointSet, HttpRequest,
-    HttpResponse, IntrospectionUrl, ReplyRule, RevocationUrl, StandardRevocableToken,
-    SyncHttpClient, TokenUrl, TryClone, endpoint_response_with, send_once,
+    IntrospectionUrl, ReplyRule, RequestTokenError, RevocationUrl, StandardRevocableToken,
+    TokenUrl, TryClone, endpoint_response_with, send_once,
 };
-use std::alloc::Global;
 use std::fmt::Display;
 use std::process::Abort;
 
@@ -24,34 +24,11 @@ type TypedClient = BasicClient<
     EndpointSet,
 >;
 
-/// A reply with this Content-Type, if any.
-fn reply_of(
-    alloc: Global,
-    status: u16,
-    content_type: Option<&[u8]>,
-    body: &str,
-) -> Option<HttpResponse> {
-    let mut head = Parts::new(alloc);
-    head.status = StatusCode::from_u16(status).ok()?;
-    if let Some(bytes) = content_type {
-        let value = HeaderValue::from_bytes(alloc, bytes).ok()?;
-        let _ = head.headers.insert(CONTENT_TYPE, value).ok()?;
-    }
-    let body = body.as_bytes().to_vec(alloc).ok()?;
-    Some(Response::from_parts(head, body))
-}
-
-/// The text of an error.
-fn fails<E: Display>(rt: &(impl Abort + AllocGlobal), error: &E, wanted: &str) {
-    let text = format!(in rt.alloc(); "{error}").expect(rt, "a text");
-    is_text(rt, text.as_str(), wanted);
-}
-
 /// The answer, or the text of the error.
 fn says(rt: &(impl Abort + AllocGlobal), answer: TextResult, wanted: &str) {
     match answer {
         Ok(text) => is_text(rt, text.as_str(), wanted),
-        Err(error) => fails(rt, &error, wanted),
+        Err(error) => shows(rt, &error, wanted),
     }
 }
 
@@ -64,7 +41,7 @@ fn answers(
     body: &str,
     wanted: &str,
 ) {
-    let reply = reply_of(rt.alloc(), status, content_type, body).expect(rt, "a reply");
+    let reply = reply_of(rt, status, content_type.as_slice(), body.as_bytes());
     says(rt, endpoint_response_with(rt.alloc(), rule, reply), wanted);
 }
 
@@ -126,19 +103,11 @@ fn a_rule_is_copied(rt: HostRuntime) {
     }
 }
 
-/// An HTTP client that answers `application/jsonfoo` to each request, with this body.
-#[derive(Drop)]
-struct JsonFoo {
-    alloc: Global,
-    body: &'static str,
-}
-
-impl SyncHttpClient for JsonFoo {
-    type Error = u8;
-
-    fn call(&mut self, request: HttpRequest) -> Result<HttpResponse, u8> {
-        drop(request);
-        reply_of(self.alloc, 200, Some(b"application/jsonfoo"), self.body).ok_or(7)
+/// An HTTP client that answers `application/jsonfoo`, with this body.
+fn json_foo(rt: &(impl Abort + AllocGlobal), body: &str) -> Replying {
+    let types = [b"application/jsonfoo".as_slice()];
+    Replying {
+        reply: Some(reply_of(rt, 200, &types, body.as_bytes())),
     }
 }
 
@@ -148,12 +117,13 @@ fn one_call(rt: HostRuntime) {
         (ReplyRule::Prefix, "a token"),
         (ReplyRule::MediaType, JSONFOO_REFUSED),
     ] {
-        let mut http_client = JsonFoo {
-            alloc: rt.alloc(),
-            body: TOKEN,
-        };
         let request = HttpRequest::new(rt.alloc(), Vec::new(rt.alloc()));
-        let answer: TextResult = send_once(rt.alloc(), rule, Ok(request), &mut http_client);
+        let answer: TextResult = send_once(
+            rt.alloc(),
+            rule,
+            Ok(request),
+            &mut json_foo(&rt, TOKEN),
+        );
         says(&rt, answer, wanted);
     }
 }
@@ -170,54 +140,66 @@ fn client(rt: &(impl Abort + AllocGlobal), rule: ReplyRule) -> TypedClient {
         .set_revocation_url(revocation.expect(rt, "a URL"))
 }
 
+/// The reply is accepted, or refused for its Content-Type.
+fn is_judged<T: Drop, E: Display + Drop>(
+    rt: &(impl Abort + AllocGlobal),
+    answer: Result<T, E>,
+    is_accepted: bool,
+) {
+    match answer {
+        Ok(_) => assert!(rt; is_accepted),
+        Err(error) => shows(rt, &error, JSONFOO_REFUSED),
+    }
+}
+
+fn exchanges_a_code(
+    rt: &(impl Abort + AllocGlobal),
+    client: &TypedClient,
+) -> Result<BasicTokenResponse, BasicRequestTokenError<u8>> {
+    let body = "{\"access_token\":\"12/34\",\"token_type\":\"bearer\"}";
+    client
+        .exchange_code(rt.alloc(), AuthorizationCode::new(text(rt, "ccc")))
+        .request(rt.alloc(), &mut json_foo(rt, body))
+}
+
 #[test]
 fn a_code_is_exchanged_by_the_rule_of_the_client(rt: HostRuntime) {
-    for (rule, is_answered) in [(ReplyRule::Prefix, true), (ReplyRule::MediaType, false)] {
-        let mut http_client = JsonFoo {
-            alloc: rt.alloc(),
-            body: "{\"access_token\":\"12/34\",\"token_type\":\"bearer\"}",
-        };
-        let client = client(&rt, rule);
-        let code = AuthorizationCode::new(text(&rt, "ccc"));
-        match client
-            .exchange_code(rt.alloc(), code)
-            .request(rt.alloc(), &mut http_client)
-        {
-            Ok(_) => assert!(rt; is_answered),
-            Err(error) => fails(&rt, &error, JSONFOO_REFUSED),
-        }
+    for (rule, is_accepted) in [(ReplyRule::Prefix, true), (ReplyRule::MediaType, false)] {
+        let answer = exchanges_a_code(&rt, &client(&rt, rule));
+        is_judged(&rt, answer, is_accepted);
     }
+}
+
+fn introspects(
+    rt: &(impl Abort + AllocGlobal),
+    client: &TypedClient,
+) -> Result<BasicTokenIntrospectionResponse, BasicRequestTokenError<u8>> {
+    client
+        .introspect(rt.alloc(), &AccessToken::new(text(rt, "12/34")))
+        .request(rt.alloc(), &mut json_foo(rt, "{\"active\":true}"))
 }
 
 #[test]
 fn a_token_is_introspected_by_the_rule_of_the_client(rt: HostRuntime) {
-    for (rule, is_answered) in [(ReplyRule::Prefix, true), (ReplyRule::MediaType, false)] {
-        let mut http_client = JsonFoo {
-            alloc: rt.alloc(),
-            body: "{\"active\":true}",
-        };
-        let client = client(&rt, rule);
-        let token = AccessToken::new(text(&rt, "12/34"));
-        match client
-            .introspect(rt.alloc(), &token)
-            .request(rt.alloc(), &mut http_client)
-        {
-            Ok(_) => assert!(rt; is_answered),
-            Err(error) => fails(&rt, &error, JSONFOO_REFUSED),
-        }
+    for (rule, is_accepted) in [(ReplyRule::Prefix, true), (ReplyRule::MediaType, false)] {
+        let answer = introspects(&rt, &client(&rt, rule));
+        is_judged(&rt, answer, is_accepted);
     }
+}
+
+fn revokes(
+    rt: &(impl Abort + AllocGlobal),
+    client: &TypedClient,
+) -> Result<(), RequestTokenError<u8, BasicRevocationErrorResponse>> {
+    let token = StandardRevocableToken::from(AccessToken::new(text(rt, "12/34")));
+    client
+        .revoke_token(rt.alloc(), token)
+        .expect(rt, "a request")
+        .request(rt.alloc(), &mut json_foo(rt, ""))
 }
 
 #[test]
 fn a_revocation_reads_no_type(rt: HostRuntime) {
-    let mut http_client = JsonFoo {
-        alloc: rt.alloc(),
-        body: "",
-    };
-    let client = client(&rt, ReplyRule::MediaType);
-    let token = StandardRevocableToken::from(AccessToken::new(text(&rt, "12/34")));
-    let request = client
-        .revoke_token(rt.alloc(), token)
-        .expect(&rt, "a request");
-    assert!(rt; request.request(rt.alloc(), &mut http_client).is_ok());
+    let answer = revokes(&rt, &client(&rt, ReplyRule::MediaType));
+    assert!(rt; answer.is_ok());
 }

@@ -1,7 +1,22 @@
 //! What the tests of several subjects share.
 
-use std::fmt::Debug;
+use oauth2::{HttpRequest, HttpResponse, SyncHttpClient};
+use std::fmt::{Debug, Display};
 use std::process::Abort;
+
+/// An HTTP client that hands out one reply.
+#[derive(Drop)]
+pub struct Replying {
+    pub reply: Option<HttpResponse>,
+}
+
+impl SyncHttpClient for Replying {
+    type Error = u8;
+
+    fn call(&mut self, _request: HttpRequest) -> Result<HttpResponse, u8> {
+        self.reply.take().ok_or(7)
+    }
+}
 
 pub fn text(rt: &(impl Abort + AllocGlobal), text: &str) -> String {
     String::from_str(rt.alloc(), text).expect(rt, "a text")
@@ -15,6 +30,12 @@ pub fn is_equal<T: PartialEq + Debug + Drop>(rt: &impl Abort, found: T, wanted: 
 /// It is so, at this row of a table.
 pub fn is_so_at(rt: &impl Abort, is_so: bool, row: &str) {
     assert!(rt; is_so, "at {row}");
+}
+
+/// The text that the value displays.
+pub fn shows<T: Display>(rt: &(impl Abort + AllocGlobal), value: &T, wanted: &str) {
+    let text = format!(in rt.alloc(); "{value}").expect(rt, "a text");
+    is_text(rt, text.as_str(), wanted);
 }
 
 pub fn is_text(rt: &impl Abort, found: &str, wanted: &str) {
