@@ -1,7 +1,7 @@
 //! Scopes and parameters of the caller's, in each kind of request that takes them, and the URL of a
 //! login.
 
-use crate::every_request::{WholeClient, client, password, refresh_token, username};
+use crate::every_request::{WholeClient, client, password, refresh_token, username, with_client};
 use crate::support::{is_equal, is_text, text};
 use oauth2::{
     AuthUrl, AuthorizationRequest, CsrfToken, HttpRequest, PkceCodeChallenge,
@@ -41,12 +41,13 @@ fn scoped_refresh(
 
 #[test]
 fn scopes_of_a_refresh(rt: HostRuntime) {
-    let request = scoped_refresh(&rt, &client(&rt, "aaa", "bbb"), &refresh_token(&rt));
-    has_body(
-        &rt,
-        request,
-        "grant_type=refresh_token&refresh_token=r&scope=a+b+c+d&x=y",
-    );
+    with_client(&rt, |client| {
+        has_body(
+            &rt,
+            scoped_refresh(&rt, client, &refresh_token(&rt)),
+            "grant_type=refresh_token&refresh_token=r&scope=a+b+c+d&x=y",
+        );
+    });
 }
 
 fn scoped_password(
@@ -69,13 +70,13 @@ fn scoped_password(
 
 #[test]
 fn scopes_of_a_password(rt: HostRuntime) {
-    let client = client(&rt, "aaa", "bbb");
-    let request = scoped_password(&rt, &client, &username(&rt), &password(&rt));
-    has_body(
-        &rt,
-        request,
-        "grant_type=password&username=u&password=p&scope=a+b+c+d&x=y",
-    );
+    with_client(&rt, |client| {
+        has_body(
+            &rt,
+            scoped_password(&rt, client, &username(&rt), &password(&rt)),
+            "grant_type=password&username=u&password=p&scope=a+b+c+d&x=y",
+        );
+    });
 }
 
 fn scoped_client_credentials(rt: &(impl Abort + AllocGlobal), client: &WholeClient) -> HttpRequest {
@@ -93,12 +94,13 @@ fn scoped_client_credentials(rt: &(impl Abort + AllocGlobal), client: &WholeClie
 
 #[test]
 fn scopes_of_a_client(rt: HostRuntime) {
-    let request = scoped_client_credentials(&rt, &client(&rt, "aaa", "bbb"));
-    has_body(
-        &rt,
-        request,
-        "grant_type=client_credentials&scope=a+b+c+d&x=y",
-    );
+    with_client(&rt, |client| {
+        has_body(
+            &rt,
+            scoped_client_credentials(&rt, client),
+            "grant_type=client_credentials&scope=a+b+c+d&x=y",
+        );
+    });
 }
 
 fn scoped_device(rt: &(impl Abort + AllocGlobal), client: &WholeClient) -> HttpRequest {
@@ -116,8 +118,9 @@ fn scoped_device(rt: &(impl Abort + AllocGlobal), client: &WholeClient) -> HttpR
 
 #[test]
 fn scopes_of_a_device(rt: HostRuntime) {
-    let request = scoped_device(&rt, &client(&rt, "aaa", "bbb"));
-    has_body(&rt, request, "scope=a+b+c+d&x=y");
+    with_client(&rt, |client| {
+        has_body(&rt, scoped_device(&rt, client), "scope=a+b+c+d&x=y");
+    });
 }
 
 /// The login of this client.
@@ -146,11 +149,13 @@ fn scoped_login<'a>(
 
 #[test]
 fn scopes_of_a_login(rt: HostRuntime) {
-    has_url(
-        &rt,
-        scoped_login(&rt, &client(&rt, "aaa", "bbb")),
-        "https://example.com/auth?response_type=code&client_id=aaa&state=csrf_token&scope=a+b+c+d&x=y",
-    );
+    with_client(&rt, |client| {
+        has_url(
+            &rt,
+            scoped_login(&rt, client),
+            "https://example.com/auth?response_type=code&client_id=aaa&state=csrf_token&scope=a+b+c+d&x=y",
+        );
+    });
 }
 
 /// The challenge of RFC 7636, appendix B.
@@ -185,9 +190,10 @@ fn login_with_members<'a>(
 
 #[test]
 fn members_of_a_login(rt: HostRuntime) {
-    let client = client(&rt, "aaa", "bbb");
-    let response_type = ResponseType::new(text(&rt, "code token"));
-    has_url(&rt, login_with_members(&rt, &client, &response_type), LOGIN);
+    with_client(&rt, |client| {
+        let response_type = ResponseType::new(text(&rt, "code token"));
+        has_url(&rt, login_with_members(&rt, client, &response_type), LOGIN);
+    });
 }
 
 fn endpoint_with_a_fragment(rt: &(impl Abort + AllocGlobal)) -> AuthUrl {
@@ -217,11 +223,13 @@ fn login_of_empty_scopes<'a>(
 
 #[test]
 fn empty_scopes_of_a_login(rt: HostRuntime) {
-    has_url(
-        &rt,
-        login_of_empty_scopes(&rt, &client(&rt, "aaa", "bbb")),
-        "https://example.com/auth?response_type=code&client_id=aaa&state=csrf_token&scope=+",
-    );
+    with_client(&rt, |client| {
+        has_url(
+            &rt,
+            login_of_empty_scopes(&rt, client),
+            "https://example.com/auth?response_type=code&client_id=aaa&state=csrf_token&scope=+",
+        );
+    });
 }
 
 fn login_of_two_states<'a>(
@@ -235,11 +243,13 @@ fn login_of_two_states<'a>(
 
 #[test]
 fn second_state_of_a_login(rt: HostRuntime) {
-    has_url(
-        &rt,
-        login_of_two_states(&rt, &client(&rt, "aaa", "bbb")),
-        "https://example.com/auth?response_type=code&client_id=aaa&state=csrf_token&state=z",
-    );
+    with_client(&rt, |client| {
+        has_url(
+            &rt,
+            login_of_two_states(&rt, client),
+            "https://example.com/auth?response_type=code&client_id=aaa&state=csrf_token&state=z",
+        );
+    });
 }
 
 fn scopeless_client_credentials(
@@ -256,6 +266,11 @@ fn scopeless_client_credentials(
 
 #[test]
 fn no_scopes_of_a_client(rt: HostRuntime) {
-    let request = scopeless_client_credentials(&rt, &client(&rt, "aaa", "bbb"));
-    has_body(&rt, request, "grant_type=client_credentials");
+    with_client(&rt, |client| {
+        has_body(
+            &rt,
+            scopeless_client_credentials(&rt, client),
+            "grant_type=client_credentials",
+        );
+    });
 }

@@ -40,6 +40,13 @@ pub fn client(rt: &(impl Abort + AllocGlobal), id: &str, secret: &str) -> WholeC
         .set_revocation_url(revocation.expect(rt, "a URL"))
 }
 
+/// Runs a test with a client. (Its proof costs far less so than with a client of the test's own.)
+pub fn with_client<F: FnOnce(&WholeClient)>(rt: &(impl Abort + AllocGlobal), test: F)
+    requires { F.IsAlwaysCallable test }
+{
+    test(&client(rt, "aaa", "bbb"));
+}
+
 pub fn code(rt: &(impl Abort + AllocGlobal)) -> AuthorizationCode {
     AuthorizationCode::new(text(rt, "c"))
 }
