@@ -146,9 +146,9 @@ fn is_judged<T: Drop, E: Display + Drop>(
     answer: Result<T, E>,
     is_accepted: bool,
 ) {
-    match answer {
-        Ok(_) => assert!(rt; is_accepted),
-        Err(error) => shows(rt, &error, JSONFOO_REFUSED),
+    is_equal(rt, answer.is_ok(), is_accepted);
+    if let Err(error) = answer {
+        shows(rt, &error, JSONFOO_REFUSED);
     }
 }
 
