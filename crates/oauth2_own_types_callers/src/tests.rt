@@ -3,28 +3,32 @@
 
 use crate::client::{
     ColorfulClient, ColorfulErrorResponse, ColorfulIntrospectionResponse, ColorfulTokenResponse,
-    colorful_client, device_codes, introspection, revocation, revoke, token_for_code,
+    colorful_client, device_codes, device_token, introspection, revocation, revoke, token_for_code,
     token_for_password, token_for_refresh_token, token_of_its_own,
 };
 use crate::colorful_error::ColorfulErrorResponseType;
 use crate::colorful_fields::ColorfulFields;
 use crate::colorful_token::ColorfulRevocableToken;
 use crate::colorful_token_type::ColorfulTokenType;
-use crate::custom_client::{custom_error_client, token_or_custom_error};
+use crate::custom_client::{CustomErrorClient, custom_error_client, token_or_custom_error};
+use crate::custom_error::CustomErrorResponse;
 use crate::kept::{
     codes_value, error_value, introspection_value, reread, restored_token, stored_token,
 };
+use jiff::Timestamp;
 use oauth2::http::response::Parts;
 use oauth2::http::{Response, StatusCode};
 use oauth2::{
     AccessToken, AuthorizationCode, ClientId, ClientSecret, DeviceAuthorizationResponse,
-    DeviceAuthorizationUrl, HttpRequest, HttpResponse, IntrospectionUrl, ParseCause, ReadError,
-    RefreshToken, RequestTokenError, ResourceOwnerPassword, ResourceOwnerUsername, RevocationUrl,
-    SyncHttpClient, TokenIntrospectionResponse, TokenResponse, TokenUrl,
+    DeviceAuthorizationUrl, DeviceCodeErrorResponse, HttpRequest, HttpResponse, IntrospectionUrl,
+    ParseCause, PollWorld, ReadError, RefreshToken, RequestTokenError, ResourceOwnerPassword,
+    ResourceOwnerUsername, RevocationUrl, SyncHttpClient, TokenIntrospectionResponse,
+    TokenResponse, TokenUrl, read_body,
 };
 use serde_json::Value;
 use std::fmt::{Debug, Display};
 use std::process::Abort;
+use std::time::Duration;
 
 /// The reply was handed out before.
 #[derive(Debug, Drop)]
@@ -42,7 +46,9 @@ impl SyncHttpClient for Replying {
     }
 }
 
-type Answer = Result<ColorfulTokenResponse, RequestTokenError<Spent, ColorfulErrorResponse>>;
+type Answer<T> = Result<T, RequestTokenError<Spent, ColorfulErrorResponse>>;
+
+type TokenAnswer = Answer<ColorfulTokenResponse>;
 
 fn text(rt: &(impl Abort + AllocGlobal), text: &str) -> String {
     String::from_str(rt.alloc(), text).expect(rt, "a text")
@@ -94,11 +100,13 @@ fn is_displayed_as<T: Display>(rt: &(impl Abort + AllocGlobal), value: &T, wante
 }
 
 /// The token for a code, of a server that replies like this.
-fn answer(rt: &(impl Abort + AllocGlobal), status: u16, body: &str) -> Answer {
-    let client = client(rt);
-    let mut http_client = Replying(Some(reply(rt, status, body)));
-    let code = AuthorizationCode::new(text(rt, "ccc"));
-    token_for_code(rt.alloc(), &client, &mut http_client, code)
+fn answer(rt: &(impl Abort + AllocGlobal), status: u16, body: &str) -> TokenAnswer {
+    token_for_code(
+        rt.alloc(),
+        &client(rt),
+        &mut Replying(Some(reply(rt, status, body))),
+        AuthorizationCode::new(text(rt, "ccc")),
+    )
 }
 
 const TOKEN: &str = r#"{"access_token":"12/34","height":12,"shape":"round","token_type":"green"}"#;
@@ -200,12 +208,26 @@ fn error_code_of_ones_own(rt: HostRuntime) {
     is_displayed_as(&rt, &response, "too_light: color is too light");
 }
 
+fn custom_client(rt: &(impl Abort + AllocGlobal)) -> CustomErrorClient {
+    custom_error_client(ClientId::new(text(rt, "aaa")), token_url(rt))
+}
+
+/// The answer of a server that replies with an error of its own.
+fn custom_answer(
+    rt: &(impl Abort + AllocGlobal),
+    client: &CustomErrorClient,
+) -> Result<ColorfulTokenResponse, RequestTokenError<Spent, CustomErrorResponse>> {
+    let body = r#"{"custom_error":"non-compliant"}"#;
+    token_or_custom_error(
+        rt.alloc(),
+        client,
+        &mut Replying(Some(reply(rt, 400, body))),
+    )
+}
+
 #[test]
 fn error_response_of_ones_own(rt: HostRuntime) {
-    let client = custom_error_client(ClientId::new(text(&rt, "aaa")), token_url(&rt));
-    let body = r#"{"custom_error":"non-compliant"}"#;
-    let mut http_client = Replying(Some(reply(&rt, 400, body)));
-    let answer = token_or_custom_error(rt.alloc(), &client, &mut http_client);
+    let answer = custom_answer(&rt, &custom_client(&rt));
     let error = answer.err().expect(&rt, "an error");
     is_displayed_as(&rt, &error, "Server returned error response: non-compliant");
 }
@@ -237,38 +259,57 @@ fn revocation_of_a_red_token(rt: HostRuntime) {
 }
 
 /// The answer is the token above.
-fn is_token(rt: &(impl Abort + AllocGlobal), answer: Answer) {
+fn is_token(rt: &(impl Abort + AllocGlobal), answer: TokenAnswer) {
     let token = answer.expect(rt, "a token");
     tells(rt, &token);
 }
 
+/// The token for a refresh token, of a server that replies with the one above.
+fn refreshed(
+    rt: &(impl Abort + AllocGlobal),
+    client: &ColorfulClient,
+    refresh_token: &RefreshToken,
+) -> TokenAnswer {
+    token_for_refresh_token(rt.alloc(), client, &mut answering(rt, TOKEN), refresh_token)
+}
+
 #[test]
 fn token_for_a_refresh_token(rt: HostRuntime) {
-    let answer = token_for_refresh_token(
+    let refresh_token = RefreshToken::new(text(&rt, "ccc"));
+    is_token(&rt, refreshed(&rt, &client(&rt), &refresh_token));
+}
+
+/// The token for a name and a password, of the same server.
+fn logged_in(
+    rt: &(impl Abort + AllocGlobal),
+    client: &ColorfulClient,
+    username: &ResourceOwnerUsername,
+    password: &ResourceOwnerPassword,
+) -> TokenAnswer {
+    token_for_password(
         rt.alloc(),
-        &client(&rt),
-        &mut answering(&rt, TOKEN),
-        &RefreshToken::new(text(&rt, "ccc")),
-    );
-    is_token(&rt, answer);
+        client,
+        &mut answering(rt, TOKEN),
+        username,
+        password,
+    )
 }
 
 #[test]
 fn token_for_a_name_and_a_password(rt: HostRuntime) {
-    let answer = token_for_password(
-        rt.alloc(),
-        &client(&rt),
-        &mut answering(&rt, TOKEN),
-        &ResourceOwnerUsername::new(text(&rt, "user")),
-        &ResourceOwnerPassword::new(text(&rt, "pass")),
-    );
-    is_token(&rt, answer);
+    let username = ResourceOwnerUsername::new(text(&rt, "user"));
+    let password = ResourceOwnerPassword::new(text(&rt, "pass"));
+    is_token(&rt, logged_in(&rt, &client(&rt), &username, &password));
+}
+
+/// The client's own token, of the same server.
+fn own(rt: &(impl Abort + AllocGlobal), client: &ColorfulClient) -> TokenAnswer {
+    token_of_its_own(rt.alloc(), client, &mut answering(rt, TOKEN))
 }
 
 #[test]
 fn token_of_the_client(rt: HostRuntime) {
-    let answer = token_of_its_own(rt.alloc(), &client(&rt), &mut answering(&rt, TOKEN));
-    is_token(&rt, answer);
+    is_token(&rt, own(&rt, &client(&rt)));
 }
 
 /// The value is written as this text.
@@ -279,14 +320,19 @@ fn is_written_as(rt: &(impl Abort + AllocGlobal), value: Value, wanted: &str) {
 
 const ACTIVE: &str = r#"{"active":true,"height":12,"shape":"round","token_type":"green"}"#;
 
+/// The worth of a token, of a server that replies like this.
+fn worth(
+    rt: &(impl Abort + AllocGlobal),
+    client: &ColorfulClient,
+    token: &AccessToken,
+) -> Answer<ColorfulIntrospectionResponse> {
+    introspection(rt.alloc(), client, &mut answering(rt, ACTIVE), token)
+}
+
 fn introspected(rt: &(impl Abort + AllocGlobal)) -> ColorfulIntrospectionResponse {
-    introspection(
-        rt.alloc(),
-        &client(rt),
-        &mut answering(rt, ACTIVE),
-        &AccessToken::new(text(rt, "12/34")),
-    )
-    .expect(rt, "an introspection response")
+    let token = AccessToken::new(text(rt, "12/34"));
+    let answer = worth(rt, &client(rt), &token);
+    answer.expect(rt, "an introspection response")
 }
 
 #[test]
@@ -307,8 +353,17 @@ fn introspection_that_is_kept(rt: HostRuntime) {
 const CODES: &str =
     r#"{"device_code":"d","expires_in":300,"height":12,"interval":5,"shape":"round","user_code":"abcde","verification_uri":"https://v/"}"#;
 
+/// The codes of a server that replies like this.
+fn given(
+    rt: &(impl Abort + AllocGlobal),
+    client: &ColorfulClient,
+) -> Answer<DeviceAuthorizationResponse<ColorfulFields>> {
+    device_codes(rt.alloc(), client, &mut answering(rt, CODES))
+}
+
 fn codes(rt: &(impl Abort + AllocGlobal)) -> DeviceAuthorizationResponse<ColorfulFields> {
-    device_codes(rt.alloc(), &client(rt), &mut answering(rt, CODES)).expect(rt, "the codes")
+    let answer = given(rt, &client(rt));
+    answer.expect(rt, "the codes")
 }
 
 #[test]
@@ -323,6 +378,45 @@ fn codes_that_are_kept(rt: HostRuntime) {
     let codes = codes(&rt);
     let value = codes_value(rt.alloc(), &codes).expect(&rt, "a value");
     is_written_as(&rt, value, CODES);
+}
+
+/// A world whose clock stands still, and whose client hands out one reply.
+#[derive(Drop)]
+struct Still(Replying);
+
+impl PollWorld for Still {
+    type Error = Spent;
+
+    fn now(&mut self) -> Timestamp {
+        Timestamp::UNIX_EPOCH
+    }
+
+    fn send(&mut self, request: HttpRequest) -> Result<HttpResponse, Spent> {
+        self.0.call(request)
+    }
+
+    fn sleep(&mut self, _duration: Duration) {}
+}
+
+fn restored_codes(rt: &(impl Abort + AllocGlobal)) -> DeviceAuthorizationResponse<ColorfulFields> {
+    read_body(rt.alloc(), CODES.as_bytes()).expect(rt, "the codes")
+}
+
+/// The token for these codes, of a server that replies with the one above.
+fn polled(
+    rt: &(impl Abort + AllocGlobal),
+    client: &ColorfulClient,
+    codes: &DeviceAuthorizationResponse<ColorfulFields>,
+) -> Result<ColorfulTokenResponse, RequestTokenError<Spent, DeviceCodeErrorResponse>> {
+    device_token(rt.alloc(), client, codes, &mut Still(answering(rt, TOKEN)))
+}
+
+#[test]
+fn token_of_a_device(rt: HostRuntime) {
+    let answer = polled(&rt, &client(&rt), &restored_codes(&rt));
+    let token = answer.expect(&rt, "a token");
+    is_text(&rt, token.access_token().secret().as_str(), "12/34");
+    tells(&rt, &token);
 }
 
 #[test]
@@ -341,13 +435,14 @@ fn error_that_is_kept(rt: HostRuntime) {
 fn revoked(
     rt: &(impl Abort + AllocGlobal),
     client: &ColorfulClient,
-) -> Result<(), RequestTokenError<Spent, ColorfulErrorResponse>> {
-    let token = ColorfulRevocableToken(text(rt, "colorful_token_123"));
+    token: ColorfulRevocableToken,
+) -> Answer<()> {
     let request = revocation(rt.alloc(), client, token).expect(rt, "an endpoint");
     revoke(rt.alloc(), request, &mut answering(rt, ""))
 }
 
 #[test]
 fn red_token_is_revoked(rt: HostRuntime) {
-    assert!(rt; revoked(&rt, &client(&rt)).is_ok());
+    let token = ColorfulRevocableToken(text(&rt, "colorful_token_123"));
+    assert!(rt; revoked(&rt, &client(&rt), token).is_ok());
 }
