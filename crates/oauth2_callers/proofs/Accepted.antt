@@ -13,6 +13,7 @@ use Rattle.oauth2_wire.specs.OneShot.{HttpRequest, OneShot}
 use Rattle.oauth2_wire.specs.Request.{RequestView, IsRequestOf}
 use Rattle.oauth2_wire.specs.declared.error.RequestTokenError.{RequestTokenError}
 use Rattle.oauth2_wire.specs.Expected.{Configuration}
+use Rattle.oauth2_callers.specs.Login.{IsAnsweredBy, IsExchange}
 
 module _ {D A T E RE C : Type 0} (meaning : D → A) (error_meaning : T → E) (step : C → HttpRequest → Result HttpResponse RE → C → Type 0) (says : HttpResponse → Answer A E) (IsRequest : HttpRequest → Type 0) (NotHttp : Type 0) (before after : C) where
   pub IfOk-from_OneShot : (Wanted : HttpRequest → Type 0) → ((r : HttpRequest) → IsRequest r → Wanted r) → (result : Result D (RequestTokenError RE T)) → OneShot meaning error_meaning step says IsRequest NotHttp before result after
@@ -40,3 +41,14 @@ module _ {D A T E RE C : Type 0} {meaning : D → A} {error_meaning : T → E} (
       → AsksOnce meaning error_meaning reading error_reading step b.base.reply_rule (code_configuration b) b.token_url before result after
   AsksOnce-equal a b a_is_b asks =
       subst (λ r. AsksOnce meaning error_meaning reading error_reading step r.base.reply_rule (code_configuration r) r.token_url before result after) a_is_b asks
+
+module _ {D A T E RE C : Type 0} {meaning : D → A} {error_meaning : T → E} (reading : Data → Reading A) (error_reading : Data → Reading E) (step : C → HttpRequest → Result HttpResponse RE → C → Type 0) (client : Settings) (verifier code : List ℕ) {before after : C} where
+  -- the exchange of a code with its verifier that gave a token was answered with it
+  pub IsAnsweredBy-from_IsExchange : (result : Result D (RequestTokenError RE T))
+      → IsExchange meaning error_meaning reading error_reading step client verifier code before result after
+      → IfOk result (λ token. IsAnsweredBy reading error_reading step client verifier code before (meaning token) after)
+  IsAnsweredBy-from_IsExchange (Ok token) (endpoint, there, inl (request, is, (Ok reply, did, shown))) = (request, (endpoint, there, is), reply, did, shown)
+  IsAnsweredBy-from_IsExchange (Ok token) (endpoint, there, inl (request, is, (Err error, did, shown))) = cc
+  IsAnsweredBy-from_IsExchange (Ok token) (endpoint, there, inr (inl (refused, _), _)) = absurd refused
+  IsAnsweredBy-from_IsExchange (Ok token) (endpoint, there, inr (inr refused, _)) = absurd refused
+  IsAnsweredBy-from_IsExchange (Err error) asked = tt

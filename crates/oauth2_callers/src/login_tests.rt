@@ -1,5 +1,7 @@
 //! A login from its URL to the exchange of its code, at once and in the two steps of an application.
 
+ghost use Rattle.oauth2_types.specs.Pkce.{HasValidLength};
+
 use crate::application::{CannedClient, CannedError};
 use crate::client::CodeClient;
 use crate::openid::{LoginError, OpenIdClient, finish_login, start_login};
@@ -31,21 +33,35 @@ fn client(rt: &(impl Abort + AllocGlobal), auth: &str, token: &str) -> CodeClien
         .set_token_uri(token_url(rt, token))
 }
 
+fn verifier(rt: &(impl Abort + AllocGlobal)) -> PkceCodeVerifier
+    ensures { HasValidLength result }
+{
+    let verifier = PkceCodeVerifier::new(text(rt, VERIFIER));
+    assert!(rt; verifier.has_valid_length());
+    verifier
+}
+
+/// The login of this client.
+fn login_of(
+    rt: &(impl Abort + AllocGlobal),
+    client: &CodeClient,
+) -> Result<CodeFlow, CodeFlowError> {
+    code_flow(
+        rt.alloc(),
+        client,
+        CsrfToken::new(text(rt, "csrf_token")),
+        verifier(rt),
+        AuthorizationCode::new(text(rt, "ccc")),
+    )
+}
+
 /// The login at these endpoints.
 fn login(
     rt: &(impl Abort + AllocGlobal),
     auth: &str,
     token: &str,
 ) -> Result<CodeFlow, CodeFlowError> {
-    let verifier = PkceCodeVerifier::new(text(rt, VERIFIER));
-    assert!(rt; verifier.has_valid_length());
-    code_flow(
-        rt.alloc(),
-        &client(rt, auth, token),
-        CsrfToken::new(text(rt, "csrf_token")),
-        verifier,
-        AuthorizationCode::new(text(rt, "ccc")),
-    )
+    login_of(rt, &client(rt, auth, token))
 }
 
 /// The login at this endpoint has this URL.
