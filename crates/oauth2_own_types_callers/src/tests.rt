@@ -82,6 +82,14 @@ fn client(rt: &(impl Abort + AllocGlobal)) -> ColorfulClient {
     .set_client_secret(ClientSecret::new(text(rt, "bbb")))
 }
 
+/// What this asks for by the client above. (To drop a client costs the proof of a function far more
+/// than a call of this.)
+fn asked<T, F: FnOnce(&ColorfulClient) -> T>(rt: &(impl Abort + AllocGlobal), ask: F) -> T
+    requires { F.IsAlwaysCallable ask }
+{
+    ask(&client(rt))
+}
+
 fn reply(rt: &(impl Abort + AllocGlobal), status: u16, body: &str) -> HttpResponse {
     let mut head = Parts::new(rt.alloc());
     head.status = StatusCode::from_u16(status).expect(rt, "a status");
@@ -101,11 +109,11 @@ fn is_displayed_as<T: Display>(rt: &(impl Abort + AllocGlobal), value: &T, wante
 
 /// The token for a code, of a server that replies like this.
 fn answer(rt: &(impl Abort + AllocGlobal), status: u16, body: &str) -> TokenAnswer {
-    token_for_code(
-        rt.alloc(),
-        &client(rt),
-        &mut Replying(Some(reply(rt, status, body))),
-        AuthorizationCode::new(text(rt, "ccc")),
+    let code = AuthorizationCode::new(text(rt, "ccc"));
+    let mut http_client = Replying(Some(reply(rt, status, body)));
+    asked(
+        rt,
+        |client| token_for_code(rt.alloc(), client, &mut http_client, code),
     )
 }
 
@@ -121,6 +129,7 @@ fn are_told(rt: &(impl Abort + AllocGlobal), fields: &ColorfulFields) {
 }
 
 fn tells(rt: &(impl Abort + AllocGlobal), token: &ColorfulTokenResponse) {
+    is_text(rt, token.access_token().secret().as_str(), "12/34");
     assert!(rt; *token.token_type() == ColorfulTokenType::Green);
     are_told(rt, token.extra_fields());
 }
@@ -250,7 +259,7 @@ fn has_body(rt: &impl Abort, request: HttpRequest, body: &[u8]) {
 #[test]
 fn revocation_of_a_red_token(rt: HostRuntime) {
     let token = ColorfulRevocableToken(text(&rt, "colorful_token_123"));
-    let request = revocation_request(&rt, &client(&rt), token);
+    let request = asked(&rt, |client| revocation_request(&rt, client, token));
     has_body(
         &rt,
         request,
@@ -259,7 +268,10 @@ fn revocation_of_a_red_token(rt: HostRuntime) {
 }
 
 /// The answer is the token above.
-fn is_token(rt: &(impl Abort + AllocGlobal), answer: TokenAnswer) {
+fn is_token<E: Debug + Drop>(
+    rt: &(impl Abort + AllocGlobal),
+    answer: Result<ColorfulTokenResponse, E>,
+) {
     let token = answer.expect(rt, "a token");
     tells(rt, &token);
 }
@@ -276,7 +288,8 @@ fn refreshed(
 #[test]
 fn token_for_a_refresh_token(rt: HostRuntime) {
     let refresh_token = RefreshToken::new(text(&rt, "ccc"));
-    is_token(&rt, refreshed(&rt, &client(&rt), &refresh_token));
+    let answer = asked(&rt, |client| refreshed(&rt, client, &refresh_token));
+    is_token(&rt, answer);
 }
 
 /// The token for a name and a password, of the same server.
@@ -299,7 +312,8 @@ fn logged_in(
 fn token_for_a_name_and_a_password(rt: HostRuntime) {
     let username = ResourceOwnerUsername::new(text(&rt, "user"));
     let password = ResourceOwnerPassword::new(text(&rt, "pass"));
-    is_token(&rt, logged_in(&rt, &client(&rt), &username, &password));
+    let answer = asked(&rt, |client| logged_in(&rt, client, &username, &password));
+    is_token(&rt, answer);
 }
 
 /// The client's own token, of the same server.
@@ -309,7 +323,8 @@ fn own(rt: &(impl Abort + AllocGlobal), client: &ColorfulClient) -> TokenAnswer 
 
 #[test]
 fn token_of_the_client(rt: HostRuntime) {
-    is_token(&rt, own(&rt, &client(&rt)));
+    let answer = asked(&rt, |client| own(&rt, client));
+    is_token(&rt, answer);
 }
 
 /// The value is written as this text.
@@ -331,7 +346,7 @@ fn worth(
 
 fn introspected(rt: &(impl Abort + AllocGlobal)) -> ColorfulIntrospectionResponse {
     let token = AccessToken::new(text(rt, "12/34"));
-    let answer = worth(rt, &client(rt), &token);
+    let answer = asked(rt, |client| worth(rt, client, &token));
     answer.expect(rt, "an introspection response")
 }
 
@@ -362,7 +377,7 @@ fn given(
 }
 
 fn codes(rt: &(impl Abort + AllocGlobal)) -> DeviceAuthorizationResponse<ColorfulFields> {
-    let answer = given(rt, &client(rt));
+    let answer = asked(rt, |client| given(rt, client));
     answer.expect(rt, "the codes")
 }
 
@@ -413,10 +428,9 @@ fn polled(
 
 #[test]
 fn token_of_a_device(rt: HostRuntime) {
-    let answer = polled(&rt, &client(&rt), &restored_codes(&rt));
-    let token = answer.expect(&rt, "a token");
-    is_text(&rt, token.access_token().secret().as_str(), "12/34");
-    tells(&rt, &token);
+    let codes = restored_codes(&rt);
+    let answer = asked(&rt, |client| polled(&rt, client, &codes));
+    is_token(&rt, answer);
 }
 
 #[test]
@@ -444,5 +458,6 @@ fn revoked(
 #[test]
 fn red_token_is_revoked(rt: HostRuntime) {
     let token = ColorfulRevocableToken(text(&rt, "colorful_token_123"));
-    assert!(rt; revoked(&rt, &client(&rt), token).is_ok());
+    let answer = asked(&rt, |client| revoked(&rt, client, token));
+    assert!(rt; answer.is_ok());
 }
