@@ -173,6 +173,12 @@ fn owned(alloc: Global, text: Option<&str>) -> Result<Option<String>, AllocError
     }
 }
 
+/// The client of this application, at this token endpoint.
+fn application_client(alloc: Global, token_url: String) -> anyhow::Result<IdentityClient> {
+    let id = String::from_str(alloc, "application")?;
+    Ok(identity_client(alloc, id, Some(token_url))?)
+}
+
 /// The `id_token` that a canned reply tells for a code, with every error on the way as text.
 pub fn canned_id_token(
     alloc: Global,
@@ -180,8 +186,6 @@ pub fn canned_id_token(
     code: String,
     reply: HttpResponse,
 ) -> anyhow::Result<Option<String>> {
-    let id = String::from_str(alloc, "application")?;
-    let client = identity_client(alloc, id, Some(token_url))?;
-    let mut http_client = CannedClient::new(reply);
-    id_token_for_code(alloc, &client, &mut http_client, code)
+    let client = application_client(alloc, token_url)?;
+    id_token_for_code(alloc, &client, &mut CannedClient::new(reply), code)
 }

@@ -94,12 +94,13 @@ pub fn start_login<R: Rng>(
         × ExtendsQuery endpoint.url url (openid_pairs client.now login.state login.verifier nonce.now)) }
     ensures refusal { IfErr result IsOutOfRoom }
 {
+    let scope = Scope::new(String::from_str(alloc, "openid")?);
     let state = CsrfToken::new_random(alloc, rng)?;
     let (challenge, verifier) = PkceCodeChallenge::new_random_sha256(alloc, rng)?;
     let (url, state) = client
         .authorize_url(alloc, move || state)
         .set_pkce_challenge(challenge)
-        .add_scope(Scope::new(String::from_str(alloc, "openid")?))?
+        .add_scope(scope)?
         .add_extra_param("nonce".into(), nonce.into())?
         .url(alloc)?;
     Ok((url, Login { state, verifier }))
