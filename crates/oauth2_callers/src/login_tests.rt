@@ -4,7 +4,7 @@ ghost use Rattle.oauth2_types.specs.Pkce.{HasValidLength};
 
 use crate::application::{CannedClient, CannedError};
 use crate::client::CodeClient;
-use crate::openid::{LoginError, OpenIdClient, finish_login, start_login};
+use crate::openid::{Login, LoginError, OpenIdClient, finish_login, start_login};
 use crate::support::{is_equal, is_text, text};
 use oauth2::http::Response;
 use oauth2::{
@@ -118,15 +118,10 @@ fn reply(rt: &(impl Abort + AllocGlobal), body: &str) -> HttpResponse {
     )
 }
 
-/// What a login ends with whose user comes back with this state and whose reply is this.
-fn ends(
-    rt: &(impl Abort + AllocGlobal),
-    state: &str,
-    body: &str,
-) -> Result<String, LoginError<CannedError>> {
-    let client = open_id_client(rt);
+/// A login of this client, which sends its user to this URL.
+fn started(rt: &(impl Abort + AllocGlobal), client: &OpenIdClient) -> Login {
     let mut rng = Repeated(0);
-    let (url, login) = start_login(rt.alloc(), &client, &mut rng, "n-0S6_WzA2Mj").expect(
+    let (url, login) = start_login(rt.alloc(), client, &mut rng, "n-0S6_WzA2Mj").expect(
         rt, "a login",
     );
     is_text(
@@ -135,11 +130,21 @@ fn ends(
         "https://example.com/auth?response_type=code&client_id=aaa&state=AAAAAAAAAAAAAAAAAAAAAA\
          &code_challenge=DwBzhbb51LfusnSGBa_hqYSgo7-j8BTQnip4TOnlzRo&code_challenge_method=S256&scope=openid&nonce=n-0S6_WzA2Mj",
     );
-    let mut http_client = CannedClient::new(reply(rt, body));
+    login
+}
+
+/// What a login ends with whose user comes back with this state and whose reply is this.
+fn ends(
+    rt: &(impl Abort + AllocGlobal),
+    state: &str,
+    body: &str,
+) -> Result<String, LoginError<CannedError>> {
+    let client = open_id_client(rt);
+    let login = started(rt, &client);
     finish_login(
         rt.alloc(),
         &client,
-        &mut http_client,
+        &mut CannedClient::new(reply(rt, body)),
         login,
         CsrfToken::new(text(rt, state)),
         text(rt, "ccc"),
