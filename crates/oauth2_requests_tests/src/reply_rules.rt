@@ -146,9 +146,12 @@ fn is_judged<T: Drop, E: Display + Drop>(
     answer: Result<T, E>,
     is_accepted: bool,
 ) {
-    is_equal(rt, answer.is_ok(), is_accepted);
-    if let Err(error) = answer {
-        shows(rt, &error, JSONFOO_REFUSED);
+    match answer {
+        Ok(_) => assert!(rt; is_accepted),
+        Err(error) => {
+            assert!(rt; !is_accepted);
+            shows(rt, &error, JSONFOO_REFUSED);
+        }
     }
 }
 
