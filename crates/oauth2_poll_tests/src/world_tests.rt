@@ -1,13 +1,16 @@
 //! Polls over a world that keeps what it saw, in one list.
 
-use crate::callers::device_token;
+use crate::callers::{DeviceClient, device_token};
 use crate::support::{
     ENDPOINT, TWO_SECONDS, TokenResult, client, device, is_fault, moment, moments,
 };
 use jiff::Timestamp;
 use oauth2::http::response::Parts;
 use oauth2::http::{Response, StatusCode};
-use oauth2::{FnClient, HttpRequest, HttpResponse, ParamText, PollWorld, TokenResponse};
+use oauth2::{
+    FnClient, HttpRequest, HttpResponse, ParamText, PollWorld, StandardDeviceAuthorizationResponse,
+    TokenResponse,
+};
 use std::alloc::{AllocError, Global};
 use std::process::Abort;
 use std::time::Duration;
@@ -102,16 +105,17 @@ struct Poll<'a> {
     replies: &'a [(u16, &'a str)],
 }
 
-/// The poll's result in this world.
-fn polled_in(
+/// The poll's result by this client, in this world.
+fn polled_by(
     rt: &(impl Abort + AllocGlobal),
+    client: &DeviceClient,
+    device: &StandardDeviceAuthorizationResponse,
     poll: Poll<'_>,
     world: &mut Recorder<'_>,
 ) -> TokenResult {
     assert!(rt; 0 < poll.max_polls);
-    let device = device(rt, poll.device);
-    client(rt, poll.token_url)
-        .exchange_device_access_token(rt.alloc(), &device)
+    client
+        .exchange_device_access_token(rt.alloc(), device)
         .set_max_backoff_interval(Duration::from_secs(poll.cap))
         .poll_with(
             rt.alloc(),
@@ -119,6 +123,21 @@ fn polled_in(
             poll.timeout.map(Duration::from_secs),
             poll.max_polls,
         )
+}
+
+/// The poll's result in this world.
+fn polled_in(
+    rt: &(impl Abort + AllocGlobal),
+    poll: Poll<'_>,
+    world: &mut Recorder<'_>,
+) -> TokenResult {
+    polled_by(
+        rt,
+        &client(rt, poll.token_url),
+        &device(rt, poll.device),
+        poll,
+        world,
+    )
 }
 
 /// The poll's result, whose world saw these events.
@@ -161,10 +180,13 @@ const NO_TARGET: &str =
     "Other error: failed to prepare request: endpoint URL is not an HTTP target";
 
 /// The request of a device for its token, with a parameter.
-fn device_request(rt: &(impl Abort + AllocGlobal)) -> HttpRequest {
-    let device = device(rt, TWO_SECONDS);
-    client(rt, ENDPOINT)
-        .exchange_device_access_token(rt.alloc(), &device)
+fn device_request(
+    rt: &(impl Abort + AllocGlobal),
+    client: &DeviceClient,
+    device: &StandardDeviceAuthorizationResponse,
+) -> HttpRequest {
+    client
+        .exchange_device_access_token(rt.alloc(), device)
         .add_extra_param(ParamText::from("foo"), ParamText::from("bar"))
         .expect(rt, "a parameter")
         .prepare_request(rt.alloc())
@@ -173,7 +195,7 @@ fn device_request(rt: &(impl Abort + AllocGlobal)) -> HttpRequest {
 
 #[test]
 fn a_request_bears_the_grant_and_the_code(rt: HostRuntime) {
-    let request = device_request(&rt);
+    let request = device_request(&rt, &client(&rt, ENDPOINT), &device(&rt, TWO_SECONDS));
     let wanted: &[u8] =
         b"grant_type=urn%3Aietf%3Aparams%3Aoauth%3Agrant-type%3Adevice_code&device_code=12345&foo=bar";
     assert!(rt; request.body().as_slice() == wanted);
@@ -364,8 +386,6 @@ fn a_failed_call_backs_off_up_to_the_cap(rt: HostRuntime) {
 
 #[test]
 fn a_clock_is_read_as_often_as_the_trace_says(rt: HostRuntime) {
-    let client = client(&rt, ENDPOINT);
-    let device = device(&rt, TWO_SECONDS);
     let mut requests: u64 = 0;
     let mut http_client: FnClient<_, AllocError> = FnClient::new(|request: HttpRequest| {
         requests = requests.saturating_add(1);
@@ -392,8 +412,8 @@ fn a_clock_is_read_as_often_as_the_trace_says(rt: HostRuntime) {
     };
     let result = device_token(
         rt.alloc(),
-        &client,
-        &device,
+        &client(&rt, ENDPOINT),
+        &device(&rt, TWO_SECONDS),
         &mut http_client,
         time_fn,
         &mut sleep_fn,
