@@ -1,9 +1,10 @@
 //! A login with OpenID Connect (Core 1.0, section 3.1), as an application has it in a crate of its
 //! own: the provider's `id_token` beside the access token, and a `nonce` in the login's URL.
 
-ghost use Rattle.std.specs.Prelude.{◌≡◌, ◌↔◌, Some, None, Err, IfOk, IfErr, IsSome, true, false, string_bytes};
+ghost use Rattle.std.specs.Prelude.{◌≡◌, ◌↔◌, ◌⊎◌, Some, None, Err, IfOk, IfErr, IsSome, true, false, string_bytes};
 ghost use Rattle.rand_core.specs.Stream.{Stream};
 ghost use Rattle.url.specs.Parser.{IsOutOfRoom};
+ghost use Rattle.oauth2_replies.specs.Extra.{extra_members};
 ghost use Rattle.oauth2_types.specs.Digest.{digest_eq};
 ghost use Rattle.oauth2_types.specs.Pkce.{IsRandomText};
 ghost use Rattle.oauth2_urls.specs.Addressed.{Addressed};
@@ -142,7 +143,20 @@ pub fn finish_login<C: SyncHttpClient>(
         return Err(LoginError::OtherState);
     }
     let token = exchanged(alloc, client, http_client, login.verifier, code)?;
-    match id_token(&token) {
+    id_token_of(alloc, &token)
+}
+
+// The ID token of a response, copied. (The one call leaves one way out that lets go of the response.)
+fn id_token_of<E>(alloc: Global, token: &IdentityTokenResponse) -> Result<String, LoginError<E>>
+    ensures id_token { IfOk result
+        (λ text. id_token_in (extra_members token.now.extra_fields) ≡ Some (string_bytes text)) }
+    ensures no_id_token { result ≡ Err LoginError.NoIdToken
+        → id_token_in (extra_members token.now.extra_fields) ≡ None }
+    ensures memory { result ≡ Err LoginError.Memory
+        → IsSome (id_token_in (extra_members token.now.extra_fields)) }
+    ensures error { IfErr result (λ error. (error ≡ LoginError.NoIdToken) ⊎ (error ≡ LoginError.Memory)) }
+{
+    match id_token(token) {
         Some(text) => Ok(String::from_str(alloc, text)?),
         None => Err(LoginError::NoIdToken),
     }

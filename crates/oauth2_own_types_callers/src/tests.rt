@@ -317,13 +317,13 @@ fn token_for_a_name_and_a_password(rt: HostRuntime) {
 }
 
 /// The client's own token, of the same server.
-fn own(rt: &(impl Abort + AllocGlobal), client: &ColorfulClient) -> TokenAnswer {
+fn granted_to_the_client(rt: &(impl Abort + AllocGlobal), client: &ColorfulClient) -> TokenAnswer {
     token_of_its_own(rt.alloc(), client, &mut answering(rt, TOKEN))
 }
 
 #[test]
 fn token_of_the_client(rt: HostRuntime) {
-    let answer = asked(&rt, |client| own(&rt, client));
+    let answer = asked(&rt, |client| granted_to_the_client(&rt, client));
     is_token(&rt, answer);
 }
 
@@ -335,8 +335,8 @@ fn is_written_as(rt: &(impl Abort + AllocGlobal), value: Value, wanted: &str) {
 
 const ACTIVE: &str = r#"{"active":true,"height":12,"shape":"round","token_type":"green"}"#;
 
-/// The worth of a token, of a server that replies like this.
-fn worth(
+/// What a server that replies like this tells of a token.
+fn introspected_by(
     rt: &(impl Abort + AllocGlobal),
     client: &ColorfulClient,
     token: &AccessToken,
@@ -346,7 +346,7 @@ fn worth(
 
 fn introspected(rt: &(impl Abort + AllocGlobal)) -> ColorfulIntrospectionResponse {
     let token = AccessToken::new(text(rt, "12/34"));
-    let answer = asked(rt, |client| worth(rt, client, &token));
+    let answer = asked(rt, |client| introspected_by(rt, client, &token));
     answer.expect(rt, "an introspection response")
 }
 
@@ -369,7 +369,7 @@ const CODES: &str =
     r#"{"device_code":"d","expires_in":300,"height":12,"interval":5,"shape":"round","user_code":"abcde","verification_uri":"https://v/"}"#;
 
 /// The codes of a server that replies like this.
-fn given(
+fn codes_from(
     rt: &(impl Abort + AllocGlobal),
     client: &ColorfulClient,
 ) -> Answer<DeviceAuthorizationResponse<ColorfulFields>> {
@@ -377,7 +377,7 @@ fn given(
 }
 
 fn codes(rt: &(impl Abort + AllocGlobal)) -> DeviceAuthorizationResponse<ColorfulFields> {
-    let answer = asked(rt, |client| given(rt, client));
+    let answer = asked(rt, |client| codes_from(rt, client));
     answer.expect(rt, "the codes")
 }
 
