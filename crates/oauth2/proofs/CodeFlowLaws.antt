@@ -12,14 +12,14 @@ use Rattle.oauth2_wire.specs.declared.request.AuthType.{AuthType}
 use Rattle.oauth2_wire.specs.declared.request.AuthType.TheVariants.{BasicAuth, RequestBody}
 use Rattle.oauth2_wire.specs.declared.request.RequestFault.{RequestFault}
 use Rattle.oauth2_wire.specs.declared.request.RequestFault.TheVariants as fault
-use Rattle.oauth2_wire.specs.Pairs.{Pair, form}
+use Rattle.oauth2_form.specs.Pairs.{Pair, form}
 use Rattle.oauth2_wire.specs.ByName.{bears, sole, read_by_name, is_request_name, is_shared_name, is_own_name, avoid_own_names}
 use Rattle.oauth2_wire.specs.Expected.{Configuration, expected_pairs}
 use Rattle.oauth2_wire.specs.Request.{RequestView, IsRequestOf}
 use Rattle.oauth2_wire.specs.Texts.{given_text}
 use Rattle.oauth2_requests.specs.Authorization.{Authorization, query_pairs}
 use Rattle.oauth2_requests.specs.Code.{code_pairs, code_configuration}
-use Rattle.oauth2_requests.specs.Query.{ExtendsQuery, query_form}
+use Rattle.oauth2_form.specs.Query.{ExtendsQuery, query_form}
 use Rattle.oauth2.specs.CodeFlow.{IsCauseOf, PassesCheck, flow_error_of, flow_authorization, flow_exchange}
 use Rattle.oauth2.specs.Settings.{Settings}
 

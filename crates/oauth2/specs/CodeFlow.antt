@@ -7,7 +7,7 @@ use Rattle.url.specs.Parts.{serialize}
 use Rattle.oauth2_types.specs.Pkce.{Accepts, sha256_challenge}
 use Rattle.oauth2_urls.specs.Addressed.{Addressed}
 use Rattle.oauth2_wire.specs.ByName.{read_by_name}
-use Rattle.oauth2_wire.specs.Pairs.{Pair}
+use Rattle.oauth2_form.specs.Pairs.{Pair}
 use Rattle.oauth2_wire.specs.declared.request.RequestFault.{RequestFault}
 use Rattle.oauth2_wire.specs.declared.request.RequestFault.TheVariants as fault
 use Rattle.oauth2_requests.specs.Authorization.{Authorization}

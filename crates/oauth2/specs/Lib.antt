@@ -23,10 +23,10 @@ pub use Rattle.oauth2_introspection.specs.Introspection
 pub use Rattle.oauth2_replies.specs.Device
 pub use Rattle.oauth2_replies.specs.Revocable
 pub use Rattle.oauth2_replies.specs.Extra
-pub use Rattle.oauth2_wire.specs.Pairs
-pub use Rattle.oauth2_wire.specs.Basic
+pub use Rattle.oauth2_form.specs.Pairs
+pub use Rattle.oauth2_form.specs.Basic
 pub use Rattle.oauth2_wire.specs.Texts
-pub use Rattle.oauth2_wire.specs.Params
+pub use Rattle.oauth2_form.specs.Params
 pub use Rattle.oauth2_wire.specs.Expected
 pub use Rattle.oauth2_wire.specs.Request
 pub use Rattle.oauth2_wire.specs.ByName
@@ -36,7 +36,7 @@ pub use Rattle.oauth2_wire.specs.Reply
 pub use Rattle.oauth2_wire.specs.OneShot
 pub use Rattle.oauth2_wire.specs.Display
 pub use Rattle.oauth2_wire.specs.ConfigurationError
-pub use Rattle.oauth2_wire.specs.FormEncoding
+pub use Rattle.oauth2_form.specs.FormEncoding
 pub use Rattle.oauth2_requests.specs.Base
 pub use Rattle.oauth2_requests.specs.Code
 pub use Rattle.oauth2_requests.specs.Refresh
@@ -47,7 +47,7 @@ pub use Rattle.oauth2_requests.specs.HintedToken
 pub use Rattle.oauth2_requests.specs.TokenIntrospection
 pub use Rattle.oauth2_requests.specs.TokenRevocation
 pub use Rattle.oauth2_requests.specs.Once
-pub use Rattle.oauth2_requests.specs.Query
+pub use Rattle.oauth2_form.specs.Query
 pub use Rattle.oauth2_requests.specs.Authorization
 pub use Rattle.oauth2_device.specs.DeviceToken
 pub use Rattle.oauth2_device.specs.Events

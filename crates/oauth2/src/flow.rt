@@ -5,11 +5,11 @@ ghost use Rattle.url.specs.Parts.{serialize};
 ghost use Rattle.oauth2_types.specs.Pkce.{HasValidLength};
 ghost use Rattle.oauth2_urls.specs.Addressed.{Addressed};
 ghost use Rattle.oauth2_wire.specs.ByName.{avoid_own_names};
-ghost use Rattle.oauth2_wire.specs.Pairs.{form};
+ghost use Rattle.oauth2_form.specs.Pairs.{form};
 ghost use Rattle.oauth2_wire.specs.Request.{IsRequestOf, view_of};
 ghost use Rattle.oauth2_requests.specs.Authorization.{query_pairs};
 ghost use Rattle.oauth2_requests.specs.Code.{code_configuration};
-ghost use Rattle.oauth2_requests.specs.Query.{ExtendsQuery, query_form};
+ghost use Rattle.oauth2_form.specs.Query.{ExtendsQuery, query_form};
 ghost use Rattle.oauth2.specs.CodeFlow.{IsCauseOf, PassesCheck, flow_authorization, flow_error_of, flow_exchange};
 
 use crate::client::Client;

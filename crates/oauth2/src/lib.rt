@@ -2,7 +2,7 @@
 //!
 //! The crates below are passed on: the names that a user calls stand here, those that begin with
 //! `Basic` in `basic` and the functions for JSON members in `helpers`. What the crates share among
-//! themselves (`BaseRequest` of the requests, the form encoder of the wire) stays there.
+//! themselves (`BaseRequest` of the requests, the encoder of forms) stays there.
 #![tactic(auto)]
 
 mod authorization_endpoint;
@@ -43,6 +43,8 @@ pub use oauth2_device::PollWorld;
 pub use oauth2_fields::MemberValue;
 pub use oauth2_fields::NamedMember;
 pub use oauth2_fields::WithMember;
+pub use oauth2_form::ParamBuffer;
+pub use oauth2_form::basic_header;
 pub use oauth2_introspection::StandardTokenIntrospectionResponse;
 pub use oauth2_introspection::TokenIntrospectionResponse;
 pub use oauth2_json::FromJson;
@@ -103,7 +105,6 @@ pub use oauth2_wire::FnClient;
 pub use oauth2_wire::HttpClientError;
 pub use oauth2_wire::HttpRequest;
 pub use oauth2_wire::HttpResponse;
-pub use oauth2_wire::ParamBuffer;
 pub use oauth2_wire::ParamText;
 pub use oauth2_wire::RedirectRef;
 pub use oauth2_wire::ReplyRule;
@@ -112,7 +113,6 @@ pub use oauth2_wire::RequestTokenError;
 pub use oauth2_wire::ServerView;
 pub use oauth2_wire::SyncHttpClient;
 pub use oauth2_wire::ViewError;
-pub use oauth2_wire::basic_header;
 pub use oauth2_wire::endpoint_request;
 pub use oauth2_wire::endpoint_request_encoded;
 pub use oauth2_wire::endpoint_response;

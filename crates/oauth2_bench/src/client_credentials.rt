@@ -1,7 +1,7 @@
 //! A request for the client's own token, with scopes and many parameters.
 
 ghost use Rattle.std.specs.Prelude.{◌≡◌, ◌++◌, IfOk, map, string_bytes};
-ghost use Rattle.oauth2_wire.specs.Params.{with_scopes};
+ghost use Rattle.oauth2_form.specs.Params.{with_scopes};
 ghost use Rattle.oauth2_wire.specs.Reply.{accepted, answer_of};
 ghost use Rattle.oauth2_wire.specs.ServerView.{pair_texts};
 ghost use Rattle.oauth2_bench.specs.Canned.{canned_reply};

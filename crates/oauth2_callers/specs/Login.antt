@@ -8,7 +8,7 @@ use Rattle.url.specs.Parts.{serialize}
 use Rattle.oauth2_json.specs.Reading.{Reading}
 use Rattle.oauth2_types.specs.Pkce.{sha256_challenge}
 use Rattle.oauth2_urls.specs.Addressed.{Addressed}
-use Rattle.oauth2_wire.specs.Pairs.{Pair}
+use Rattle.oauth2_form.specs.Pairs.{Pair}
 use Rattle.oauth2_wire.specs.Expected.{optional_pair}
 use Rattle.oauth2_wire.specs.OneShot.{HttpRequest}
 use Rattle.oauth2_wire.specs.Reply.{HttpResponse, accepted, answer_of, reply_of}

@@ -5,10 +5,10 @@ ghost use Rattle.url.specs.Parser.{IsOutOfRoom};
 ghost use Rattle.url.specs.Parts.{serialize};
 ghost use Rattle.oauth2_urls.specs.Addressed.{Addressed};
 ghost use Rattle.oauth2_types.specs.Pkce.{HasValidLength};
-ghost use Rattle.oauth2_wire.specs.Pairs.{form};
+ghost use Rattle.oauth2_form.specs.Pairs.{form};
 ghost use Rattle.oauth2_wire.specs.Request.{IsRequestOf, view_of};
 ghost use Rattle.oauth2_requests.specs.Code.{code_configuration};
-ghost use Rattle.oauth2_requests.specs.Query.{ExtendsQuery, query_form};
+ghost use Rattle.oauth2_form.specs.Query.{ExtendsQuery, query_form};
 ghost use Rattle.oauth2.specs.CodeFlow.{PassesCheck, flow_exchange};
 ghost use Rattle.oauth2_callers.specs.Login.{login_pairs};
 

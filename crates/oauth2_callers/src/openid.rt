@@ -8,7 +8,7 @@ ghost use Rattle.oauth2_replies.specs.Extra.{extra_members};
 ghost use Rattle.oauth2_types.specs.Digest.{digest_eq};
 ghost use Rattle.oauth2_types.specs.Pkce.{IsRandomText};
 ghost use Rattle.oauth2_urls.specs.Addressed.{Addressed};
-ghost use Rattle.oauth2_requests.specs.Query.{ExtendsQuery};
+ghost use Rattle.oauth2_form.specs.Query.{ExtendsQuery};
 ghost use Rattle.oauth2_callers.specs.Login.{IsAnsweredBy, IsExchange, id_token_in, openid_pairs};
 
 use crate::application::{IdentityTokenResponse, id_token};

@@ -5,8 +5,8 @@ use Rattle.http_header.specs.FieldValue.{plain_value}
 use Rattle.http_uri.specs.Uri.{SpellsNone, uri_text}
 use Rattle.url.specs.Parts.{serialize}
 use Rattle.oauth2_urls.specs.Addressed.{Addressed}
-use Rattle.oauth2_wire.specs.Pairs.{Pair}
-use Rattle.oauth2_wire.specs.Basic.{basic, basic_value}
+use Rattle.oauth2_form.specs.Pairs.{Pair}
+use Rattle.oauth2_form.specs.Basic.{basic, basic_value}
 use Rattle.oauth2_wire.specs.Expected.{Configuration, expected_basic, expected_pairs, authorization_header, headers_before}
 use Rattle.oauth2_wire.specs.OneShot.{HttpRequest, not_http_text, AnswersUnsent, AnswersTo}
 use Rattle.oauth2_wire.specs.Reply.{HttpResponse, Answer, ReplyView, reply_of, ShowsAnswer as ReplyShows}

@@ -3,7 +3,7 @@ use Rattle.std.specs.Prelude.{◌≡◌, ℕ, List, ◌++◌, unwrap_or, codes}
 use Rattle.url.specs.Parts.{Parts, serialize}
 use Rattle.oauth2_urls.specs.Addressed.{Addressed}
 use Rattle.oauth2_requests.specs.Authorization.{Authorization, query_pairs}
-use Rattle.oauth2_requests.specs.Query.{ExtendsQuery}
+use Rattle.oauth2_form.specs.Query.{ExtendsQuery}
 use Rattle.oauth2.specs.Settings.{Settings}
 use Rattle.oauth2_commands.specs.Client.{WithEndpoint, given_or}
 use Rattle.oauth2_world.specs.Lines.{line, quoted}

@@ -1,7 +1,7 @@
 -- The command `client_credentials`: the client asks for a token of its own (RFC 6749, 4.4.2).
 use Rattle.std.specs.Prelude.{List, None}
 use Rattle.oauth2_urls.specs.Addressed.{Addressed}
-use Rattle.oauth2_wire.specs.Params.{with_scopes}
+use Rattle.oauth2_form.specs.Params.{with_scopes}
 use Rattle.oauth2.specs.NewRequest.{base_of}
 use Rattle.oauth2_requests.specs.ClientCredentials.{ClientCredentialsRequest, client_credentials_configuration}
 use Rattle.oauth2.specs.Settings.{Settings}

@@ -10,7 +10,7 @@ use Rattle.oauth2_replies.specs.Kept.{any_object}
 use Rattle.oauth2_urls.specs.Addressed.{Addressed}
 use Rattle.oauth2_wire.specs.declared.content_type.ReplyRule.{ReplyRule}
 use Rattle.oauth2_wire.specs.Expected.{Configuration}
-use Rattle.oauth2_wire.specs.Params.{with_scopes}
+use Rattle.oauth2_form.specs.Params.{with_scopes}
 use Rattle.oauth2_wire.specs.Reply.{Answer, ReplyView, answer_of}
 use Rattle.oauth2.specs.NewRequest.{base_of}
 use Rattle.oauth2.specs.Settings.{Settings}

@@ -2,7 +2,7 @@
 -- (RFC 6749, 4.3.2).
 use Rattle.std.specs.Prelude.{List, None}
 use Rattle.oauth2_urls.specs.Addressed.{Addressed}
-use Rattle.oauth2_wire.specs.Params.{with_scopes}
+use Rattle.oauth2_form.specs.Params.{with_scopes}
 use Rattle.oauth2.specs.NewRequest.{base_of}
 use Rattle.oauth2_requests.specs.Password.{PasswordRequest, password_configuration}
 use Rattle.oauth2.specs.Settings.{Settings}

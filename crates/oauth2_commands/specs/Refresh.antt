@@ -1,7 +1,7 @@
 -- The command `refresh`: a refresh token is exchanged for a token (RFC 6749, section 6).
 use Rattle.std.specs.Prelude.{List, None}
 use Rattle.oauth2_urls.specs.Addressed.{Addressed}
-use Rattle.oauth2_wire.specs.Params.{with_scopes}
+use Rattle.oauth2_form.specs.Params.{with_scopes}
 use Rattle.oauth2.specs.NewRequest.{base_of}
 use Rattle.oauth2_requests.specs.Refresh.{RefreshRequest, refresh_configuration}
 use Rattle.oauth2.specs.Settings.{Settings}

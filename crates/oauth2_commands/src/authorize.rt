@@ -22,7 +22,7 @@ use std::alloc::{AllocError, Global};
 
 impl<'a> Extensible<'a> for AuthorizationRequest<'a> {
     ghost use Rattle.std.proofs.Common.{List, ◌++◌, ap, append-nil, append_assoc};
-    ghost use Rattle.oauth2_wire.specs.Pairs.{Pair};
+    ghost use Rattle.oauth2_form.specs.Pairs.{Pair};
 
     ghost extended = { λ r added. record r { extra_params = r.extra_params ++ added } };
 

@@ -8,7 +8,7 @@ use std::alloc::AllocError;
 /// A request that more pairs can be added to.
 pub trait Extensible<'a>: Sized {
     ghost use Rattle.std.specs.Prelude.{◌≡◌, ◌++◌, ◌∷◌, [], List, IfOk};
-    ghost use Rattle.oauth2_wire.specs.Pairs.{Pair};
+    ghost use Rattle.oauth2_form.specs.Pairs.{Pair};
 
     /// With these pairs after those that are there.
     ghost extended: { Self → List Pair → Self };

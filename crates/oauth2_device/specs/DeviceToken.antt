@@ -1,7 +1,7 @@
 -- The request of a device for its token (RFC 8628, section 3.4).
 use Rattle.std.specs.Prelude.{ℕ, ◌*◌, List, [], ◌∷◌, codes, None}
 use Rattle.oauth2_urls.specs.Addressed.{Addressed}
-use Rattle.oauth2_wire.specs.Pairs.{Pair}
+use Rattle.oauth2_form.specs.Pairs.{Pair}
 use Rattle.oauth2_wire.specs.Expected.{Configuration}
 use Rattle.oauth2_replies.specs.Device.{DeviceAuthorization}
 use Rattle.oauth2_requests.specs.Base.{Base, configuration_of}

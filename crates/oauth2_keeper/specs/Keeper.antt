@@ -5,7 +5,7 @@ use Rattle.oauth2_urls.specs.Addressed.{Addressed}
 use Rattle.oauth2_wire.specs.declared.content_type.ReplyRule.{ReplyRule}
 use Rattle.oauth2_wire.specs.declared.error.RequestTokenError.{RequestTokenError}
 use Rattle.oauth2_wire.specs.declared.error.RequestTokenError.TheVariants.{Memory}
-use Rattle.oauth2_wire.specs.Pairs.{Pair}
+use Rattle.oauth2_form.specs.Pairs.{Pair}
 use Rattle.oauth2_wire.specs.Expected.{Configuration}
 use Rattle.oauth2_requests.specs.Base.{configuration_of}
 use Rattle.oauth2_requests.specs.ClientCredentials.{client_credentials_pairs}

@@ -1,6 +1,6 @@
 -- What a buffer of parameters holds after an addition.
 use Rattle.std.specs.Prelude.{[], ◌∷◌, ◌++◌, Some}
-use Rattle.oauth2_wire.specs.Params.{Params, with_scope}
+use Rattle.oauth2_form.specs.Params.{Params, with_scope}
 use Rattle.oauth2_refusals_tests.specs.declared.additions.Addition.{Addition}
 use Rattle.oauth2_refusals_tests.specs.declared.additions.Addition.TheVariants.{Scope, Extra}
 

@@ -3,7 +3,7 @@ use Rattle.std.specs.Prelude.{◌≡◌, ℕ, List, Some}
 use Rattle.url.specs.Parts.{Parts}
 use Rattle.oauth2_urls.specs.Addressed.{Addressed}
 use Rattle.oauth2_requests.specs.Authorization.{Authorization, query_pairs}
-use Rattle.oauth2_requests.specs.Query.{ExtendsQuery}
+use Rattle.oauth2_form.specs.Query.{ExtendsQuery}
 use Rattle.oauth2.specs.Settings.{Settings}
 
 -- the URL is that of the client's endpoint, extended by what such a request sends there, and the

@@ -1,6 +1,6 @@
 -- A token that a server is told, for its introspection or its revocation.
 use Rattle.std.specs.Prelude.{ℕ, List, [], ◌∷◌, ◌++◌, codes, Option}
-use Rattle.oauth2_wire.specs.Pairs.{Pair}
+use Rattle.oauth2_form.specs.Pairs.{Pair}
 use Rattle.oauth2_wire.specs.Expected.{optional_pair}
 
 -- the token and, if there is one, the hint of its type (RFC 7009, section 2.1; RFC 7662, section 2.1)

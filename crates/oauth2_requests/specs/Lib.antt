@@ -8,6 +8,4 @@ pub mod HintedToken
 pub mod TokenIntrospection
 pub mod TokenRevocation
 pub mod Once
-pub mod Query
 pub mod Authorization
-pub mod private

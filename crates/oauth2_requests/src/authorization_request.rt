@@ -7,10 +7,10 @@ ghost use Rattle.url.specs.Parser.{IsOutOfRoom};
 ghost use Rattle.oauth2_wire.specs.Expected.{optional_pair};
 ghost use Rattle.oauth2_wire.specs.Texts.{param_bytes, param_pair, redirect_of, given_text};
 ghost use Rattle.oauth2_requests.specs.Authorization.{challenge_pairs, scope_pairs, required_pairs, optional_pairs, query_pairs};
-ghost use Rattle.oauth2_requests.specs.Query.{ExtendsQuery};
-ghost use Rattle.oauth2_requests.specs.private.Form.{ExtendsForm};
+ghost use Rattle.oauth2_form.specs.Query.{ExtendsQuery};
+ghost use Rattle.oauth2_form.specs.ExtendsForm.{ExtendsForm};
 
-use crate::query::{form_of, push, push_any, with_form};
+use oauth2_form::{append_pair, append_plain_pair, query_text, with_query};
 use oauth2_types::{ClientId, CsrfToken, PkceCodeChallenge, ResponseType, Scope};
 use oauth2_urls::{AuthUrl, RedirectUrl};
 use oauth2_wire::{ParamText, RedirectRef};
@@ -173,10 +173,10 @@ impl<'a> AuthorizationRequest<'a> {
         ensures refusal { IfErr result IsOutOfRoom }
     {
         let url = self.auth_url.url();
-        let mut form = form_of(alloc, url)?;
+        let mut form = query_text(alloc, url)?;
         self.push_required(&mut form)?;
         self.push_optional(alloc, &mut form)?;
-        let extended = with_form(url, form.as_slice())?;
+        let extended = with_query(url, form.as_slice())?;
         Ok(extended)
     }
 
@@ -184,9 +184,9 @@ impl<'a> AuthorizationRequest<'a> {
     fn push_required(&self, form: &mut Vec<u8>) -> Result<(), AllocError>
         ensures { OnOk result (ExtendsForm form.old.items form.new.items (required_pairs self.now)) }
     {
-        push(form, "response_type", self.response_type.as_str())?;
-        push(form, "client_id", self.client_id.as_str())?;
-        push(form, "state", self.state.secret().as_str())?;
+        append_plain_pair(form, "response_type", self.response_type.as_str())?;
+        append_plain_pair(form, "client_id", self.client_id.as_str())?;
+        append_plain_pair(form, "state", self.state.secret().as_str())?;
         Ok(())
     }
 
@@ -209,8 +209,8 @@ fn push_challenge(
     ensures { OnOk result (ExtendsForm form.old.items form.new.items (challenge_pairs challenge.now)) }
 {
     if let Some(challenge) = challenge {
-        push(form, "code_challenge", challenge.as_str())?;
-        push(form, "code_challenge_method", challenge.method().as_str())?;
+        append_plain_pair(form, "code_challenge", challenge.as_str())?;
+        append_plain_pair(form, "code_challenge_method", challenge.method().as_str())?;
     }
     Ok(())
 }
@@ -220,7 +220,7 @@ fn push_redirect(form: &mut Vec<u8>, redirect: &Option<RedirectRef<'_>>) -> Resu
         OnOk result (ExtendsForm form.old.items form.new.items (optional_pair (codes "redirect_uri") text)) }
 {
     if let Some(redirect) = redirect {
-        push(form, "redirect_uri", redirect.redirect_url().as_str())?;
+        append_plain_pair(form, "redirect_uri", redirect.redirect_url().as_str())?;
     }
     Ok(())
 }
@@ -238,7 +238,7 @@ fn push_scope(form: &mut Vec<u8>, scope: &str) -> Result<(), AllocError>
     ensures { OnOk result (ExtendsForm form.old.items form.new.items (scope_pairs scope.now)) }
 {
     if !scope.is_empty() {
-        push(form, "scope", scope)?;
+        append_plain_pair(form, "scope", scope)?;
     }
     Ok(())
 }
@@ -250,7 +250,7 @@ fn push_extra_params(
     ensures { OnOk result (ExtendsForm form.old.items form.new.items (map param_pair extra_params.now)) }
 {
     for (name, value) in extra_params {
-        push_any(form, name.as_str(), value.as_str())?;
+        append_pair(form, name.as_str(), value.as_str())?;
     }
     Ok(())
 }

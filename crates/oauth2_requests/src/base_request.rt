@@ -6,18 +6,19 @@ ghost use Rattle.form_urlencoded.specs.Form.{pair_text};
 ghost use Rattle.http_uri.specs.Uri.{SpellsNone};
 ghost use Rattle.url.specs.Parts.{serialize};
 ghost use Rattle.oauth2_wire.specs.OneShot.{SendsOnce};
-ghost use Rattle.oauth2_wire.specs.Params.{with_scope, with_scopes};
+ghost use Rattle.oauth2_form.specs.Params.{with_scope, with_scopes};
 ghost use Rattle.oauth2_wire.specs.Reply.{answer_of, reply_of};
 ghost use Rattle.oauth2_wire.specs.Request.{IsRequestOf, view_of};
 ghost use Rattle.oauth2_wire.specs.Texts.{param_bytes};
 ghost use Rattle.oauth2_requests.specs.Base.{configuration_of};
 
+use oauth2_form::ParamBuffer;
 use oauth2_json::FromJson;
 use oauth2_types::{ClientId, ClientSecret, Scope};
 use oauth2_urls::RedirectUrl;
 use oauth2_wire::{
-    AuthType, HttpRequest, ParamBuffer, ParamText, ReplyRule, RequestFault, RequestTokenError,
-    SyncHttpClient, endpoint_request_encoded, send_once,
+    AuthType, HttpRequest, ParamText, ReplyRule, RequestFault, RequestTokenError, SyncHttpClient,
+    endpoint_request_encoded, send_once,
 };
 use std::alloc::{AllocError, Global};
 use std::marker::Model;

@@ -9,7 +9,6 @@ mod code_token_request;
 mod device_authorization_request;
 mod introspection_request;
 mod password_token_request;
-mod query;
 mod refresh_token_request;
 mod revocation_request;
 

@@ -1,7 +1,7 @@
 -- Scopes that are added one after another are joined by spaces.
 use Rattle.std.proofs.Common.{◌≡◌, ℕ, List, [], ◌∷◌, ◌++◌, None, Some, codes, refl, sym, ap, ◌∙◌, append-nil, append_assoc}
 use Rattle.std.specs.List.{flat_map}
-use Rattle.oauth2_wire.specs.Params.{with_scopes}
+use Rattle.oauth2_form.specs.Params.{with_scopes}
 use Rattle.oauth2_wire.specs.Expected.{joined_scope}
 
 with_scopes-Some : (text : List ℕ) (scopes : List (List ℕ)) → with_scopes (Some text) scopes ≡ Some (text ++ flat_map (λ s. codes " " ++ s) scopes)

@@ -5,8 +5,8 @@ use Rattle.http_header.specs.FieldValue.{FieldValue, plain_value}
 use Rattle.http_header.specs.HeaderMap.{Entries}
 use Rattle.oauth2_wire.specs.declared.request.AuthType.{AuthType}
 use Rattle.oauth2_wire.specs.declared.request.AuthType.TheVariants.{RequestBody, BasicAuth}
-use Rattle.oauth2_wire.specs.Pairs.{Pair}
-use Rattle.oauth2_wire.specs.Basic.{basic_value}
+use Rattle.oauth2_form.specs.Pairs.{Pair}
+use Rattle.oauth2_form.specs.Basic.{basic_value}
 
 -- who asks, how the identifier and the secret are shown, and what is asked, as texts
 pub record Configuration : Type 0 where

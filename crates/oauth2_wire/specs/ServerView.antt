@@ -4,8 +4,8 @@ use Rattle.std.specs.Str.Lossy.{utf8_lossy}
 use Rattle.http_header.specs.FieldValue.{FieldValue}
 use Rattle.http_uri.specs.Uri.{uri_text}
 use Rattle.oauth2_wire.specs.declared.view.ServerView.{ServerView}
-use Rattle.oauth2_wire.specs.Pairs.{Pair, form}
-use Rattle.oauth2_wire.specs.Basic.{basic}
+use Rattle.oauth2_form.specs.Pairs.{Pair, form}
+use Rattle.oauth2_form.specs.Basic.{basic}
 use Rattle.oauth2_wire.specs.Request.{RequestView, authorization_of, basic_of}
 
 -- the texts of a pair

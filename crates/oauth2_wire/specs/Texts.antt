@@ -5,7 +5,7 @@ use Rattle.oauth2_wire.specs.declared.texts.ParamText.{ParamText}
 use Rattle.oauth2_wire.specs.declared.texts.ParamText.TheVariants as param
 use Rattle.oauth2_wire.specs.declared.texts.RedirectRef.{RedirectRef}
 use Rattle.oauth2_wire.specs.declared.texts.RedirectRef.TheVariants as redirect
-use Rattle.oauth2_wire.specs.Pairs.{Pair}
+use Rattle.oauth2_form.specs.Pairs.{Pair}
 
 -- the text, borrowed or owned
 abbrev pub param_bytes : ParamText → List ℕ

@@ -2,27 +2,19 @@
 //! reads of them, and what the replies say.
 #![tactic(auto)]
 
-mod basic;
 mod content_type;
-mod encoded_text;
 mod error;
-mod form_body;
-mod form_encoding;
 mod http_client;
 mod once;
-mod param_buffer;
 mod reply;
 mod request;
 mod texts;
 mod view;
 
-pub use basic::basic_header;
 pub use content_type::ReplyRule;
 pub use error::{BasicRequestTokenError, ConfigurationError, HttpClientError, RequestTokenError};
-pub use form_encoding::{append_encoded_text, append_pair};
 pub use http_client::{FnClient, HttpResponse, SyncHttpClient};
 pub use once::{send_once, send_once_status_only};
-pub use param_buffer::ParamBuffer;
 pub use reply::{endpoint_response, endpoint_response_status_only, endpoint_response_with};
 pub use request::{
     AuthType, HttpRequest, RequestFault, endpoint_request, endpoint_request_encoded,

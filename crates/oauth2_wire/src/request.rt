@@ -4,16 +4,13 @@ ghost use Rattle.form_urlencoded.specs.Form.{pair_text};
 ghost use Rattle.http_header.specs.HeaderMap.{insert, value_count};
 ghost use Rattle.http_uri.specs.Uri.{Spells, SpellsNone};
 ghost use Rattle.url.specs.Parts.{serialize};
+ghost use Rattle.oauth2_form.specs.Params.{with_scopes};
 ghost use Rattle.oauth2_wire.specs.Texts.{param_pair, given_text};
 ghost use Rattle.oauth2_wire.specs.Expected.{joined_scope, expected_pairs, basic_credentials, authorization_header, optional_pair, body_credentials};
 ghost use Rattle.oauth2_wire.specs.private.Headers.{headers_with, optional_authorization};
-ghost use Rattle.oauth2_wire.specs.Basic.{basic};
+ghost use Rattle.oauth2_form.specs.Basic.{basic};
 ghost use Rattle.oauth2_wire.specs.Request.{view_of, IsRequestOf};
 
-use crate::basic::basic_header;
-use crate::encoded_text::EncodedText;
-use crate::form_body::FormBody;
-use crate::param_buffer::ParamBuffer;
 use crate::texts::ParamText;
 use http::request::Parts;
 use http::{Method, Request, Version};
@@ -21,6 +18,7 @@ use http_header::{
     ACCEPT, AUTHORIZATION, CONTENT_TYPE, HeaderMap, HeaderMapError, HeaderName, HeaderValue,
 };
 use http_uri::{Uri, UriError};
+use oauth2_form::{EncodedText, FormBody, ParamBuffer, basic_header};
 use oauth2_types::{ClientId, ClientSecret, Scope, TryClone};
 use oauth2_urls::RedirectUrl;
 use std::alloc::{AllocError, Global};
@@ -183,7 +181,7 @@ fn filled_buffer(
     }) }
 {
     let mut buffer = scopes_buffer(alloc, scopes)?;
-    buffer.add_extras(extra_params)?;
+    add_extras(&mut buffer, extra_params)?;
     Ok(buffer)
 }
 
@@ -195,11 +193,34 @@ fn scopes_buffer(alloc: Global, scopes: Option<&[Scope]>) -> Result<ParamBuffer,
     let mut buffer = ParamBuffer::new(alloc);
     match scopes {
         Some(scopes) => {
-            buffer.add_scopes(scopes)?;
+            add_scopes(&mut buffer, scopes)?;
             Ok(buffer)
         }
         None => Ok(buffer),
     }
+}
+
+// Adds the scopes, in order.
+fn add_scopes(buffer: &mut ParamBuffer, scopes: &[Scope]) -> Result<(), AllocError>
+    ensures { OnOk result (buffer.new ≡ record buffer.old { scope = with_scopes buffer.old.scope scopes.now }) }
+{
+    for scope in scopes {
+        buffer.add_scope(scope.as_str())?;
+    }
+    Ok(())
+}
+
+// Adds the parameters, in order.
+fn add_extras(
+    buffer: &mut ParamBuffer,
+    params: &[(ParamText<'_>, ParamText<'_>)],
+) -> Result<(), AllocError>
+    ensures { OnOk result (buffer.new ≡ record buffer.old { pairs = buffer.old.pairs ++ map param_pair params.now }) }
+{
+    for (name, value) in params {
+        buffer.add_extra(name.as_str(), value.as_str())?;
+    }
+    Ok(())
 }
 
 // The target that the URL's text spells.
@@ -236,11 +257,21 @@ fn request_body(
     })) }
 {
     let mut body = FormBody::new(alloc);
-    body.extend(params)?;
+    push_all(&mut body, params)?;
     let mut body = with_encoded(body, "scope", extra_params.scope())?;
     push_credentials(&mut body, auth_type, client_id, client_secret)?;
     push_redirect(&mut body, redirect_url)?;
     Ok(body.append(extra_params.pairs())?)
+}
+
+// Adds the pairs, in order.
+fn push_all(body: &mut FormBody, pairs: &[(&str, &str)]) -> Result<(), AllocError>
+    ensures { OnOk result (body.new ≡ body.old ++ map pair_text pairs.now) }
+{
+    for &(name, value) in pairs {
+        body.push(name, value)?;
+    }
+    Ok(())
 }
 
 // The body with one more pair, where there is a value.

@@ -2,8 +2,8 @@
 ghost use Rattle.std.specs.Prelude.{◌≡◌, ◌<◌, ◌==◌, length, position, IfSome, None, Some, Err, map, option_map, IfOk, string_bytes};
 ghost use Rattle.std.specs.Str.Lossy.{utf8_lossy};
 ghost use Rattle.form_urlencoded.specs.Form.{decode as decoded};
-ghost use Rattle.oauth2_wire.specs.Pairs.{form};
-ghost use Rattle.oauth2_wire.specs.Basic.{basic, colon, pair_of_text};
+ghost use Rattle.oauth2_form.specs.Pairs.{form};
+ghost use Rattle.oauth2_form.specs.Basic.{basic, colon, pair_of_text};
 ghost use Rattle.oauth2_wire.specs.Request.{view_of};
 ghost use Rattle.oauth2_wire.specs.ServerView.{pair_texts, shown_pair, IsServerView, IsBadBasic};
 
@@ -92,7 +92,7 @@ fn first_colon(text: &[u8]) -> Option<usize>
 }
 
 // A text cut at its first colon, both halves decoded.
-#[tactic(auto, unfolding(crate::specs::Basic::pair_of_text))]
+#[tactic(auto, unfolding(oauth2_form::specs::Basic::pair_of_text))]
 fn read_pair(alloc: Global, text: &[u8]) -> Result<Option<(String, String)>, AllocError>
     ensures { IfOk result (λ pair. option_map pair_texts pair ≡ option_map shown_pair (pair_of_text text.now)) }
 {
@@ -103,7 +103,7 @@ fn read_pair(alloc: Global, text: &[u8]) -> Result<Option<(String, String)>, All
 }
 
 // The identifier and the secret of a header value.
-#[tactic(auto, unfolding(crate::specs::Basic::basic))]
+#[tactic(auto, unfolding(oauth2_form::specs::Basic::basic))]
 fn read_basic(alloc: Global, value: &[u8]) -> Result<Option<(String, String)>, AllocError>
     ensures { IfOk result (λ pair. option_map pair_texts pair ≡ option_map shown_pair (basic value.now)) }
 {

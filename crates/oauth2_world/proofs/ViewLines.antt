@@ -4,8 +4,8 @@ use Rattle.std.specs.declared.alloc.Global.{Global}
 use Rattle.std.proofs.lemmas.List.{map_more, append-nil}
 use Rattle.std.proofs.lemmas.List.Concat.{flat_map-append}
 use Rattle.http_header.specs.FieldValue.{FieldValue}
-use Rattle.oauth2_wire.specs.Pairs.{Pair, form}
-use Rattle.oauth2_wire.specs.Basic.{basic}
+use Rattle.oauth2_form.specs.Pairs.{Pair, form}
+use Rattle.oauth2_form.specs.Basic.{basic}
 use Rattle.oauth2_wire.specs.Request.{RequestView, authorization_of, basic_of}
 use Rattle.oauth2_wire.specs.ServerView.{pair_texts, shown_pair, IsBadBasic}
 use Rattle.oauth2_world.specs.Lines.{pair_line, pair_lines, basic_line}

@@ -6,8 +6,8 @@ use Rattle.std.specs.Str.Lossy.{utf8_lossy}
 use Rattle.form_urlencoded.specs.Form.{extend_pairs}
 use Rattle.serde_json.specs.Data.{string}
 use Rattle.serde_json.specs.Written.{compact_text}
-use Rattle.oauth2_wire.specs.Pairs.{Pair}
-use Rattle.oauth2_wire.specs.Basic.{basic_value}
+use Rattle.oauth2_form.specs.Pairs.{Pair}
+use Rattle.oauth2_form.specs.Basic.{basic_value}
 use Rattle.oauth2_wire.specs.Expected.{Configuration, expected_basic, expected_pairs}
 use Rattle.oauth2_wire.specs.ServerView.{shown_pair}
 

@@ -1,8 +1,8 @@
 -- The lines of a request that the client is handed.
 use Rattle.std.specs.Prelude.{ℕ, List, ◌++◌, map, Option, Some, None, option_map}
 use Rattle.http_uri.specs.Uri.{uri_text}
-use Rattle.oauth2_wire.specs.Pairs.{Pair, form}
-use Rattle.oauth2_wire.specs.Basic.{basic}
+use Rattle.oauth2_form.specs.Pairs.{Pair, form}
+use Rattle.oauth2_form.specs.Basic.{basic}
 use Rattle.oauth2_wire.specs.Request.{RequestView, authorization_of}
 use Rattle.oauth2_wire.specs.ServerView.{shown_pair}
 use Rattle.oauth2_world.specs.Lines.{request_line, authorization_line, body_line, basic_line, pair_lines}

@@ -1,6 +1,6 @@
 -- The extra parameters of a request.
 use Rattle.std.proofs.Common.{◌≡◌, List, [], ◌++◌, ap, append-nil, append_assoc}
-use Rattle.oauth2_wire.specs.Pairs.{Pair}
+use Rattle.oauth2_form.specs.Pairs.{Pair}
 use Rattle.oauth2_requests.specs.Base.{Base}
 
 -- with these pairs after those that are there

@@ -1,7 +1,7 @@
 use Rattle.std.proofs.Common.{◌≡◌, ℕ, List, ◌++◌, length, string_bytes, codes, refl, rules, ap, ◌∙◌}
 use Rattle.std.specs.Vec.Iter.{into_iter_len}
 use Rattle.std.proofs.lemmas.Result.{IfOk-weaker}
-use Rattle.oauth2_wire.specs.Params.{with_scopes}
+use Rattle.oauth2_form.specs.Params.{with_scopes}
 use Rattle.oauth2_requests.specs.Refresh.{RefreshRequest, refresh_configuration}
 use Rattle.oauth2.specs.NewRequest.{new_refresh_request}
 use Rattle.oauth2_script.specs.RefreshParams.{RefreshParams}

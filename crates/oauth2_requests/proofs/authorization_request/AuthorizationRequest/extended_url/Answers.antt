@@ -1,8 +1,8 @@
-use Rattle.oauth2_requests.proofs.QueryLaws.{ExtendsForm-then, ExtendsForm-of_equals}
+use Rattle.oauth2_form.proofs.QueryLaws.{ExtendsForm-then, ExtendsForm-of_equals}
 use Rattle.oauth2_requests.proofs.authorization_request.AuthorizationRequest.extended_url.Goals as goal
 
-pub with_form-requires-clause-form : goal.with_form-requires-clause-form
-with_form-requires-clause-form c =
+pub with_query-requires-clause-form : goal.with_query-requires-clause-form
+with_query-requires-clause-form c =
     let appended = ExtendsForm-then c.in_ok-push_required.ensures c.in_ok-push_optional.ensures in
     (_, ExtendsForm-of_equals c.in_ok-form.ensures.text c.as_slice.ensures.value appended)
 

@@ -1,4 +1,4 @@
-use Rattle.oauth2_requests.proofs.QueryLaws.{ExtendsForm-then}
+use Rattle.oauth2_form.proofs.QueryLaws.{ExtendsForm-then}
 use Rattle.oauth2_requests.proofs.authorization_request.AuthorizationRequest.push_optional.Goals as goal
 
 pub returns : goal.returns

@@ -1,5 +1,5 @@
 use Rattle.std.proofs.Common.{◌≡◌}
-use Rattle.oauth2_wire.specs.Params.{with_scopes}
+use Rattle.oauth2_form.specs.Params.{with_scopes}
 use Rattle.oauth2_requests.proofs.base_request.BaseRequest.add_scopes.Given as goal
 
 abbrev pub invariant-loop-scope : goal.invariant-loop-scope

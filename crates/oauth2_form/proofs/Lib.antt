@@ -1,0 +1,5 @@
+pub mod BasicLemmas
+pub mod FormLaws
+pub mod WrittenLemmas
+pub mod FormEncodingLemmas
+pub mod QueryLaws

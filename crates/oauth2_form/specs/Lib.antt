@@ -1,0 +1,7 @@
+pub mod Pairs
+pub mod Basic
+pub mod Params
+pub mod FormEncoding
+pub mod ExtendsForm
+pub mod Query
+pub mod private

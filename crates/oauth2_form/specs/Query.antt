@@ -1,0 +1,19 @@
+-- What it means that pairs were appended to a URL's query.
+use Rattle.std.specs.Prelude.{◌≡◌, List, [], ◌++◌, unwrap_or}
+use Rattle.form_urlencoded.specs.Form.{parse, IsPrefix}
+use Rattle.url.specs.Parts.{Parts}
+use Rattle.url.specs.Setters.{append_query_pairs}
+use Rattle.oauth2_form.specs.Pairs.{Pair}
+
+-- the pairs that the URL's query decodes to; a URL without a query has none
+abbrev pub query_form : Parts → List Pair
+query_form url = parse (unwrap_or url.query [])
+
+-- the new URL is the old one with these pairs written after its query, which is kept (RFC 6749,
+-- section 3.1): its query begins with the old query's text and decodes to the old pairs, followed
+-- by these; every other part is the old one's
+pub record ExtendsQuery (old new : Parts) (pairs : List Pair) : Type 0 where
+  pub text : new ≡ append_query_pairs old pairs
+  pub form : query_form new ≡ query_form old ++ pairs
+  pub begins : IsPrefix (unwrap_or old.query []) (unwrap_or new.query [])
+  pub others : new ≡ record old { query = new.query }

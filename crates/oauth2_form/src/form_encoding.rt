@@ -1,0 +1,132 @@
+//! Texts and pairs as a form encodes them (URL Standard, section 5.2), appended to what there is.
+
+ghost use Rattle.std.specs.Prelude.{◌≡◌, ◌≤◌, ◌+◌, ◌∷◌, [], ◌++◌, OnOk, OnErr, vec_len, vec_capacity};
+ghost use Rattle.percent_encoding.specs.Percent.{percent_encode_byte};
+ghost use Rattle.form_urlencoded.specs.Form.{append_pair, byte_serialize, equals_sign, separator, serialize_pair, IsPrefix};
+ghost use Rattle.oauth2_form.specs.ExtendsForm.{ExtendsForm};
+ghost use Rattle.oauth2_form.specs.FormEncoding.{form_text};
+ghost use Rattle.oauth2_form.specs.private.EncodingTable.{single_byte};
+
+use percent_encoding::percent_encode_byte;
+use std::alloc::AllocError;
+
+// The one byte that a form writes for each byte, or 0 where it writes an escape. No byte is
+// written as 0, which itself needs an escape.
+#[rattlefmt::skip]
+static SINGLE_BYTES: [u8; 256] = [
+    0, 0, 0, 0, 0, 0, 0, 0, 0, 0, 0, 0, 0, 0, 0, 0,
+    0, 0, 0, 0, 0, 0, 0, 0, 0, 0, 0, 0, 0, 0, 0, 0,
+    43, 0, 0, 0, 0, 0, 0, 0, 0, 0, 42, 0, 0, 45, 46, 0,
+    48, 49, 50, 51, 52, 53, 54, 55, 56, 57, 0, 0, 0, 0, 0, 0,
+    0, 65, 66, 67, 68, 69, 70, 71, 72, 73, 74, 75, 76, 77, 78, 79,
+    80, 81, 82, 83, 84, 85, 86, 87, 88, 89, 90, 0, 0, 0, 0, 95,
+    0, 97, 98, 99, 100, 101, 102, 103, 104, 105, 106, 107, 108, 109, 110, 111,
+    112, 113, 114, 115, 116, 117, 118, 119, 120, 121, 122, 0, 0, 0, 0, 0,
+    0, 0, 0, 0, 0, 0, 0, 0, 0, 0, 0, 0, 0, 0, 0, 0,
+    0, 0, 0, 0, 0, 0, 0, 0, 0, 0, 0, 0, 0, 0, 0, 0,
+    0, 0, 0, 0, 0, 0, 0, 0, 0, 0, 0, 0, 0, 0, 0, 0,
+    0, 0, 0, 0, 0, 0, 0, 0, 0, 0, 0, 0, 0, 0, 0, 0,
+    0, 0, 0, 0, 0, 0, 0, 0, 0, 0, 0, 0, 0, 0, 0, 0,
+    0, 0, 0, 0, 0, 0, 0, 0, 0, 0, 0, 0, 0, 0, 0, 0,
+    0, 0, 0, 0, 0, 0, 0, 0, 0, 0, 0, 0, 0, 0, 0, 0,
+    0, 0, 0, 0, 0, 0, 0, 0, 0, 0, 0, 0, 0, 0, 0, 0,
+];
+
+/// Appends the encoding of the text. If memory runs out, `out` is as it was.
+pub fn append_encoded_text(out: &mut Vec<u8>, text: &str) -> Result<(), AllocError>
+    ensures ok { OnOk result (out.new.items ≡ out.old.items ++ byte_serialize text.now) }
+    ensures standard { OnOk result (out.new.items ≡ out.old.items ++ form_text text.now) }
+    ensures err { OnErr result (out.new.items ≡ out.old.items) }
+{
+    let end = out.len();
+    if let Err(refused) = append_encoded_bytes(out, text.as_bytes()) {
+        out.truncate(end);
+        return Err(refused);
+    }
+    Ok(())
+}
+
+/// Appends a pair to a form. If memory runs out, the form is as it was.
+pub fn append_pair(form: &mut Vec<u8>, name: &str, value: &str) -> Result<(), AllocError>
+    ensures ok { OnOk result (form.new.items ≡ append_pair form.old.items name.now value.now) }
+    ensures extends { OnOk result (ExtendsForm form.old.items form.new.items ((name.now, value.now) ∷ [])) }
+    ensures err { OnErr result (form.new.items ≡ form.old.items) }
+{
+    let end = form.len();
+    if let Err(refused) = append_name_and_value(form, name, value) {
+        form.truncate(end);
+        return Err(refused);
+    }
+    Ok(())
+}
+
+// Appends `&` unless the form is empty, the name, `=` and the value. A refused growth may leave a
+// part of them.
+fn append_name_and_value(form: &mut Vec<u8>, name: &str, value: &str) -> Result<(), AllocError>
+    ensures ok { OnOk result (form.new.items ≡ form.old.items ++ separator form.old.items ++ serialize_pair (name.now, value.now)) }
+    ensures grows { IsPrefix form.old.items form.new.items }
+{
+    append_name(form, name)?;
+    append_encoded_bytes(form, value.as_bytes())
+}
+
+// Appends `&` unless the form is empty, the name and `=`. A refused growth may leave a part of them.
+pub(crate) fn append_name(form: &mut Vec<u8>, name: &str) -> Result<(), AllocError>
+    ensures ok { OnOk result (form.new.items
+        ≡ form.old.items ++ separator form.old.items ++ byte_serialize name.now ++ equals_sign ∷ []) }
+    ensures grows { IsPrefix form.old.items form.new.items }
+{
+    append_separator(form)?;
+    append_encoded_bytes(form, name.as_bytes())?;
+    form.push(b'=')?;
+    Ok(())
+}
+
+// Appends `&` unless the form is empty.
+pub(crate) fn append_separator(form: &mut Vec<u8>) -> Result<(), AllocError>
+    ensures ok { OnOk result (form.new.items ≡ form.old.items ++ separator form.old.items) }
+    ensures grows { IsPrefix form.old.items form.new.items }
+{
+    if !form.is_empty() {
+        form.push(b'&')?;
+    }
+    Ok(())
+}
+
+// Appends the encoding of the bytes. A refused growth may leave a part of it. Where `reserve` moves
+// a `Vec` it at least doubles its room, so many short texts are moved no more often than one long.
+fn append_encoded_bytes(out: &mut Vec<u8>, bytes: &[u8]) -> Result<(), AllocError>
+    ensures ok { OnOk result (out.new.items ≡ out.old.items ++ byte_serialize bytes.now) }
+    ensures grows { IsPrefix out.old.items out.new.items }
+{
+    let mut rest = bytes;
+    out.reserve(rest.len())?;
+    while let Some((&byte, tail)) = rest.split_first() {
+        let single = single_byte(byte);
+        if single == 0 {
+            append_escape(out, byte, tail.len())?;
+        } else {
+            out.push_reserved(single);
+        }
+        rest = tail;
+    }
+    Ok(())
+}
+
+#[inline(always)]
+fn single_byte(byte: u8) -> u8
+    ensures { result ≡ single_byte byte }
+{
+    SINGLE_BYTES[usize::from(byte)]
+}
+
+// Appends the escape of the byte, and makes room for the bytes that are left to encode.
+#[inline(never)]
+fn append_escape(out: &mut Vec<u8>, byte: u8, left: usize) -> Result<(), AllocError>
+    ensures ok { OnOk result (out.new.items ≡ out.old.items ++ percent_encode_byte byte) }
+    ensures room { OnOk result (vec_len out.new + left ≤ vec_capacity out.new) }
+    ensures grows { IsPrefix out.old.items out.new.items }
+{
+    out.extend_from_slice(percent_encode_byte(byte).as_bytes())?;
+    out.reserve(left)
+}

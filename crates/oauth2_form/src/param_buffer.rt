@@ -1,0 +1,88 @@
+//! The scopes and the extra parameters of a request, encoded as they are added.
+
+ghost use Rattle.std.specs.Prelude.{◌≡◌, ◌↔◌, ◌∷◌, [], ◌++◌, None, Some, OnOk, OnErr, IsSome, IsTrue, map, option_copied};
+ghost use Rattle.oauth2_form.specs.Params.{no_params, with_scope, with_scopes};
+
+use crate::encoded_text::EncodedText;
+use crate::form_body::FormBody;
+use std::alloc::{AllocError, Global};
+use std::marker::Model;
+
+/// The scopes and the extra parameters of a request, encoded as they are added.
+///
+/// Contracts see the scopes as one text with a space between each two (RFC 6749, section 3.3), and
+/// the parameters as their list.
+#[derive(Debug, Drop)]
+pub struct ParamBuffer {
+    scope: Option<EncodedText>,
+    pairs: FormBody,
+    alloc: Global,
+}
+
+impl Model for ParamBuffer {
+    ghost use Rattle.oauth2_form.specs.Params.{Params};
+
+    ghost Value = { Params };
+
+    ghost view = { λ b. record { scope = b.scope; pairs = b.pairs } };
+}
+
+impl ParamBuffer {
+    /// A buffer with no scope and no parameter.
+    pub fn new(alloc: Global) -> ParamBuffer
+        ensures { result ≡ no_params }
+    {
+        ParamBuffer {
+            scope: None,
+            pairs: FormBody::new(alloc),
+            alloc,
+        }
+    }
+
+    /// Adds a scope. If memory runs out, the buffer is as it was.
+    pub fn add_scope(&mut self, scope: &str) -> Result<(), AllocError>
+        ensures ok { OnOk result (self.new ≡ record self.old { scope = Some (with_scope self.old.scope scope.now) }) }
+        ensures err { OnErr result (self.new ≡ self.old) }
+    {
+        match &mut self.scope {
+            Some(text) => {
+                text.push_word(scope)?;
+                Ok(())
+            }
+            None => {
+                self.scope = Some(EncodedText::new(self.alloc, scope)?);
+                Ok(())
+            }
+        }
+    }
+
+    /// Adds a parameter. If memory runs out, the buffer is as it was.
+    pub fn add_extra(&mut self, name: &str, value: &str) -> Result<(), AllocError>
+        ensures ok { OnOk result (self.new ≡ record self.old { pairs = self.old.pairs ++ (name.now, value.now) ∷ [] }) }
+        ensures err { OnErr result (self.new ≡ self.old) }
+    {
+        self.pairs.push(name, value)?;
+        Ok(())
+    }
+
+    /// Whether a scope was added.
+    pub fn has_scope(&self) -> bool
+        ensures { IsTrue result ↔ IsSome self.now.scope }
+    {
+        self.scope.is_some()
+    }
+
+    /// The text of the scopes, encoded.
+    pub fn scope(&self) -> Option<&EncodedText>
+        ensures { option_copied result ≡ self.now.scope }
+    {
+        self.scope.as_ref()
+    }
+
+    /// The parameters, encoded.
+    pub fn pairs(&self) -> &FormBody
+        ensures { result.now ≡ self.now.pairs }
+    {
+        &self.pairs
+    }
+}

@@ -1,2 +1,0 @@
--- What private clauses alone cite.
-pub mod Form
