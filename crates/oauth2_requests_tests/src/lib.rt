@@ -1,17 +1,23 @@
-//! Tests of each request of a client, and of what its reply says, through the names of `oauth2`.
+//! Tests of what a request is made of, what a server reads of it, how it is sent and what its reply
+//! says, through the names of `oauth2`. They have what the stored scripts of `oauth2_run_tests`
+//! cannot say.
 #![tactic(auto)]
 
 #[cfg(test)]
-mod added_scopes;
+mod added_params;
 #[cfg(test)]
-mod every_request;
+mod each_request;
 #[cfg(test)]
-mod hostile_replies;
+mod endpoint_requests;
 #[cfg(test)]
-mod hostile_texts;
+mod error_texts;
+#[cfg(test)]
+mod form_encoding;
+#[cfg(test)]
+mod one_shot;
 #[cfg(test)]
 mod replies;
 #[cfg(test)]
-mod reply_rules;
-#[cfg(test)]
 mod support;
+#[cfg(test)]
+mod views;

@@ -6,12 +6,17 @@ use oauth2::basic::BasicRequestTokenError;
 use oauth2::http::response::Parts;
 use oauth2::http::{Response, StatusCode};
 use oauth2::{
-    HttpResponse, RequestTokenError, RevocationErrorResponseType, StandardErrorResponse,
-    endpoint_response, endpoint_response_status_only,
+    HttpResponse, ReplyRule, RequestTokenError, RevocationErrorResponseType, StandardErrorResponse,
+    endpoint_response, endpoint_response_status_only, endpoint_response_with,
 };
 use std::process::Abort;
 
-type RevocationError = RequestTokenError<u8, StandardErrorResponse<RevocationErrorResponseType>>;
+pub type TextResult = Result<String, BasicRequestTokenError<u8>>;
+
+pub type RevocationError = RequestTokenError<
+    u8,
+    StandardErrorResponse<RevocationErrorResponseType>,
+>;
 
 fn body_of(rt: &(impl Abort + AllocGlobal), bytes: &[u8]) -> Vec<u8> {
     bytes.to_vec(rt.alloc()).expect(rt, "a body")
@@ -46,110 +51,40 @@ pub fn reply_of(
     Response::from_parts(head, body_of(rt, body))
 }
 
-/// The text that the reply answers, or the text of its error.
-fn answers(
-    rt: &(impl Abort + AllocGlobal),
-    status: u16,
-    types: &[&[u8]],
-    body: &str,
-    wanted: &str,
-) {
-    let reply = reply_of(rt, status, types, body.as_bytes());
-    let answer: Result<String, BasicRequestTokenError<u8>> = endpoint_response(rt.alloc(), reply);
+/// The text that is answered, or the text of the error.
+pub fn says(rt: &(impl Abort + AllocGlobal), answer: TextResult, wanted: &str) {
     match answer {
         Ok(text) => is_text(rt, text.as_str(), wanted),
         Err(error) => shows(rt, &error, wanted),
     }
 }
 
-const TOKEN: &str = "\"a token\"";
-
-#[test]
-fn accepted_types(rt: HostRuntime) {
-    answers(&rt, 200, &[], TOKEN, "a token");
-    let types = [b"APPLICATION/JSON; charset=utf-8".as_slice()];
-    answers(&rt, 200, &types, TOKEN, "a token");
-    answers(
-        &rt,
-        200,
-        &[b"application/jsonfoo".as_slice()],
-        TOKEN,
-        "a token",
-    );
+/// What is said of a reply whose body is a text.
+fn answers(rt: &(impl Abort + AllocGlobal), status: u16, types: &[&[u8]], wanted: &str) {
+    let reply = reply_of(rt, status, types, b"\"a token\"");
+    says(rt, endpoint_response(rt.alloc(), reply), wanted);
 }
 
+/// A text, with the type `application/jsonfoo`.
+pub fn json_foo(rt: &(impl Abort + AllocGlobal)) -> HttpResponse {
+    let types = [b"application/jsonfoo".as_slice()];
+    reply_of(rt, 200, &types, b"\"a token\"")
+}
+
+/// What is said of it by the rule for the media type.
+pub const JSON_FOO_REFUSED: &str =
+    "Other error: unexpected response Content-Type: \"application/jsonfoo\", should be `application/json`";
+
 #[test]
-fn first_type_decides(rt: HostRuntime) {
+fn replies_that_a_caller_got(rt: HostRuntime) {
+    answers(&rt, 200, &[], "a token");
     let types = [b"application/json".as_slice(), b"text/html".as_slice()];
-    answers(&rt, 200, &types, TOKEN, "a token");
+    answers(&rt, 200, &types, "a token");
+    let answer = endpoint_response_with(rt.alloc(), ReplyRule::MediaType, json_foo(&rt));
+    says(&rt, answer, JSON_FOO_REFUSED);
 }
 
-const HTML_REFUSED: &str =
-    "Other error: unexpected response Content-Type: \"text/html\", should be `application/json`";
-
-#[test]
-fn refused_types(rt: HostRuntime) {
-    let types = [b"text/html".as_slice()];
-    answers(&rt, 200, &types, TOKEN, HTML_REFUSED);
-    answers(&rt, 200, &types, "", HTML_REFUSED);
-}
-
-#[test]
-fn shown_types(rt: HostRuntime) {
-    answers(
-        &rt,
-        200,
-        &[b"application/json; x=\xe9".as_slice()],
-        TOKEN,
-        "Other error: unexpected response Content-Type: \"application/json; x=\\xe9\", should be `application/json`",
-    );
-    answers(
-        &rt,
-        200,
-        &[b"a\"b".as_slice()],
-        TOKEN,
-        "Other error: unexpected response Content-Type: \"a\\\"b\", should be `application/json`",
-    );
-}
-
-#[test]
-fn bodies_of_successes(rt: HostRuntime) {
-    answers(
-        &rt,
-        200,
-        &[],
-        "",
-        "Other error: server returned empty response body",
-    );
-    answers(
-        &rt,
-        200,
-        &[],
-        "\"a token\" x",
-        "Failed to parse server response",
-    );
-}
-
-#[test]
-fn bodies_of_failures(rt: HostRuntime) {
-    answers(
-        &rt,
-        500,
-        &[],
-        "",
-        "Other error: server returned empty error response",
-    );
-    answers(
-        &rt,
-        500,
-        &[b"text/html".as_slice()],
-        "{\"error\":\"slow_down\"}",
-        "Server returned error response: slow_down",
-    );
-    answers(&rt, 201, &[], TOKEN, "Failed to parse server response");
-}
-
-/// The same where the status alone tells a success.
+/// What is said of a reply where the status alone tells a success.
 fn answers_by_status(rt: &(impl Abort + AllocGlobal), status: u16, body: &str, wanted: &str) {
     let types = [b"application/octet-stream".as_slice()];
     let reply = reply_of(rt, status, &types, body.as_bytes());
@@ -163,12 +98,6 @@ fn answers_by_status(rt: &(impl Abort + AllocGlobal), status: u16, body: &str, w
 #[test]
 fn status_alone(rt: HostRuntime) {
     answers_by_status(&rt, 200, "\x01\x02\x03", "done");
-    answers_by_status(
-        &rt,
-        204,
-        "",
-        "Other error: server returned empty error response",
-    );
     answers_by_status(
         &rt,
         400,

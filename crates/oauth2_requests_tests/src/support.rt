@@ -1,25 +1,33 @@
 //! What the tests of several subjects share.
 
+use oauth2::url::Url;
 use oauth2::{HttpRequest, HttpResponse, SyncHttpClient};
 use std::fmt::{Debug, Display};
 use std::process::Abort;
 
-/// An HTTP client that hands out one reply.
+/// An HTTP client that hands out one reply, and counts its calls.
 #[derive(Drop)]
 pub struct Replying {
     pub reply: Option<HttpResponse>,
+    pub calls: u8,
 }
 
 impl SyncHttpClient for Replying {
     type Error = u8;
 
     fn call(&mut self, _request: HttpRequest) -> Result<HttpResponse, u8> {
+        self.calls = self.calls.saturating_add(1);
         self.reply.take().ok_or(7)
     }
 }
 
 pub fn text(rt: &(impl Abort + AllocGlobal), text: &str) -> String {
     String::from_str(rt.alloc(), text).expect(rt, "a text")
+}
+
+/// The URL of a text of which proofs know nothing, so that none parses it.
+pub fn url(rt: &(impl Abort + AllocGlobal), text: &str) -> Url {
+    Url::parse(rt.alloc(), text).expect(rt, "a URL")
 }
 
 /// The two are equal. (A call costs a proof far less than the assertion would in its place.)

@@ -90,17 +90,3 @@ fn every_byte_of_utf8(rt: HostRuntime) {
     let body = body_of(&rt, name.as_str());
     sends(&rt, name.as_str(), body.as_bytes());
 }
-
-#[test]
-fn worked_texts(rt: HostRuntime) {
-    for (name, body) in [
-        ("é", "client_id=a&%C3%A9="),
-        (" ", "client_id=a&+="),
-        ("~", "client_id=a&%7E="),
-        ("%", "client_id=a&%25="),
-        ("+", "client_id=a&%2B="),
-        ("*-._", "client_id=a&*-._="),
-    ] {
-        sends(&rt, name, body.as_bytes());
-    }
-}

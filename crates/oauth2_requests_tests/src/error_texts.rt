@@ -14,7 +14,7 @@ fn is_displayed_as<E: Error + Drop>(rt: &(impl Abort + AllocGlobal), error: E, w
 }
 
 #[test]
-fn texts_of_configurations(rt: HostRuntime) {
+fn texts_of_errors(rt: HostRuntime) {
     is_displayed_as(
         &rt,
         ConfigurationError::MissingUrl("token"),
@@ -25,39 +25,27 @@ fn texts_of_configurations(rt: HostRuntime) {
         ConfigurationError::InsecureUrl("revocation"),
         "Scheme for revocation endpoint URL must be HTTPS",
     );
-}
-
-#[test]
-fn text_of_a_failed_request(rt: HostRuntime) {
-    let of_client: RequestTokenError<u8, String> = RequestTokenError::from(7);
-    is_displayed_as(&rt, of_client, "Request failed");
-}
-
-#[test]
-fn want_of_memory_before_a_request(rt: HostRuntime) {
-    let refused: RequestTokenError<u8, String> = RequestTokenError::refused(AllocError);
-    assert!(rt; matches!(&refused, RequestTokenError::Memory { sent: false }));
-    is_displayed_as(&rt, refused, "Out of memory");
-}
-
-#[test]
-fn texts_of_requests(rt: HostRuntime) {
     is_displayed_as(
         &rt,
         RequestFault::NotHttp,
         "endpoint URL is not an HTTP target",
     );
     is_displayed_as(&rt, RequestFault::Memory, "Out of memory");
-}
-
-#[test]
-fn texts_of_views(rt: HostRuntime) {
     is_displayed_as(
         &rt,
         ViewError::BadBasic,
         "Authorization header holds no identifier and secret",
     );
     is_displayed_as(&rt, ViewError::Memory, "Out of memory");
+}
+
+#[test]
+fn texts_of_exchanges(rt: HostRuntime) {
+    let of_client: RequestTokenError<u8, String> = RequestTokenError::from(7);
+    is_displayed_as(&rt, of_client, "Request failed");
+    let refused: RequestTokenError<u8, String> = RequestTokenError::refused(AllocError);
+    assert!(rt; matches!(&refused, RequestTokenError::Memory { sent: false }));
+    is_displayed_as(&rt, refused, "Out of memory");
 }
 
 #[test]

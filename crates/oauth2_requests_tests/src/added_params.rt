@@ -1,0 +1,77 @@
+//! Scopes and parameters that are encoded as they are added.
+
+use crate::support::{is_equal, text, url};
+use oauth2::{AuthType, ClientId, HttpRequest, ParamBuffer, endpoint_request_encoded};
+use std::process::Abort;
+
+/// What a buffer is given.
+#[derive(Clone, Copy)]
+enum Addition<'a> {
+    Scope(&'a str),
+    Extra(&'a str, &'a str),
+}
+
+fn add(rt: &impl Abort, params: &mut ParamBuffer, addition: Addition<'_>) {
+    match addition {
+        Addition::Scope(scope) => params.add_scope(scope).expect(rt, "a scope"),
+        Addition::Extra(name, value) => params.add_extra(name, value).expect(rt, "a parameter"),
+    }
+}
+
+/// A client credentials request with the parameters of a buffer.
+fn request_of(rt: &(impl Abort + AllocGlobal), params: &ParamBuffer) -> HttpRequest {
+    let url = url(rt, "https://example.com/token");
+    let id = ClientId::new(text(rt, "aaa"));
+    endpoint_request_encoded(
+        rt.alloc(),
+        &AuthType::BasicAuth,
+        &id,
+        None,
+        params,
+        None,
+        &url,
+        &[("grant_type", "client_credentials")],
+    )
+    .expect(rt, "a request")
+}
+
+fn sends(rt: &(impl Abort + AllocGlobal), additions: &[Addition<'_>], has_scope: bool, body: &str) {
+    let mut params = ParamBuffer::new(rt.alloc());
+    for addition in additions {
+        add(rt, &mut params, *addition);
+    }
+    is_equal(rt, params.has_scope(), has_scope);
+    let request = request_of(rt, &params);
+    is_equal(rt, request.body().as_slice(), body.as_bytes());
+}
+
+/// What is added, whether there is a scope then, and the body.
+const ROWS: [(&[Addition<'static>], bool, &str); 4] = [
+    (&[], false, "grant_type=client_credentials&client_id=aaa"),
+    (
+        &[Addition::Scope("")],
+        true,
+        "grant_type=client_credentials&scope=&client_id=aaa",
+    ),
+    (
+        &[Addition::Scope("a b"), Addition::Scope("c")],
+        true,
+        "grant_type=client_credentials&scope=a+b+c&client_id=aaa",
+    ),
+    (
+        &[
+            Addition::Extra("", ""),
+            Addition::Scope("a"),
+            Addition::Extra("a", ""),
+        ],
+        true,
+        "grant_type=client_credentials&scope=a&client_id=aaa&=&a=",
+    ),
+];
+
+#[test]
+fn scopes_and_parameters(rt: HostRuntime) {
+    for (additions, has_scope, body) in ROWS {
+        sends(&rt, additions, has_scope, body);
+    }
+}

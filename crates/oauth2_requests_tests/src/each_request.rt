@@ -1,0 +1,340 @@
+//! Each kind of request, and what it says of replies that no script can hold.
+
+use crate::replies::reply_of;
+use crate::support::{Replying, is_equal, is_text, shows, text};
+use jiff::Timestamp;
+use oauth2::basic::{BasicClient, BasicRequestTokenError, BasicTokenResponse};
+use oauth2::{
+    AccessToken, AuthorizationCode, ClientId, ClientSecret, DeviceAuthorizationUrl, EndpointNotSet,
+    EndpointSet, HttpRequest, HttpResponse, IntrospectionUrl, ParseCause, RefreshToken,
+    RequestTokenError, ResourceOwnerPassword, ResourceOwnerUsername, RevocationUrl, Scope,
+    StandardDeviceAuthorizationResponse, StandardRevocableToken, TokenUrl, endpoint_response,
+    read_body,
+};
+use std::fmt::Display;
+use std::process::Abort;
+use std::time::Duration;
+
+/// A client with every endpoint but that of authorizations.
+type PostClient = BasicClient<EndpointNotSet, EndpointSet, EndpointSet, EndpointSet, EndpointSet>;
+
+type TokenClient = BasicClient<
+    EndpointNotSet,
+    EndpointNotSet,
+    EndpointNotSet,
+    EndpointNotSet,
+    EndpointSet,
+>;
+
+fn token_client(rt: &(impl Abort + AllocGlobal)) -> TokenClient {
+    let token_url = TokenUrl::new(rt.alloc(), text(rt, "https://example.com/token"));
+    BasicClient::new(ClientId::new(text(rt, "aaa")))
+        .set_client_secret(ClientSecret::new(text(rt, "bbb")))
+        .set_token_uri(token_url.expect(rt, "a URL"))
+}
+
+fn client(rt: &(impl Abort + AllocGlobal)) -> PostClient {
+    let device = DeviceAuthorizationUrl::new(rt.alloc(), text(rt, "https://example.com/device"));
+    let introspection = IntrospectionUrl::new(rt.alloc(), text(rt, "https://example.com/asked"));
+    let revocation = RevocationUrl::new(rt.alloc(), text(rt, "https://example.com/revoked"));
+    token_client(rt)
+        .set_device_authorization_url(device.expect(rt, "a URL"))
+        .set_introspection_url(introspection.expect(rt, "a URL"))
+        .set_revocation_url(revocation.expect(rt, "a URL"))
+}
+
+/// A body that reads to each kind of response.
+const WHOLE: &str =
+    r#"{"access_token":"t","token_type":"bearer","active":true,"device_code":"d","user_code":"u","verification_uri":"https://v/","expires_in":2}"#;
+
+/// The response to a device whose code is `d` and is good for two seconds.
+fn device(rt: &(impl Abort + AllocGlobal)) -> StandardDeviceAuthorizationResponse {
+    read_body(rt.alloc(), WHOLE.as_bytes()).expect(rt, "a response")
+}
+
+fn refresh_token(rt: &(impl Abort + AllocGlobal)) -> RefreshToken {
+    RefreshToken::new(text(rt, "r"))
+}
+
+fn access_token(rt: &(impl Abort + AllocGlobal)) -> AccessToken {
+    AccessToken::new(text(rt, "t"))
+}
+
+/// The request of a refresh for one scope.
+fn scoped_refresh(
+    rt: &(impl Abort + AllocGlobal),
+    client: &PostClient,
+    token: &RefreshToken,
+) -> HttpRequest {
+    client
+        .exchange_refresh_token(rt.alloc(), token)
+        .add_scope(Scope::new(text(rt, "a")))
+        .expect(rt, "a scope")
+        .prepare_request(rt.alloc())
+        .expect(rt, "a request")
+}
+
+fn has_body(rt: &impl Abort, request: HttpRequest, body: &str) {
+    is_equal(rt, request.body().as_slice(), body.as_bytes());
+}
+
+fn prepares_a_refresh(rt: &(impl Abort + AllocGlobal), client: &PostClient) {
+    has_body(
+        rt,
+        scoped_refresh(rt, client, &refresh_token(rt)),
+        "grant_type=refresh_token&refresh_token=r&scope=a",
+    );
+}
+
+/// A reply: its status, its values of Content-Type and its body.
+#[derive(Clone, Copy)]
+struct Reply<'a> {
+    status: u16,
+    types: &'a [&'a [u8]],
+    body: &'a [u8],
+}
+
+/// What a request answers.
+#[derive(Clone, Copy)]
+enum Outcome<'a> {
+    Accepted,
+    NotJson,
+    /// The text of the error.
+    Shown(&'a str),
+}
+
+fn made(rt: &(impl Abort + AllocGlobal), reply: Reply<'_>) -> HttpResponse {
+    reply_of(rt, reply.status, reply.types, reply.body)
+}
+
+fn handing_out(rt: &(impl Abort + AllocGlobal), reply: Reply<'_>) -> Replying {
+    Replying {
+        reply: Some(made(rt, reply)),
+        calls: 0,
+    }
+}
+
+/// The answer is the wanted one; one that does not read holds the body's bytes.
+fn tells<T: Drop, E: Display + Drop>(
+    rt: &(impl Abort + AllocGlobal),
+    answer: Result<T, RequestTokenError<u8, E>>,
+    body: &[u8],
+    wanted: Outcome<'_>,
+) {
+    match (answer, wanted) {
+        (Ok(_), Outcome::Accepted) => {}
+        (Err(RequestTokenError::Parse(fault, bytes)), Outcome::NotJson) => {
+            is_text(rt, fault.member.as_str(), "");
+            is_equal(rt, fault.cause, ParseCause::NotJson);
+            is_equal(rt, bytes.as_slice(), body);
+        }
+        (Err(error), Outcome::Shown(text)) => shows(rt, &error, text),
+        _ => panic!(rt; "another answer"),
+    }
+}
+
+fn exchanges_a_code(
+    rt: &(impl Abort + AllocGlobal),
+    client: &PostClient,
+    reply: Reply<'_>,
+    wanted: Outcome<'_>,
+) {
+    let code = AuthorizationCode::new(text(rt, "c"));
+    let request = client.exchange_code(rt.alloc(), code);
+    let answer = request.request(rt.alloc(), &mut handing_out(rt, reply));
+    tells(rt, answer, reply.body, wanted);
+}
+
+fn refreshes(
+    rt: &(impl Abort + AllocGlobal),
+    client: &PostClient,
+    reply: Reply<'_>,
+    wanted: Outcome<'_>,
+) {
+    let token = refresh_token(rt);
+    let request = client.exchange_refresh_token(rt.alloc(), &token);
+    let answer = request.request(rt.alloc(), &mut handing_out(rt, reply));
+    tells(rt, answer, reply.body, wanted);
+}
+
+fn shows_a_password(
+    rt: &(impl Abort + AllocGlobal),
+    client: &PostClient,
+    reply: Reply<'_>,
+    wanted: Outcome<'_>,
+) {
+    let username = ResourceOwnerUsername::new(text(rt, "u"));
+    let password = ResourceOwnerPassword::new(text(rt, "p"));
+    let request = client.exchange_password(rt.alloc(), &username, &password);
+    let answer = request.request(rt.alloc(), &mut handing_out(rt, reply));
+    tells(rt, answer, reply.body, wanted);
+}
+
+fn shows_its_own_credentials(
+    rt: &(impl Abort + AllocGlobal),
+    client: &PostClient,
+    reply: Reply<'_>,
+    wanted: Outcome<'_>,
+) {
+    let request = client.exchange_client_credentials(rt.alloc());
+    let answer = request.request(rt.alloc(), &mut handing_out(rt, reply));
+    tells(rt, answer, reply.body, wanted);
+}
+
+fn introspects(
+    rt: &(impl Abort + AllocGlobal),
+    client: &PostClient,
+    reply: Reply<'_>,
+    wanted: Outcome<'_>,
+) {
+    let token = access_token(rt);
+    let request = client.introspect(rt.alloc(), &token);
+    let answer = request.request(rt.alloc(), &mut handing_out(rt, reply));
+    tells(rt, answer, reply.body, wanted);
+}
+
+fn asks_for_codes(
+    rt: &(impl Abort + AllocGlobal),
+    client: &PostClient,
+    reply: Reply<'_>,
+    wanted: Outcome<'_>,
+) {
+    let request = client.exchange_device_code(rt.alloc());
+    let answer: Result<StandardDeviceAuthorizationResponse, BasicRequestTokenError<u8>> =
+        request.request(rt.alloc(), &mut handing_out(rt, reply));
+    tells(rt, answer, reply.body, wanted);
+}
+
+/// A poll of one request, whose clock stands still.
+fn polls_once(
+    rt: &(impl Abort + AllocGlobal),
+    client: &PostClient,
+    device: &StandardDeviceAuthorizationResponse,
+    reply: Reply<'_>,
+    wanted: Outcome<'_>,
+) {
+    let request = client
+        .exchange_device_access_token(rt.alloc(), device)
+        .set_time_fn(|| Timestamp::UNIX_EPOCH);
+    let answer = request.request(
+        rt.alloc(),
+        &mut handing_out(rt, reply),
+        &mut |_: Duration| {},
+        None,
+        1,
+    );
+    tells(rt, answer, reply.body, wanted);
+}
+
+/// Status 200 alone is the success, whatever else the reply says.
+fn revokes(
+    rt: &(impl Abort + AllocGlobal),
+    client: &PostClient,
+    reply: Reply<'_>,
+    wanted: Outcome<'_>,
+) {
+    let request = client
+        .revoke_token(rt.alloc(), StandardRevocableToken::from(access_token(rt)))
+        .expect(rt, "an endpoint");
+    let answer = request.request(rt.alloc(), &mut handing_out(rt, reply));
+    let wanted = if reply.status == 200 {
+        Outcome::Accepted
+    } else {
+        wanted
+    };
+    tells(rt, answer, reply.body, wanted);
+}
+
+/// What the reply says where a caller sent the request.
+fn is_read(rt: &(impl Abort + AllocGlobal), reply: Reply<'_>, wanted: Outcome<'_>) {
+    let answer: Result<BasicTokenResponse, BasicRequestTokenError<u8>> = endpoint_response(
+        rt.alloc(),
+        made(rt, reply),
+    );
+    tells(rt, answer, reply.body, wanted);
+}
+
+/// Each kind of request answers so, and the same is read where a caller sent the request.
+fn answers(
+    rt: &(impl Abort + AllocGlobal),
+    client: &PostClient,
+    reply: Reply<'_>,
+    wanted: Outcome<'_>,
+) {
+    exchanges_a_code(rt, client, reply, wanted);
+    refreshes(rt, client, reply, wanted);
+    shows_a_password(rt, client, reply, wanted);
+    shows_its_own_credentials(rt, client, reply, wanted);
+    introspects(rt, client, reply, wanted);
+    asks_for_codes(rt, client, reply, wanted);
+    polls_once(rt, client, &device(rt), reply, wanted);
+    revokes(rt, client, reply, wanted);
+    is_read(rt, reply, wanted);
+}
+
+/// A reply with this body, and no Content-Type.
+fn untyped(status: u16, body: &[u8]) -> Reply<'_> {
+    Reply {
+        status,
+        types: &[],
+        body,
+    }
+}
+
+/// A success of these types.
+fn success<'a>(types: &'a [&'a [u8]]) -> Reply<'a> {
+    Reply {
+        status: 200,
+        types,
+        body: WHOLE.as_bytes(),
+    }
+}
+
+/// A failure of these types.
+fn failure<'a>(types: &'a [&'a [u8]]) -> Reply<'a> {
+    Reply {
+        status: 400,
+        types,
+        body: b"{\"error\":\"invalid_grant\"}",
+    }
+}
+
+const INVALID_GRANT: Outcome<'static> = Outcome::Shown(
+    "Server returned error response: invalid_grant",
+);
+
+/// Several values of Content-Type, or one that is no text, and what is said of a success.
+const TYPES: [(&[&[u8]], Outcome<'static>); 3] = [
+    (&[b"application/json", b"text/html"], Outcome::Accepted),
+    (
+        &[b"text/html", b"application/json"],
+        Outcome::Shown(
+            "Other error: unexpected response Content-Type: \"text/html\", should be `application/json`",
+        ),
+    ),
+    (
+        &[b"application/json; x=\xe9"],
+        Outcome::Shown(
+            "Other error: unexpected response Content-Type: \"application/json; x=\\xe9\", should be `application/json`",
+        ),
+    ),
+];
+
+fn answers_in_each_row(rt: &(impl Abort + AllocGlobal), client: &PostClient) {
+    for status in [200, 400, 500] {
+        for body in [b"\xff".as_slice(), b"{\"error\":\"\xff\"}"] {
+            answers(rt, client, untyped(status, body), Outcome::NotJson);
+        }
+    }
+    for (types, wanted) in TYPES {
+        answers(rt, client, success(types), wanted);
+        answers(rt, client, failure(types), INVALID_GRANT);
+    }
+}
+
+#[test]
+fn each_request(rt: HostRuntime) {
+    let client = client(&rt);
+    prepares_a_refresh(&rt, &client);
+    answers_in_each_row(&rt, &client);
+}

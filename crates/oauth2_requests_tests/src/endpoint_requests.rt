@@ -1,0 +1,100 @@
+//! Requests to an endpoint (RFC 6749, section 2.3.1): what is in their bodies, and how many headers
+//! they have.
+
+use crate::support::{is_equal, is_text, text, url};
+use oauth2::AuthType::{BasicAuth, RequestBody};
+use oauth2::{
+    AuthType, ClientId, ClientSecret, HttpRequest, ParamText, RedirectRef, RedirectUrl, ReplyRule,
+    Scope, TryClone, endpoint_request,
+};
+use std::process::Abort;
+
+fn redirect_url(rt: &(impl Abort + AllocGlobal)) -> RedirectUrl {
+    RedirectUrl::new(rt.alloc(), text(rt, "https://example.com")).expect(rt, "a URL")
+}
+
+fn two_scopes(rt: &(impl Abort + AllocGlobal)) -> Vec<Scope> {
+    vec![in rt.alloc(); Scope::new(text(rt, "a")), Scope::new(text(rt, "b c"))].expect(rt, "a list")
+}
+
+/// A name that is borrowed, and a value that is owned.
+fn extra_param(rt: &(impl Abort + AllocGlobal)) -> (ParamText<'static>, ParamText<'static>) {
+    (ParamText::from("x y"), ParamText::from(text(rt, "é&=")))
+}
+
+/// The request of the client `aaa`, with the secret or none.
+fn request_of(
+    rt: &(impl Abort + AllocGlobal),
+    auth_type: AuthType,
+    secret: Option<&ClientSecret>,
+) -> HttpRequest {
+    let url = url(rt, "https://example.com/token");
+    let id = ClientId::new(text(rt, "aaa"));
+    let redirect = redirect_url(rt);
+    let scopes = two_scopes(rt);
+    let extra = [extra_param(rt)];
+    endpoint_request(
+        rt.alloc(),
+        &auth_type,
+        &id,
+        secret,
+        extra.as_slice(),
+        Some(&redirect),
+        Some(scopes.as_slice()),
+        &url,
+        &[("grant_type", "client_credentials")],
+    )
+    .expect(rt, "a request")
+}
+
+/// What the body has of the client, and how many headers there are.
+fn sends(
+    rt: &(impl Abort + AllocGlobal),
+    auth_type: AuthType,
+    secret: Option<&ClientSecret>,
+    credentials: &str,
+    headers: usize,
+) {
+    let request = request_of(rt, auth_type, secret);
+    let body = format!(in rt.alloc();
+        "grant_type=client_credentials&scope=a+b+c{credentials}&redirect_uri=https%3A%2F%2Fexample.com&x+y=%C3%A9%26%3D"
+    ).expect(rt, "a body");
+    is_equal(rt, request.body().as_slice(), body.as_bytes());
+    is_equal(rt, request.headers().len(), headers);
+}
+
+#[test]
+fn credentials_in_the_header_or_the_body(rt: HostRuntime) {
+    let secret = ClientSecret::new(text(&rt, "bbb"));
+    sends(&rt, BasicAuth, Some(&secret), "", 3);
+    sends(&rt, BasicAuth, None, "&client_id=aaa", 2);
+    sends(
+        &rt,
+        RequestBody,
+        Some(&secret),
+        "&client_id=aaa&client_secret=bbb",
+        2,
+    );
+    sends(&rt, RequestBody, None, "&client_id=aaa", 2);
+}
+
+fn redirects_to(rt: &impl Abort, redirect: RedirectRef<'_>, wanted: &str) {
+    is_text(rt, redirect.redirect_url().as_str(), wanted);
+}
+
+#[test]
+fn redirects_are_borrowed_or_owned(rt: HostRuntime) {
+    let url = redirect_url(&rt);
+    redirects_to(&rt, RedirectRef::from(&url), "https://example.com");
+    redirects_to(&rt, RedirectRef::from(url), "https://example.com");
+}
+
+#[test]
+fn copies_of_settings(rt: HostRuntime) {
+    let copy = RequestBody.try_clone(rt.alloc()).expect(&rt, "a copy");
+    is_equal(&rt, copy, RequestBody);
+    for rule in [ReplyRule::Prefix, ReplyRule::MediaType] {
+        let copy = rule.try_clone(rt.alloc()).expect(&rt, "a copy");
+        is_equal(&rt, copy, rule);
+    }
+}

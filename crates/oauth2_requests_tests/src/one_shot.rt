@@ -1,0 +1,73 @@
+//! The sending of one request by a client, which is called once at most.
+
+use crate::replies::{JSON_FOO_REFUSED, RevocationError, TextResult, json_foo, says};
+use crate::support::{Replying, is_equal};
+use oauth2::http::{Request, Response};
+use oauth2::{
+    FnClient, HttpRequest, HttpResponse, ReplyRule, RequestFault, send_once, send_once_status_only,
+};
+use std::process::Abort;
+
+/// A request with nothing in it.
+fn empty_request(rt: &impl AllocGlobal) -> HttpRequest {
+    Request::new(rt.alloc(), Vec::new(rt.alloc()))
+}
+
+/// What is said of one request by a rule, and how often the client is called, whose reply is a token
+/// of the type `application/jsonfoo`.
+fn sends(
+    rt: &(impl Abort + AllocGlobal),
+    rule: ReplyRule,
+    prepared: Result<HttpRequest, RequestFault>,
+    wanted: &str,
+    calls: u8,
+) {
+    let mut client = Replying {
+        reply: Some(json_foo(rt)),
+        calls: 0,
+    };
+    let answer: TextResult = send_once(rt.alloc(), rule, prepared, &mut client);
+    is_equal(rt, client.calls, calls);
+    says(rt, answer, wanted);
+}
+
+#[test]
+fn one_call_at_most(rt: HostRuntime) {
+    sends(&rt, ReplyRule::Prefix, Ok(empty_request(&rt)), "a token", 1);
+    sends(
+        &rt,
+        ReplyRule::MediaType,
+        Ok(empty_request(&rt)),
+        JSON_FOO_REFUSED,
+        1,
+    );
+    sends(
+        &rt,
+        ReplyRule::Prefix,
+        Err(RequestFault::NotHttp),
+        "Other error: failed to prepare request: endpoint URL is not an HTTP target",
+        0,
+    );
+    sends(
+        &rt,
+        ReplyRule::Prefix,
+        Err(RequestFault::Memory),
+        "Out of memory",
+        0,
+    );
+}
+
+#[test]
+fn closures(rt: HostRuntime) {
+    let alloc = rt.alloc();
+    let mut calls = 0u8;
+    let mut client = FnClient::new(|request: HttpRequest| -> Result<HttpResponse, u8> {
+        calls = calls.saturating_add(1);
+        Ok(Response::new(alloc, request.into_body()))
+    });
+    let prepared = Ok(empty_request(&rt));
+    let answer: Result<(), RevocationError> = send_once_status_only(alloc, prepared, &mut client);
+    assert!(rt; answer.is_ok());
+    drop(client.into_inner());
+    is_equal(&rt, calls, 1);
+}
