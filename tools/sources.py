@@ -45,7 +45,7 @@ def uses(path, inner):
         if c == ',' and depth == 0:
             at = part.find('{')
             if part.strip():
-                found += uses(path + part[:at], part[at + 1:part.rindex('}')]) if at >= 0 else uses(path + part.strip(), None)
+                found += uses(path + part[:at].strip(), part[at + 1:part.rindex('}')]) if at >= 0 else uses(path + part.strip(), None)
             part = ''
         else:
             part += c

@@ -1,0 +1,124 @@
+"""The checks that need no proof, for tools/test: of the pages, of the tools, and of crates compiled without proofs."""
+import collections
+import os
+import subprocess
+import sys
+import time
+from concurrent.futures import ThreadPoolExecutor, as_completed
+
+import program
+import repository
+
+NAMES = os.path.join('docs', 'public-names.txt')
+RUNNING = set()  # the processes under way
+
+# A check: what it is called, the folder in which its command runs and what that reads on standard input, and a function that says by the
+# status, standard output and standard error why it failed, or gives None.
+Check = collections.namedtuple('Check', 'name folder command given fault')
+
+
+def fault_of_status(status, out, err):
+    """The fault of a command that has to end with status 0: all that it said."""
+    return None if status == 0 else (out + err).decode(errors='replace').rstrip() or 'status %d' % status
+
+
+def of_tool(name, *words):
+    """A check by a tool of this folder."""
+    return Check('tools/' + ' '.join([name, *words]), repository.ROOT, [os.path.join(repository.ROOT, 'tools', name), *words], b'', fault_of_status)
+
+
+def pages():
+    """What the pages say of the sources."""
+    return [of_tool('definitions', '--check', os.path.join('docs', 'READING.md')), of_tool('examples'), of_tool('public-names', '--check', NAMES)]
+
+
+def tools():
+    """The tools' own tests."""
+    command = [sys.executable, '-B', '-m', 'unittest', 'discover', '-s', os.path.join('tools', 'tests')]
+    return [Check('tests of the tools', repository.ROOT, command, b'', fault_of_status)]
+
+
+def has_tests(crate):
+    """Whether a test function stands in a crate's sources."""
+    for at, _, names in os.walk(os.path.join(repository.CRATES, crate, 'src')):
+        for name in names:
+            with open(os.path.join(at, name), 'rb') as f:
+                if b'#[test]' in f.read():
+                    return True
+    return False
+
+
+def tests_of(crate):
+    """A crate's tests, compiled without proofs."""
+    folder = os.path.join(repository.CRATES, crate)
+    return Check('tests of ' + crate, folder, ['rt', 'try', '--test'], b'', fault_of_status)
+
+
+def data_of(folder):
+    """The flags by which a run gets the files of a program's `data`, each under its name in that folder."""
+    found, top = [], os.path.join(folder, 'data')
+    for at, _, names in os.walk(top):
+        for name in sorted(names):
+            path = os.path.join(at, name)
+            found += ['--data', '%s=%s' % (os.path.relpath(path, top), os.path.relpath(path, folder))]
+    return found
+
+
+def run_of(crate):
+    """A program's stored run, compiled without proofs."""
+    folder, wanted = os.path.join(repository.CRATES, crate), program.stored(crate, 'stdout')
+    arguments, status = program.stored(crate, 'args').decode().splitlines(), int(program.stored(crate, 'status') or 0)
+
+    def fault(_, out, err):
+        ended = program.status_of_try(err)
+        if ended is None:
+            return err.decode(errors='replace').rstrip() or 'rt try said nothing'
+        if ended != status:
+            return 'it ends with status %d, and not %d' % (ended, status)
+        return None if out == wanted else 'it writes something other than crates/%s/stdout: %s' % (crate, first_difference(wanted, out))
+    command = ['rt', 'try', *data_of(folder), *['--'] * bool(arguments), *arguments]
+    return Check('stored run of ' + crate, folder, command, program.stored(crate, 'stdin'), fault)
+
+
+def first_difference(wanted, out):
+    """The first line that two outputs do not share, in both."""
+    pairs = zip(wanted.split(b'\n') + [None], out.split(b'\n') + [None])
+    number, (one, other) = next((at, pair) for at, pair in enumerate(pairs, 1) if pair[0] != pair[1])
+    return 'line %d is %r, and not %r' % (number, other, one)
+
+
+def unproved():
+    """Each program's stored run and each crate's tests; those of many crates first, since they take longest."""
+    below = repository.below()
+    crates = sorted(below, key=lambda it: -len(below[it]))
+    return [run_of(it) for it in crates if program.is_program(it)] + [tests_of(it) for it in crates if has_tests(it)]
+
+
+def fault_of(check):
+    """Runs a check: the seconds by the clock, and why it failed, or None."""
+    begun, how = time.time(), dict(stdin=subprocess.PIPE, stdout=subprocess.PIPE, stderr=subprocess.PIPE)
+    with subprocess.Popen(check.command, cwd=check.folder, **how) as run:
+        RUNNING.add(run)
+        out, err = run.communicate(check.given)
+        RUNNING.discard(run)
+    return time.time() - begun, check.fault(run.returncode, out, err)
+
+
+def stop(number, _):
+    """Ends the checks under way, as a signal asks."""
+    for run in list(RUNNING):
+        run.terminate()
+    os._exit(128 + number)
+
+
+def run(checks, lanes):
+    """Runs checks side by side and prints how each ended: how many passed and how many failed."""
+    failed = 0
+    with ThreadPoolExecutor(lanes) as pool:
+        pending = {pool.submit(fault_of, it): it for it in checks}
+        for future in as_completed(pending):
+            seconds, fault = future.result()
+            failed += fault is not None
+            end = 'passed' if fault is None else 'FAILED: ' + fault
+            print('%s (%.0f s): %s' % (pending[future].name, seconds, end), flush=True)
+    return len(checks) - failed, failed
