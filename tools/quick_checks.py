@@ -24,12 +24,14 @@ def fault_of_status(status, out, err):
 
 def of_tool(name, *words):
     """A check by a tool of this folder."""
-    return Check('tools/' + ' '.join([name, *words]), repository.ROOT, [os.path.join(repository.ROOT, 'tools', name), *words], b'', fault_of_status)
+    command = [os.path.join(repository.ROOT, 'tools', name), *words]
+    return Check('tools/' + ' '.join([name, *words]), repository.ROOT, command, b'', fault_of_status)
 
 
 def pages():
     """What the pages say of the sources."""
-    return [of_tool('definitions', '--check', os.path.join('docs', 'READING.md')), of_tool('examples'), of_tool('public-names', '--check', NAMES)]
+    reading = os.path.join('docs', 'READING.md')
+    return [of_tool('definitions', '--check', reading), of_tool('examples'), of_tool('public-names', '--check', NAMES)]
 
 
 def tools():

@@ -1,8 +1,9 @@
 """Records what each process of a run of the gate takes, from /proc, since `rt ci` says no times; for tools/test and tools/gate-costs.
 
-The log has one JSON line for each process of the kit, when it has ended, with the figures of its last sample: `comm`, `args` (without the
-libraries that it reads), `cwd`, `pid`, `ppid`, `start` and `end` (seconds since 1970), `cpu` (processor seconds, with those of its ended children), `user` (of these in
-user mode) and `peak_kb` (its most resident memory). A line with `part` is written by `part` and tells how long a part of the run took.
+The log has one JSON line for each process of the kit, written when it has ended, with the figures of its last sample: `comm`, `args`
+(without the libraries that it reads), `cwd`, `pid`, `ppid`, `start` and `end` (seconds since 1970), `cpu` (processor seconds, with those
+of its ended children), `user` (those in user mode, without children) and `peak_kb` (its most resident memory). A line with `part` tells
+how long a part of the run took.
 """
 import json
 import os

@@ -85,8 +85,8 @@ class ChecksOf(unittest.TestCase):
 
 
 CHECKS = [Check('low', 'proof', 0, 10, 0), Check('low', 'seed', 0, 9, 0), Check('low', 'edit', 0, 4, 0), Check('low', 'edit', 1, 6, 0),
-          Check('low', 'sound', 0, 1, 0), Check('high', 'proof', 0, 20, 0), Check('high', 'build', 'llvm', 2, 0), Check('tests', 'proof', 0, 1, 0),
-          Check('tests', 'tests', 0, 30, 0)]
+          Check('low', 'sound', 0, 1, 0), Check('high', 'proof', 0, 20, 0), Check('high', 'build', 'llvm', 2, 0),
+          Check('tests', 'proof', 0, 1, 0), Check('tests', 'tests', 0, 30, 0)]
 
 
 @mock.patch('repository.below', lambda: BELOW)
