@@ -12,7 +12,7 @@ sys.dont_write_bytecode = True
 sys.path.insert(0, os.path.dirname(os.path.dirname(os.path.abspath(__file__))))
 import recorder
 
-# A process that counts to about a second of its processor, and then waits for its end.
+# A process that takes three tenths of a second of its processor, and then waits for its end.
 BUSY = 'import sys, time\nwhile time.process_time() < 0.3: pass\nprint(flush=True)\nsys.stdin.read()'
 
 
@@ -33,8 +33,9 @@ class Processes(unittest.TestCase):
 
 class Recording(unittest.TestCase):
     def lines(self, during):
-        """What is logged while a function runs, with every process taken for one of the kit's."""
-        with tempfile.TemporaryDirectory() as room, mock.patch('recorder.is_of_the_kit', lambda comm: True):
+        """What is logged while a function runs, which samples for itself, with every process taken for one of the kit's."""
+        every = mock.patch('recorder.is_of_the_kit', lambda comm: True)
+        with tempfile.TemporaryDirectory() as room, every, mock.patch('recorder.SECONDS_BETWEEN', 3600):
             path = os.path.join(room, 'new', 'log')
             with recorder.Recorder(path) as it:
                 during(it)
