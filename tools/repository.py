@@ -1,6 +1,8 @@
 """The repository's crates, for the tools beside this file."""
+import hashlib
 import os
 import shutil
+import subprocess
 import tempfile
 
 ROOT = os.path.dirname(os.path.dirname(os.path.abspath(__file__)))
@@ -8,15 +10,21 @@ CRATES = os.path.join(ROOT, 'crates')
 PARTS = ('src', 'specs', 'proofs')
 
 
-def lines():
+def lines(root=ROOT):
     """The lines of crates.txt, by the crate that each names."""
-    rows = [line.partition('#')[0].strip() for line in open(os.path.join(ROOT, 'crates.txt'))]
+    with open(os.path.join(root, 'crates.txt')) as f:
+        return rows_of(f.read())
+
+
+def rows_of(text):
+    """The lines of a text of crates.txt, by the crate that each names."""
+    rows = [line.partition('#')[0].strip() for line in text.split('\n')]
     return {row.partition(':')[0].split()[0]: row for row in rows if row}
 
 
-def below():
+def below(root=ROOT):
     """The crates of the repository that each one stands on, lowest first."""
-    uses = {name: row.partition(':')[2].split() for name, row in lines().items()}
+    uses = {name: row.partition(':')[2].split() for name, row in lines(root).items()}
 
     def all_below(name):
         found = []
@@ -25,6 +33,37 @@ def below():
                 found += [more for more in all_below(it) + [it] if more not in found]
         return found
     return {name: all_below(name) for name in uses}
+
+
+def sum_of_sources(crate, root=ROOT):
+    """A sum over the files that the prover reads of a crate and of the crates below it, and over their lines in crates.txt."""
+    found, rows = hashlib.sha256(), lines(root)
+    for name in below(root)[crate] + [crate]:
+        found.update(rows[name].encode())
+        for part in PARTS:
+            for at, folders, files in os.walk(os.path.join(root, 'crates', name, part)):
+                folders.sort()
+                for path in [os.path.join(at, file) for file in sorted(files)]:
+                    with open(path, 'rb') as f:
+                        one = hashlib.sha256(f.read()).hexdigest()
+                    found.update(('%s %s\n' % (os.path.relpath(path, root), one)).encode())
+    return found.hexdigest()
+
+
+def changed(base, parts=PARTS, root=ROOT):
+    """The crates that differ from a git revision in a file of these parts or in their lines of crates.txt, in the order of that file.
+    A file that git doesn't track yet counts, unless git ignores it. ValueError if there is no such revision."""
+    def git(*words):
+        run = subprocess.run(['git', '-C', root, *words], capture_output=True, text=True, errors='surrogateescape')
+        if run.returncode:
+            raise ValueError(run.stderr.strip() or 'git has no revision %s' % base)
+        return run.stdout
+    revision = git('rev-parse', '--verify', '--quiet', '--end-of-options', base + '^{commit}').strip()
+    files = git('diff', '--name-only', '--no-renames', '--relative', '-z', revision, '--', 'crates').split('\0')
+    files += git('ls-files', '--others', '--exclude-standard', '-z', '--', 'crates').split('\0')
+    found = {it[1] for it in (file.split('/') for file in files) if len(it) > 3 and it[2] in parts}
+    before = rows_of(git('show', revision + ':./crates.txt'))
+    return [name for name, row in lines(root).items() if name in found or before.get(name) != row]
 
 
 def check_flags(folder):
@@ -41,20 +80,23 @@ def link_or_copy(source, target):
         shutil.copy2(source, target)
 
 
-def copy(crate, keeps):
-    """A temporary folder with a copy of a crate, with its kept work or without, and of those that it stands on, with their libraries."""
+def copy(crate, keeps, root=ROOT, built=True):
+    """A temporary folder with a copy of a crate, with its kept work or without, and of those that it stands on, with their libraries
+    where built. root is the repository, or such a folder."""
     room = tempfile.TemporaryDirectory(prefix='lifecrib-')
-    rows, names = lines(), below()[crate] + [crate]
+    rows, names = lines(root), below(root)[crate] + [crate]
     for name in names:
-        kept = ('out/rlib',) if name != crate else ('out/incremental',) if keeps else ()
+        kept = ('out/rlib',) * built if name != crate else ('out/incremental',) * keeps
         for part in PARTS + kept:
-            source = os.path.join(CRATES, name, part)
+            source = os.path.join(root, 'crates', name, part)
             if os.path.isdir(source):
                 # a library is only read: a build of it would begin with a new folder
                 by = link_or_copy if part == 'out/rlib' else shutil.copy2
                 shutil.copytree(source, os.path.join(room.name, 'crates', name, part), symlinks=True, copy_function=by)
     with open(os.path.join(room.name, 'crates.txt'), 'w') as f:
         f.write(''.join(rows[name] + '\n' for name in names))
+    if os.path.exists(os.path.join(root, 'HANDLES')):
+        shutil.copy2(os.path.join(root, 'HANDLES'), room.name)
     return room
 
 
