@@ -3,7 +3,7 @@ use Rattle.std.proofs.lemmas.Result.{IfOk-weaker}
 use Rattle.std.specs.Duration.{as_nanos}
 use Rattle.oauth2_poll.specs.Run.{event_of}
 use Rattle.oauth2_poll.proofs.Requests.{few_requests}
-use Rattle.oauth2_poll_tests.proofs.callers.poll_within.Goals as goal
+use Rattle.oauth2_clock_tests.proofs.callers.poll_within.Goals as goal
 
 pub returns : goal.returns
 returns c =

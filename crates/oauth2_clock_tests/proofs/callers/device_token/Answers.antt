@@ -1,5 +1,5 @@
 use Rattle.std.proofs.Common.{◌∙◌}
-use Rattle.oauth2_poll_tests.proofs.callers.device_token.Goals as goal
+use Rattle.oauth2_clock_tests.proofs.callers.device_token.Goals as goal
 
 pub request-requires-clause-clock : goal.request-requires-clause-clock
 request-requires-clause-clock g c = rw c.set_time_fn.ensures.clock c.requires.clock

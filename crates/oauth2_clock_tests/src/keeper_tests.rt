@@ -1,6 +1,6 @@
 //! Runs of a keeper, worked out by hand from what a good token is.
 
-use crate::callers::{KeeperClient, bearer};
+use crate::keeper_callers::{KeeperClient, bearer};
 use jiff::Timestamp;
 use oauth2::basic::BasicClient;
 use oauth2::http::response::Parts;
