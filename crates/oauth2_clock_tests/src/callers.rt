@@ -1,5 +1,20 @@
 //! Callers with contracts of their own.
-ghost use Rattle.std.specs.Prelude.{◌≡◌, ◌+◌, ◌/◌, ◌<◌, ◌≤◌, map, IfOk, Some, List};
+ghost use Rattle.std.specs.Prelude.{
+  ◌≡◌,
+  ◌+◌,
+  ◌/◌,
+  ◌<◌,
+  ◌≤◌,
+  ◌++◌,
+  map,
+  IsTrue,
+  IfOk,
+  IsSomeAnd,
+  Some,
+  List,
+  codes,
+  string_bytes,
+};
 ghost use Rattle.std.specs.Duration.{as_nanos};
 ghost use Rattle.oauth2_poll.specs.Pacing.{ClockIsHonest, SleepsArePaced, requests_in};
 ghost use Rattle.oauth2_poll.specs.Run.{event_of};
@@ -8,6 +23,7 @@ ghost use Rattle.oauth2_device.specs.DeviceToken.{seconds};
 ghost use Rattle.oauth2_device.specs.Events.{ClientLeads, EachRequest, Event, SleepLeads};
 ghost use Rattle.oauth2_device.specs.Poll.{IsDeviceRequest, device_answer, plain};
 ghost use Rattle.oauth2.specs.NewRequest.{new_device_token_request};
+ghost use Rattle.oauth2_keeper.specs.Keeper.{is_good};
 
 use jiff::Timestamp;
 use oauth2::basic::{BasicClient, BasicTokenResponse};
@@ -15,8 +31,10 @@ use oauth2::{
     DeviceCodeErrorResponse, EndpointNotSet, EndpointSet, FromJson, RequestTokenError,
     StandardDeviceAuthorizationResponse, SyncHttpClient,
 };
+use oauth2_keeper::BasicTokenKeeper;
 use oauth2_poll::{DevicePoll, PollAnswer, PollRun, PollSettings};
 use std::alloc::{AllocError, Global};
+use std::fmt;
 use std::time::Duration;
 
 /// A run whose requests are bounded by timeout and interval alone, if the clock passes each sleep.
@@ -37,7 +55,7 @@ pub fn poll_within(
 }
 
 /// A client with a token endpoint alone.
-pub type DeviceClient = BasicClient<
+pub type TokenClient = BasicClient<
     EndpointNotSet,
     EndpointNotSet,
     EndpointNotSet,
@@ -50,7 +68,7 @@ pub type DeviceClient = BasicClient<
 /// the response's interval and the answers before them pace.
 pub fn device_token<C: SyncHttpClient, F: FnMut() -> Timestamp + Drop, S: FnMut(Duration)>(
     alloc: Global,
-    client: &DeviceClient,
+    client: &TokenClient,
     response: &StandardDeviceAuthorizationResponse,
     http_client: &mut C,
     time_fn: F,
@@ -73,4 +91,27 @@ pub fn device_token<C: SyncHttpClient, F: FnMut() -> Timestamp + Drop, S: FnMut(
         .exchange_device_access_token(alloc, response)
         .set_time_fn(time_fn)
         .request(alloc, http_client, sleep_fn, None, 100)
+}
+
+/// What to send as `Authorization` to a resource (RFC 6750, section 2.1): the kept token, by the
+/// scheme `Bearer`. While it is good, nothing is sent for it.
+pub fn bearer<C: SyncHttpClient>(
+    alloc: Global,
+    keeper: &mut BasicTokenKeeper<'_>,
+    now: Timestamp,
+    http_client: &mut C,
+) -> anyhow::Result<String>
+where
+    C::Error: fmt::Debug,
+    requires { C.is_ready http_client.old }
+    ensures text { IfOk result (λ text. IsSomeAnd keeper.new.token
+        (λ token. string_bytes text ≡ codes "Bearer " ++ token.access_token)) }
+    ensures quiet { IsTrue (is_good keeper.old now.nanosecond)
+        → (keeper.new ≡ keeper.old) × (http_client.new ≡ http_client.old) }
+    ensures ready { C.is_ready http_client.new }
+{
+    let text = keeper.with_token(alloc, now, http_client, |token| {
+        format!(in alloc; "Bearer {}", token.secret().as_str())
+    })?;
+    Ok(text?)
 }

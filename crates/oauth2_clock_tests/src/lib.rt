@@ -5,13 +5,9 @@
 #[cfg(test)]
 mod callers;
 #[cfg(test)]
-mod keeper_callers;
-#[cfg(test)]
 mod keeper_tests;
 #[cfg(test)]
 mod machine_tests;
-#[cfg(test)]
-mod rule_tests;
 #[cfg(test)]
 mod support;
 #[cfg(test)]

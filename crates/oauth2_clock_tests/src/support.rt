@@ -1,61 +1,116 @@
 //! What the tests of several subjects share.
 
-use crate::callers::DeviceClient;
+use crate::callers::TokenClient;
 use jiff::Timestamp;
-use oauth2::basic::{BasicClient, BasicTokenResponse};
+use oauth2::basic::BasicClient;
+use oauth2::http::response::Parts;
+use oauth2::http::{Response, StatusCode};
 use oauth2::{
-    ClientId, ClientSecret, DeviceCodeErrorResponse, RequestTokenError,
-    StandardDeviceAuthorizationResponse, TokenUrl, read_body,
+    AccessToken, ClientId, ClientSecret, HttpRequest, HttpResponse, SyncHttpClient, TokenUrl,
 };
-use std::alloc::AllocError;
+use oauth2_poll::PollAnswer;
+use std::alloc::{AllocError, Global};
+use std::fmt::Display;
 use std::process::Abort;
+use std::time::Duration;
 
-/// The result of a poll by a client whose own error is want of memory.
-pub type TokenResult = Result<
-    BasicTokenResponse,
-    RequestTokenError<AllocError, DeviceCodeErrorResponse>,
->;
+/// An HTTP client that gets these replies in turn, each a status and a body, and then fails. It keeps
+/// the body of the last request.
+#[derive(Drop)]
+pub struct Scripted<'a> {
+    alloc: Global,
+    replies: &'a [(u16, &'a str)],
+    pub sent: usize,
+    pub body: Vec<u8>,
+}
 
-pub const ENDPOINT: &str = "https://example.com/token";
+impl<'a> Scripted<'a> {
+    pub fn new(alloc: Global, replies: &'a [(u16, &'a str)]) -> Scripted<'a> {
+        Scripted {
+            alloc,
+            replies,
+            sent: 0,
+            body: Vec::new(alloc),
+        }
+    }
+}
 
-/// The response to a device, whose code is good for two seconds; its interval is one second.
-pub const TWO_SECONDS: &str =
-    "{\"device_code\":\"12345\",\"user_code\":\"abcde\",\"verification_uri\":\"https://verify/here\",\"expires_in\":2,\"interval\":1}";
+impl SyncHttpClient for Scripted<'_> {
+    type Error = AllocError;
+
+    fn call(&mut self, request: HttpRequest) -> Result<HttpResponse, AllocError> {
+        self.body = request.into_body();
+        let Some((status, body)) = self.replies.get(self.sent).copied() else {
+            return Err(AllocError);
+        };
+        self.sent = self.sent.saturating_add(1);
+        let mut head = Parts::new(self.alloc);
+        let Ok(status) = StatusCode::from_u16(status) else {
+            return Err(AllocError);
+        };
+        head.status = status;
+        Ok(Response::from_parts(head, body.as_bytes().to_vec(self.alloc)?))
+    }
+}
 
 fn text(rt: &(impl Abort + AllocGlobal), text: &str) -> String {
     String::from_str(rt.alloc(), text).expect(rt, "a text")
 }
 
-pub fn client(rt: &(impl Abort + AllocGlobal), token_url: &str) -> DeviceClient {
-    let token_url = TokenUrl::new(rt.alloc(), text(rt, token_url)).expect(rt, "a URL");
+pub fn client(rt: &(impl Abort + AllocGlobal)) -> TokenClient {
+    let token_url = TokenUrl::new(rt.alloc(), text(rt, "https://example.com/token"));
     BasicClient::new(ClientId::new(text(rt, "aaa")))
         .set_client_secret(ClientSecret::new(text(rt, "bbb")))
-        .set_token_uri(token_url)
+        .set_token_uri(token_url.expect(rt, "a URL"))
 }
 
-pub fn device(rt: &(impl Abort + AllocGlobal), body: &str) -> StandardDeviceAuthorizationResponse {
-    read_body(rt.alloc(), body.as_bytes()).expect(rt, "a response")
+pub fn moment(rt: &impl Abort, second: i64, nanosecond: i32) -> Timestamp {
+    Timestamp::new(second, nanosecond).expect(rt, "a timestamp")
 }
 
-pub fn moment(rt: &impl Abort, second: i64) -> Timestamp {
-    Timestamp::from_second(second).expect(rt, "a timestamp")
+/// A duration of so many seconds and nanoseconds.
+pub fn duration((seconds, nanoseconds): (u64, u64)) -> Duration {
+    Duration::from_secs(seconds).saturating_add(Duration::from_nanos(nanoseconds))
 }
 
 pub fn moments(rt: &(impl Abort + AllocGlobal), seconds: &[i64]) -> Vec<Timestamp> {
     let mut moments = Vec::new(rt.alloc());
     for second in seconds.iter() {
-        moments.push(moment(rt, *second)).expect(rt, "a list");
+        moments.push(moment(rt, *second, 0)).expect(rt, "a list");
     }
     moments
 }
 
-/// The poll gave no token, and says this.
-pub fn is_fault(rt: &(impl Abort + AllocGlobal), polled: TokenResult, wanted: &str) {
-    match polled {
-        Ok(_) => panic!(rt; "a token"),
-        Err(error) => {
-            let found = format!(in rt.alloc(); "{error}").expect(rt, "a text");
-            assert_eq!(rt; found.as_str(), wanted);
-        }
-    }
+/// What a poll did: read the clock (in seconds), sent a request, slept (seconds and nanoseconds). A
+/// run over lists has its answers too.
+#[derive(Clone, Copy, Debug, PartialEq, Eq)]
+pub enum Seen {
+    Reading(i64),
+    Request,
+    Answer(PollAnswer),
+    Sleep(u64, u32),
+}
+
+pub fn slept(duration: Duration) -> Seen {
+    Seen::Sleep(duration.as_secs(), duration.subsec_nanos())
+}
+
+/// It is so, in this case. (A call costs a proof far less than the assertion would in its place.)
+pub fn is_so(rt: &impl Abort, is_so: bool, case: &str) {
+    assert!(rt; is_so, "{case}");
+}
+
+/// The token is the wanted answer.
+pub fn is_token(rt: &impl Abort, token: &AccessToken, answer: Result<&str, &str>) {
+    is_so(rt, answer == Ok(token.secret().as_str()), "a token");
+}
+
+/// The text of the fault is the wanted answer.
+pub fn is_fault<E: Display>(
+    rt: &(impl Abort + AllocGlobal),
+    error: &E,
+    answer: Result<&str, &str>,
+) {
+    let fault = format!(in rt.alloc(); "{error}").expect(rt, "a text");
+    is_so(rt, answer == Err(fault.as_str()), fault.as_str());
 }
