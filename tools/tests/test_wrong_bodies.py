@@ -346,7 +346,7 @@ class Whole(InAFolder):
     def setUp(self):
         super().setUp()
         self.committed()
-        for name in ('wrong-bodies', 'edits.py', 'kept.py', 'repository.py'):
+        for name in ('wrong-bodies', 'edits.py', 'kept.py', 'machine.py', 'repository.py'):
             os.makedirs(os.path.join(self.root, 'tools'), exist_ok=True)
             shutil.copy(os.path.join(TOOLS, name), os.path.join(self.root, 'tools'))
         self.kit = os.path.join(self.top, 'kit')
