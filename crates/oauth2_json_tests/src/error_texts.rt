@@ -10,6 +10,13 @@ fn is_error<E: Error>(rt: &(impl Abort + AllocGlobal), error: &E, wanted: &str) 
     is_displayed_as(rt, error, wanted);
 }
 
+/// The cause is shown as this text, in a fault that names no member too.
+fn is_cause(rt: &(impl Abort + AllocGlobal), cause: ParseCause, wanted: &str) {
+    is_displayed_as(rt, &cause, wanted);
+    let member = text(rt, "");
+    is_displayed_as(rt, &ParseFault { member, cause }, wanted);
+}
+
 #[test]
 fn texts_of_causes(rt: HostRuntime) {
     for (cause, wanted) in [
@@ -23,42 +30,17 @@ fn texts_of_causes(rt: HostRuntime) {
         (ParseCause::BothNames, "under both of its names"),
         (ParseCause::Refused, "of another shape"),
     ] {
-        is_displayed_as(&rt, &cause, wanted);
-    }
-}
-
-fn fault(rt: &(impl Abort + AllocGlobal), member: &str, cause: ParseCause) -> ParseFault {
-    let member = text(rt, member);
-    ParseFault { member, cause }
-}
-
-#[test]
-fn texts_of_faults(rt: HostRuntime) {
-    for (member, cause, wanted) in [
-        (
-            "expires_in",
-            ParseCause::NotWhole,
-            "expires_in: not a whole number",
-        ),
-        ("", ParseCause::NotJson, "not one whole JSON value"),
-    ] {
-        is_displayed_as(&rt, &fault(&rt, member, cause), wanted);
+        is_cause(&rt, cause, wanted);
     }
 }
 
 #[test]
 fn texts_of_read_errors(rt: HostRuntime) {
-    let missing = ReadError::Fault(fault(&rt, "access_token", ParseCause::Missing));
-    is_error(&rt, &missing, "access_token: missing");
-    is_error(&rt, &ReadError::Memory, "out of memory");
-}
-
-#[test]
-fn fault_under_an_outer_name(rt: HostRuntime) {
-    let inner = ReadError::at(rt.alloc(), "inner", ParseCause::WrongType);
-    is_error(&rt, &inner, "inner: of the wrong type");
+    let inner = ReadError::at(rt.alloc(), "expires_in", ParseCause::NotWhole);
+    is_error(&rt, &inner, "expires_in: not a whole number");
     let outer = inner.under(rt.alloc(), "outer");
-    is_error(&rt, &outer, "outer: of the wrong type");
+    is_error(&rt, &outer, "outer: not a whole number");
+    is_error(&rt, &ReadError::Memory, "out of memory");
 }
 
 #[test]

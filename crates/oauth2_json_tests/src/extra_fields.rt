@@ -1,7 +1,7 @@
 //! Responses with extra fields.
 
-use crate::support::{is_equal, is_kept, is_not_written, is_refused, is_rewritten, read, text};
-use oauth2::basic::{BasicTokenResponse, BasicTokenType};
+use crate::support::{is_equal, is_not_written, is_refused, is_rewritten, read, text};
+use oauth2::basic::BasicTokenType;
 use oauth2::{
     AccessToken, DeviceAuthorizationResponse, ExtraFields, ParseCause, StandardTokenResponse,
     WriteError,
@@ -11,16 +11,9 @@ use std::process::Abort;
 type RawToken = StandardTokenResponse<ExtraFields, BasicTokenType>;
 
 #[test]
-fn other_members_are_dropped(rt: HostRuntime) {
-    is_rewritten::<BasicTokenResponse>(
-        &rt,
-        r#"{"access_token":"t","token_type":"bearer","f":1.5}"#,
-        r#"{"access_token":"t","token_type":"bearer"}"#,
-    );
-}
-
-#[test]
 fn members_left_are_extra_fields(rt: HostRuntime) {
+    let token = r#"{"access_token":"t","id_token":"x","n":1,"token_type":"bearer"}"#;
+    is_rewritten::<RawToken>(&rt, token, token);
     is_rewritten::<RawToken>(
         &rt,
         "{\"z\":1,\"token_type\":\"Bearer\",\"y\":{\"b\":[\"\\u0061\",{\"c\":null}],\"a\":-1},\"access_token\":\"t\",\"z\":true}",
@@ -30,10 +23,13 @@ fn members_left_are_extra_fields(rt: HostRuntime) {
 
 #[test]
 fn extra_fields_of_a_device_response(rt: HostRuntime) {
+    let written =
+        r#"{"device_code":"d","expires_in":1,"interval":5,"user_code":"u","verification_uri":"https://v/","z":[]}"#;
+    is_rewritten::<DeviceAuthorizationResponse<ExtraFields>>(&rt, written, written);
     is_rewritten::<DeviceAuthorizationResponse<ExtraFields>>(
         &rt,
         r#"{"device_code":"d","user_code":"u","verification_url":"https://v/","expires_in":1,"z":[]}"#,
-        r#"{"device_code":"d","expires_in":1,"interval":5,"user_code":"u","verification_uri":"https://v/","z":[]}"#,
+        written,
     );
 }
 
@@ -45,18 +41,6 @@ fn members_that_are_left(rt: HostRuntime) {
     let number = fields.get("n").expect(&rt, "a member");
     is_equal(&rt, number.as_u64(), Some(1));
     assert!(rt; fields.get("m").is_none());
-}
-
-#[test]
-fn members_that_are_left_are_kept(rt: HostRuntime) {
-    is_kept::<StandardTokenResponse<ExtraFields, BasicTokenType>>(
-        &rt,
-        r#"{"access_token":"t","id_token":"x","n":1,"token_type":"bearer"}"#,
-    );
-    is_kept::<DeviceAuthorizationResponse<ExtraFields>>(
-        &rt,
-        r#"{"device_code":"d","expires_in":1,"interval":5,"user_code":"u","verification_uri":"https://v/","z":[]}"#,
-    );
     is_refused::<ExtraFields>(&rt, "[]", "", ParseCause::NotObject);
 }
 
@@ -71,7 +55,9 @@ fn with_raw(rt: &(impl Abort + AllocGlobal), fields: &str) -> RawToken {
 fn clash_is_refused_before_a_float(rt: HostRuntime) {
     for (fields, refusal) in [
         (r#"{"scope":"x"}"#, WriteError::NameClash),
+        (r#"{"scope":[1.5]}"#, WriteError::NameClash),
         (r#"{"a":{"b":[1.5]}}"#, WriteError::Float),
+        (r#"{"c":[{"d":1.5}]}"#, WriteError::Float),
         (r#"{"a":{"b":[1.5]},"scope":"x"}"#, WriteError::NameClash),
     ] {
         is_not_written(&rt, with_raw(&rt, fields), refusal, fields);

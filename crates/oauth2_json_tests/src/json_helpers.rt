@@ -1,25 +1,17 @@
-//! The helpers for types of a user's own: lists in one text, audiences, codes and variants.
+//! The helpers for types of a user's own: lists in one text, audiences, codes and variants; and
+//! members that the types here do not need.
 
-use crate::support::{copy_of, is_equal, is_fault, is_written_as, parsed, scope_list};
+use crate::support::{is_equal, is_fault, is_written_as, parsed, scope_list};
+use jiff::Timestamp;
 use oauth2::basic::BasicTokenType;
 use oauth2::helpers::{
     VariantName, deserialize_optional_string_or_vec_string, deserialize_space_delimited_vec,
     deserialize_untagged_enum_case_insensitive, serialize_space_delimited_vec, variant_name,
 };
-use oauth2::{ParseCause, Scope, TokenType, members};
+use oauth2::{ParseCause, Scope, members};
 use serde_json::Value;
 use std::convert::AsStr;
 use std::process::Abort;
-
-/// A copy is written as its original.
-fn copy_is_written_as<T: TokenType + Drop>(
-    rt: &(impl Abort + AllocGlobal),
-    value: &T,
-    wanted: &str,
-) {
-    is_written_as(rt, value, wanted);
-    is_written_as(rt, &copy_of(rt, value), wanted);
-}
 
 #[test]
 fn ascii_letters_are_lowered(rt: HostRuntime) {
@@ -29,36 +21,39 @@ fn ascii_letters_are_lowered(rt: HostRuntime) {
         value,
     ).expect(&rt, "a token type");
     is_equal(&rt, read.as_str(), "Äb");
-    copy_is_written_as(&rt, &read, r#""Äb""#);
+    is_written_as(&rt, &read, r#""Äb""#);
+}
+
+/// How many scopes the value reads to.
+fn count_of(rt: &(impl Abort + AllocGlobal), value: Value) -> Option<usize> {
+    let read = deserialize_space_delimited_vec::<Scope>(rt.alloc(), value).expect(
+        rt,
+        "scopes or none",
+    );
+    match &read {
+        Some(scopes) => Some(scopes.len()),
+        None => None,
+    }
 }
 
 /// The list is written as this text, which reads to so many scopes.
-fn is_split(rt: &(impl Abort + AllocGlobal), scopes: Vec<Scope>, written: &str, pieces: usize) {
-    let value = serialize_space_delimited_vec(rt.alloc(), &Some(scopes)).expect(rt, "a value");
+fn is_split(
+    rt: &(impl Abort + AllocGlobal),
+    scopes: Option<Vec<Scope>>,
+    written: &str,
+    pieces: Option<usize>,
+) {
+    let value = serialize_space_delimited_vec(rt.alloc(), &scopes).expect(rt, "a value");
     let text = value.to_string(rt.alloc()).expect(rt, "a text");
     is_equal(rt, text.as_str(), written);
-    let read = deserialize_space_delimited_vec::<Scope>(rt.alloc(), value)
-        .expect(rt, "scopes or none")
-        .expect(rt, "scopes");
-    is_equal(rt, read.len(), pieces);
+    is_equal(rt, count_of(rt, value), pieces);
 }
 
 #[test]
 fn scopes_are_split_at_every_space(rt: HostRuntime) {
-    is_split(&rt, Vec::new(rt.alloc()), r#""""#, 1);
-    is_split(&rt, scope_list(&rt, "a b"), r#""a b""#, 2);
-}
-
-#[test]
-fn no_scopes_are_null(rt: HostRuntime) {
-    let none: Option<Vec<Scope>> = None;
-    let value = serialize_space_delimited_vec(rt.alloc(), &none).expect(&rt, "a value");
-    assert!(rt; value.is_null());
-    let null = deserialize_space_delimited_vec::<Scope>(rt.alloc(), Value::Null).expect(
-        &rt,
-        "scopes or none",
-    );
-    assert!(rt; null.is_none());
+    is_split(&rt, None, "null", None);
+    is_split(&rt, Some(Vec::new(rt.alloc())), r#""""#, Some(1));
+    is_split(&rt, Some(scope_list(&rt, "a b")), r#""a b""#, Some(2));
 }
 
 /// The text reads to an audience that is written as this one.
@@ -82,10 +77,6 @@ fn audience_is_a_text_or_a_list(rt: HostRuntime) {
     ] {
         audience_is_written_as(&rt, text, wanted);
     }
-}
-
-#[test]
-fn audience_is_of_texts_alone(rt: HostRuntime) {
     let mixed = deserialize_optional_string_or_vec_string(rt.alloc(), parsed(&rt, r#"["a",1]"#));
     assert!(rt; is_fault(mixed, "", ParseCause::WrongType));
 }
@@ -105,4 +96,37 @@ impl VariantName for Plain {
 #[test]
 fn variants_have_names(rt: HostRuntime) {
     is_equal(&rt, variant_name(&Plain), "Plain");
+}
+
+/// The time is written as this second, and this second reads to a time.
+fn is_second(rt: &(impl Abort + AllocGlobal), nanosecond: i128, second: &str) {
+    let at = Timestamp::from_nanosecond(nanosecond).expect(rt, "a time");
+    let value = members::time_value(Some(at)).expect(rt, "a value");
+    let written = value.to_string(rt.alloc()).expect(rt, "a text");
+    is_equal(rt, written.as_str(), second);
+    let read = members::optional_time(rt.alloc(), "exp", Some(value)).expect(rt, "a time");
+    assert!(rt; read.is_some());
+}
+
+#[test]
+fn times_are_whole_seconds_rounded_down(rt: HostRuntime) {
+    for (nanosecond, second) in [
+        (-500_000_000, "-1"),
+        (500_000_000, "0"),
+        (-1_000_000_000, "-1"),
+    ] {
+        is_second(&rt, nanosecond, second);
+    }
+}
+
+/// The text of a member that may be absent, but not null.
+#[test]
+fn members_that_are_not_null(rt: HostRuntime) {
+    let word = Some(parsed(&rt, r#""x""#));
+    let read = members::present::<String>(rt.alloc(), "c", word).expect(&rt, "a text or none");
+    is_equal(&rt, read.as_deref(), Some("x"));
+    let read = members::present::<String>(rt.alloc(), "c", None).expect(&rt, "a text or none");
+    is_equal(&rt, read.as_deref(), None);
+    let null = members::present::<String>(rt.alloc(), "c", Some(Value::Null));
+    assert!(rt; is_fault(null, "c", ParseCause::WrongType));
 }

@@ -1,9 +1,9 @@
-//! Texts, URLs, codes, challenges and extra fields: each reads to a value that is written as the
-//! text.
+//! Values that read to a value which is written as the text, and copies of values.
 
 use crate::support::{copy_is_kept, is_kept, is_refused, is_rewritten};
 use oauth2::basic::{
-    BasicErrorResponse, BasicErrorResponseType, BasicRevocationErrorResponse, BasicTokenType,
+    BasicErrorResponse, BasicErrorResponseType, BasicRevocationErrorResponse,
+    BasicTokenIntrospectionResponse, BasicTokenResponse, BasicTokenType,
 };
 use oauth2::{
     AccessToken, AuthUrl, AuthorizationCode, ClientId, ClientSecret, CsrfToken,
@@ -11,7 +11,8 @@ use oauth2::{
     EmptyExtraDeviceAuthorizationFields, EmptyExtraTokenFields, EndUserVerificationUrl,
     ExtraFields, IntrospectionUrl, ParseCause, PkceCodeChallenge, PkceCodeChallengeMethod,
     PkceCodeVerifier, RedirectUrl, RefreshToken, ResourceOwnerUsername, ResponseType,
-    RevocationErrorResponseType, RevocationUrl, Scope, TokenUrl, UserCode, VerificationUriComplete,
+    RevocationErrorResponseType, RevocationUrl, Scope, StandardDeviceAuthorizationResponse,
+    StandardRevocableToken, TokenUrl, UserCode, VerificationUriComplete,
 };
 
 const TEXT: &str = "\"a \\\"b\\\"\"";
@@ -49,27 +50,28 @@ fn urls_are_kept_as_given(rt: HostRuntime) {
     is_kept::<RedirectUrl>(&rt, text);
     is_kept::<RevocationUrl>(&rt, text);
     is_kept::<TokenUrl>(&rt, text);
-}
-
-#[test]
-fn refused_urls(rt: HostRuntime) {
     is_refused::<AuthUrl>(&rt, r#""x""#, "", ParseCause::BadUrl);
     is_refused::<AuthUrl>(&rt, "1", "", ParseCause::WrongType);
 }
 
 #[test]
-fn codes_are_kept(rt: HostRuntime) {
+fn challenge_is_kept(rt: HostRuntime) {
+    is_kept::<PkceCodeChallenge>(
+        &rt,
+        r#"{"code_challenge":"c","code_challenge_method":"S256"}"#,
+    );
+    is_refused::<PkceCodeChallenge>(
+        &rt,
+        r#"{"code_challenge":"c"}"#,
+        "code_challenge_method",
+        ParseCause::Missing,
+    );
+}
+
+#[test]
+fn token_types_are_kept(rt: HostRuntime) {
     for text in [r#""bearer""#, r#""mac""#, r#""Bearer""#] {
-        is_kept::<BasicTokenType>(&rt, text);
-    }
-    for text in [
-        r#""invalid_client""#,
-        r#""slow_down""#,
-        r#""Invalid_Client""#,
-    ] {
-        is_kept::<BasicErrorResponseType>(&rt, text);
-        is_kept::<DeviceCodeErrorResponseType>(&rt, text);
-        is_kept::<RevocationErrorResponseType>(&rt, text);
+        copy_is_kept::<BasicTokenType>(&rt, text);
     }
 }
 
@@ -79,6 +81,8 @@ fn copies_of_codes_are_written_alike(rt: HostRuntime) {
         r#""slow_down""#,
         r#""unsupported_token_type""#,
         r#""invalid_grant""#,
+        r#""invalid_client""#,
+        r#""Invalid_Client""#,
         r#""x""#,
     ] {
         copy_is_kept::<BasicErrorResponseType>(&rt, text);
@@ -96,6 +100,22 @@ fn copies_of_error_responses_are_written_alike(rt: HostRuntime) {
 }
 
 #[test]
+fn copies_of_responses_are_written_alike(rt: HostRuntime) {
+    copy_is_kept::<BasicTokenResponse>(
+        &rt,
+        r#"{"access_token":"t","expires_in":1,"refresh_token":"r","scope":"read write","token_type":"bearer"}"#,
+    );
+    copy_is_kept::<BasicTokenIntrospectionResponse>(
+        &rt,
+        r#"{"active":true,"aud":["audience"],"client_id":"aaa","exp":3,"iat":1,"iss":"issuer","jti":"identifier","nbf":2,"scope":"read write","sub":"subject","token_type":"bearer","username":"demo"}"#,
+    );
+    copy_is_kept::<StandardDeviceAuthorizationResponse>(
+        &rt,
+        r#"{"device_code":"d","expires_in":300,"interval":7,"user_code":"u","verification_uri":"https://v/","verification_uri_complete":"https://v/u"}"#,
+    );
+}
+
+#[test]
 fn copies_of_extra_fields_are_written_alike(rt: HostRuntime) {
     copy_is_kept::<EmptyExtraTokenFields>(&rt, "{}");
     copy_is_kept::<EmptyExtraDeviceAuthorizationFields>(&rt, "{}");
@@ -105,15 +125,21 @@ fn copies_of_extra_fields_are_written_alike(rt: HostRuntime) {
 }
 
 #[test]
-fn challenge_is_kept(rt: HostRuntime) {
-    is_kept::<PkceCodeChallenge>(
-        &rt,
-        r#"{"code_challenge":"c","code_challenge_method":"S256"}"#,
-    );
-    is_refused::<PkceCodeChallenge>(
-        &rt,
-        r#"{"code_challenge":"c"}"#,
-        "code_challenge_method",
-        ParseCause::Missing,
-    );
+fn revocable_token_is_one_member(rt: HostRuntime) {
+    for text in [r#"{"AccessToken":"a"}"#, r#"{"RefreshToken":"b"}"#] {
+        copy_is_kept::<StandardRevocableToken>(&rt, text);
+    }
+    for (body, member, cause) in [
+        (r#"{"AccessToken":1}"#, "AccessToken", ParseCause::WrongType),
+        (
+            r#"{"AccessToken":"a","RefreshToken":"b"}"#,
+            "",
+            ParseCause::Refused,
+        ),
+        (r#"{"AccessToken":"a","x":"b"}"#, "", ParseCause::Refused),
+        ("{}", "", ParseCause::Refused),
+        (r#""AccessToken""#, "", ParseCause::NotObject),
+    ] {
+        is_refused::<StandardRevocableToken>(&rt, body, member, cause);
+    }
 }

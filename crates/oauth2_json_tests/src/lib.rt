@@ -14,8 +14,6 @@ mod introspection_response;
 #[cfg(test)]
 mod json_helpers;
 #[cfg(test)]
-mod json_members;
-#[cfg(test)]
 mod kept;
 #[cfg(test)]
 mod named_members;

@@ -142,7 +142,6 @@ fn identity_is_written<Fields: ExtraTokenFields + TryClone + Drop>(
 ) {
     let whole =
         r#"{"access_token":"t","cnf":[],"ext_expires_in":7,"id_token":"x","offline":true,"token_type":"bearer"}"#;
-    is_kept::<StandardTokenResponse<Fields, BasicTokenType>>(rt, whole);
     copy_is_kept::<StandardTokenResponse<Fields, BasicTokenType>>(rt, whole);
     is_rewritten::<StandardTokenResponse<Fields, BasicTokenType>>(
         rt,

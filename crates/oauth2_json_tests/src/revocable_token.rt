@@ -1,33 +1,9 @@
 //! Tokens that can be revoked (RFC 7009, section 2.1).
 
-use crate::support::{copy_is_kept, is_equal, is_refused, text};
+use crate::support::{is_equal, text};
 use oauth2::helpers::variant_name;
-use oauth2::{AccessToken, ParseCause, RefreshToken, RevocableToken, StandardRevocableToken};
+use oauth2::{AccessToken, RefreshToken, RevocableToken, StandardRevocableToken};
 use std::process::Abort;
-
-#[test]
-fn revocable_token_is_one_member(rt: HostRuntime) {
-    for (body, member, cause) in [
-        (r#"{"AccessToken":1}"#, "AccessToken", ParseCause::WrongType),
-        (
-            r#"{"AccessToken":"a","RefreshToken":"b"}"#,
-            "",
-            ParseCause::Refused,
-        ),
-        (r#"{"AccessToken":"a","x":"b"}"#, "", ParseCause::Refused),
-        ("{}", "", ParseCause::Refused),
-        (r#""AccessToken""#, "", ParseCause::NotObject),
-    ] {
-        is_refused::<StandardRevocableToken>(&rt, body, member, cause);
-    }
-}
-
-#[test]
-fn copy_of_a_revocable_token_is_written_alike(rt: HostRuntime) {
-    for text in [r#"{"AccessToken":"a"}"#, r#"{"RefreshToken":"b"}"#] {
-        copy_is_kept::<StandardRevocableToken>(&rt, text);
-    }
-}
 
 /// The secret, the hint and the name of a token.
 fn tells(
