@@ -34,42 +34,17 @@ fn client(rt: &(impl Abort + AllocGlobal)) -> CodeClient {
         .set_token_uri(token_url(rt))
 }
 
-fn tells(rt: &impl Abort, client: &CodeClient) {
+fn tells(rt: &impl Abort, client: &CodeClient, rule: ReplyRule) {
     is_text(rt, client.client_id().as_str(), "aaa");
     is_text(rt, client.token_uri().as_str(), "https://example.com/token");
-}
-
-fn copy_tells(rt: &(impl Abort + AllocGlobal), client: &CodeClient) {
-    let copy = client.try_clone(rt.alloc()).expect(rt, "a copy");
-    tells(rt, &copy);
-}
-
-#[test]
-fn copies(rt: HostRuntime) {
-    let client = client(&rt);
-    copy_tells(&rt, &client);
-}
-
-/// The client and its copy have this rule.
-fn has_rule(rt: &(impl Abort + AllocGlobal), client: &CodeClient, rule: ReplyRule) {
     is_equal(rt, client.reply_rule(), rule);
+}
+
+/// The client and its copy tell the same.
+fn copy_tells(rt: &(impl Abort + AllocGlobal), client: &CodeClient, rule: ReplyRule) {
+    tells(rt, client, rule);
     let copy = client.try_clone(rt.alloc()).expect(rt, "a copy");
-    is_equal(rt, copy.reply_rule(), rule);
-}
-
-#[test]
-fn rules_for_replies(rt: HostRuntime) {
-    let client = client(&rt);
-    has_rule(&rt, &client, ReplyRule::Prefix);
-    let client = client.set_reply_rule(ReplyRule::MediaType);
-    has_rule(&rt, &client, ReplyRule::MediaType);
-}
-
-#[test]
-fn copies_of_endpoint_states(rt: HostRuntime) {
-    EndpointNotSet.try_clone(rt.alloc()).expect(&rt, "a copy");
-    EndpointSet.try_clone(rt.alloc()).expect(&rt, "a copy");
-    EndpointMaybeSet.try_clone(rt.alloc()).expect(&rt, "a copy");
+    tells(rt, &copy, rule);
 }
 
 fn login<'a>(rt: &(impl Abort + AllocGlobal), client: &'a CodeClient) -> AuthorizationRequest<'a> {
@@ -89,11 +64,21 @@ fn implicit_flow_leads_to(rt: &(impl Abort + AllocGlobal), client: &CodeClient, 
 }
 
 #[test]
-fn the_implicit_flow(rt: HostRuntime) {
+fn client_its_copies_and_its_implicit_flow(rt: HostRuntime) {
     let client = client(&rt);
+    copy_tells(&rt, &client, ReplyRule::Prefix);
     implicit_flow_leads_to(
         &rt,
         &client,
         "https://example.com/auth?response_type=token&client_id=aaa&state=csrf_token",
     );
+    let client = client.set_reply_rule(ReplyRule::MediaType);
+    copy_tells(&rt, &client, ReplyRule::MediaType);
+}
+
+#[test]
+fn copies_of_endpoint_states(rt: HostRuntime) {
+    EndpointNotSet.try_clone(rt.alloc()).expect(&rt, "a copy");
+    EndpointSet.try_clone(rt.alloc()).expect(&rt, "a copy");
+    EndpointMaybeSet.try_clone(rt.alloc()).expect(&rt, "a copy");
 }

@@ -1,5 +1,4 @@
-//! Tests of texts, secrets, challenges, URLs, clients and the requests that these start, through the
-//! names of `oauth2`.
+//! Tests of texts, secrets, challenges, URLs and clients, through the names of `oauth2`.
 #![tactic(auto)]
 
 #[cfg(test)]
@@ -8,8 +7,6 @@ mod clients;
 mod pkce;
 #[cfg(test)]
 mod secrets;
-#[cfg(test)]
-mod started_requests;
 #[cfg(test)]
 mod support;
 #[cfg(test)]

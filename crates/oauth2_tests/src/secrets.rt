@@ -2,28 +2,20 @@
 
 ghost use Rattle.std.specs.Prelude.{◌≡◌, IsTrue};
 
-use crate::support::{compares, is_text, text};
+use crate::support::{compares, is_shown_in_lines, is_text, text};
 use oauth2::{
     AccessToken, AuthorizationCode, ClientSecret, CsrfToken, DeviceCode, RefreshToken,
     ResourceOwnerPassword, TryClone, UserCode, VerificationUriComplete,
 };
 
 #[test]
-fn secrets_of_clients(rt: HostRuntime) {
+fn secrets_are_hidden(rt: HostRuntime) {
     compares(&rt, AccessToken::new, "AccessToken([redacted])");
     compares(&rt, AuthorizationCode::new, "AuthorizationCode([redacted])");
     compares(&rt, ClientSecret::new, "ClientSecret([redacted])");
-}
-
-#[test]
-fn secrets_of_requests(rt: HostRuntime) {
     compares(&rt, CsrfToken::new, "CsrfToken([redacted])");
     compares(&rt, DeviceCode::new, "DeviceCode([redacted])");
     compares(&rt, RefreshToken::new, "RefreshToken([redacted])");
-}
-
-#[test]
-fn secrets_of_users(rt: HostRuntime) {
     compares(
         &rt,
         ResourceOwnerPassword::new,
@@ -38,17 +30,11 @@ fn secrets_of_users(rt: HostRuntime) {
 }
 
 #[test]
-fn secrets_in_lines(rt: HostRuntime) {
-    let secret = ClientSecret::new(text(&rt, "top_secret"));
-    let pretty = format!(in rt.alloc(); "{secret:#?}").expect(&rt, "a debug text");
-    is_text(&rt, pretty.as_str(), "ClientSecret([redacted])");
-}
-
-#[test]
 fn texts_of_secrets(rt: HostRuntime) {
-    let secret = ClientSecret::new(text(&rt, "a"));
-    is_text(&rt, secret.secret().as_str(), "a");
-    is_text(&rt, secret.into_secret().as_str(), "a");
+    let secret = ClientSecret::new(text(&rt, "top_secret"));
+    is_shown_in_lines(&rt, &secret, "ClientSecret([redacted])");
+    is_text(&rt, secret.secret().as_str(), "top_secret");
+    is_text(&rt, secret.into_secret().as_str(), "top_secret");
 }
 
 /// Two secrets with the same text are equal.

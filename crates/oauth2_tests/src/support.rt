@@ -1,7 +1,7 @@
 //! What the tests of several subjects share.
 
 use oauth2::TryClone;
-use std::fmt::Debug;
+use std::fmt::{Debug, Display};
 use std::hash::{DefaultHasher, Hash, Hasher};
 use std::process::Abort;
 
@@ -21,6 +21,17 @@ pub fn is_text(rt: &impl Abort, found: &str, wanted: &str) {
 
 pub fn is_shown_as<T: Debug>(rt: &(impl Abort + AllocGlobal), value: &T, wanted: &str) {
     let shown = format!(in rt.alloc(); "{value:?}").expect(rt, "a debug text");
+    is_text(rt, shown.as_str(), wanted);
+}
+
+/// The value is shown as this text where it is debugged in lines.
+pub fn is_shown_in_lines<T: Debug>(rt: &(impl Abort + AllocGlobal), value: &T, wanted: &str) {
+    let shown = format!(in rt.alloc(); "{value:#?}").expect(rt, "a debug text");
+    is_text(rt, shown.as_str(), wanted);
+}
+
+pub fn is_displayed_as<T: Display>(rt: &(impl Abort + AllocGlobal), value: &T, wanted: &str) {
+    let shown = format!(in rt.alloc(); "{value}").expect(rt, "a text");
     is_text(rt, shown.as_str(), wanted);
 }
 

@@ -2,7 +2,7 @@
 
 ghost use Rattle.std.specs.Prelude.{IsTrue};
 
-use crate::support::{copies_alike, is_shown_as, is_text, text};
+use crate::support::{copies_alike, is_displayed_as, is_shown_as, is_text, text};
 use oauth2::url::{ParseError, Url};
 use oauth2::{
     AuthUrl, DeviceAuthorizationUrl, EndUserVerificationUrl, IntrospectionUrl, RedirectUrl,
@@ -18,129 +18,80 @@ const GIVEN: &str = "https://example.com";
 
 const PARSED: &str = "https://example.com/";
 
-fn url(rt: &(impl Abort + AllocGlobal), text: &str) -> Url {
-    Url::parse(rt.alloc(), text).expect(rt, "a URL")
-}
-
-/// The URL as it was given, and the greater one that is made of what it parses to.
-fn given_and_parsed<T, N, P>(rt: &(impl Abort + AllocGlobal), new: N, from_url: P) -> (T, T)
+/// The texts of a URL, its copy, and its order below one that is made of what it parses to.
+fn compares<T, N, P, U>(rt: &(impl Abort + AllocGlobal), new: N, from_url: P, url: U, debug: &str)
 where
+    T: Debug + Display + Ord + Hash + TryClone + Drop,
     N: Fn(Global, String) -> Result<T, ParseError>,
     P: Fn(Global, Url) -> Result<T, AllocError>,
+    U: Fn(&T) -> &Url,
     requires new { N.IsAlwaysCallable new }
     requires from_url { P.IsAlwaysCallable from_url }
+    requires url { U.IsAlwaysCallable url }
 {
-    let given = new(rt.alloc(), text(rt, GIVEN)).expect(rt, "a URL");
-    let parsed = from_url(rt.alloc(), url(rt, GIVEN)).expect(rt, "a URL");
-    (given, parsed)
-}
-
-fn is_same(rt: &impl Abort, url: &Url, other: &Url) {
-    assert!(rt; *url == *other);
-}
-
-/// The texts of a URL, its copy, and its order below another.
-fn compares<T: Debug + Display + Ord + Hash + TryClone + Drop>(
-    rt: &(impl Abort + AllocGlobal),
-    value: &T,
-    greater: &T,
-    debug: &str,
-) {
-    let shown = format!(in rt.alloc(); "{value}").expect(rt, "a text");
-    is_text(rt, shown.as_str(), GIVEN);
-    is_shown_as(rt, value, debug);
-    copies_alike(rt, value);
-    assert!(rt; *value != *greater);
-    assert!(rt; *value < *greater);
+    let value = new(rt.alloc(), text(rt, GIVEN)).expect(rt, "a URL");
+    let parsed = Url::parse(rt.alloc(), GIVEN).expect(rt, "a URL");
+    let greater = from_url(rt.alloc(), parsed).expect(rt, "a URL");
+    is_displayed_as(rt, &value, GIVEN);
+    is_displayed_as(rt, &greater, PARSED);
+    is_shown_as(rt, &value, debug);
+    copies_alike(rt, &value);
+    assert!(rt; *url(&value) == *url(&greater));
+    assert!(rt; value != greater);
+    assert!(rt; value < greater);
 }
 
 #[test]
-fn auth_urls(rt: HostRuntime) {
-    let (value, greater) = given_and_parsed(&rt, AuthUrl::new, AuthUrl::from_url);
-    is_text(&rt, greater.as_str(), PARSED);
-    is_same(&rt, value.url(), greater.url());
-    compares(&rt, &value, &greater, "AuthUrl(\"https://example.com\")");
-}
-
-#[test]
-fn device_authorization_urls(rt: HostRuntime) {
-    let (value, greater) = given_and_parsed(
+fn urls_keep_their_texts(rt: HostRuntime) {
+    compares(
+        &rt,
+        AuthUrl::new,
+        AuthUrl::from_url,
+        AuthUrl::url,
+        "AuthUrl(\"https://example.com\")",
+    );
+    compares(
         &rt,
         DeviceAuthorizationUrl::new,
         DeviceAuthorizationUrl::from_url,
-    );
-    is_text(&rt, greater.as_str(), PARSED);
-    is_same(&rt, value.url(), greater.url());
-    compares(
-        &rt,
-        &value,
-        &greater,
+        DeviceAuthorizationUrl::url,
         "DeviceAuthorizationUrl(\"https://example.com\")",
     );
-}
-
-#[test]
-fn end_user_verification_urls(rt: HostRuntime) {
-    let (value, greater) = given_and_parsed(
+    compares(
         &rt,
         EndUserVerificationUrl::new,
         EndUserVerificationUrl::from_url,
-    );
-    is_text(&rt, greater.as_str(), PARSED);
-    is_same(&rt, value.url(), greater.url());
-    compares(
-        &rt,
-        &value,
-        &greater,
+        EndUserVerificationUrl::url,
         "EndUserVerificationUrl(\"https://example.com\")",
     );
-}
-
-#[test]
-fn introspection_urls(rt: HostRuntime) {
-    let (value, greater) = given_and_parsed(&rt, IntrospectionUrl::new, IntrospectionUrl::from_url);
-    is_text(&rt, greater.as_str(), PARSED);
-    is_same(&rt, value.url(), greater.url());
     compares(
         &rt,
-        &value,
-        &greater,
+        IntrospectionUrl::new,
+        IntrospectionUrl::from_url,
+        IntrospectionUrl::url,
         "IntrospectionUrl(\"https://example.com\")",
     );
-}
-
-#[test]
-fn redirect_urls(rt: HostRuntime) {
-    let (value, greater) = given_and_parsed(&rt, RedirectUrl::new, RedirectUrl::from_url);
-    is_text(&rt, greater.as_str(), PARSED);
-    is_same(&rt, value.url(), greater.url());
     compares(
         &rt,
-        &value,
-        &greater,
+        RedirectUrl::new,
+        RedirectUrl::from_url,
+        RedirectUrl::url,
         "RedirectUrl(\"https://example.com\")",
     );
-}
-
-#[test]
-fn revocation_urls(rt: HostRuntime) {
-    let (value, greater) = given_and_parsed(&rt, RevocationUrl::new, RevocationUrl::from_url);
-    is_text(&rt, greater.as_str(), PARSED);
-    is_same(&rt, value.url(), greater.url());
     compares(
         &rt,
-        &value,
-        &greater,
+        RevocationUrl::new,
+        RevocationUrl::from_url,
+        RevocationUrl::url,
         "RevocationUrl(\"https://example.com\")",
     );
-}
-
-#[test]
-fn token_urls(rt: HostRuntime) {
-    let (value, greater) = given_and_parsed(&rt, TokenUrl::new, TokenUrl::from_url);
-    is_text(&rt, greater.as_str(), PARSED);
-    is_same(&rt, value.url(), greater.url());
-    compares(&rt, &value, &greater, "TokenUrl(\"https://example.com\")");
+    compares(
+        &rt,
+        TokenUrl::new,
+        TokenUrl::from_url,
+        TokenUrl::url,
+        "TokenUrl(\"https://example.com\")",
+    );
 }
 
 #[test]
