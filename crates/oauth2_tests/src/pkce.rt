@@ -1,6 +1,6 @@
 //! Code challenges (RFC 7636), and the random texts of states and verifiers.
 
-use crate::support::{is_shown_as, is_shown_in_lines, is_text, text};
+use crate::support::{is_debugged_as, is_debugged_in_lines, is_text, text};
 use oauth2::{CsrfToken, PkceCodeChallenge, PkceCodeChallengeMethod, PkceCodeVerifier, TryClone};
 use oauth2_value_rows_tests::{Repeated, VERIFIER};
 use std::alloc::AllocError;
@@ -19,7 +19,7 @@ fn is_challenge(
 ) {
     is_text(rt, challenge.as_str(), text);
     is_text(rt, challenge.method().as_str(), method);
-    is_shown_as(rt, challenge, debug);
+    is_debugged_as(rt, challenge, debug);
 }
 
 #[test]
@@ -64,7 +64,7 @@ fn plain_challenge(rt: HostRuntime) {
 #[test]
 fn plain_challenge_in_lines(rt: HostRuntime) {
     let method = PkceCodeChallengeMethod::new(text(&rt, "plain"));
-    is_shown_in_lines(
+    is_debugged_in_lines(
         &rt,
         &PkceCodeChallenge::from_parts(text(&rt, VERIFIER), method),
         "PkceCodeChallenge {\n    code_challenge: [redacted],\n\

@@ -2,7 +2,7 @@
 
 ghost use Rattle.std.specs.Prelude.{◌≡◌, IsTrue};
 
-use crate::support::{compares, is_shown_in_lines, is_text, text};
+use crate::support::{compares, is_debugged_in_lines, is_text, text};
 use oauth2::{
     AccessToken, AuthorizationCode, ClientSecret, CsrfToken, DeviceCode, RefreshToken,
     ResourceOwnerPassword, TryClone, UserCode, VerificationUriComplete,
@@ -32,7 +32,7 @@ fn secrets_are_hidden(rt: HostRuntime) {
 #[test]
 fn texts_of_secrets(rt: HostRuntime) {
     let secret = ClientSecret::new(text(&rt, "top_secret"));
-    is_shown_in_lines(&rt, &secret, "ClientSecret([redacted])");
+    is_debugged_in_lines(&rt, &secret, "ClientSecret([redacted])");
     is_text(&rt, secret.secret().as_str(), "top_secret");
     is_text(&rt, secret.into_secret().as_str(), "top_secret");
 }

@@ -1,6 +1,9 @@
 //! What the tests of several subjects share.
 
-use oauth2::TryClone;
+use oauth2::{
+    FromJson, ParseCause, ReadError, Scope, ToJson, TryClone, WriteError, compact, read_body,
+};
+use serde_json::Value;
 use std::fmt::{Debug, Display};
 use std::hash::{DefaultHasher, Hash, Hasher};
 use std::process::Abort;
@@ -10,26 +13,54 @@ pub fn text(rt: &(impl Abort + AllocGlobal), text: &str) -> String {
     String::from_str(rt.alloc(), text).expect(rt, "a text")
 }
 
+/// A list of one scope.
+pub fn scope_list(rt: &(impl Abort + AllocGlobal), scope: &str) -> Vec<Scope> {
+    vec![in rt.alloc(); Scope::new(text(rt, scope))].expect(rt, "a list")
+}
+
+/// A copy of the value.
+pub fn copy_of<T: TryClone>(rt: &(impl Abort + AllocGlobal), value: &T) -> T {
+    value.try_clone(rt.alloc()).expect(rt, "a copy")
+}
+
+/// The JSON value of a text.
+pub fn parsed(rt: &(impl Abort + AllocGlobal), text: &str) -> Value {
+    Value::from_str(rt.alloc(), text).expect(rt, "a JSON value")
+}
+
+/// What the body reads to.
+pub fn read<T: FromJson>(rt: &(impl Abort + AllocGlobal), body: &str) -> T {
+    read_body::<T>(rt.alloc(), body.as_bytes()).expect(rt, "a value")
+}
+
 /// The two are equal. (A call costs a proof far less than the assertion would in its place.)
 pub fn is_equal<T: PartialEq + Debug + Drop>(rt: &impl Abort, found: T, wanted: T) {
     assert_eq!(rt; found, wanted);
 }
 
+/// The texts are equal.
 pub fn is_text(rt: &impl Abort, found: &str, wanted: &str) {
     assert_eq!(rt; found, wanted);
 }
 
-pub fn is_shown_as<T: Debug>(rt: &(impl Abort + AllocGlobal), value: &T, wanted: &str) {
+/// It is so, at this row of a table.
+pub fn is_so_at(rt: &impl Abort, is_so: bool, row: &str) {
+    assert!(rt; is_so, "at {row}");
+}
+
+/// The value is shown as this text where it is debugged.
+pub fn is_debugged_as<T: Debug>(rt: &(impl Abort + AllocGlobal), value: &T, wanted: &str) {
     let shown = format!(in rt.alloc(); "{value:?}").expect(rt, "a debug text");
     is_text(rt, shown.as_str(), wanted);
 }
 
 /// The value is shown as this text where it is debugged in lines.
-pub fn is_shown_in_lines<T: Debug>(rt: &(impl Abort + AllocGlobal), value: &T, wanted: &str) {
+pub fn is_debugged_in_lines<T: Debug>(rt: &(impl Abort + AllocGlobal), value: &T, wanted: &str) {
     let shown = format!(in rt.alloc(); "{value:#?}").expect(rt, "a debug text");
     is_text(rt, shown.as_str(), wanted);
 }
 
+/// The value is shown as this text.
 pub fn is_displayed_as<T: Display>(rt: &(impl Abort + AllocGlobal), value: &T, wanted: &str) {
     let shown = format!(in rt.alloc(); "{value}").expect(rt, "a text");
     is_text(rt, shown.as_str(), wanted);
@@ -61,7 +92,67 @@ pub fn compares<T: Debug + Eq + Hash + TryClone + Drop, F: Fn(String) -> T>(
 {
     let value = new(text(rt, "top_secret"));
     let other = new(text(rt, "top_secreu"));
-    is_shown_as(rt, &value, shown);
+    is_debugged_as(rt, &value, shown);
     copies_alike(rt, &value);
     assert!(rt; value != other);
+}
+
+/// The value is written as this text.
+pub fn is_written_as<T: ToJson>(rt: &(impl Abort + AllocGlobal), value: &T, wanted: &str) {
+    let json = compact(rt.alloc(), value).expect(rt, "a text");
+    is_text(rt, json.as_str(), wanted);
+}
+
+/// The body reads to a value that is written as this text.
+pub fn is_rewritten<T: FromJson + ToJson + Drop>(
+    rt: &(impl Abort + AllocGlobal),
+    body: &str,
+    wanted: &str,
+) {
+    let value = read::<T>(rt, body);
+    is_written_as(rt, &value, wanted);
+}
+
+/// The text reads to a value that is written as the text.
+pub fn is_kept<T: FromJson + ToJson + Drop>(rt: &(impl Abort + AllocGlobal), text: &str) {
+    is_rewritten::<T>(rt, text, text);
+}
+
+/// A copy of what the text reads to is written as the text.
+pub fn copy_is_kept<T: FromJson + ToJson + TryClone + Drop>(
+    rt: &(impl Abort + AllocGlobal),
+    text: &str,
+) {
+    let value = read::<T>(rt, text);
+    is_written_as(rt, &copy_of(rt, &value), text);
+}
+
+/// The value is not written, for this reason, at this row of a table.
+pub fn is_not_written<T: ToJson + Drop>(
+    rt: &(impl Abort + AllocGlobal),
+    value: T,
+    refusal: WriteError,
+    row: &str,
+) {
+    let refused = value.to_json(rt.alloc()).err();
+    is_so_at(rt, refused == Some(refusal), row);
+}
+
+/// Whether reading answers this fault.
+pub fn is_fault<T: Drop>(read: Result<T, ReadError>, member: &str, cause: ParseCause) -> bool {
+    let Err(ReadError::Fault(fault)) = read else {
+        return false;
+    };
+    fault.member.as_str() == member && fault.cause == cause
+}
+
+/// The body reads to this fault.
+pub fn is_refused<T: FromJson + Drop>(
+    rt: &(impl Abort + AllocGlobal),
+    body: &str,
+    member: &str,
+    cause: ParseCause,
+) {
+    let read = read_body::<T>(rt.alloc(), body.as_bytes());
+    assert!(rt; is_fault(read, member, cause), "{body}");
 }

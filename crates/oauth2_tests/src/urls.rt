@@ -2,7 +2,7 @@
 
 ghost use Rattle.std.specs.Prelude.{IsTrue};
 
-use crate::support::{copies_alike, is_displayed_as, is_shown_as, is_text, text};
+use crate::support::{copies_alike, is_debugged_as, is_displayed_as, is_text, text};
 use oauth2::url::{ParseError, Url};
 use oauth2::{
     AuthUrl, DeviceAuthorizationUrl, EndUserVerificationUrl, IntrospectionUrl, RedirectUrl,
@@ -34,7 +34,7 @@ where
     let greater = from_url(rt.alloc(), parsed).expect(rt, "a URL");
     is_displayed_as(rt, &value, GIVEN);
     is_displayed_as(rt, &greater, PARSED);
-    is_shown_as(rt, &value, debug);
+    is_debugged_as(rt, &value, debug);
     copies_alike(rt, &value);
     assert!(rt; *url(&value) == *url(&greater));
     assert!(rt; value != greater);

@@ -1,6 +1,6 @@
 //! The members of a token response (RFC 6749, section 5.1).
 
-use crate::support::{is_equal, is_written_as, read, scope_list, text};
+use crate::support::{is_equal, is_text, is_written_as, read, scope_list, text};
 use oauth2::basic::{BasicTokenResponse, BasicTokenType};
 use oauth2::{AccessToken, EmptyExtraTokenFields, RefreshToken, TokenResponse};
 use std::process::Abort;
@@ -29,7 +29,7 @@ fn set_tokens(rt: &(impl Abort + AllocGlobal), token: &mut BasicTokenResponse) {
 
 /// What the getters say.
 fn has_members(rt: &impl Abort, token: &BasicTokenResponse) {
-    is_equal(rt, token.access_token().secret().as_str(), "u");
+    is_text(rt, token.access_token().secret().as_str(), "u");
     assert!(rt; *token.token_type() == BasicTokenType::Bearer);
     assert!(rt; token.refresh_token().is_some());
     is_equal(rt, token.scopes().expect(rt, "scopes").len(), 1);

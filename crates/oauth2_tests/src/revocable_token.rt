@@ -1,6 +1,6 @@
 //! Tokens that can be revoked (RFC 7009, section 2.1).
 
-use crate::support::{is_equal, text};
+use crate::support::{is_text, text};
 use oauth2::helpers::variant_name;
 use oauth2::{AccessToken, RefreshToken, RevocableToken, StandardRevocableToken};
 use std::process::Abort;
@@ -13,9 +13,9 @@ fn tells(
     hint: &'static str,
     name: &str,
 ) {
-    is_equal(rt, token.secret(), secret);
+    is_text(rt, token.secret(), secret);
     assert!(rt; token.type_hint() == Some(hint));
-    is_equal(rt, variant_name(token), name);
+    is_text(rt, variant_name(token), name);
 }
 
 #[test]
@@ -25,7 +25,7 @@ fn access_tokens(rt: HostRuntime) {
         &rt, "a token",
     );
     tells(&rt, &token, "a", "access_token", "AccessToken");
-    is_equal(
+    is_text(
         &rt,
         StandardRevocableToken::from(access_token).secret(),
         "a",
@@ -39,7 +39,7 @@ fn refresh_tokens(rt: HostRuntime) {
         &rt, "a token",
     );
     tells(&rt, &token, "b", "refresh_token", "RefreshToken");
-    is_equal(
+    is_text(
         &rt,
         StandardRevocableToken::from(refresh_token).secret(),
         "b",

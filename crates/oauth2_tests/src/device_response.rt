@@ -1,19 +1,19 @@
 //! The members of a device authorization response (RFC 8628, section 3.2).
 
-use crate::support::{is_equal, read};
+use crate::support::{is_text, read};
 use oauth2::{EmptyExtraDeviceAuthorizationFields, StandardDeviceAuthorizationResponse};
 use std::ops::Deref;
 use std::process::Abort;
 use std::time::Duration;
 
 fn has_texts(rt: &impl Abort, device: &StandardDeviceAuthorizationResponse) {
-    is_equal(rt, device.device_code().secret().as_str(), "d");
-    is_equal(rt, device.user_code().secret().as_str(), "u");
-    is_equal(rt, device.verification_uri().deref().as_str(), "https://v/");
+    is_text(rt, device.device_code().secret().as_str(), "d");
+    is_text(rt, device.user_code().secret().as_str(), "u");
+    is_text(rt, device.verification_uri().deref().as_str(), "https://v/");
     let complete = device
         .verification_uri_complete()
         .expect(rt, "a complete URI");
-    is_equal(rt, complete.secret().as_str(), "https://v/u");
+    is_text(rt, complete.secret().as_str(), "https://v/u");
 }
 
 fn has_times(rt: &impl Abort, device: &StandardDeviceAuthorizationResponse) {

@@ -3,7 +3,7 @@
 ghost use Rattle.std.specs.Prelude.{codes};
 
 use crate::support::{
-    copy_is_kept, is_equal, is_kept, is_not_written, is_refused, is_rewritten, read, text,
+    copy_is_kept, is_equal, is_kept, is_not_written, is_refused, is_rewritten, is_text, read, text,
 };
 use oauth2::basic::BasicTokenType;
 use oauth2::{
@@ -75,7 +75,7 @@ fn named_members_are_told(rt: HostRuntime) {
         r#"{"n":1,"id_token":"x","ext_expires_in":7,"offline":true,"cnf":[]}"#,
     );
     let id_token = fields.value().expect(&rt, "a text");
-    is_equal(&rt, id_token.as_str(), "x");
+    is_text(&rt, id_token.as_str(), "x");
     let rest = fields.rest();
     is_equal(&rt, rest.value(), Some(&7));
     let rest = rest.rest();
