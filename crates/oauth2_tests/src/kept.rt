@@ -12,7 +12,7 @@ use oauth2::{
     ExtraFields, IntrospectionUrl, ParseCause, PkceCodeChallenge, PkceCodeChallengeMethod,
     PkceCodeVerifier, RedirectUrl, RefreshToken, ResourceOwnerUsername, ResponseType,
     RevocationErrorResponseType, RevocationUrl, Scope, StandardDeviceAuthorizationResponse,
-    StandardRevocableToken, TokenUrl, UserCode, VerificationUriComplete,
+    StandardRevocableToken, TextErrorResponseType, TokenUrl, UserCode, VerificationUriComplete,
 };
 
 const TEXT: &str = "\"a \\\"b\\\"\"";
@@ -88,6 +88,7 @@ fn copies_of_codes_are_written_alike(rt: HostRuntime) {
         copy_is_kept::<BasicErrorResponseType>(&rt, text);
         copy_is_kept::<DeviceCodeErrorResponseType>(&rt, text);
         copy_is_kept::<RevocationErrorResponseType>(&rt, text);
+        copy_is_kept::<TextErrorResponseType>(&rt, text);
     }
 }
 
