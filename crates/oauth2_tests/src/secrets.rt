@@ -2,7 +2,7 @@
 
 ghost use Rattle.std.specs.Prelude.{◌≡◌, IsTrue};
 
-use crate::support::{compares, is_debugged_in_lines, is_text, text};
+use crate::support::{compares, is_debugged_in_lines, is_text, other, text, value};
 use oauth2::{
     AccessToken, AuthorizationCode, ClientSecret, CsrfToken, DeviceCode, RefreshToken,
     ResourceOwnerPassword, TryClone, UserCode, VerificationUriComplete,
@@ -10,21 +10,58 @@ use oauth2::{
 
 #[test]
 fn secrets_are_hidden(rt: HostRuntime) {
-    compares(&rt, AccessToken::new, "AccessToken([redacted])");
-    compares(&rt, AuthorizationCode::new, "AuthorizationCode([redacted])");
-    compares(&rt, ClientSecret::new, "ClientSecret([redacted])");
-    compares(&rt, CsrfToken::new, "CsrfToken([redacted])");
-    compares(&rt, DeviceCode::new, "DeviceCode([redacted])");
-    compares(&rt, RefreshToken::new, "RefreshToken([redacted])");
     compares(
         &rt,
-        ResourceOwnerPassword::new,
+        AccessToken::new(value(&rt)),
+        AccessToken::new(other(&rt)),
+        "AccessToken([redacted])",
+    );
+    compares(
+        &rt,
+        AuthorizationCode::new(value(&rt)),
+        AuthorizationCode::new(other(&rt)),
+        "AuthorizationCode([redacted])",
+    );
+    compares(
+        &rt,
+        ClientSecret::new(value(&rt)),
+        ClientSecret::new(other(&rt)),
+        "ClientSecret([redacted])",
+    );
+    compares(
+        &rt,
+        CsrfToken::new(value(&rt)),
+        CsrfToken::new(other(&rt)),
+        "CsrfToken([redacted])",
+    );
+    compares(
+        &rt,
+        DeviceCode::new(value(&rt)),
+        DeviceCode::new(other(&rt)),
+        "DeviceCode([redacted])",
+    );
+    compares(
+        &rt,
+        RefreshToken::new(value(&rt)),
+        RefreshToken::new(other(&rt)),
+        "RefreshToken([redacted])",
+    );
+    compares(
+        &rt,
+        ResourceOwnerPassword::new(value(&rt)),
+        ResourceOwnerPassword::new(other(&rt)),
         "ResourceOwnerPassword([redacted])",
     );
-    compares(&rt, UserCode::new, "UserCode([redacted])");
     compares(
         &rt,
-        VerificationUriComplete::new,
+        UserCode::new(value(&rt)),
+        UserCode::new(other(&rt)),
+        "UserCode([redacted])",
+    );
+    compares(
+        &rt,
+        VerificationUriComplete::new(value(&rt)),
+        VerificationUriComplete::new(other(&rt)),
         "VerificationUriComplete([redacted])",
     );
 }

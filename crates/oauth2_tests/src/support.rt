@@ -82,16 +82,23 @@ pub fn copies_alike<T: Debug + Eq + Hash + TryClone + Drop>(
     is_equal(rt, hash_of(&copy), hash_of(value));
 }
 
+/// The text of a value that is compared with another.
+pub fn value(rt: &(impl Abort + AllocGlobal)) -> String {
+    text(rt, "top_secret")
+}
+
+/// The text of the other.
+pub fn other(rt: &(impl Abort + AllocGlobal)) -> String {
+    text(rt, "top_secreu")
+}
+
 /// Two values of different texts: how the first is shown in debug, its copy, and that they differ.
-pub fn compares<T: Debug + Eq + Hash + TryClone + Drop, F: Fn(String) -> T>(
+pub fn compares<T: Debug + Eq + Hash + TryClone + Drop>(
     rt: &(impl Abort + AllocGlobal),
-    new: F,
+    value: T,
+    other: T,
     shown: &str,
-)
-    requires { F.IsAlwaysCallable new }
-{
-    let value = new(text(rt, "top_secret"));
-    let other = new(text(rt, "top_secreu"));
+) {
     is_debugged_as(rt, &value, shown);
     copies_alike(rt, &value);
     assert!(rt; value != other);

@@ -1,6 +1,6 @@
 //! Texts that are no secrets: shown, compared, copied and taken apart.
 
-use crate::support::{compares, is_text, text};
+use crate::support::{compares, is_text, other, text, value};
 use oauth2::{
     ClientId, PkceCodeChallengeMethod, ResourceOwnerUsername, ResponseType, Scope, TryClone,
 };
@@ -8,19 +8,36 @@ use std::convert::AsStr;
 
 #[test]
 fn plain_texts(rt: HostRuntime) {
-    compares(&rt, ClientId::new, "ClientId(\"top_secret\")");
     compares(
         &rt,
-        PkceCodeChallengeMethod::new,
+        ClientId::new(value(&rt)),
+        ClientId::new(other(&rt)),
+        "ClientId(\"top_secret\")",
+    );
+    compares(
+        &rt,
+        PkceCodeChallengeMethod::new(value(&rt)),
+        PkceCodeChallengeMethod::new(other(&rt)),
         "PkceCodeChallengeMethod(\"top_secret\")",
     );
     compares(
         &rt,
-        ResourceOwnerUsername::new,
+        ResourceOwnerUsername::new(value(&rt)),
+        ResourceOwnerUsername::new(other(&rt)),
         "ResourceOwnerUsername(\"top_secret\")",
     );
-    compares(&rt, ResponseType::new, "ResponseType(\"top_secret\")");
-    compares(&rt, Scope::new, "Scope(\"top_secret\")");
+    compares(
+        &rt,
+        ResponseType::new(value(&rt)),
+        ResponseType::new(other(&rt)),
+        "ResponseType(\"top_secret\")",
+    );
+    compares(
+        &rt,
+        Scope::new(value(&rt)),
+        Scope::new(other(&rt)),
+        "Scope(\"top_secret\")",
+    );
 }
 
 #[test]

@@ -8,7 +8,7 @@ use oauth2::{
     AuthUrl, DeviceAuthorizationUrl, EndUserVerificationUrl, IntrospectionUrl, RedirectUrl,
     RevocationUrl, TokenUrl, TryClone,
 };
-use std::alloc::{AllocError, Global};
+use std::alloc::AllocError;
 use std::cmp::Ordering;
 use std::fmt::{Debug, Display};
 use std::hash::Hash;
@@ -18,20 +18,26 @@ const GIVEN: &str = "https://example.com";
 
 const PARSED: &str = "https://example.com/";
 
+fn given(rt: &(impl Abort + AllocGlobal)) -> String {
+    text(rt, GIVEN)
+}
+
+fn parsed(rt: &(impl Abort + AllocGlobal)) -> Url {
+    Url::parse(rt.alloc(), GIVEN).expect(rt, "a URL")
+}
+
 /// The texts of a URL, its copy, and its order below one that is made of what it parses to.
-fn compares<T, N, P, U>(rt: &(impl Abort + AllocGlobal), new: N, from_url: P, url: U, debug: &str)
-where
-    T: Debug + Display + Ord + Hash + TryClone + Drop,
-    N: Fn(Global, String) -> Result<T, ParseError>,
-    P: Fn(Global, Url) -> Result<T, AllocError>,
-    U: Fn(&T) -> &Url,
-    requires new { N.IsAlwaysCallable new }
-    requires from_url { P.IsAlwaysCallable from_url }
-    requires url { U.IsAlwaysCallable url }
+fn compares<T: Debug + Display + Ord + Hash + TryClone + Drop, U: Fn(&T) -> &Url>(
+    rt: &(impl Abort + AllocGlobal),
+    given: Result<T, ParseError>,
+    parsed: Result<T, AllocError>,
+    url: U,
+    debug: &str,
+)
+    requires { U.IsAlwaysCallable url }
 {
-    let value = new(rt.alloc(), text(rt, GIVEN)).expect(rt, "a URL");
-    let parsed = Url::parse(rt.alloc(), GIVEN).expect(rt, "a URL");
-    let greater = from_url(rt.alloc(), parsed).expect(rt, "a URL");
+    let value = given.expect(rt, "a URL");
+    let greater = parsed.expect(rt, "a URL");
     is_displayed_as(rt, &value, GIVEN);
     is_displayed_as(rt, &greater, PARSED);
     is_debugged_as(rt, &value, debug);
@@ -45,50 +51,50 @@ where
 fn urls_keep_their_texts(rt: HostRuntime) {
     compares(
         &rt,
-        AuthUrl::new,
-        AuthUrl::from_url,
+        AuthUrl::new(rt.alloc(), given(&rt)),
+        AuthUrl::from_url(rt.alloc(), parsed(&rt)),
         AuthUrl::url,
         "AuthUrl(\"https://example.com\")",
     );
     compares(
         &rt,
-        DeviceAuthorizationUrl::new,
-        DeviceAuthorizationUrl::from_url,
+        DeviceAuthorizationUrl::new(rt.alloc(), given(&rt)),
+        DeviceAuthorizationUrl::from_url(rt.alloc(), parsed(&rt)),
         DeviceAuthorizationUrl::url,
         "DeviceAuthorizationUrl(\"https://example.com\")",
     );
     compares(
         &rt,
-        EndUserVerificationUrl::new,
-        EndUserVerificationUrl::from_url,
+        EndUserVerificationUrl::new(rt.alloc(), given(&rt)),
+        EndUserVerificationUrl::from_url(rt.alloc(), parsed(&rt)),
         EndUserVerificationUrl::url,
         "EndUserVerificationUrl(\"https://example.com\")",
     );
     compares(
         &rt,
-        IntrospectionUrl::new,
-        IntrospectionUrl::from_url,
+        IntrospectionUrl::new(rt.alloc(), given(&rt)),
+        IntrospectionUrl::from_url(rt.alloc(), parsed(&rt)),
         IntrospectionUrl::url,
         "IntrospectionUrl(\"https://example.com\")",
     );
     compares(
         &rt,
-        RedirectUrl::new,
-        RedirectUrl::from_url,
+        RedirectUrl::new(rt.alloc(), given(&rt)),
+        RedirectUrl::from_url(rt.alloc(), parsed(&rt)),
         RedirectUrl::url,
         "RedirectUrl(\"https://example.com\")",
     );
     compares(
         &rt,
-        RevocationUrl::new,
-        RevocationUrl::from_url,
+        RevocationUrl::new(rt.alloc(), given(&rt)),
+        RevocationUrl::from_url(rt.alloc(), parsed(&rt)),
         RevocationUrl::url,
         "RevocationUrl(\"https://example.com\")",
     );
     compares(
         &rt,
-        TokenUrl::new,
-        TokenUrl::from_url,
+        TokenUrl::new(rt.alloc(), given(&rt)),
+        TokenUrl::from_url(rt.alloc(), parsed(&rt)),
         TokenUrl::url,
         "TokenUrl(\"https://example.com\")",
     );
@@ -109,7 +115,7 @@ fn is_lawful<T: Ord>(a: &T, b: &T) -> bool
 
 #[test]
 fn kept_texts(rt: HostRuntime) {
-    let redirect = RedirectUrl::new(rt.alloc(), text(&rt, GIVEN)).expect(&rt, "a URL");
+    let redirect = RedirectUrl::new(rt.alloc(), given(&rt)).expect(&rt, "a URL");
     is_text(&rt, redirect.as_str(), GIVEN);
     is_text(&rt, redirect.url().as_str(), PARSED);
     let same = redirect.try_clone(rt.alloc()).expect(&rt, "a copy");
