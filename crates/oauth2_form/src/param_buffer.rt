@@ -1,7 +1,7 @@
 //! The scopes and the extra parameters of a request, encoded as they are added.
 
-ghost use Rattle.std.specs.Prelude.{◌≡◌, ◌↔◌, ◌∷◌, [], ◌++◌, None, Some, OnOk, OnErr, IsSome, IsTrue, map, option_copied};
-ghost use Rattle.oauth2_form.specs.Params.{no_params, with_scope, with_scopes};
+ghost use Rattle.std.specs.Prelude.{◌≡◌, ◌↔◌, ◌∷◌, [], ◌++◌, None, Some, OnOk, OnErr, IsSome, IsTrue, option_copied};
+ghost use Rattle.oauth2_form.specs.Params.{no_params, with_scope};
 
 use crate::encoded_text::EncodedText;
 use crate::form_body::FormBody;

@@ -1,6 +1,6 @@
 //! The query of a URL, as the text of a form to which pairs are appended.
 
-ghost use Rattle.std.specs.Prelude.{◌≡◌, ◌∷◌, [], ◌++◌, List, IfErr, IfOk, OnErr, OnOk, unwrap_or};
+ghost use Rattle.std.specs.Prelude.{◌≡◌, ◌∷◌, [], List, IfErr, IfOk, OnErr, OnOk, unwrap_or};
 ghost use Rattle.form_urlencoded.specs.Form.{byte_serialize, IsPrefix};
 ghost use Rattle.url.specs.Parts.{IsValid};
 ghost use Rattle.url.specs.Parser.{IsOutOfRoom};
