@@ -31,7 +31,8 @@ def of_tool(name, *words):
 def pages():
     """What the pages say of the sources."""
     reading = os.path.join('docs', 'READING.md')
-    return [of_tool('definitions', '--check', reading), of_tool('examples'), of_tool('public-names', '--check', NAMES)]
+    return [of_tool('definitions', '--check', reading), of_tool('examples'), of_tool('crate-pages'),
+            of_tool('public-names', '--check', NAMES)]
 
 
 def tools():

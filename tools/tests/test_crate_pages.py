@@ -1,0 +1,34 @@
+"""Tests of tools/crate-pages: which names and paths of a page are missing in the sources."""
+import os
+import sys
+import unittest
+
+sys.dont_write_bytecode = True
+sys.path.insert(0, os.path.dirname(os.path.abspath(__file__)))
+sys.path.insert(0, os.path.dirname(os.path.dirname(os.path.abspath(__file__))))
+import tool
+
+crate_pages = tool.load('crate-pages')
+WORDS = {'append_pair', 'form', 'ok', 'IsRequestOf'}
+
+
+def faults(page):
+    return crate_pages.faults_of(page, WORDS, lambda path: path == 'specs/Pairs.antt')
+
+
+class Pages(unittest.TestCase):
+    def test_names_of_the_sources(self):
+        self.assertEqual(faults('`append_pair` appends a pair (`ok`, `specs/Pairs.antt`), `append_pair(form)` too; `{:#?}`.\n'), [])
+
+    def test_a_name_that_went(self):
+        self.assertEqual(faults('`append_pear`, twice `append_pear`, and form without backticks\n'), ['no `append_pear` in src/ or specs/'])
+
+    def test_a_path_that_went(self):
+        self.assertEqual(faults('`specs/Pears.antt`\n'), ['no file or folder `specs/Pears.antt`'])
+
+    def test_a_long_page(self):
+        self.assertEqual(faults('a line\n' * 61), ['61 lines, and not at most 60'])
+
+
+if __name__ == '__main__':
+    unittest.main()
