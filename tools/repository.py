@@ -3,6 +3,7 @@ import hashlib
 import os
 import shutil
 import subprocess
+import sys
 import tempfile
 
 ROOT = os.path.dirname(os.path.dirname(os.path.abspath(__file__)))
@@ -98,6 +99,17 @@ def copy(crate, keeps, root=ROOT, built=True):
     if os.path.exists(os.path.join(root, 'HANDLES')):
         shutil.copy2(os.path.join(root, 'HANDLES'), room.name)
     return room
+
+
+def need_kit(tool):
+    """Ends a tool with a sentence and the status 125 where the kit's command `rt` can't be run."""
+    try:
+        is_there = subprocess.run(['rt', 'version'], stdin=subprocess.DEVNULL, capture_output=True).returncode == 0
+    except OSError:
+        is_there = False
+    if not is_there:
+        print('tools/%s: the command rt of the Rattle kit does not run here; README.md names the kit' % tool, file=sys.stderr)
+        sys.exit(125)
 
 
 def parser_of(argparse, name, doc):
