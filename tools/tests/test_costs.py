@@ -122,8 +122,8 @@ class Lanes(unittest.TestCase):
 
 class Table(unittest.TestCase):
     def test_row(self):
-        row = tool.load('gate-costs').row('`low`', [it._replace(peak=2_500_000_000) for it in CHECKS[:5]])
-        self.assertEqual(row, '| `low` | 10 |  | 10 | 2 | 10 | 2.5 |')
+        row = tool.load('gate-costs').row('`low`', [it._replace(peak=2_500 << 20) for it in CHECKS[:5]])
+        self.assertEqual(row, '| `low` | 10 |  | 10 | 2 | 10 | 2,500 |')
 
 
 if __name__ == '__main__':
