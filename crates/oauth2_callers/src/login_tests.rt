@@ -11,7 +11,7 @@ use oauth2::{
     AuthUrl, AuthorizationCode, Client, ClientId, ClientSecret, CodeFlow, CodeFlowError, CsrfToken,
     HttpResponse, PkceCodeVerifier, TokenUrl, code_flow,
 };
-use oauth2_value_rows_tests::{Repeated, VERIFIER};
+use oauth2_refused_memory_values_tests::{Repeated, VERIFIER};
 use std::process::Abort;
 
 const AUTH: &str = "https://example.com/auth";

@@ -2,7 +2,7 @@
 use Rattle.std.proofs.Common.{◌≡◌, ℕ, List, [], ◌∷◌, Bool, codes, refl}
 use Rattle.serde_json.specs.Data.{Data, Members}
 use Rattle.oauth2_json.specs.Reading.{Reading}
-use Rattle.oauth2_object.specs.Object.{Keeps}
+use Rattle.oauth2_body_members.specs.Object.{Keeps}
 use Rattle.oauth2_codes.specs.ErrorResponse.{error_row}
 
 abbrev pub own_names : List (List ℕ)

@@ -2,15 +2,15 @@
 
 ghost use Rattle.std.specs.Prelude.{◌≡◌};
 ghost use Rattle.oauth2_json.specs.Reading.{ReadsAs};
-ghost use Rattle.oauth2_object.specs.Object.{object_members};
+ghost use Rattle.oauth2_body_members.specs.Object.{object_members};
 ghost use Rattle.oauth2_codes.specs.ErrorResponse.{parts_of, error_row};
 
 use crate::basic_error::BasicErrorResponseType;
 use crate::device_error::DeviceCodeErrorResponseType;
 use crate::error_traits::{ErrorResponse, ErrorResponseType};
 use crate::revocation_error::RevocationErrorResponseType;
+use oauth2_body_members::Object;
 use oauth2_json::{FromJson, ReadError, ToJson, WriteError, members};
-use oauth2_object::Object;
 use oauth2_types::TryClone;
 use serde_json::{Map, Value};
 use std::alloc::{AllocError, Global};

@@ -14,8 +14,8 @@ use Rattle.oauth2_json.proofs.Objects.{get_member-others, beside_taken, optional
 use Rattle.oauth2_json.proofs.Lists.{optional-texts}
 use Rattle.oauth2_json.proofs.Optionals.{optional-words}
 use Rattle.oauth2_introspection.proofs.Seconds.{optional-instant}
-use Rattle.oauth2_object.specs.Object.{Keeps}
-use Rattle.oauth2_object.proofs.Keeping.{others_kept}
+use Rattle.oauth2_body_members.specs.Object.{Keeps}
+use Rattle.oauth2_body_members.proofs.Keeping.{others_kept}
 use Rattle.oauth2_replies.specs.Kept.{IsTypeKept, AreScopesKept}
 use Rattle.oauth2_introspection.specs.Introspection.{Introspection, introspection, introspection_seen, own_names, own_rows, introspection_row, introspection_reading, introspection_writing, IsIntrospectionKept}
 use Rattle.oauth2_introspection.specs.private.Groups.{quadruple}

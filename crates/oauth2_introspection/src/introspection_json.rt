@@ -7,16 +7,16 @@ ghost use Rattle.oauth2_json.specs.Reading.{ReadsAs};
 ghost use Rattle.oauth2_json.specs.Members.{others};
 ghost use Rattle.oauth2_json.specs.Writing.{WritesAs};
 ghost use Rattle.oauth2_json.specs.Puts.{put_all};
-ghost use Rattle.oauth2_object.specs.Object.{object_members};
+ghost use Rattle.oauth2_body_members.specs.Object.{object_members};
 ghost use Rattle.oauth2_introspection.specs.Introspection.{Introspection, introspection_seen, introspection_reading, introspection_writing, own_rows, IsIntrospectionKept};
 ghost use Rattle.oauth2_introspection.specs.private.Groups.{quadruple};
 ghost use Rattle.oauth2_introspection.specs.private.IntrospectionRows.{grant_names, grant_reading, grant_rows, validity_names, validity_reading, validity_rows, claims_names, claims_reading, claims_rows, in_turn, AreInstants};
 
 use crate::instants::{optional_time, time_value};
 use crate::introspection::{Claims, Grant, StandardTokenIntrospectionResponse, Validity};
+use oauth2_body_members::Object;
 use oauth2_codes::TokenType;
 use oauth2_json::{FromJson, ReadError, ToJson, WriteError, members};
-use oauth2_object::Object;
 use oauth2_replies::{ExtraTokenFields, scopes_value};
 use oauth2_types::ClientId;
 use serde_json::{Map, Value};

@@ -14,8 +14,8 @@ use Rattle.oauth2_json.specs.Values.{url}
 use Rattle.oauth2_json.specs.Puts.{put_all}
 use Rattle.oauth2_json.proofs.Puts.{found, rest}
 use Rattle.oauth2_json.proofs.Objects.{get_member-others, beside_taken, optional-text}
-use Rattle.oauth2_object.specs.Object.{Keeps}
-use Rattle.oauth2_object.proofs.Keeping.{others_kept}
+use Rattle.oauth2_body_members.specs.Object.{Keeps}
+use Rattle.oauth2_body_members.proofs.Keeping.{others_kept}
 use Rattle.oauth2_replies.specs.Kept.{AreFieldsKept}
 use Rattle.oauth2_replies.specs.Device.{DeviceAuthorization, device_authorization, device_seen, own_names, own_rows, address_reading, device_row, device_reading, device_writing}
 use Rattle.oauth2_replies.specs.private.Address.{IsAddress}

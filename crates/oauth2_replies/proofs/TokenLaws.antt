@@ -11,8 +11,8 @@ use Rattle.oauth2_json.specs.Puts.{put_all}
 use Rattle.oauth2_json.proofs.Puts.{found, rest}
 use Rattle.oauth2_json.proofs.Objects.{get_member-others, beside_taken, optional-text, optional-number}
 use Rattle.oauth2_json.proofs.Optionals.{optional-words}
-use Rattle.oauth2_object.specs.Object.{Keeps}
-use Rattle.oauth2_object.proofs.Keeping.{others_kept}
+use Rattle.oauth2_body_members.specs.Object.{Keeps}
+use Rattle.oauth2_body_members.proofs.Keeping.{others_kept}
 use Rattle.oauth2_replies.specs.Kept.{AreScopesKept}
 use Rattle.oauth2_replies.specs.Token.{Token, token, token_seen, own_names, own_rows, token_row, token_reading, token_writing, IsTokenKept}
 use Rattle.oauth2_replies.specs.private.Groups.{pair, triple}

@@ -7,7 +7,7 @@ ghost use Rattle.oauth2_json.specs.Reading.{ReadsAs};
 ghost use Rattle.oauth2_json.specs.Members.{others};
 ghost use Rattle.oauth2_json.specs.Writing.{WritesAs};
 ghost use Rattle.oauth2_json.specs.Puts.{put_all};
-ghost use Rattle.oauth2_object.specs.Object.{object_members};
+ghost use Rattle.oauth2_body_members.specs.Object.{object_members};
 ghost use Rattle.oauth2_replies.specs.Kept.{AreFieldsKept};
 ghost use Rattle.oauth2_replies.specs.Device.{DeviceAuthorization, device_seen, device_reading, device_writing, own_rows, address_reading};
 ghost use Rattle.oauth2_replies.specs.private.Address.{IsAddress};
@@ -17,8 +17,8 @@ ghost use Rattle.oauth2_replies.specs.private.DeviceRows.{code_names, codes_read
 use crate::device::{
     Addresses, Codes, DeviceAuthorizationResponse, ExtraDeviceAuthorizationFields, Times,
 };
+use oauth2_body_members::Object;
 use oauth2_json::{FromJson, ReadError, ToJson, WriteError, members};
-use oauth2_object::Object;
 use oauth2_types::VerificationUriComplete;
 use oauth2_urls::EndUserVerificationUrl;
 use serde_json::{Map, Value};

@@ -7,16 +7,16 @@ ghost use Rattle.oauth2_json.specs.Reading.{ReadsAs};
 ghost use Rattle.oauth2_json.specs.Members.{others};
 ghost use Rattle.oauth2_json.specs.Writing.{WritesAs};
 ghost use Rattle.oauth2_json.specs.Puts.{put_all};
-ghost use Rattle.oauth2_object.specs.Object.{object_members};
+ghost use Rattle.oauth2_body_members.specs.Object.{object_members};
 ghost use Rattle.oauth2_replies.specs.Token.{Token, token_seen, token_reading, token_writing, own_rows, IsTokenKept};
 ghost use Rattle.oauth2_replies.specs.private.Groups.{pair, triple};
 ghost use Rattle.oauth2_replies.specs.private.TokenRows.{credential_names, credential_reading, terms_names, terms_reading, in_turn};
 
 use crate::scopes;
 use crate::token::{ExtraTokenFields, StandardTokenResponse, Terms};
+use oauth2_body_members::Object;
 use oauth2_codes::TokenType;
 use oauth2_json::{FromJson, ReadError, ToJson, WriteError, members};
-use oauth2_object::Object;
 use oauth2_types::{AccessToken, RefreshToken};
 use serde_json::{Map, Value};
 use std::alloc::{AllocError, Global};

@@ -1,8 +1,8 @@
 use Rattle.std.proofs.Common.{false, subst, sym, ◌∙◌}
 use Rattle.std.proofs.lemmas.Result.{err_from_is_err_and}
 use Rattle.oauth2_json.specs.Reading.{ReadsAs}
-use Rattle.oauth2_object.specs.Object.{object_members}
-use Rattle.oauth2_object.proofs.Keeping.{body_rows, body_refused}
+use Rattle.oauth2_body_members.specs.Object.{object_members}
+use Rattle.oauth2_body_members.proofs.Keeping.{body_rows, body_refused}
 use Rattle.oauth2_codes.specs.ErrorResponse.{parts_of, error_row}
 use Rattle.oauth2_codes.proofs.ErrorBody.{kept_rows}
 use Rattle.oauth2_codes.proofs.error_response.StandardErrorResponseFromJson.from_body.Goals as goal

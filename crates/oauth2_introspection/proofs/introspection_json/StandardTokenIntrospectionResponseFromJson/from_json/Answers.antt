@@ -1,7 +1,7 @@
 use Rattle.std.proofs.Common.{subst}
 use Rattle.serde_json.specs.View.{view}
 use Rattle.oauth2_json.specs.Reading.{ReadsAs}
-use Rattle.oauth2_object.specs.Object.{object_members}
+use Rattle.oauth2_body_members.specs.Object.{object_members}
 use Rattle.oauth2_introspection.specs.Introspection.{introspection_seen}
 use Rattle.oauth2_introspection.proofs.IntrospectionLaws.{read_in_turn}
 use Rattle.oauth2_introspection.proofs.introspection_json.StandardTokenIntrospectionResponseFromJson.from_json.Goals as goal

@@ -1,7 +1,7 @@
 use Rattle.std.proofs.Common.{subst}
 use Rattle.serde_json.specs.View.{view}
 use Rattle.oauth2_json.specs.Reading.{ReadsAs}
-use Rattle.oauth2_object.specs.Object.{object_members}
+use Rattle.oauth2_body_members.specs.Object.{object_members}
 use Rattle.oauth2_replies.specs.Device.{device_seen}
 use Rattle.oauth2_replies.proofs.DeviceLaws.{read_in_turn}
 use Rattle.oauth2_replies.proofs.device_json.DeviceAuthorizationResponseFromJson.from_json.Goals as goal

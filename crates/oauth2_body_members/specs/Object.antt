@@ -1,0 +1,49 @@
+-- The members of an object, wherever they are held.
+use Rattle.std.specs.Prelude.{◌≡◌, ℕ, List, [], ◌∷◌, map, Bool, true, false, ◌||◌, Option, option_map, Result, Ok, Err}
+use Rattle.std.specs.Str.{bytes_eq}
+use Rattle.serde_json.specs.Data.{Data, Members, no_members}
+use Rattle.serde_json.specs.Find.{get_member}
+use Rattle.serde_json.specs.View.{view, members_view}
+use Rattle.oauth2_json.specs.Members.{put_some}
+use Rattle.oauth2_json.specs.Reading.{Reading, ErrsAs}
+use Rattle.oauth2_json.specs.declared.read.ReadError.{ReadError}
+use Rattle.oauth2_body_members.specs.declared.member.Member.{Member}
+use Rattle.oauth2_body_members.specs.declared.object.Object.{Object}
+use Rattle.oauth2_body_members.specs.declared.object.Source.{Source}
+use Rattle.oauth2_body_members.specs.declared.object.Source.TheVariants.{Map, List as Listed}
+
+-- The members go in one after another, so the last value of a name stays; one that was taken is none.
+abbrev pub put_each : List (List ℕ × Option Data) → Members → Members
+put_each [] ms = ms
+put_each (e ∷ es) ms = put_each es (put_some e.0 e.1 ms)
+
+abbrev pub entry_of : Member → List ℕ × Option Data
+entry_of m = (m.name.now, option_map view m.value)
+
+abbrev pub members_in : List Member → Members
+members_in list = put_each (map entry_of list) no_members
+
+abbrev pub source_members : Source → Members
+source_members (Map m) = members_view m.entries
+source_members (Listed list) = members_in list.items
+
+unfoldable pub object_members : Object → Members
+object_members o = source_members o.source
+
+-- ---- of all the members those of some names, and the others where they are kept too
+
+abbrev pub has_name : List ℕ → List (List ℕ) → Bool
+has_name name [] = false
+has_name name (k ∷ ks) = bytes_eq k name || has_name name ks
+
+-- the members of these names are those of all; where the others are kept too, nothing is missing,
+-- and else nothing is said of the others
+pub record Keeps (names : List (List ℕ)) (with_others : Bool) (all kept : Members) : Type 0 where
+  pub own : (name : List ℕ) → has_name name names ≡ true → get_member name kept ≡ get_member name all
+  pub rest : with_others ≡ true → kept ≡ all
+
+-- what a function returned, seen by `meaning`, keeps these of the members that the reading gives,
+-- unless memory ran out
+abbrev pub KeptAs : {T : Type 0} → (T → Members) → List (List ℕ) → Bool → Result T ReadError → Reading Members → Type 0
+KeptAs meaning names with_others (Ok t) expected = (all : Members) × (expected ≡ Ok all) × Keeps names with_others all (meaning t)
+KeptAs meaning names with_others (Err e) expected = ErrsAs e expected

@@ -1,0 +1,137 @@
+//! The members of an object as a text tells them.
+
+ghost use Rattle.std.specs.Prelude.{◌≡◌, ◌<◌, ◌||◌, length, map, option_map, OnOk};
+ghost use Rattle.json.specs.Json.{read_key, value, members};
+ghost use Rattle.serde_json.specs.Data.{no_members};
+ghost use Rattle.serde_json.specs.Read.{of_json, of_members, converted};
+ghost use Rattle.oauth2_json.specs.Reading.{ReadsAs};
+ghost use Rattle.oauth2_body_members.specs.Object.{has_name, KeptAs};
+ghost use Rattle.oauth2_body_members.specs.private.Found.{held_view, found_members};
+ghost use Rattle.oauth2_body_members.specs.private.Texts.{or_not_json, at_end, IfFound, StopsAs};
+
+use crate::found::{Found, Held, hold, in_body};
+use crate::nested;
+use json::{Error, Reader};
+use oauth2_json::{ParseCause, ReadError};
+use std::alloc::Global;
+
+/// How deep a member of the object may nest: the whole text nests to 127.
+const DEPTH: usize = 126;
+
+/// The members of the object that the reader of this body stands in, where nothing follows it:
+/// those of these names, and the others where they are kept too. None where such a name is written
+/// by escapes.
+pub(crate) fn to_end<'a>(
+    alloc: Global,
+    body: &'a str,
+    reader: &mut Reader<'_>,
+    names: &[&str],
+    keeps_others: bool,
+) -> Result<Option<Vec<Found<'a>>>, ReadError>
+    ensures { IfFound result (λ found. KeptAs (λ list. found_members list.items)
+        (map (λ k. k.now) names.now) keeps_others found
+        (or_not_json (at_end (converted (λ ms. of_members ms no_members)
+        (members (value 126) (length reader.old) reader.old))))) }
+{
+    let Some(list) = to_brace(alloc, body, reader, names, keeps_others)? else {
+        return Ok(None);
+    };
+    if reader.next().is_some() {
+        return Err(ReadError::whole(alloc, ParseCause::NotJson));
+    }
+    Ok(Some(list))
+}
+
+fn to_brace<'a>(
+    alloc: Global,
+    body: &'a str,
+    reader: &mut Reader<'_>,
+    names: &[&str],
+    keeps_others: bool,
+) -> Result<Option<Vec<Found<'a>>>, ReadError>
+    ensures { IfFound result (λ found. StopsAs (λ list. found_members list.items)
+        (map (λ k. k.now) names.now) keeps_others reader.new found
+        (or_not_json (converted (λ ms. of_members ms no_members)
+        (members (value 126) (length reader.old) reader.old)))) }
+{
+    let mut list = Vec::with_capacity(alloc, names.len())?;
+    'members: while let Some((place, name)) = next_name(alloc, reader)? {
+        if is_kept(name, names, keeps_others) {
+            let Some(name_there) = in_body(body, place, name) else {
+                return Ok(None);
+            };
+            let held = next_held(alloc, body, reader)?;
+            list.push(Found {
+                name: name_there,
+                held,
+            })?;
+        } else {
+            pass_value(alloc, reader)?;
+        }
+    }
+    Ok(Some(list))
+}
+
+fn is_kept(name: &str, names: &[&str], keeps_others: bool) -> bool
+    ensures { result ≡ (keeps_others || has_name name.now (map (λ k. k.now) names.now)) }
+{
+    if keeps_others {
+        return true;
+    }
+    for own in names {
+        if *own == name {
+            return true;
+        }
+    }
+    false
+}
+
+/// The next name, and the place that the reader says it has.
+fn next_name<'a>(
+    alloc: Global,
+    reader: &mut Reader<'a>,
+) -> Result<Option<(usize, &'a str)>, ReadError>
+    ensures { ReadsAs (λ found. (option_map (λ p. p.1.now) found, reader.new)) result
+        (or_not_json (read_key reader.old)) }
+{
+    let place = reader.offset();
+    match reader.next_key() {
+        Ok(Some(name)) => Ok(Some((place, name))),
+        Ok(None) => Ok(None),
+        Err(_) => Err(ReadError::whole(alloc, ParseCause::NotJson)),
+    }
+}
+
+fn next_held<'a>(
+    alloc: Global,
+    body: &'a str,
+    reader: &mut Reader<'_>,
+) -> Result<Held<'a>, ReadError>
+    ensures read { ReadsAs (λ h. (held_view h, reader.new)) result
+        (or_not_json (converted of_json (value 126 reader.old))) }
+    ensures shorter { OnOk result (length reader.new < length reader.old) }
+{
+    let place = reader.offset();
+    match json::Value::read(alloc, reader, DEPTH) {
+        Ok(value) => hold(alloc, body, place, &value),
+        Err(Error::OutOfMemory) => Err(ReadError::Memory),
+        Err(_) => Err(ReadError::whole(alloc, ParseCause::NotJson)),
+    }
+}
+
+/// Passes a value that nobody reads.
+fn pass_value(alloc: Global, reader: &mut Reader<'_>) -> Result<(), ReadError>
+    ensures read { ReadsAs (λ _. reader.new) result
+        (or_not_json (option_map (λ p. p.1) (converted of_json (value 126 reader.old)))) }
+    ensures shorter { OnOk result (length reader.new < length reader.old) }
+{
+    match json::Value::read(alloc, reader, DEPTH) {
+        Ok(value) => if nested::is_value(&value) {
+            Ok(())
+        } else {
+            Err(ReadError::whole(alloc, ParseCause::NotJson))
+        },
+        Err(Error::OutOfMemory) => Err(ReadError::Memory),
+        Err(_) => Err(ReadError::whole(alloc, ParseCause::NotJson)),
+    }
+}

@@ -1,0 +1,9 @@
+-- What a buffer of parameters holds after an addition.
+use Rattle.std.specs.Prelude.{[], ◌∷◌, ◌++◌, Some}
+use Rattle.oauth2_form.specs.Params.{Params, with_scope}
+use Rattle.oauth2_refused_memory_tests.specs.declared.additions.Addition.{Addition}
+use Rattle.oauth2_refused_memory_tests.specs.declared.additions.Addition.TheVariants.{Scope, Extra}
+
+abbrev pub with_addition : Params → Addition → Params
+with_addition params (Scope text) = record params { scope = Some (with_scope params.scope text.now) }
+with_addition params (Extra name value) = record params { pairs = params.pairs ++ (name.now, value.now) ∷ [] }

@@ -1,0 +1,26 @@
+-- A client that counts its calls and has one reply to give.
+use Rattle.std.specs.Prelude.{◌≡◌, ◌+◌, ◌-◌, ◌^◌, min, Option, None, Some, Result, Ok, Err, ⊤, if◌then◌else◌}
+use Rattle.oauth2_wire.specs.OneShot.{HttpRequest}
+use Rattle.oauth2_wire.specs.Reply.{HttpResponse}
+use Rattle.oauth2_wire.specs.declared.error.RequestTokenError.{RequestTokenError}
+use Rattle.oauth2_wire.specs.declared.error.RequestTokenError.TheVariants as token
+use Rattle.oauth2_refused_memory_tests.specs.declared.counting_client.CountingClient.{CountingClient}
+use Rattle.oauth2_refused_memory_tests.specs.declared.counting_client.NoReply.{NoReply}
+
+-- the reply that is answered, if one is
+abbrev pub replied : Result HttpResponse NoReply → Option HttpResponse
+replied (Ok reply) = Some reply
+replied (Err error) = None
+
+-- one call: it is counted, its request kept, and the reply given away
+pub record Counts (before : CountingClient) (request : HttpRequest) (answer : Result HttpResponse NoReply) (after : CountingClient) : Type 0 where
+  pub calls : after.calls ≡ min (before.calls + 1) (2 ^ 64 - 1)
+  pub kept : after.request ≡ Some request
+  pub shown : replied answer ≡ before.reply
+  pub given : after.reply ≡ None
+
+-- want of memory tells whether the client, which had not been called before, was called once or not
+-- at all
+abbrev pub TellsCalls : {D T : Type 0} → Result D (RequestTokenError NoReply T) → CountingClient → Type 0
+TellsCalls (Err (token.Memory sent)) after = after.calls ≡ (if sent then 1 else 0)
+TellsCalls result after = ⊤

@@ -1,0 +1,67 @@
+//! A buffer of parameters that goes on where memory was refused.
+
+ghost use Rattle.std.specs.Prelude.{◌≡◌, OnErr, OnOk};
+ghost use Rattle.oauth2_refused_memory_tests.specs.Additions.{with_addition};
+
+use crate::clients::RowClient;
+use oauth2::{HttpRequest, ParamBuffer, endpoint_request_encoded};
+use oauth2_refused_memory_values_tests::Ended;
+use std::alloc::{AllocError, Global};
+
+/// What a buffer is given.
+#[derive(Clone, Copy)]
+pub enum Addition<'a> {
+    Scope(&'a str),
+    Extra(&'a str, &'a str),
+}
+
+fn add(buffer: &mut ParamBuffer, addition: Addition<'_>) -> Result<(), AllocError>
+    ensures ok { OnOk result (buffer.new ≡ with_addition buffer.old addition.entry) }
+    ensures refused { OnErr result (buffer.new ≡ buffer.old) }
+{
+    match addition {
+        Addition::Scope(scope) => buffer.add_scope(scope),
+        Addition::Extra(name, value) => buffer.add_extra(name, value),
+    }
+}
+
+/// Adds, and does so again where memory was refused; answers whether it was.
+pub fn add_at_last(buffer: &mut ParamBuffer, addition: Addition<'_>) -> Result<bool, AllocError>
+    ensures { OnOk result (buffer.new ≡ with_addition buffer.old addition.entry) }
+{
+    if add(buffer, addition).is_ok() {
+        return Ok(false);
+    }
+    add(buffer, addition)?;
+    Ok(true)
+}
+
+/// Adds all, each as `add_at_last` does; answers whether memory was refused.
+pub fn add_all(buffer: &mut ParamBuffer, additions: &[Addition<'_>]) -> Result<bool, AllocError> {
+    let mut was_refused = false;
+    for addition in additions {
+        if add_at_last(buffer, *addition)? {
+            was_refused = true;
+        }
+    }
+    Ok(was_refused)
+}
+
+/// The request to the token endpoint with what the buffer holds.
+pub fn request_of(
+    alloc: Global,
+    client: &RowClient,
+    buffer: &ParamBuffer,
+) -> Result<HttpRequest, Ended> {
+    let request = endpoint_request_encoded(
+        alloc,
+        client.auth_type(),
+        client.client_id(),
+        None,
+        buffer,
+        None,
+        client.token_uri().url(),
+        &[],
+    )?;
+    Ok(request)
+}

@@ -1,0 +1,84 @@
+//! A world that keeps what a poll did in it.
+
+ghost use Rattle.std.specs.Prelude.{◌≡◌};
+ghost use Rattle.oauth2_refused_memory_tests.specs.Recorded.{Notes};
+
+use crate::counting_client::NoReply;
+use jiff::Timestamp;
+use oauth2::{HttpRequest, HttpResponse, PollWorld};
+use std::time::Duration;
+
+/// What a world saw.
+#[derive(Clone, Copy)]
+pub enum Seen {
+    Reading(Timestamp),
+    Request,
+    Sleep(Duration),
+}
+
+/// Its clock shows these seconds in turn and then stands still; its client gives these replies, the
+/// last first, and then fails. The replies and the room for what it sees stand ready.
+#[derive(Drop)]
+pub struct Recorder<'a> {
+    pub readings: &'a [i64],
+    pub last: Timestamp,
+    pub replies: Vec<HttpResponse>,
+    pub seen: Vec<Seen>,
+    /// Whether there was room for all that it saw.
+    pub is_whole: bool,
+}
+
+impl Recorder<'_> {
+    // What the clock shows next.
+    fn show_next(&mut self) -> Timestamp
+        ensures seen { self.new.seen ≡ self.old.seen }
+        ensures whole { self.new.is_whole ≡ self.old.is_whole }
+    {
+        if let Some((first, rest)) = self.readings.split_first() {
+            self.readings = rest;
+            if let Ok(now) = Timestamp::from_second(*first) {
+                self.last = now;
+            }
+        }
+        self.last
+    }
+
+    fn note(&mut self, event: Seen)
+        ensures { Notes self.old event self.new }
+    {
+        if self.seen.push(event).is_err() {
+            self.is_whole = false;
+        }
+    }
+}
+
+impl PollWorld for Recorder<'_> {
+    ghost use Rattle.oauth2_refused_memory_tests.specs.Recorded.{Reads, Sends, Sleeps};
+
+    type Error = NoReply;
+
+    ghost reads = { Reads };
+
+    ghost sends = { Sends };
+
+    ghost sleeps = { Sleeps };
+
+    fn now(&mut self) -> Timestamp {
+        let now = self.show_next();
+        self.note(Seen::Reading(now));
+        now
+    }
+
+    fn send(&mut self, request: HttpRequest) -> Result<HttpResponse, NoReply> {
+        drop(request);
+        self.note(Seen::Request);
+        match self.replies.pop() {
+            Some(reply) => Ok(reply),
+            None => Err(NoReply),
+        }
+    }
+
+    fn sleep(&mut self, duration: Duration) {
+        self.note(Seen::Sleep(duration));
+    }
+}

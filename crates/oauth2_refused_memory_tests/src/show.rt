@@ -1,0 +1,95 @@
+//! The lines of a row. What a server reads of a request takes memory, the rest none.
+
+use crate::counting_client::NoReply;
+use crate::recorder::Seen;
+use http_header::AUTHORIZATION;
+use oauth2::basic::BasicTokenResponse;
+use oauth2::url::Url;
+use oauth2::{CsrfToken, HttpRequest, RequestTokenError, ServerView, TokenResponse, server_view};
+use oauth2_refused_memory_values_tests::{Ended, Want, show_fault, show_sleep};
+use std::alloc::Global;
+use std::fmt::Display;
+use std::io::Write;
+
+/// A request, as it is sent and as a server reads it.
+pub fn show_post<W: Write>(alloc: Global, request: &HttpRequest, out: &mut W) -> Result<(), Ended> {
+    let view = server_view(alloc, request)?;
+    show_request(out, request, &view)
+}
+
+// A request's own bytes, and what a server that decodes reads of it.
+fn show_request<W: Write>(
+    out: &mut W,
+    request: &HttpRequest,
+    view: &ServerView,
+) -> Result<(), Ended> {
+    if let Some(value) = request.headers().get(AUTHORIZATION) {
+        show_bytes(out, "authorization", value.as_bytes())?;
+    }
+    show_bytes(out, "body", request.body())?;
+    match &view.basic {
+        Some((id, secret)) => writeln!(out, "basic {id:?} {secret:?}")?,
+        None => writeln!(out, "basic none")?,
+    }
+    for (name, value) in &view.form {
+        writeln!(out, "pair {name:?} {value:?}")?;
+    }
+    Ok(())
+}
+
+/// Bytes that are a text.
+pub fn show_bytes<W: Write>(out: &mut W, before: &str, bytes: &[u8]) -> Result<(), Ended> {
+    let Ok(text) = str::from_utf8(bytes) else {
+        return Err(Ended::Refused);
+    };
+    writeln!(out, "{before} {text:?}")?;
+    Ok(())
+}
+
+pub fn show_url<W: Write>(out: &mut W, url: &Url, state: &CsrfToken) -> Result<(), Ended> {
+    writeln!(out, "url {}", url.as_str())?;
+    writeln!(out, "state {:?}", state.secret().as_str())?;
+    Ok(())
+}
+
+/// A token, or why there is none; want of memory ends the row.
+pub fn show_answer<W: Write, TE: Display + Drop>(
+    out: &mut W,
+    answer: Result<BasicTokenResponse, RequestTokenError<NoReply, TE>>,
+) -> Result<(), Ended> {
+    match answer {
+        Ok(token) => show_token(out, &token),
+        Err(RequestTokenError::Memory { sent }) => {
+            Err(Ended::Starved(Want::RequestTokenError { sent }))
+        }
+        Err(error) => show_error(out, &error),
+    }
+}
+
+fn show_token<W: Write>(out: &mut W, token: &BasicTokenResponse) -> Result<(), Ended> {
+    writeln!(out, "token {:?}", token.access_token().secret().as_str())?;
+    Ok(())
+}
+
+fn show_error<W: Write, TE: Display + Drop>(
+    out: &mut W,
+    error: &RequestTokenError<NoReply, TE>,
+) -> Result<(), Ended> {
+    writeln!(out, "error {error}")?;
+    if let RequestTokenError::Parse(fault, _) = error {
+        show_fault(out, fault)?;
+    }
+    Ok(())
+}
+
+/// What a world saw.
+pub fn show_seen<W: Write>(out: &mut W, seen: &[Seen]) -> Result<(), Ended> {
+    for event in seen {
+        match event {
+            Seen::Reading(moment) => writeln!(out, "reading {}", moment.as_second())?,
+            Seen::Request => writeln!(out, "request")?,
+            Seen::Sleep(duration) => show_sleep(out, *duration)?,
+        }
+    }
+    Ok(())
+}
