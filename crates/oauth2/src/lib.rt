@@ -3,6 +3,7 @@
 //! The crates below are passed on: the names that a user calls stand here, those that begin with
 //! `Basic` in `basic` and the functions for JSON members in `helpers`. What the crates share among
 //! themselves (`BaseRequest` of the requests, the encoder of forms) stays there.
+
 #![tactic(auto)]
 
 mod authorization_endpoint;

@@ -19,7 +19,7 @@ const DEVICE: &str =
 
 const PENDING: &str = "{\"error\":\"authorization_pending\"}";
 
-/// A world whose clock stands still, and whose user decides late.
+// A world whose clock stands still, and whose user decides late.
 #[derive(Drop)]
 struct LateWorld {
     alloc: Global,

@@ -4,6 +4,7 @@
 //! Without arguments it runs every operation and prints its name, how many bytes its last request's
 //! body had and a length of what was read. With `--time NAME ITERATIONS` it prints the nanoseconds
 //! that so many runs of one operation took.
+
 #![tactic(auto)]
 
 mod arguments;
@@ -26,7 +27,7 @@ use fault::Fault;
 use std::process::ExitCode;
 use table::{Bench, NAMES};
 
-/// How often each operation runs without arguments.
+// How often each operation runs without arguments.
 const PLAIN_ITERATIONS: u64 = 3;
 
 fn print_all(rt: &HostRuntime) -> Result<(), Fault> {
@@ -59,7 +60,7 @@ fn run(rt: &HostRuntime) -> Result<(), Fault> {
     }
 }
 
-/// Exit status 2 stands for arguments that are not known.
+// Exit status 2 stands for arguments that are not known.
 fn main(rt: HostRuntime) -> ExitCode {
     match run(&rt) {
         Ok(()) => ExitCode::from(0),

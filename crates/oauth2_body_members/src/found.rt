@@ -15,7 +15,7 @@ use oauth2_json::ReadError;
 use serde_json::Value;
 use std::alloc::{AllocError, Global};
 
-/// What a member holds.
+// What a member holds.
 #[derive(Drop)]
 pub(crate) enum Held<'a> {
     /// A text that stands in the body.
@@ -23,14 +23,14 @@ pub(crate) enum Held<'a> {
     Value(Value),
 }
 
-/// A member whose name stands in the body.
+// A member whose name stands in the body.
 #[derive(Drop)]
 pub(crate) struct Found<'a> {
     pub(crate) name: &'a str,
     pub(crate) held: Held<'a>,
 }
 
-/// The same text in the body, where it follows a quote at that place.
+// The same text in the body, where it follows a quote at that place.
 pub(crate) fn in_body<'a>(body: &'a str, quote: usize, text: &str) -> Option<&'a str>
     ensures { IfSome result (λ found. found.now ≡ text.now) }
 {
@@ -39,7 +39,7 @@ pub(crate) fn in_body<'a>(body: &'a str, quote: usize, text: &str) -> Option<&'a
     if found == text { Some(found) } else { None }
 }
 
-/// What that value is, which stands at that place in the body.
+// What that value is, which stands at that place in the body.
 pub(crate) fn hold<'a>(
     alloc: Global,
     body: &'a str,
@@ -65,7 +65,7 @@ fn copied(alloc: Global, held: Held<'_>) -> Result<Value, AllocError>
     }
 }
 
-/// The members that were found, each with its value.
+// The members that were found, each with its value.
 pub(crate) fn members<'a>(
     alloc: Global,
     found: Vec<Found<'a>>,

@@ -1,4 +1,5 @@
 //! The members of a JSON object: out of a value, or read from a text without one.
+
 #![tactic(auto)]
 
 mod found;

@@ -11,14 +11,14 @@ ghost use Rattle.oauth2_body_members.specs.private.Taken.{blank_at};
 use serde_json::{Map, Value};
 use std::alloc::{AllocError, Global};
 
-/// A member; its value is none once it is taken.
+// A member; its value is none once it is taken.
 #[derive(Drop)]
 pub(crate) struct Member<'a> {
     pub(crate) name: &'a str,
     pub(crate) value: Option<Value>,
 }
 
-/// Takes each member of that name; gives the last one.
+// Takes each member of that name; gives the last one.
 pub(crate) fn take(list: &mut Vec<Member<'_>>, name: &str) -> Option<Value>
     ensures found { option_map view result ≡ get_member name.now (members_in list.old.items) }
     ensures rest { members_in list.new.items ≡ without name.now (members_in list.old.items) }
@@ -30,7 +30,7 @@ pub(crate) fn take(list: &mut Vec<Member<'_>>, name: &str) -> Option<Value>
     found
 }
 
-/// Takes the value of a member of that name.
+// Takes the value of a member of that name.
 fn take_value(member: &mut Member<'_>, name: &str) -> Option<Value>
     ensures found { option_map view result
         ≡ (if bytes_eq member.old.name.now name.now then option_map view member.old.value else None) }
@@ -43,7 +43,7 @@ fn take_value(member: &mut Member<'_>, name: &str) -> Option<Value>
     }
 }
 
-/// The members that are left, in a map.
+// The members that are left, in a map.
 pub(crate) fn map_of(alloc: Global, list: Vec<Member<'_>>) -> Result<Map<String, Value>, AllocError>
     ensures { IfOk result (λ m. members_view m.entries ≡ members_in list.entry.items) }
 {

@@ -13,7 +13,7 @@ use oauth2_json::{ParseCause, ReadError};
 use serde_json::{Map, Value};
 use std::alloc::Global;
 
-/// The value of that text; a number out of range is no JSON.
+// The value of that text; a number out of range is no JSON.
 #[cycle(owned)]
 pub(crate) fn owned(alloc: Global, value: &json::Value<'_>) -> Result<Value, ReadError>
     ensures { ReadsAs view result (or_not_json (of_json (value_view value.now))) }
@@ -59,7 +59,7 @@ fn owned_members(
     Ok(map)
 }
 
-/// Whether that text is a value: whether each number in it is in range.
+// Whether that text is a value: whether each number in it is in range.
 #[cycle(is_value)]
 pub(crate) fn is_value(value: &json::Value<'_>) -> bool
     ensures { is_some (of_json (value_view value.now)) ≡ result }

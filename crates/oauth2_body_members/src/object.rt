@@ -102,8 +102,8 @@ fn of_text<'a>(
     }
 }
 
-/// The members of a text that is an object. The reader's buffer, as long as the text, is let go
-/// before a text that stands in the body is copied.
+// The members of a text that is an object. The reader's buffer, as long as the text, is let go
+// before a text that stands in the body is copied.
 fn found_in<'a>(
     alloc: Global,
     text: &'a str,

@@ -15,12 +15,12 @@ use json::{Error, Reader};
 use oauth2_json::{ParseCause, ReadError};
 use std::alloc::Global;
 
-/// How deep a member of the object may nest: the whole text nests to 127.
+// How deep a member of the object may nest: the whole text nests to 127.
 const DEPTH: usize = 126;
 
-/// The members of the object that the reader of this body stands in, where nothing follows it:
-/// those of these names, and the others where they are kept too. None where such a name is written
-/// by escapes.
+// The members of the object that the reader of this body stands in, where nothing follows it:
+// those of these names, and the others where they are kept too. None where such a name is written
+// by escapes.
 pub(crate) fn to_end<'a>(
     alloc: Global,
     body: &'a str,
@@ -86,7 +86,7 @@ fn is_kept(name: &str, names: &[&str], keeps_others: bool) -> bool
     false
 }
 
-/// The next name, and the place that the reader says it has.
+// The next name, and the place that the reader says it has.
 fn next_name<'a>(
     alloc: Global,
     reader: &mut Reader<'a>,
@@ -119,7 +119,7 @@ fn next_held<'a>(
     }
 }
 
-/// Passes a value that nobody reads.
+// Passes a value that nobody reads.
 fn pass_value(alloc: Global, reader: &mut Reader<'_>) -> Result<(), ReadError>
     ensures read { ReadsAs (λ _. reader.new) result
         (or_not_json (option_map (λ p. p.1) (converted of_json (value 126 reader.old)))) }

@@ -173,7 +173,7 @@ fn owned(alloc: Global, text: Option<&str>) -> Result<Option<String>, AllocError
     }
 }
 
-/// The client of this application, at this token endpoint.
+// The client of this application, at this token endpoint.
 fn application_client(alloc: Global, token_url: String) -> anyhow::Result<IdentityClient> {
     let id = String::from_str(alloc, "application")?;
     Ok(identity_client(alloc, id, Some(token_url))?)

@@ -14,7 +14,7 @@ fn reply(rt: &(impl Abort + AllocGlobal), body: &str) -> HttpResponse {
     )
 }
 
-/// The application answers this `id_token` for a code and this reply.
+// The application answers this `id_token` for a code and this reply.
 fn tells(rt: &(impl Abort + AllocGlobal), body: &str, wanted: Option<&str>) {
     let url = text(rt, "https://example.com/token");
     let answer = canned_id_token(rt.alloc(), url, text(rt, "ccc"), reply(rt, body));

@@ -41,7 +41,7 @@ fn verifier(rt: &(impl Abort + AllocGlobal)) -> PkceCodeVerifier
     verifier
 }
 
-/// The login of this client.
+// The login of this client.
 fn login_of(
     rt: &(impl Abort + AllocGlobal),
     client: &CodeClient,
@@ -55,7 +55,7 @@ fn login_of(
     )
 }
 
-/// The login at these endpoints.
+// The login at these endpoints.
 fn login(
     rt: &(impl Abort + AllocGlobal),
     auth: &str,
@@ -64,7 +64,7 @@ fn login(
     login_of(rt, &client(rt, auth, token))
 }
 
-/// The login at this endpoint has this URL.
+// The login at this endpoint has this URL.
 fn leads_to(rt: &(impl Abort + AllocGlobal), auth: &str, url: &str) {
     let flow = login(rt, auth, TOKEN).expect(rt, "a login");
     is_text(rt, flow.url.as_str(), url);
@@ -84,7 +84,7 @@ fn joined_login(rt: HostRuntime) {
     );
 }
 
-/// A challenge of the endpoint's own stays, so the query has two, and no server reads the name.
+// A challenge of the endpoint's own stays, so the query has two, and no server reads the name.
 #[test]
 fn joined_login_beside_another_challenge(rt: HostRuntime) {
     leads_to(
@@ -118,7 +118,7 @@ fn reply(rt: &(impl Abort + AllocGlobal), body: &str) -> HttpResponse {
     )
 }
 
-/// A login of this client, which sends its user to this URL.
+// A login of this client, which sends its user to this URL.
 fn started(rt: &(impl Abort + AllocGlobal), client: &OpenIdClient) -> Login {
     let mut rng = Repeated(0);
     let (url, login) = start_login(rt.alloc(), client, &mut rng, "n-0S6_WzA2Mj").expect(
@@ -133,7 +133,7 @@ fn started(rt: &(impl Abort + AllocGlobal), client: &OpenIdClient) -> Login {
     login
 }
 
-/// What a login ends with whose user comes back with this state and whose reply is this.
+// What a login ends with whose user comes back with this state and whose reply is this.
 fn ends(
     rt: &(impl Abort + AllocGlobal),
     state: &str,

@@ -1,4 +1,5 @@
 //! Callers with contracts of their own.
+
 ghost use Rattle.std.specs.Prelude.{
   ◌≡◌,
   ◌+◌,

@@ -5,12 +5,12 @@ use crate::support::{Scripted, client, duration, is_fault, is_so, is_token, mome
 use oauth2_keeper::{BasicTokenKeeper, TokenKeeper};
 use std::process::Abort;
 
-/// A call: the second and the nanosecond of its moment, the body of its request, which is empty where
-/// none is sent, and the token or the text of the fault.
+// A call: the second and the nanosecond of its moment, the body of its request, which is empty where
+// none is sent, and the token or the text of the fault.
 type Call<'a> = (i64, i32, &'a str, Result<&'a str, &'a str>);
 
-/// A keeper without a refresh token, whose life is 0: its margin in seconds and nanoseconds, the
-/// replies to its requests, and its calls.
+// A keeper without a refresh token, whose life is 0: its margin in seconds and nanoseconds, the
+// replies to its requests, and its calls.
 #[derive(Clone, Copy)]
 struct Run<'a> {
     margin: (u64, u64),
@@ -126,7 +126,7 @@ const RUNS: [Run<'static>; 7] = [
     },
 ];
 
-/// One call, and the request that it sends.
+// One call, and the request that it sends.
 fn answers(
     rt: &(impl Abort + AllocGlobal),
     keeper: &mut BasicTokenKeeper<'_>,
@@ -143,7 +143,7 @@ fn answers(
     is_so(rt, http_client.body.as_slice() == body.as_bytes(), body);
 }
 
-/// The calls of a run do and answer this, one after another.
+// The calls of a run do and answer this, one after another.
 fn does(rt: &(impl Abort + AllocGlobal), client: &TokenClient, run: Run<'_>) {
     let mut keeper: BasicTokenKeeper<'_> = TokenKeeper::new(
         client,
@@ -157,7 +157,7 @@ fn does(rt: &(impl Abort + AllocGlobal), client: &TokenClient, run: Run<'_>) {
     }
 }
 
-/// A caller reads the token twice, and asks once for it.
+// A caller reads the token twice, and asks once for it.
 fn bears(rt: &(impl Abort + AllocGlobal), client: &TokenClient) {
     let life = duration((60, 0));
     let mut keeper: BasicTokenKeeper<'_> = TokenKeeper::new(client, None, duration((0, 0)), life);

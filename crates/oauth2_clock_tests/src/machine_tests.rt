@@ -15,8 +15,8 @@ const PENDING: PollAnswer = PollAnswer::Pending;
 
 const SLOW_DOWN: PollAnswer = PollAnswer::SlowDown;
 
-/// A run of a poll with interval 1, cap 10 and three requests at most: its timeout in seconds, the
-/// clock and the answers; what it does, and how it ends.
+// A run of a poll with interval 1, cap 10 and three requests at most: its timeout in seconds, the
+// clock and the answers; what it does, and how it ends.
 #[derive(Clone, Copy)]
 struct Run<'a> {
     timeout: u64,
@@ -143,7 +143,7 @@ fn is_trace(rt: &impl Abort, trace: &[PollEvent], wanted: &[Seen]) {
     }
 }
 
-/// The run does this and ends so.
+// The run does this and ends so.
 fn does(rt: &(impl Abort + AllocGlobal), run: Run<'_>) {
     let readings = moments(rt, run.readings);
     let settings = PollSettings {
@@ -171,8 +171,8 @@ fn a_poll_runs(rt: HostRuntime) {
     }
 }
 
-/// How long a poll sleeps after each of some answers: its interval, its cap, and each sleep, in
-/// seconds and nanoseconds.
+// How long a poll sleeps after each of some answers: its interval, its cap, and each sleep, in
+// seconds and nanoseconds.
 #[derive(Clone, Copy)]
 struct Pace<'a> {
     interval: (u64, u64),
@@ -222,7 +222,7 @@ const PACES: [Pace<'static>; 5] = [
     },
 ];
 
-/// A poll with these settings, of two seconds from 0 on.
+// A poll with these settings, of two seconds from 0 on.
 fn started(rt: &impl Abort, settings: PollSettings) -> DevicePoll {
     let timeout = Duration::from_secs(2);
     DevicePoll::new(moment(rt, 0, 0), timeout, settings).expect(rt, "a deadline")

@@ -14,13 +14,13 @@ use std::alloc::AllocError;
 use std::process::Abort;
 use std::time::Duration;
 
-/// The result of a poll by a client whose own error is want of memory.
+// The result of a poll by a client whose own error is want of memory.
 type TokenResult = Result<
     BasicTokenResponse,
     RequestTokenError<AllocError, DeviceCodeErrorResponse>,
 >;
 
-/// The response to a device, whose code is good for two seconds; its interval is one second.
+// The response to a device, whose code is good for two seconds; its interval is one second.
 const TWO_SECONDS: &str =
     "{\"device_code\":\"12345\",\"user_code\":\"abcde\",\"verification_uri\":\"https://verify/here\",\"expires_in\":2,\"interval\":1}";
 
@@ -34,7 +34,7 @@ const TOKEN: (u16, &str) = (
 const EXPIRED: &str =
     "Server returned error response: expired_token: This device code has expired.";
 
-/// A world whose clock shows these readings in turn and then stands still, and which has a client.
+// A world whose clock shows these readings in turn and then stands still, and which has a client.
 #[derive(Drop)]
 struct Recorder<'a> {
     readings: &'a [Timestamp],
@@ -74,8 +74,8 @@ impl PollWorld for Recorder<'_> {
     }
 }
 
-/// A poll: for how long, with which cap in seconds and nanoseconds, how often at most, by which clock
-/// and replies; what its world sees, and the token or the text of the fault.
+// A poll: for how long, with which cap in seconds and nanoseconds, how often at most, by which clock
+// and replies; what its world sees, and the token or the text of the fault.
 #[derive(Clone, Copy)]
 struct Poll<'a> {
     timeout: Option<u64>,
@@ -148,7 +148,7 @@ const POLLS: [Poll<'static>; 5] = [
     },
 ];
 
-/// The poll's result in this world.
+// The poll's result in this world.
 fn polled_in(
     rt: &(impl Abort + AllocGlobal),
     client: &TokenClient,
@@ -168,7 +168,7 @@ fn polled_in(
         )
 }
 
-/// The poll gives this token, or no token and says this.
+// The poll gives this token, or no token and says this.
 fn says(rt: &(impl Abort + AllocGlobal), polled: TokenResult, answer: Result<&str, &str>) {
     match polled {
         Ok(token) => is_token(rt, token.access_token(), answer),
@@ -176,7 +176,7 @@ fn says(rt: &(impl Abort + AllocGlobal), polled: TokenResult, answer: Result<&st
     }
 }
 
-/// The world of the poll sees this, and the poll ends so.
+// The world of the poll sees this, and the poll ends so.
 fn polls(
     rt: &(impl Abort + AllocGlobal),
     client: &TokenClient,
@@ -200,7 +200,7 @@ fn polls(
     is_so(rt, world.seen.as_slice() == poll.seen, "what is seen");
 }
 
-/// A poll by a clock that counts its readings, which are also what it shows.
+// A poll by a clock that counts its readings, which are also what it shows.
 fn polls_by_a_clock(
     rt: &(impl Abort + AllocGlobal),
     client: &TokenClient,

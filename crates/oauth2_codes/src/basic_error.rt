@@ -32,7 +32,7 @@ pub enum BasicErrorResponseType {
 }
 
 impl BasicErrorResponseType {
-    /// The variant of a text.
+    // The variant of a text.
     pub(crate) fn from_text(text: String) -> BasicErrorResponseType
         ensures { error_code result ≡ error_code_of (string_bytes text) }
     {

@@ -29,7 +29,7 @@ pub enum DeviceCodeErrorResponseType {
 }
 
 impl DeviceCodeErrorResponseType {
-    /// The variant of a text.
+    // The variant of a text.
     fn from_text(text: String) -> DeviceCodeErrorResponseType
         ensures { device_error_code result ≡ device_error_code_of (string_bytes text) }
     {

@@ -1,4 +1,5 @@
 //! The codes of OAuth 2.0: token types, error codes, and the error response that tells one.
+
 #![tactic(auto)]
 
 mod basic_error;

@@ -23,7 +23,7 @@ pub enum RevocationErrorResponseType {
 }
 
 impl RevocationErrorResponseType {
-    /// The variant of a text.
+    // The variant of a text.
     fn from_text(text: String) -> RevocationErrorResponseType
         ensures { revocation_error_code result ≡ revocation_error_code_of (string_bytes text) }
     {

@@ -23,7 +23,7 @@ pub enum BasicTokenType {
 }
 
 impl BasicTokenType {
-    /// The variant of a text.
+    // The variant of a text.
     fn from_text(text: String) -> BasicTokenType
         ensures { token_code result ≡ token_code_of (string_bytes text) }
     {

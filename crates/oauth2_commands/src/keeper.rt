@@ -21,7 +21,7 @@ use oauth2_script::KeeperParams;
 use oauth2_world::{ScriptedClient, print_answer, quoted};
 use std::alloc::{AllocError, Global};
 
-/// A client of a script that has a token endpoint.
+// A client of a script that has a token endpoint.
 type KeptClient = BasicClient<
     EndpointMaybeSet,
     EndpointMaybeSet,
@@ -30,7 +30,7 @@ type KeptClient = BasicClient<
     EndpointSet,
 >;
 
-/// A keeper for such a client.
+// A keeper for such a client.
 type ScriptKeeper<'a> = BasicTokenKeeper<
     'a,
     EndpointMaybeSet,

@@ -1,4 +1,5 @@
 //! The commands of a JSON script, run with a client that answers from the script.
+
 #![tactic(auto)]
 
 mod answer;

@@ -1,4 +1,5 @@
 //! A clock, a client and a sleep function as one world.
+
 ghost use Rattle.std.specs.Prelude.{◌≡◌};
 
 use crate::poll_world::PollWorld;

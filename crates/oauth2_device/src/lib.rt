@@ -1,5 +1,6 @@
 //! The poll of a device for its token (RFC 8628, sections 3.4 and 3.5): its request, and the poll
 //! of the token endpoint over a world that has a clock, sends requests and sleeps.
+
 #![tactic(auto)]
 
 mod device_access_token_request;

@@ -1,4 +1,5 @@
 //! The poll over a world (RFC 8628, section 3.5).
+
 ghost use Rattle.std.specs.Prelude.{◌≡◌, ◌<◌, List};
 ghost use Rattle.std.specs.Duration.{as_nanos};
 ghost use Rattle.http_uri.specs.Uri.{SpellsNone};

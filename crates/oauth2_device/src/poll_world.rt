@@ -1,4 +1,5 @@
 //! What a device polls in.
+
 use jiff::Timestamp;
 use oauth2_wire::{HttpRequest, HttpResponse};
 use std::time::Duration;

@@ -1,4 +1,5 @@
 //! The poll by a clock, a client and a sleep function.
+
 ghost use Rattle.std.specs.Prelude.{◌<◌, List};
 ghost use Rattle.oauth2_device.specs.Events.{Event, ClockLeads, ClientLeads, SleepLeads};
 ghost use Rattle.oauth2_device.specs.Poll.{Polls, timeout_of};

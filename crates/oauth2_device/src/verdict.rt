@@ -1,4 +1,5 @@
 //! What an answer means to a device that polls (RFC 8628, section 3.5).
+
 ghost use Rattle.oauth2_wire.specs.Reply.{Answer, ShowsAnswer};
 ghost use Rattle.oauth2_device.specs.Poll.{DeviceError, SaysOther, SaysExpired, device_answer, device_error};
 ghost use Rattle.oauth2_device.specs.private.Round.{IsJudged, IsRefusal, IsVerdict, OrMemory};
@@ -9,10 +10,10 @@ use oauth2_replies::TokenResponse;
 use oauth2_wire::{HttpResponse, ReplyRule, RequestTokenError, endpoint_response_with};
 use std::alloc::{AllocError, Global};
 
-/// Why a poll gave no token.
+// Why a poll gave no token.
 pub(crate) type PollError<RE> = RequestTokenError<RE, DeviceCodeErrorResponse>;
 
-/// What an answer means to a poll: it goes on, or this is its result.
+// What an answer means to a poll: it goes on, or this is its result.
 pub(crate) enum Verdict<TR, RE> {
     Again(PollAnswer),
     Decided(Result<TR, PollError<RE>>),

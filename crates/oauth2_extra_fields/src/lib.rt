@@ -1,4 +1,5 @@
 //! Extra fields as a list of named members, each with a kind of values of its own.
+
 #![tactic(auto)]
 
 mod member_value;

@@ -11,7 +11,7 @@ use oauth2_json::{FromJson, ParseCause, ReadError, members};
 use serde_json::Value;
 use std::alloc::Global;
 
-/// An instant of whole seconds.
+// An instant of whole seconds.
 #[derive(Drop)]
 struct Instant(Timestamp);
 
@@ -63,7 +63,7 @@ pub fn optional_time(
     }
 }
 
-/// The whole seconds of an instant, rounded down.
+// The whole seconds of an instant, rounded down.
 fn second_of(at: Timestamp) -> i64
     ensures { result ≡ second_of at.nanosecond }
 {

@@ -337,7 +337,7 @@ impl<EF: ExtraTokenFields + Drop, TT: TokenType + Drop> TokenIntrospectionRespon
     }
 }
 
-/// What was granted, and to whom.
+// What was granted, and to whom.
 #[derive(Drop)]
 pub(crate) struct Grant {
     pub(crate) active: bool,
@@ -346,7 +346,7 @@ pub(crate) struct Grant {
     pub(crate) username: Option<String>,
 }
 
-/// What the token is, and when it is good.
+// What the token is, and when it is good.
 #[derive(Drop)]
 pub(crate) struct Validity<TT> {
     pub(crate) token_type: Option<TT>,
@@ -355,7 +355,7 @@ pub(crate) struct Validity<TT> {
     pub(crate) nbf: Option<Timestamp>,
 }
 
-/// Whom the token names, and its own name.
+// Whom the token names, and its own name.
 #[derive(Drop)]
 pub(crate) struct Claims {
     pub(crate) sub: Option<String>,

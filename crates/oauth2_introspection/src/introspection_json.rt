@@ -134,7 +134,7 @@ fn take_claims(alloc: Global, members: &mut Object<'_>) -> Result<Claims, ReadEr
     Ok(Claims { sub, aud, iss, jti })
 }
 
-/// The own members, group by group, and what is left of the others.
+// The own members, group by group, and what is left of the others.
 fn from_members<EF: ExtraTokenFields + Drop, TT: TokenType + Drop>(
     alloc: Global,
     mut members: Object<'_>,

@@ -1,4 +1,5 @@
 //! The response of an OAuth 2.0 server to an introspection (RFC 7662), and the instants in it.
+
 #![tactic(auto)]
 
 mod instants;

@@ -31,7 +31,7 @@ impl FromJson for PkceCodeChallenge {
     }
 }
 
-/// The members of a challenge.
+// The members of a challenge.
 fn written(alloc: Global, challenge: &PkceCodeChallenge) -> Result<Value, WriteError>
     ensures { WritesAs result (challenge_writing challenge.now) }
 {

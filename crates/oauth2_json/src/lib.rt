@@ -1,4 +1,5 @@
 //! JSON values of OAuth 2.0: what reads to which record, and what is written.
+
 #![tactic(auto)]
 
 mod body;

@@ -11,7 +11,7 @@ use crate::read::{FromJson, ReadError};
 use serde_json::Value;
 use std::alloc::Global;
 
-/// A text whose ASCII letters are lowered before `T` reads it.
+// A text whose ASCII letters are lowered before `T` reads it.
 #[derive(Drop)]
 pub(crate) struct Lowered<T>(pub(crate) T);
 

@@ -28,7 +28,7 @@ pub fn take(members: &mut Map<String, Value>, name: &str) -> Option<Value>
     members.remove(name)
 }
 
-/// What a member's value reads to; a fault stands under the member's name.
+// What a member's value reads to; a fault stands under the member's name.
 pub(crate) fn under_name<T: FromJson>(
     alloc: Global,
     name: &str,

@@ -12,7 +12,7 @@ use crate::read::{FromJson, ParseCause, ReadError};
 use serde_json::Value;
 use std::alloc::Global;
 
-/// True or false.
+// True or false.
 #[derive(Drop)]
 struct Flag(bool);
 
@@ -31,7 +31,7 @@ impl FromJson for Flag {
     }
 }
 
-/// A whole number that is not negative.
+// A whole number that is not negative.
 #[derive(Drop)]
 struct WholeNumber(u64);
 

@@ -58,7 +58,7 @@ pub fn joined<T: AsStr>(alloc: Global, items: &[T]) -> Result<String, AllocError
     Ok(text)
 }
 
-/// A text, split at every space, of which `T` reads each piece.
+// A text, split at every space, of which `T` reads each piece.
 #[derive(Drop)]
 pub(crate) struct Spaced<T>(pub(crate) Vec<T>);
 
@@ -90,7 +90,7 @@ pub fn optional_words<T: FromJson + Drop>(
     }
 }
 
-/// The text of a list, as a JSON value.
+// The text of a list, as a JSON value.
 pub(crate) fn words_text<T: AsStr>(alloc: Global, words: &[T]) -> Result<Value, AllocError>
     ensures { IfOk result (λ v. view v ≡ string (joined (map T.text words.now))) }
 {

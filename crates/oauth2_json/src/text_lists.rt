@@ -12,7 +12,7 @@ use crate::read::{FromJson, ParseCause, ReadError};
 use serde_json::Value;
 use std::alloc::{AllocError, Global};
 
-/// A text, or a list of texts.
+// A text, or a list of texts.
 #[derive(Drop)]
 pub(crate) struct Texts(pub(crate) Vec<String>);
 

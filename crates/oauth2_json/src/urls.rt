@@ -18,7 +18,7 @@ use std::alloc::Global;
 use std::ops::Deref;
 use url::ParseError;
 
-/// Why a text is no URL.
+// Why a text is no URL.
 fn refused(alloc: Global, error: ParseError) -> ReadError
     ensures { (text : List ℕ) → (parse_url None text ≡ Err error) ⊎ IsOutOfRoom error
         → ErrsAs result (url_text text) }

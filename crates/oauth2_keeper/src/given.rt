@@ -8,7 +8,7 @@ use std::alloc::{AllocError, Global};
 use std::marker::Model;
 use std::time::Duration;
 
-/// Copies of what a reply tells.
+// Copies of what a reply tells.
 #[derive(Drop)]
 pub(crate) struct Given {
     pub(crate) access_token: AccessToken,

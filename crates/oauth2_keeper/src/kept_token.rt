@@ -9,7 +9,7 @@ use oauth2_types::AccessToken;
 use std::marker::Model;
 use std::time::Duration;
 
-/// An access token, the moment of the call that got it, and its lifetime.
+// An access token, the moment of the call that got it, and its lifetime.
 #[derive(Drop)]
 pub(crate) struct KeptToken {
     pub(crate) access_token: AccessToken,

@@ -1,4 +1,5 @@
 //! A poll between two answers: its interval, its deadline and how many requests it still has.
+
 ghost use Rattle.std.specs.Prelude.{
   ◌≡◌,
   ◌↔◌,

@@ -1,4 +1,5 @@
 //! Laws of every poll, whoever drives it.
+
 ghost use Rattle.oauth2_poll.specs.Laws.{EachEndingIsTheOnlyOne, EachSleepIsPaced, RequestsAreBounded};
 
 /// No poll ends in two ways, or in two rounds: its end is a function of what it goes by.

@@ -1,5 +1,6 @@
 //! The poll of RFC 8628, 3.4 and 3.5, as a machine over values: when a device asks the token
 //! endpoint again, how long it sleeps before, and when it gives up.
+
 #![tactic(auto)]
 
 mod device_poll;

@@ -1,4 +1,5 @@
 //! A whole poll over lists of readings and answers.
+
 ghost use Rattle.std.specs.Prelude.{◌≡◌, ◌<◌, [], map, slice_get, IfOk};
 ghost use Rattle.std.specs.Duration.{as_nanos};
 ghost use Rattle.oauth2_poll.specs.Pacing.{SleepsArePaced, ClockIsHonest, RequestsFit};

@@ -17,7 +17,7 @@ const WITHOUT_A_SECRET: ClientTexts<'static> = ClientTexts {
     ..USUAL
 };
 
-/// The clients that differ from the usual one, by the rows' names.
+// The clients that differ from the usual one, by the rows' names.
 const CLIENTS: [(&str, ClientTexts<'static>); 9] = [
     (
         "basic_credentials",

@@ -70,7 +70,7 @@ fn other_endpoints(alloc: Global) -> Result<(DeviceAuthorizationUrl, Introspecti
     Ok((device, introspection))
 }
 
-/// A client that asks for codes and tokens alone.
+// A client that asks for codes and tokens alone.
 type CodeClient = BasicClient<
     EndpointSet,
     EndpointNotSet,

@@ -25,21 +25,21 @@ pub type RowKeeper<'a> = BasicTokenKeeper<
     EndpointMaybeSet,
 >;
 
-/// The reply to a new keeper, whose token is good until 90.
+// The reply to a new keeper, whose token is good until 90.
 const FIRST: ReplyTexts<'static> = ReplyTexts {
     status: 200,
     content_type: None,
     body: "{\"access_token\":\"t1\",\"token_type\":\"bearer\",\"expires_in\":100,\"refresh_token\":\"r1\"}",
 };
 
-/// The reply after that.
+// The reply after that.
 const LATER: ReplyTexts<'static> = ReplyTexts {
     status: 200,
     content_type: None,
     body: "{\"access_token\":\"t2\",\"token_type\":\"bearer\"}",
 };
 
-/// A call: the token that is kept before, its second, and the reply to its request.
+// A call: the token that is kept before, its second, and the reply to its request.
 #[derive(Clone, Copy)]
 struct Call<'a> {
     kept: Option<&'a str>,

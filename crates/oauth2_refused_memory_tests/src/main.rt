@@ -4,6 +4,7 @@
 //! A row's own lines take no memory, so a growth that is refused is one of its calls, or of what it
 //! is called with. Exit status 0: every row was answered; 1: memory ran out in one; 2: there is no
 //! such row, or a call refused what it is given; 3: standard input or output failed.
+
 #![tactic(auto)]
 
 mod additions;
@@ -28,7 +29,7 @@ use rows::show_rows;
 use std::io::{self, Write};
 use std::process::ExitCode;
 
-/// How many bytes of names are taken.
+// How many bytes of names are taken.
 const MOST_BYTES: usize = 4096;
 
 fn run(rt: &HostRuntime) -> Result<bool, Ended> {

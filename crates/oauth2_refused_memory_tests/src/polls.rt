@@ -23,7 +23,7 @@ use std::alloc::Global;
 use std::io::Write;
 use std::time::Duration;
 
-/// Room for the events of a poll.
+// Room for the events of a poll.
 const ROOM: usize = 32;
 
 /// A poll: how long, how often at most, by which clock, and by which reply, so many times.

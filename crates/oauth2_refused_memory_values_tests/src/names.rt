@@ -5,7 +5,7 @@ ghost use Rattle.std.specs.Prelude.{◌≤◌, length, IfOk};
 use crate::ended::Ended;
 use std::io::Read;
 
-/// How often the input is read at most.
+// How often the input is read at most.
 const MOST_READS: u32 = 64;
 
 fn fill<R: Read>(reader: &mut R, bytes: &mut [u8]) -> Result<usize, Ended>

@@ -38,7 +38,7 @@ pub fn show_sleep<W: Write>(out: &mut W, duration: Duration) -> Result<(), Ended
     Ok(())
 }
 
-/// The events of a poll over lists, and its end.
+// The events of a poll over lists, and its end.
 pub(crate) fn show_run<W: Write>(out: &mut W, run: &PollRun) -> Result<(), Ended> {
     for event in &run.trace {
         match event {

@@ -138,7 +138,7 @@ fn show_poll_over_lists<W: Write>(alloc: Global, out: &mut W) -> Result<(), Ende
 
 const FAILED: PollAnswer = PollAnswer::Failed;
 
-/// Intervals and answers.
+// Intervals and answers.
 const SLEEPS: [(u64, &[PollAnswer]); 5] = [
     (1, &[PollAnswer::SlowDown, FAILED]),
     (30, &[FAILED]),

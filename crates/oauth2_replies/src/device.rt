@@ -106,21 +106,21 @@ impl<EF> DeviceAuthorizationResponse<EF> {
     }
 }
 
-/// What the device and the user hold of an authorization.
+// What the device and the user hold of an authorization.
 #[derive(Drop)]
 pub(crate) struct Codes {
     pub(crate) device_code: DeviceCode,
     pub(crate) user_code: UserCode,
 }
 
-/// Where the user goes.
+// Where the user goes.
 #[derive(Drop)]
 pub(crate) struct Addresses {
     pub(crate) verification_uri: EndUserVerificationUrl,
     pub(crate) verification_uri_complete: Option<VerificationUriComplete>,
 }
 
-/// How long the codes are good, and the wait between two requests, in seconds.
+// How long the codes are good, and the wait between two requests, in seconds.
 #[derive(Drop)]
 pub(crate) struct Times {
     pub(crate) expires_in: u64,

@@ -58,7 +58,7 @@ impl<EF: ExtraDeviceAuthorizationFields + Drop> FromJson for DeviceAuthorization
     }
 }
 
-/// The URL where the user types in the code, under either of its names.
+// The URL where the user types in the code, under either of its names.
 fn verification_uri(
     alloc: Global,
     found: Option<Value>,
@@ -128,7 +128,7 @@ fn take_times(alloc: Global, members: &mut Object<'_>) -> Result<Times, ReadErro
     })
 }
 
-/// The own members, pair by pair, and what is left of the others.
+// The own members, pair by pair, and what is left of the others.
 fn from_members<EF: ExtraDeviceAuthorizationFields + Drop>(
     alloc: Global,
     mut members: Object<'_>,

@@ -136,7 +136,7 @@ fn has_any(members: &Map<String, Value>) -> bool
     !members.is_empty()
 }
 
-/// The token under one of the two names, where there is no other member.
+// The token under one of the two names, where there is no other member.
 fn sole_token(
     alloc: Global,
     access_token: Option<Value>,

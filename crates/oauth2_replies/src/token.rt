@@ -192,7 +192,7 @@ impl<EF: ExtraTokenFields + Drop, TT: TokenType + Drop> TokenResponse
     }
 }
 
-/// For how long and for what the token is good, and how to get the next one.
+// For how long and for what the token is good, and how to get the next one.
 #[derive(Drop)]
 pub(crate) struct Terms {
     pub(crate) expires_in: Option<u64>,

@@ -46,7 +46,7 @@ impl<EF: ExtraTokenFields + Drop, TT: TokenType + Drop> FromJson for StandardTok
     }
 }
 
-/// The token, and how it is used.
+// The token, and how it is used.
 #[derive(Drop)]
 struct Credential<TT> {
     access_token: AccessToken,
@@ -93,7 +93,7 @@ fn take_terms(alloc: Global, members: &mut Object<'_>) -> Result<Terms, ReadErro
     })
 }
 
-/// The own members, group by group, and what is left of the others.
+// The own members, group by group, and what is left of the others.
 fn from_members<EF: ExtraTokenFields + Drop, TT: TokenType + Drop>(
     alloc: Global,
     mut members: Object<'_>,

@@ -255,7 +255,7 @@ fn push_extra_params(
     Ok(())
 }
 
-/// How many bytes a text of scopes has room for before it grows.
+// How many bytes a text of scopes has room for before it grows.
 const SCOPE_ROOM: usize = 64;
 
 // The scopes as one text, with a space between each two.

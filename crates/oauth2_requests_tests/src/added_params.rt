@@ -4,7 +4,7 @@ use crate::support::{is_equal, text, url};
 use oauth2::{AuthType, ClientId, HttpRequest, ParamBuffer, endpoint_request_encoded};
 use std::process::Abort;
 
-/// What a buffer is given.
+// What a buffer is given.
 #[derive(Clone, Copy)]
 enum Addition<'a> {
     Scope(&'a str),
@@ -18,7 +18,7 @@ fn add(rt: &impl Abort, params: &mut ParamBuffer, addition: Addition<'_>) {
     }
 }
 
-/// A client credentials request with the parameters of a buffer.
+// A client credentials request with the parameters of a buffer.
 fn request_of(rt: &(impl Abort + AllocGlobal), params: &ParamBuffer) -> HttpRequest {
     let url = url(rt, "https://example.com/token");
     let id = ClientId::new(text(rt, "aaa"));
@@ -45,7 +45,7 @@ fn sends(rt: &(impl Abort + AllocGlobal), additions: &[Addition<'_>], has_scope:
     is_equal(rt, request.body().as_slice(), body.as_bytes());
 }
 
-/// What is added, whether there is a scope then, and the body.
+// What is added, whether there is a scope then, and the body.
 const ROWS: [(&[Addition<'static>], bool, &str); 4] = [
     (&[], false, "grant_type=client_credentials&client_id=aaa"),
     (

@@ -15,7 +15,7 @@ use std::fmt::Display;
 use std::process::Abort;
 use std::time::Duration;
 
-/// A client with every endpoint but that of authorizations.
+// A client with every endpoint but that of authorizations.
 type PostClient = BasicClient<EndpointNotSet, EndpointSet, EndpointSet, EndpointSet, EndpointSet>;
 
 type TokenClient = BasicClient<
@@ -43,11 +43,11 @@ fn client(rt: &(impl Abort + AllocGlobal)) -> PostClient {
         .set_revocation_url(revocation.expect(rt, "a URL"))
 }
 
-/// A body that reads to each kind of response.
+// A body that reads to each kind of response.
 const WHOLE: &str =
     r#"{"access_token":"t","token_type":"bearer","active":true,"device_code":"d","user_code":"u","verification_uri":"https://v/","expires_in":2}"#;
 
-/// The response to a device whose code is `d` and is good for two seconds.
+// The response to a device whose code is `d` and is good for two seconds.
 fn device(rt: &(impl Abort + AllocGlobal)) -> StandardDeviceAuthorizationResponse {
     read_body(rt.alloc(), WHOLE.as_bytes()).expect(rt, "a response")
 }
@@ -60,7 +60,7 @@ fn access_token(rt: &(impl Abort + AllocGlobal)) -> AccessToken {
     AccessToken::new(text(rt, "t"))
 }
 
-/// The request of a refresh for one scope.
+// The request of a refresh for one scope.
 fn scoped_refresh(
     rt: &(impl Abort + AllocGlobal),
     client: &PostClient,
@@ -86,7 +86,7 @@ fn prepares_a_refresh(rt: &(impl Abort + AllocGlobal), client: &PostClient) {
     );
 }
 
-/// A reply: its status, its values of Content-Type and its body.
+// A reply: its status, its values of Content-Type and its body.
 #[derive(Clone, Copy)]
 struct Reply<'a> {
     status: u16,
@@ -94,7 +94,7 @@ struct Reply<'a> {
     body: &'a [u8],
 }
 
-/// What a request answers.
+// What a request answers.
 #[derive(Clone, Copy)]
 enum Outcome<'a> {
     Accepted,
@@ -114,7 +114,7 @@ fn handing_out(rt: &(impl Abort + AllocGlobal), reply: Reply<'_>) -> Replying {
     }
 }
 
-/// The answer is the wanted one; one that does not read holds the body's bytes.
+// The answer is the wanted one; one that does not read holds the body's bytes.
 fn tells<T: Drop, E: Display + Drop>(
     rt: &(impl Abort + AllocGlobal),
     answer: Result<T, RequestTokenError<u8, E>>,
@@ -205,7 +205,7 @@ fn asks_for_codes(
     tells(rt, answer, reply.body, wanted);
 }
 
-/// A poll of one request, whose clock stands still.
+// A poll of one request, whose clock stands still.
 fn polls_once(
     rt: &(impl Abort + AllocGlobal),
     client: &PostClient,
@@ -226,7 +226,7 @@ fn polls_once(
     tells(rt, answer, reply.body, wanted);
 }
 
-/// Status 200 alone is the success, whatever else the reply says.
+// Status 200 alone is the success, whatever else the reply says.
 fn revokes(
     rt: &(impl Abort + AllocGlobal),
     client: &PostClient,
@@ -245,7 +245,7 @@ fn revokes(
     tells(rt, answer, reply.body, wanted);
 }
 
-/// What the reply says where a caller sent the request.
+// What the reply says where a caller sent the request.
 fn is_read(rt: &(impl Abort + AllocGlobal), reply: Reply<'_>, wanted: Outcome<'_>) {
     let answer: Result<BasicTokenResponse, BasicRequestTokenError<u8>> = endpoint_response(
         rt.alloc(),
@@ -254,7 +254,7 @@ fn is_read(rt: &(impl Abort + AllocGlobal), reply: Reply<'_>, wanted: Outcome<'_
     tells(rt, answer, reply.body, wanted);
 }
 
-/// Each kind of request answers so, and the same is read where a caller sent the request.
+// Each kind of request answers so, and the same is read where a caller sent the request.
 fn answers(
     rt: &(impl Abort + AllocGlobal),
     client: &PostClient,
@@ -272,7 +272,7 @@ fn answers(
     is_read(rt, reply, wanted);
 }
 
-/// A reply with this body, and no Content-Type.
+// A reply with this body, and no Content-Type.
 fn untyped(status: u16, body: &[u8]) -> Reply<'_> {
     Reply {
         status,
@@ -281,7 +281,7 @@ fn untyped(status: u16, body: &[u8]) -> Reply<'_> {
     }
 }
 
-/// A success of these types.
+// A success of these types.
 fn success<'a>(types: &'a [&'a [u8]]) -> Reply<'a> {
     Reply {
         status: 200,
@@ -290,7 +290,7 @@ fn success<'a>(types: &'a [&'a [u8]]) -> Reply<'a> {
     }
 }
 
-/// A failure of these types.
+// A failure of these types.
 fn failure<'a>(types: &'a [&'a [u8]]) -> Reply<'a> {
     Reply {
         status: 400,
@@ -303,7 +303,7 @@ const INVALID_GRANT: Outcome<'static> = Outcome::Shown(
     "Server returned error response: invalid_grant",
 );
 
-/// Several values of Content-Type, or one that is no text, and what is said of a success.
+// Several values of Content-Type, or one that is no text, and what is said of a success.
 const TYPES: [(&[&[u8]], Outcome<'static>); 3] = [
     (&[b"application/json", b"text/html"], Outcome::Accepted),
     (

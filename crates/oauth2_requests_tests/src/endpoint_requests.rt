@@ -17,12 +17,12 @@ fn two_scopes(rt: &(impl Abort + AllocGlobal)) -> Vec<Scope> {
     vec![in rt.alloc(); Scope::new(text(rt, "a")), Scope::new(text(rt, "b c"))].expect(rt, "a list")
 }
 
-/// A name that is borrowed, and a value that is owned.
+// A name that is borrowed, and a value that is owned.
 fn extra_param(rt: &(impl Abort + AllocGlobal)) -> (ParamText<'static>, ParamText<'static>) {
     (ParamText::from("x y"), ParamText::from(text(rt, "é&=")))
 }
 
-/// The request of the client `aaa`, with the secret or none.
+// The request of the client `aaa`, with the secret or none.
 fn request_of(
     rt: &(impl Abort + AllocGlobal),
     auth_type: AuthType,
@@ -47,7 +47,7 @@ fn request_of(
     .expect(rt, "a request")
 }
 
-/// What the body has of the client, and how many headers there are.
+// What the body has of the client, and how many headers there are.
 fn sends(
     rt: &(impl Abort + AllocGlobal),
     auth_type: AuthType,

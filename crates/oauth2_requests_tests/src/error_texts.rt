@@ -7,7 +7,7 @@ use std::error::Error;
 use std::io;
 use std::process::Abort;
 
-/// What a caller that knows no more than the bound shows.
+// What a caller that knows no more than the bound shows.
 fn is_displayed_as<E: Error + Drop>(rt: &(impl Abort + AllocGlobal), error: E, wanted: &str) {
     let shown = format!(in rt.alloc(); "{error}").expect(rt, "a text");
     is_text(rt, shown.as_str(), wanted);

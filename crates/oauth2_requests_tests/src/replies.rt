@@ -26,7 +26,7 @@ fn value_of(rt: &(impl Abort + AllocGlobal), bytes: &[u8]) -> HeaderValue {
     HeaderValue::from_bytes(rt.alloc(), bytes).expect(rt, "a header's value")
 }
 
-/// The head of a reply, without a header.
+// The head of a reply, without a header.
 fn head_of(rt: &(impl Abort + AllocGlobal), status: u16) -> Parts {
     let mut head = Parts::new(rt.alloc());
     head.status = StatusCode::from_u16(status).expect(rt, "a status");
@@ -59,7 +59,7 @@ pub fn says(rt: &(impl Abort + AllocGlobal), answer: TextResult, wanted: &str) {
     }
 }
 
-/// What is said of a reply whose body is a text.
+// What is said of a reply whose body is a text.
 fn answers(rt: &(impl Abort + AllocGlobal), status: u16, types: &[&[u8]], wanted: &str) {
     let reply = reply_of(rt, status, types, b"\"a token\"");
     says(rt, endpoint_response(rt.alloc(), reply), wanted);
@@ -84,7 +84,7 @@ fn replies_that_a_caller_got(rt: HostRuntime) {
     says(&rt, answer, JSON_FOO_REFUSED);
 }
 
-/// What is said of a reply where the status alone tells a success.
+// What is said of a reply where the status alone tells a success.
 fn answers_by_status(rt: &(impl Abort + AllocGlobal), status: u16, body: &str, wanted: &str) {
     let types = [b"application/octet-stream".as_slice()];
     let reply = reply_of(rt, status, &types, body.as_bytes());

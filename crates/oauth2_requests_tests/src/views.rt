@@ -10,7 +10,7 @@ fn header(rt: &(impl Abort + AllocGlobal), text: &str) -> HeaderValue {
     HeaderValue::from_str(rt.alloc(), text).expect(rt, "a header's value")
 }
 
-/// A request with this Authorization header alone.
+// A request with this Authorization header alone.
 fn request_with(rt: &(impl Abort + AllocGlobal), value: HeaderValue) -> HttpRequest {
     let mut request = Request::new(rt.alloc(), Vec::new(rt.alloc()));
     let _ = request
@@ -20,7 +20,7 @@ fn request_with(rt: &(impl Abort + AllocGlobal), value: HeaderValue) -> HttpRequ
     request
 }
 
-/// A server reads the two texts of a request with this header.
+// A server reads the two texts of a request with this header.
 fn reads(rt: &(impl Abort + AllocGlobal), value: HeaderValue, id: &str, secret: &str) {
     let request = request_with(rt, value);
     let view = server_view(rt.alloc(), &request).expect(rt, "a view");
@@ -52,7 +52,7 @@ fn bad_credentials(rt: HostRuntime) {
     }
 }
 
-/// A line for each pair.
+// A line for each pair.
 fn lines(rt: &(impl Abort + AllocGlobal), form: &[(String, String)]) -> String {
     let mut shown = String::new(rt.alloc());
     for (name, value) in form {

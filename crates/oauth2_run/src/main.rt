@@ -1,4 +1,5 @@
 //! Runs one command of a JSON script, with a client that answers from the script.
+
 #![tactic(auto)]
 
 mod exit;
@@ -10,7 +11,7 @@ use oauth2_commands::run_script;
 use std::io;
 use std::process::ExitCode;
 
-/// Nothing goes to standard error: a failure shows in the exit status alone.
+// Nothing goes to standard error: a failure shows in the exit status alone.
 fn main(rt: HostRuntime) -> ExitCode {
     let mut reader = rt.reader();
     let mut writer = io::writer(&rt);

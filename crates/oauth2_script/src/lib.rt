@@ -1,4 +1,5 @@
 //! The JSON scripts of the program: which bytes say which script.
+
 #![tactic(auto)]
 
 mod authorize_params;

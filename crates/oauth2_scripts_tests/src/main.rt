@@ -3,6 +3,7 @@
 //!
 //! A line that begins with `#` is a heading, and is shown as it is. The scripts stand in the file
 //! `stdin` beside `src`, and what is wanted of them in the file `stdout`.
+
 #![tactic(auto)]
 
 #[cfg(test)]

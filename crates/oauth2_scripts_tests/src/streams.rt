@@ -12,7 +12,7 @@ const SCRIPT: &str =
 const LINES: &str =
     "request POST https://example.com/token\nauthorization Basic YWFhOmJiYg==\nbody \"grant_type=authorization_code&code=ccc\"\nbasic \"aaa\" \"bbb\"\npair \"grant_type\" \"authorization_code\"\npair \"code\" \"ccc\"\nanswer ok {\"access_token\":\"12/34\",\"token_type\":\"bearer\"}\n";
 
-/// Gives the bytes one at a time, and fails at one of its reads.
+// Gives the bytes one at a time, and fails at one of its reads.
 #[derive(Drop)]
 struct FailingReader<'a> {
     left: &'a [u8],
@@ -37,7 +37,7 @@ impl Read for FailingReader<'_> {
     }
 }
 
-/// Gives a space at every call.
+// Gives a space at every call.
 #[derive(Drop)]
 struct EndlessReader {
     reads: u32,
@@ -56,7 +56,7 @@ impl Read for EndlessReader {
     }
 }
 
-/// Takes one byte at a call, and fails at one of its writes.
+// Takes one byte at a call, and fails at one of its writes.
 #[derive(Drop)]
 struct FailingWriter {
     taken: Vec<u8>,
@@ -129,7 +129,7 @@ fn writes_fail(rt: HostRuntime) -> Result<(), Fail> {
     Ok(())
 }
 
-/// A writer that fails at the first write after the last, so at none.
+// A writer that fails at the first write after the last, so at none.
 #[test]
 fn writes_end(rt: HostRuntime) -> Result<(), Fail> {
     let whole = LINES.len();
@@ -145,7 +145,7 @@ fn writes_end(rt: HostRuntime) -> Result<(), Fail> {
     Ok(())
 }
 
-/// Takes no byte, however often it is called.
+// Takes no byte, however often it is called.
 #[derive(Drop)]
 struct FullWriter;
 
@@ -169,7 +169,7 @@ fn nothing_is_taken(rt: HostRuntime) -> Result<(), Fail> {
     Ok(())
 }
 
-/// Takes every byte, and fails when it is flushed.
+// Takes every byte, and fails when it is flushed.
 #[derive(Drop)]
 struct UnflushedWriter {
     taken: Vec<u8>,

@@ -1,4 +1,5 @@
 //! The texts and secrets of an OAuth 2.0 client, and the code challenges of RFC 7636.
+
 #![tactic(auto)]
 
 mod access_token;

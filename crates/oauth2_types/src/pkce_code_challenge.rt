@@ -155,7 +155,7 @@ impl TryClone for PkceCodeChallenge {
     }
 }
 
-/// The debug text of a challenge that is its verifier.
+// The debug text of a challenge that is its verifier.
 fn debug_plain<W: fmt::Write>(f: &mut fmt::Formatter<W>) -> fmt::Result
     ensures writes { DisplaysOnOk W.write_str_gives f.old result (Some plain_debug) f.new }
     ensures styled { WritesStyledOnOk W.write_str_gives f.old result

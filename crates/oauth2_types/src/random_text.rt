@@ -11,7 +11,7 @@ use base64::engine::general_purpose::URL_SAFE_NO_PAD;
 use rand_core::Rng;
 use std::alloc::{AllocError, Global};
 
-/// The unpadded URL-safe base64 of the bytes.
+// The unpadded URL-safe base64 of the bytes.
 #[tactic(auto, unfolding(crate::specs::Pkce::base64url))]
 pub(crate) fn base64url(alloc: Global, bytes: &[u8]) -> Result<String, AllocError>
     ensures text { IfOk result (λ text. string_bytes text ≡ base64url bytes.now) }
@@ -20,7 +20,7 @@ pub(crate) fn base64url(alloc: Global, bytes: &[u8]) -> Result<String, AllocErro
     URL_SAFE_NO_PAD.encode(alloc, bytes)
 }
 
-/// The text of n random bytes, drawn by one call of the generator.
+// The text of n random bytes, drawn by one call of the generator.
 #[tactic(auto, using(crate::proofs::Lengths::lengths))]
 pub(crate) fn random_text<R: Rng>(alloc: Global, rng: &mut R, n: u32) -> Result<String, AllocError>
     ensures random { IfOk result (λ text. IsRandomText n (R.stream rng.old) (R.stream rng.new) (string_bytes text)) }
@@ -32,7 +32,7 @@ pub(crate) fn random_text<R: Rng>(alloc: Global, rng: &mut R, n: u32) -> Result<
     base64url(alloc, bytes.as_slice())
 }
 
-/// A verifier of n random bytes, which is 43 to 128 characters long.
+// A verifier of n random bytes, which is 43 to 128 characters long.
 pub(crate) fn random_verifier<R: Rng>(
     alloc: Global,
     rng: &mut R,

@@ -68,7 +68,7 @@ impl AddressedUrl {
         Ok(AddressedUrl { text, url })
     }
 
-    /// The name, and the text in quotes and parentheses.
+    // The name, and the text in quotes and parentheses.
     pub(crate) fn debug<W: fmt::Write>(&self, f: &mut fmt::Formatter<W>, name: &str) -> fmt::Result
         ensures { DisplaysOnOk W.write_str_gives f.old result (debug_variant name.now (debug_str self.now.text)) f.new }
     {

@@ -40,7 +40,7 @@ fn tells(rt: &impl Abort, client: &CodeClient, rule: ReplyRule) {
     is_equal(rt, client.reply_rule(), rule);
 }
 
-/// The client and its copy tell the same.
+// The client and its copy tell the same.
 fn copy_tells(rt: &(impl Abort + AllocGlobal), client: &CodeClient, rule: ReplyRule) {
     tells(rt, client, rule);
     let copy = client.try_clone(rt.alloc()).expect(rt, "a copy");

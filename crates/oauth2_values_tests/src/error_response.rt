@@ -37,7 +37,7 @@ fn code_of_any_text(rt: HostRuntime) {
     is_refused::<TextErrorResponseType>(&rt, "1", "", ParseCause::WrongType);
 }
 
-/// What a caller that knows no more than the bound shows.
+// What a caller that knows no more than the bound shows.
 fn is_shown_as<E: ErrorResponse>(rt: &(impl Abort + AllocGlobal), response: &E, wanted: &str) {
     is_displayed_as(rt, response, wanted);
 }
@@ -69,8 +69,8 @@ fn body_is_utf8(rt: HostRuntime) {
     assert!(rt; is_fault(read, "", ParseCause::NotJson));
 }
 
-/// An error response with a member whose value is this many lists, each but the last around the
-/// next.
+// An error response with a member whose value is this many lists, each but the last around the
+// next.
 fn nested(rt: &(impl Abort + AllocGlobal), lists: usize) -> String {
     let open = "[".repeat(rt.alloc(), lists).expect(rt, "a text");
     let close = "]".repeat(rt.alloc(), lists).expect(rt, "a text");

@@ -5,12 +5,12 @@ use oauth2::{ParseCause, ParseFault, ReadError, WriteError};
 use std::error::Error;
 use std::process::Abort;
 
-/// What a caller that knows no more than the bound shows.
+// What a caller that knows no more than the bound shows.
 fn is_error<E: Error>(rt: &(impl Abort + AllocGlobal), error: &E, wanted: &str) {
     is_displayed_as(rt, error, wanted);
 }
 
-/// The cause is shown as this text, in a fault that names no member too.
+// The cause is shown as this text, in a fault that names no member too.
 fn is_cause(rt: &(impl Abort + AllocGlobal), cause: ParseCause, wanted: &str) {
     is_displayed_as(rt, &cause, wanted);
     let member = text(rt, "");

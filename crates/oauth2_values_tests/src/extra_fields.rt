@@ -44,7 +44,7 @@ fn members_that_are_left(rt: HostRuntime) {
     is_refused::<ExtraFields>(&rt, "[]", "", ParseCause::NotObject);
 }
 
-/// A token response with these extra fields.
+// A token response with these extra fields.
 fn with_raw(rt: &(impl Abort + AllocGlobal), fields: &str) -> RawToken {
     let extra_fields = read::<ExtraFields>(rt, fields);
     let access_token = AccessToken::new(text(rt, "t"));

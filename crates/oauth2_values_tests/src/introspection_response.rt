@@ -16,7 +16,7 @@ fn time(rt: &impl Abort, nanosecond: i128) -> Timestamp {
     Timestamp::from_nanosecond(nanosecond).expect(rt, "a time")
 }
 
-/// Times are set as they are, and written as whole seconds, rounded down.
+// Times are set as they are, and written as whole seconds, rounded down.
 #[test]
 fn times_are_set(rt: HostRuntime) {
     let exp = time(&rt, 3_999_999_999);

@@ -24,7 +24,7 @@ fn ascii_letters_are_lowered(rt: HostRuntime) {
     is_written_as(&rt, &read, r#""Äb""#);
 }
 
-/// How many scopes the value reads to.
+// How many scopes the value reads to.
 fn count_of(rt: &(impl Abort + AllocGlobal), value: Value) -> Option<usize> {
     let read = deserialize_space_delimited_vec::<Scope>(rt.alloc(), value).expect(
         rt,
@@ -36,7 +36,7 @@ fn count_of(rt: &(impl Abort + AllocGlobal), value: Value) -> Option<usize> {
     }
 }
 
-/// The list is written as this text, which reads to so many scopes.
+// The list is written as this text, which reads to so many scopes.
 fn is_split(
     rt: &(impl Abort + AllocGlobal),
     scopes: Option<Vec<Scope>>,
@@ -56,7 +56,7 @@ fn scopes_are_split_at_every_space(rt: HostRuntime) {
     is_split(&rt, Some(scope_list(&rt, "a b")), r#""a b""#, Some(2));
 }
 
-/// The text reads to an audience that is written as this one.
+// The text reads to an audience that is written as this one.
 fn audience_is_written_as(rt: &(impl Abort + AllocGlobal), text: &str, wanted: &str) {
     let list = deserialize_optional_string_or_vec_string(rt.alloc(), parsed(rt, text)).expect(
         rt, "a list",
@@ -98,7 +98,7 @@ fn variants_have_names(rt: HostRuntime) {
     is_text(&rt, variant_name(&Plain), "Plain");
 }
 
-/// The time is written as this second, and this second reads to a time.
+// The time is written as this second, and this second reads to a time.
 fn is_second(rt: &(impl Abort + AllocGlobal), nanosecond: i128, second: &str) {
     let at = Timestamp::from_nanosecond(nanosecond).expect(rt, "a time");
     let value = members::time_value(Some(at)).expect(rt, "a value");
@@ -119,7 +119,7 @@ fn times_are_whole_seconds_rounded_down(rt: HostRuntime) {
     }
 }
 
-/// The text of a member that may be absent, but not null.
+// The text of a member that may be absent, but not null.
 #[test]
 fn members_that_are_not_null(rt: HostRuntime) {
     let word = Some(parsed(&rt, r#""x""#));

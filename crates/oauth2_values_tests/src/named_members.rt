@@ -84,7 +84,7 @@ fn named_members_are_told(rt: HostRuntime) {
     assert!(rt; confirmation.is_array());
 }
 
-/// The lifetime is there, and no other member.
+// The lifetime is there, and no other member.
 fn is_lifetime_alone(rt: &impl Abort, fields: &IdentityFields) {
     assert!(rt; fields.value().is_none());
     let rest = fields.rest();
@@ -135,8 +135,8 @@ fn members_of_another_kind_are_refused(rt: HostRuntime) {
     }
 }
 
-/// Responses with these fields are written with them. (Generic, so that what the fields are is
-/// proved once, at the call, and not at each type of response.)
+// Responses with these fields are written with them. (Generic, so that what the fields are is
+// proved once, at the call, and not at each type of response.)
 fn identity_is_written<Fields: ExtraTokenFields + TryClone + Drop>(
     rt: &(impl Abort + AllocGlobal),
 ) {

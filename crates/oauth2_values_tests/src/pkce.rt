@@ -6,10 +6,10 @@ use oauth2_refused_memory_values_tests::{Repeated, VERIFIER};
 use std::alloc::AllocError;
 use std::process::Abort;
 
-/// The challenge of RFC 7636, appendix B.
+// The challenge of RFC 7636, appendix B.
 const CHALLENGE: &str = "E9Melhoa2OwvFrEMTJguCHaoeK1t8URWbuGJSstw-cM";
 
-/// The text, the method and the debug text of a challenge.
+// The text, the method and the debug text of a challenge.
 fn is_challenge(
     rt: &(impl Abort + AllocGlobal),
     challenge: &PkceCodeChallenge,
@@ -92,14 +92,14 @@ fn random_states(rt: HostRuntime) {
     }
 }
 
-/// Of 96 zero bytes.
+// Of 96 zero bytes.
 const LONGEST: &str =
     "AAAAAAAAAAAAAAAAAAAAAAAAAAAAAAAAAAAAAAAAAAAAAAAAAAAAAAAAAAAAAAAAAAAAAAAAAAAAAAAAAAAAAAAAAAAAAAAAAAAAAAAAAAAAAAAAAAAAAAAAAAAAAAAA";
 
-/// Of 32 zero bytes.
+// Of 32 zero bytes.
 const SHORTEST: &str = "AAAAAAAAAAAAAAAAAAAAAAAAAAAAAAAAAAAAAAAAAAA";
 
-/// The texts of a challenge and of its verifier.
+// The texts of a challenge and of its verifier.
 fn is_pair(
     rt: &impl Abort,
     made: Result<(PkceCodeChallenge, PkceCodeVerifier), AllocError>,
@@ -111,7 +111,7 @@ fn is_pair(
     is_text(rt, made_verifier.secret().as_str(), verifier);
 }
 
-/// The challenges by SHA-256 are those that Python's `hashlib` makes.
+// The challenges by SHA-256 are those that Python's `hashlib` makes.
 #[test]
 fn random_challenges(rt: HostRuntime) {
     let longest = PkceCodeChallenge::new_random_sha256_len(rt.alloc(), &mut Repeated(0), 96);

@@ -5,7 +5,7 @@ use oauth2::helpers::variant_name;
 use oauth2::{AccessToken, RefreshToken, RevocableToken, StandardRevocableToken};
 use std::process::Abort;
 
-/// The secret, the hint and the name of a token.
+// The secret, the hint and the name of a token.
 fn tells(
     rt: &impl Abort,
     token: &StandardRevocableToken,

@@ -74,7 +74,7 @@ fn texts_of_secrets(rt: HostRuntime) {
     is_text(&rt, secret.into_secret().as_str(), "top_secret");
 }
 
-/// Two secrets with the same text are equal.
+// Two secrets with the same text are equal.
 fn equal_texts(a: &AccessToken, b: &AccessToken) -> bool
     requires { a.now ≡ b.now }
     ensures { IsTrue result }
@@ -82,7 +82,7 @@ fn equal_texts(a: &AccessToken, b: &AccessToken) -> bool
     a == b
 }
 
-/// Equality is reflexive, symmetric and transitive.
+// Equality is reflexive, symmetric and transitive.
 fn is_lawful<T: Eq>(a: &T, b: &T, c: &T) -> bool
     ensures { IsTrue result }
 {

@@ -26,7 +26,7 @@ fn parsed(rt: &(impl Abort + AllocGlobal)) -> Url {
     Url::parse(rt.alloc(), GIVEN).expect(rt, "a URL")
 }
 
-/// The texts of a URL, its copy, and its order below one that is made of what it parses to.
+// The texts of a URL, its copy, and its order below one that is made of what it parses to.
 fn compares<T: Debug + Display + Ord + Hash + TryClone + Drop, U: Fn(&T) -> &Url>(
     rt: &(impl Abort + AllocGlobal),
     given: Result<T, ParseError>,
@@ -106,7 +106,7 @@ fn refused_urls(rt: HostRuntime) {
     assert!(rt; matches!(refused, Err(ParseError::RelativeUrlWithoutBase)));
 }
 
-/// Order and equality agree.
+// Order and equality agree.
 fn is_lawful<T: Ord>(a: &T, b: &T) -> bool
     ensures { IsTrue result }
 {

@@ -1,4 +1,5 @@
 //! Why a request could not be made, was not sent, or got no answer.
+
 use oauth2_codes::{BasicErrorResponseType, StandardErrorResponse};
 use oauth2_json::ParseFault;
 use std::alloc::AllocError;

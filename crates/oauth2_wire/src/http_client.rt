@@ -1,4 +1,5 @@
 //! The caller's HTTP client.
+
 use crate::request::HttpRequest;
 use http::Response;
 use std::marker::{Model, PhantomData};

@@ -1,4 +1,5 @@
 //! One request and its answer.
+
 ghost use Rattle.oauth2_wire.specs.Reply.{reply_of, answer_of, status_answer_of};
 ghost use Rattle.oauth2_wire.specs.OneShot.{SendsOnce, IsUnsentError};
 ghost use Rattle.oauth2_wire.specs.private.Call.{IsCallOf};

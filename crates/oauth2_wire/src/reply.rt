@@ -1,4 +1,5 @@
 //! What a reply says (RFC 6749, sections 5.1 and 5.2).
+
 ghost use Rattle.std.specs.Prelude.{◌≡◌, ◌==◌};
 ghost use Rattle.oauth2_wire.specs.declared.content_type.ReplyRule.TheVariants.{Prefix};
 ghost use Rattle.oauth2_wire.specs.ContentType.{unexpected_type_text};

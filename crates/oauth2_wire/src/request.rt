@@ -1,4 +1,5 @@
 //! The requests of a client: a POST of a form to an endpoint (RFC 6749, sections 2.3.1 and 3.2).
+
 ghost use Rattle.std.specs.Prelude.{◌≡◌, ◌<◌, [], ◌∷◌, ◌++◌, length, map, codes, IfOk, IsErr, OnOk, Err, option_copied, option_and_then, option_map};
 ghost use Rattle.form_urlencoded.specs.Form.{pair_text};
 ghost use Rattle.http_header.specs.HeaderMap.{insert, value_count};

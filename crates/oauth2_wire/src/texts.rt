@@ -1,4 +1,5 @@
 //! Texts and redirect URLs that are borrowed or owned.
+
 ghost use Rattle.std.specs.Prelude.{◌≡◌, string_bytes};
 ghost use Rattle.oauth2_wire.specs.Texts.{param_bytes, redirect_of};
 

@@ -1,4 +1,5 @@
 //! A request as a server that only decodes reads it.
+
 ghost use Rattle.std.specs.Prelude.{◌≡◌, ◌<◌, ◌==◌, length, position, IfSome, None, Some, Err, map, option_map, IfOk, string_bytes};
 ghost use Rattle.std.specs.Str.Lossy.{utf8_lossy};
 ghost use Rattle.form_urlencoded.specs.Form.{decode as decoded};

@@ -1,5 +1,6 @@
 //! What a script's run takes place in: a client and a clock that answer from the script, and the
 //! lines of what they are asked.
+
 #![tactic(auto)]
 
 mod clock;
