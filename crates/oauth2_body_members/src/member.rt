@@ -33,7 +33,8 @@ pub(crate) fn take(list: &mut Vec<Member<'_>>, name: &str) -> Option<Value>
 // Takes the value of a member of that name.
 fn take_value(member: &mut Member<'_>, name: &str) -> Option<Value>
     ensures found { option_map view result
-        ≡ (if bytes_eq member.old.name.now name.now then option_map view member.old.value else None) }
+        ≡ (if bytes_eq member.old.name.now name.now
+        then option_map view member.old.value else None) }
     ensures left { member.new ≡ blank_at name.now member.old }
 {
     if member.name == name {

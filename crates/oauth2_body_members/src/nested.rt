@@ -1,7 +1,8 @@
 //! Values that a text holds, as `serde_json` has them.
 
 ghost use Rattle.std.specs.Prelude.{◌≡◌, is_some};
-ghost use Rattle.json.specs.Value.{value_view, items_view as texts_view, members_view as named_view};
+ghost use Rattle.json.specs.Value.{value_view, items_view as texts_view};
+ghost use Rattle.json.specs.Value.{members_view as named_view};
 ghost use Rattle.serde_json.specs.Data.{no_members};
 ghost use Rattle.serde_json.specs.Read.{of_json, of_items, of_members};
 ghost use Rattle.serde_json.specs.View.{view, items_view, members_view};

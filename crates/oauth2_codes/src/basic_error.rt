@@ -1,8 +1,11 @@
 //! The codes of error responses (RFC 6749, section 5.2).
 
 ghost use Rattle.std.specs.Prelude.{◌≡◌, ℕ, List, Ok, Some, string_bytes};
+ghost use Rattle.std.specs.Fmt.{DisplaysOnOk, WritesStyledOnOk};
 ghost use Rattle.serde_json.specs.Data.{string};
-ghost use Rattle.oauth2_codes.specs.ErrorCodes.{ErrorCode, error_code, error_code_of, error_code_text, error_code_reading, error_canonical};
+ghost use Rattle.oauth2_codes.specs.ErrorCodes.{ErrorCode, error_code, error_code_of};
+ghost use Rattle.oauth2_codes.specs.ErrorCodes.{error_code_text, error_code_reading};
+ghost use Rattle.oauth2_codes.specs.ErrorCodes.{error_canonical};
 
 use crate::error_traits::ErrorResponseType;
 use oauth2_json::{FromJson, ReadError, ToJson, WriteError};
@@ -111,6 +114,8 @@ impl TryClone for BasicErrorResponseType {
 impl fmt::Display for BasicErrorResponseType {
     ghost output = { λ e. Some (error_code_text (error_code e)) };
 
+    ghost styled_output = { λ e _. Some (error_code_text (error_code e)) };
+
     fn fmt<W: fmt::Write>(&self, f: &mut fmt::Formatter<W>) -> fmt::Result {
         f.write_str(self.as_str())
     }
@@ -119,15 +124,21 @@ impl fmt::Display for BasicErrorResponseType {
 impl fmt::Debug for BasicErrorResponseType {
     ghost debug_output = { λ e. Some (error_code_text (error_code e)) };
 
-    fn fmt<W: fmt::Write>(&self, f: &mut fmt::Formatter<W>) -> fmt::Result {
-        f.write_str(self.as_str())
+    fn fmt<W: fmt::Write>(&self, f: &mut fmt::Formatter<W>) -> fmt::Result
+        ensures writes { DisplaysOnOk W.write_str_gives f.old result
+            (Some (error_code_text (error_code self.now))) f.new }
+        // Whatever options the formatter has, as under `{:#?}`.
+        ensures styled { WritesStyledOnOk W.write_str_gives f.old result
+            (error_code_text (error_code self.now)) f.new }
+    {
+        fmt::Display::fmt(self, f)
     }
 }
 
 impl ErrorResponseType for BasicErrorResponseType {}
 
-/// Writing what was read from a text gives that text, and what a variant is written as reads back as
-/// its canonical form, which reads back as itself.
+/// Writing what was read from a text gives that text, and what a variant is written as reads back
+/// as its canonical form, which reads back as itself.
 pub fn basic_error_laws()
     ensures text { (s : List ℕ) → error_code_text (error_code_of s) ≡ s }
     ensures back { (c : ErrorCode)

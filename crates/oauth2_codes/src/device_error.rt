@@ -1,8 +1,11 @@
 //! The codes of error responses while a device polls (RFC 8628, section 3.5).
 
 ghost use Rattle.std.specs.Prelude.{◌≡◌, ℕ, List, Ok, Some, string_bytes};
+ghost use Rattle.std.specs.Fmt.{DisplaysOnOk, WritesStyledOnOk};
 ghost use Rattle.serde_json.specs.Data.{string};
-ghost use Rattle.oauth2_codes.specs.ErrorCodes.{DeviceErrorCode, device_error_code, device_error_code_of, device_error_code_text, device_error_code_reading, device_error_canonical};
+ghost use Rattle.oauth2_codes.specs.ErrorCodes.{DeviceErrorCode, device_error_code};
+ghost use Rattle.oauth2_codes.specs.ErrorCodes.{device_error_code_of, device_error_code_text};
+ghost use Rattle.oauth2_codes.specs.ErrorCodes.{device_error_code_reading, device_error_canonical};
 
 use crate::basic_error::BasicErrorResponseType;
 use crate::error_traits::ErrorResponseType;
@@ -18,7 +21,8 @@ use std::fmt;
 pub enum DeviceCodeErrorResponseType {
     /// The user has not decided yet; a poll goes on.
     AuthorizationPending,
-    /// The same, and five seconds more between two requests from now on.
+    /// The user has not decided yet; a poll goes on, and waits five seconds longer between two
+    /// requests from now on.
     SlowDown,
     /// The user refused.
     AccessDenied,
@@ -104,6 +108,8 @@ impl TryClone for DeviceCodeErrorResponseType {
 impl fmt::Display for DeviceCodeErrorResponseType {
     ghost output = { λ e. Some (device_error_code_text (device_error_code e)) };
 
+    ghost styled_output = { λ e _. Some (device_error_code_text (device_error_code e)) };
+
     fn fmt<W: fmt::Write>(&self, f: &mut fmt::Formatter<W>) -> fmt::Result {
         f.write_str(self.as_str())
     }
@@ -112,19 +118,26 @@ impl fmt::Display for DeviceCodeErrorResponseType {
 impl fmt::Debug for DeviceCodeErrorResponseType {
     ghost debug_output = { λ e. Some (device_error_code_text (device_error_code e)) };
 
-    fn fmt<W: fmt::Write>(&self, f: &mut fmt::Formatter<W>) -> fmt::Result {
-        f.write_str(self.as_str())
+    fn fmt<W: fmt::Write>(&self, f: &mut fmt::Formatter<W>) -> fmt::Result
+        ensures writes { DisplaysOnOk W.write_str_gives f.old result
+            (Some (device_error_code_text (device_error_code self.now))) f.new }
+        // Whatever options the formatter has, as under `{:#?}`.
+        ensures styled { WritesStyledOnOk W.write_str_gives f.old result
+            (device_error_code_text (device_error_code self.now)) f.new }
+    {
+        fmt::Display::fmt(self, f)
     }
 }
 
 impl ErrorResponseType for DeviceCodeErrorResponseType {}
 
-/// Writing what was read from a text gives that text, and what a variant is written as reads back as
-/// its canonical form, which reads back as itself.
+/// Writing what was read from a text gives that text, and what a variant is written as reads back
+/// as its canonical form, which reads back as itself.
 pub fn device_code_error_laws()
     ensures text { (s : List ℕ) → device_error_code_text (device_error_code_of s) ≡ s }
     ensures back { (c : DeviceErrorCode)
-        → device_error_code_reading (string (device_error_code_text c)) ≡ Ok (device_error_canonical c) }
+        → device_error_code_reading (string (device_error_code_text c))
+        ≡ Ok (device_error_canonical c) }
     ensures once { (c : DeviceErrorCode)
         → device_error_canonical (device_error_canonical c) ≡ device_error_canonical c }
 {}

@@ -12,6 +12,7 @@ use crate::revocation_error::RevocationErrorResponseType;
 use oauth2_body_members::Object;
 use oauth2_json::{FromJson, ReadError, ToJson, WriteError, members};
 use oauth2_types::TryClone;
+use oauth2_types::display::write_display;
 use serde_json::{Map, Value};
 use std::alloc::{AllocError, Global};
 use std::fmt;
@@ -35,7 +36,8 @@ impl<T> StandardErrorResponse<T> {
         error_uri: Option<String>,
     ) -> StandardErrorResponse<T>
         ensures { parts_of (λ t. t) result
-            ≡ parts error (option_map string_bytes error_description) (option_map string_bytes error_uri) }
+            ≡ parts error (option_map string_bytes error_description)
+            (option_map string_bytes error_uri) }
     {
         StandardErrorResponse {
             error,
@@ -61,7 +63,8 @@ impl<T> StandardErrorResponse<T> {
 
     /// A page about it, for the same reader.
     pub fn error_uri(&self) -> Option<&String>
-        ensures { option_map string_bytes (option_copied result) ≡ (parts_of (λ t. t) self.now).uri }
+        ensures { option_map string_bytes (option_copied result)
+            ≡ (parts_of (λ t. t) self.now).uri }
     {
         self.error_uri.as_ref()
     }
@@ -128,7 +131,8 @@ impl<T: FromJson + ToJson> ToJson for StandardErrorResponse<T> {
     ghost use Rattle.std.specs.Prelude.{◌≡◌, Ok, IfOk};
     ghost use Rattle.serde_json.specs.View.{view};
     ghost use Rattle.oauth2_json.specs.Writing.{WritesAs};
-    ghost use Rattle.oauth2_codes.specs.ErrorResponse.{parts_of, error_writing, error_reading, IsReadBack};
+    ghost use Rattle.oauth2_codes.specs.ErrorResponse.{parts_of, error_writing, error_reading};
+    ghost use Rattle.oauth2_codes.specs.ErrorResponse.{IsReadBack};
 
     ghost writing = { λ r. error_writing T.writing (parts_of (λ t. t) r) };
 
@@ -164,15 +168,20 @@ impl<T: fmt::Display> fmt::Display for StandardErrorResponse<T> {
 
     ghost output = { λ r. let p = parts_of (λ t. t) r in error_text (T.output p.error) p };
 
+    ghost styled_output = { λ r _. let p = parts_of (λ t. t) r in error_text (T.output p.error) p };
+
     fn fmt<W: fmt::Write>(&self, f: &mut fmt::Formatter<W>) -> fmt::Result {
-        write!(f, "{}", self.error)?;
-        if let Some(description) = &self.error_description {
-            write!(f, ": {description}")?;
+        let error = &self.error;
+        let description = &self.error_description;
+        match (description, &self.error_uri) {
+            (None, None) => write_display(f, error),
+            (Some(text), None) => write_display(f, format_args!("{error}: {text}")),
+            (None, Some(uri)) => write_display(f, format_args!("{error} (see {uri})")),
+            (Some(text), Some(uri)) => write_display(
+                f,
+                format_args!("{error}: {text} (see {uri})"),
+            ),
         }
-        if let Some(uri) = &self.error_uri {
-            write!(f, " (see {uri})")?;
-        }
-        Ok(())
     }
 }
 

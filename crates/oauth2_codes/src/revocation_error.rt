@@ -1,8 +1,13 @@
 //! The codes of error responses to a revocation (RFC 7009, section 2.2.1).
 
 ghost use Rattle.std.specs.Prelude.{◌≡◌, ℕ, List, Ok, Some, string_bytes};
+ghost use Rattle.std.specs.Fmt.{DisplaysOnOk, WritesStyledOnOk};
 ghost use Rattle.serde_json.specs.Data.{string};
-ghost use Rattle.oauth2_codes.specs.ErrorCodes.{RevocationErrorCode, revocation_error_code, revocation_error_code_of, revocation_error_code_text, revocation_error_code_reading, revocation_error_canonical};
+ghost use Rattle.oauth2_codes.specs.ErrorCodes.{RevocationErrorCode, revocation_error_code};
+ghost use Rattle.oauth2_codes.specs.ErrorCodes.{revocation_error_code_of};
+ghost use Rattle.oauth2_codes.specs.ErrorCodes.{revocation_error_code_text};
+ghost use Rattle.oauth2_codes.specs.ErrorCodes.{revocation_error_code_reading};
+ghost use Rattle.oauth2_codes.specs.ErrorCodes.{revocation_error_canonical};
 
 use crate::basic_error::BasicErrorResponseType;
 use crate::error_traits::ErrorResponseType;
@@ -85,6 +90,8 @@ impl TryClone for RevocationErrorResponseType {
 impl fmt::Display for RevocationErrorResponseType {
     ghost output = { λ e. Some (revocation_error_code_text (revocation_error_code e)) };
 
+    ghost styled_output = { λ e _. Some (revocation_error_code_text (revocation_error_code e)) };
+
     fn fmt<W: fmt::Write>(&self, f: &mut fmt::Formatter<W>) -> fmt::Result {
         f.write_str(self.as_str())
     }
@@ -93,19 +100,27 @@ impl fmt::Display for RevocationErrorResponseType {
 impl fmt::Debug for RevocationErrorResponseType {
     ghost debug_output = { λ e. Some (revocation_error_code_text (revocation_error_code e)) };
 
-    fn fmt<W: fmt::Write>(&self, f: &mut fmt::Formatter<W>) -> fmt::Result {
-        f.write_str(self.as_str())
+    fn fmt<W: fmt::Write>(&self, f: &mut fmt::Formatter<W>) -> fmt::Result
+        ensures writes { DisplaysOnOk W.write_str_gives f.old result
+            (Some (revocation_error_code_text (revocation_error_code self.now))) f.new }
+        // Whatever options the formatter has, as under `{:#?}`.
+        ensures styled { WritesStyledOnOk W.write_str_gives f.old result
+            (revocation_error_code_text (revocation_error_code self.now)) f.new }
+    {
+        fmt::Display::fmt(self, f)
     }
 }
 
 impl ErrorResponseType for RevocationErrorResponseType {}
 
-/// Writing what was read from a text gives that text, and what a variant is written as reads back as
-/// its canonical form, which reads back as itself.
+/// Writing what was read from a text gives that text, and what a variant is written as reads back
+/// as its canonical form, which reads back as itself.
 pub fn revocation_error_laws()
     ensures text { (s : List ℕ) → revocation_error_code_text (revocation_error_code_of s) ≡ s }
     ensures back { (c : RevocationErrorCode)
-        → revocation_error_code_reading (string (revocation_error_code_text c)) ≡ Ok (revocation_error_canonical c) }
+        → revocation_error_code_reading (string (revocation_error_code_text c))
+        ≡ Ok (revocation_error_canonical c) }
     ensures once { (c : RevocationErrorCode)
-        → revocation_error_canonical (revocation_error_canonical c) ≡ revocation_error_canonical c }
+        → revocation_error_canonical (revocation_error_canonical c)
+        ≡ revocation_error_canonical c }
 {}

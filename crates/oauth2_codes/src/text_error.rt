@@ -1,6 +1,7 @@
 //! Codes of error responses that are any text, for servers with codes of their own.
 
 ghost use Rattle.std.specs.Prelude.{◌≡◌, ℕ, List, Ok, Some, string_bytes};
+ghost use Rattle.std.specs.Fmt.{DisplaysOnOk, WritesStyledOnOk};
 ghost use Rattle.serde_json.specs.Data.{string};
 ghost use Rattle.oauth2_json.specs.Values.{text};
 
@@ -57,6 +58,8 @@ impl TryClone for TextErrorResponseType {
 impl fmt::Display for TextErrorResponseType {
     ghost output = { λ e. Some (string_bytes e.0) };
 
+    ghost styled_output = { λ e _. Some (string_bytes e.0) };
+
     fn fmt<W: fmt::Write>(&self, f: &mut fmt::Formatter<W>) -> fmt::Result {
         f.write_str(self.as_str())
     }
@@ -65,8 +68,14 @@ impl fmt::Display for TextErrorResponseType {
 impl fmt::Debug for TextErrorResponseType {
     ghost debug_output = { λ e. Some (string_bytes e.0) };
 
-    fn fmt<W: fmt::Write>(&self, f: &mut fmt::Formatter<W>) -> fmt::Result {
-        f.write_str(self.as_str())
+    fn fmt<W: fmt::Write>(&self, f: &mut fmt::Formatter<W>) -> fmt::Result
+        ensures writes { DisplaysOnOk W.write_str_gives f.old result
+            (Some (string_bytes self.now.0)) f.new }
+        // Whatever options the formatter has, as under `{:#?}`.
+        ensures styled { WritesStyledOnOk W.write_str_gives f.old result
+            (string_bytes self.now.0) f.new }
+    {
+        fmt::Display::fmt(self, f)
     }
 }
 

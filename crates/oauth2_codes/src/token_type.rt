@@ -2,7 +2,8 @@
 
 ghost use Rattle.std.specs.Prelude.{◌≡◌, ℕ, List, Ok, string_bytes};
 ghost use Rattle.serde_json.specs.Data.{string};
-ghost use Rattle.oauth2_codes.specs.Codes.{TokenCode, token_code, token_code_of, token_code_text, token_code_reading, canonical};
+ghost use Rattle.oauth2_codes.specs.Codes.{TokenCode, token_code, token_code_of, token_code_text};
+ghost use Rattle.oauth2_codes.specs.Codes.{token_code_reading, canonical};
 
 use oauth2_json::{FromJson, ReadError, ToJson, WriteError};
 use oauth2_types::TryClone;
@@ -11,7 +12,8 @@ use std::alloc::{AllocError, Global};
 use std::convert::AsStr;
 use std::fmt;
 
-/// A token type by its text, case and all.
+/// A token type, told apart by its exact text: `BEARER` is not `Bearer` but an `Extension`. The
+/// responses lower the ASCII letters before they read it.
 #[derive(Debug, PartialEq, Eq, Drop)]
 pub enum BasicTokenType {
     /// `bearer` (RFC 6750).
@@ -83,7 +85,8 @@ impl TryClone for BasicTokenType {
     }
 }
 
-/// The type of a token. Copies read and are written alike.
+/// The type of a token. A copy (`TryClone`) means the same to contracts, and is written as the
+/// same JSON, as the original.
 pub trait TokenType: FromJson + ToJson + fmt::Debug + PartialEq + TryClone {
     ghost use Rattle.std.specs.Prelude.{◌≡◌};
 
@@ -102,10 +105,11 @@ impl TokenType for BasicTokenType {
     ghost copies_are_written_alike = { λ a b h. ap (λ c. Ok (string (token_code_text c))) h };
 }
 
-/// Writing what was read from a text gives that text, and what a variant is written as reads back as
-/// its canonical form, which reads back as itself.
+/// Writing what was read from a text gives that text, and what a variant is written as reads back
+/// as its canonical form, which reads back as itself.
 pub fn token_type_laws()
     ensures text { (s : List ℕ) → token_code_text (token_code_of s) ≡ s }
-    ensures back { (c : TokenCode) → token_code_reading (string (token_code_text c)) ≡ Ok (canonical c) }
+    ensures back { (c : TokenCode) → token_code_reading (string (token_code_text c))
+        ≡ Ok (canonical c) }
     ensures once { (c : TokenCode) → canonical (canonical c) ≡ canonical c }
 {}

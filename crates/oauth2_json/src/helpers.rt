@@ -1,6 +1,7 @@
 //! Readers and writers of single values, for types that hold such members.
 
-ghost use Rattle.std.specs.Prelude.{◌≡◌, ◌↔◌, ℕ, List, [], Ok, IsTrue, IfOk, IfSome, map, option_map, string_bytes};
+ghost use Rattle.std.specs.Prelude.{◌≡◌, ◌↔◌, ℕ, List, [], Ok, IsTrue, IfOk, IfSome, map};
+ghost use Rattle.std.specs.Prelude.{option_map, string_bytes};
 ghost use Rattle.serde_json.specs.View.{view};
 ghost use Rattle.oauth2_json.specs.Helpers.{nullable, words_data};
 ghost use Rattle.oauth2_json.specs.Reading.{ReadsAs, at_member};
@@ -26,7 +27,8 @@ pub fn deserialize_untagged_enum_case_insensitive<T: FromJson>(
     Ok(read)
 }
 
-/// Reads a text, split at every space (RFC 6749, section 3.3); null is none. A fault names no member.
+/// Reads a text and splits it at every space (RFC 6749, section 3.3); null reads as `None`. The
+/// error names no member.
 pub fn deserialize_space_delimited_vec<T: FromJson + Drop>(
     alloc: Global,
     value: Value,

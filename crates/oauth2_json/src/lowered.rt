@@ -35,7 +35,8 @@ pub fn needed_lowered<T: FromJson>(
     name: &str,
     found: Option<Value>,
 ) -> Result<T, ReadError>
-    ensures { ReadsAs T.meaning result (needed (lowered T.reading) name.now (option_map view found)) }
+    ensures { ReadsAs T.meaning result
+        (needed (lowered T.reading) name.now (option_map view found)) }
 {
     let Lowered(read) = member_readers::needed::<Lowered<T>>(alloc, name, found)?;
     Ok(read)

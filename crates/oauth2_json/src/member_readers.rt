@@ -3,16 +3,17 @@
 ghost use Rattle.std.specs.Prelude.{◌≡◌, option_map};
 ghost use Rattle.serde_json.specs.Find.{get_member};
 ghost use Rattle.serde_json.specs.View.{view, members_view};
-ghost use Rattle.oauth2_json.specs.Reading.{ReadsAs, at_member};
-ghost use Rattle.oauth2_json.specs.Members.{members_of_object, without, needed, optional, present, either_name};
+ghost use Rattle.oauth2_json.specs.Reading.{ReadsAs, ReadsExactly, at_member};
+ghost use Rattle.oauth2_json.specs.Members.{members_of_object, without, needed, optional, present};
+ghost use Rattle.oauth2_json.specs.Members.{either_name};
 
 use crate::read::{FromJson, ParseCause, ReadError};
 use serde_json::{Map, Value};
 use std::alloc::Global;
 
-/// The members of an object.
+/// The members of an object. Takes no memory.
 pub fn of_object(alloc: Global, value: Value) -> Result<Map<String, Value>, ReadError>
-    ensures { ReadsAs (λ m. members_view m.entries) result (members_of_object (view value)) }
+    ensures { ReadsExactly (λ m. members_view m.entries) result (members_of_object (view value)) }
 {
     match value {
         Value::Object(members) => Ok(members),
@@ -22,8 +23,10 @@ pub fn of_object(alloc: Global, value: Value) -> Result<Map<String, Value>, Read
 
 /// Takes the member out.
 pub fn take(members: &mut Map<String, Value>, name: &str) -> Option<Value>
-    ensures found { option_map view result ≡ get_member name.now (members_view members.old.entries) }
-    ensures rest { members_view members.new.entries ≡ without name.now (members_view members.old.entries) }
+    ensures found { option_map view result
+        ≡ get_member name.now (members_view members.old.entries) }
+    ensures rest { members_view members.new.entries
+        ≡ without name.now (members_view members.old.entries) }
 {
     members.remove(name)
 }

@@ -31,7 +31,8 @@ fn clashes(own: &[&str], members: &Map<String, Value>) -> bool
     false
 }
 
-/// The members that stand beside a type's own: none of them bears an own name or holds a float.
+/// Takes the members out of `extra`, to be written next to a type's own. `NameClash` if `extra` is
+/// not an object or one of them has a name in `own`, `Float` if one holds a float.
 pub fn beside(own: &[&str], extra: Value) -> Result<Map<String, Value>, WriteError>
     ensures { GivesAs (λ m. members_view m.entries) result
         (beside (map (λ k. k.now) own.now) (view extra)) }
@@ -70,7 +71,8 @@ pub fn put_some(
 
 /// The value of a text that may be absent.
 pub fn text_value<T: AsStr>(alloc: Global, text: &Option<T>) -> Result<Option<Value>, AllocError>
-    ensures { IfOk result (λ v. option_map view v ≡ option_map string (option_map T.text text.now)) }
+    ensures { IfOk result
+        (λ v. option_map view v ≡ option_map string (option_map T.text text.now)) }
 {
     match text {
         Some(text) => Ok(Some(Value::try_from_str(alloc, text.as_str())?)),

@@ -95,7 +95,8 @@ pub fn number_or(
     default: u64,
     found: Option<Value>,
 ) -> Result<u64, ReadError>
-    ensures { ReadsAs (λ n. n) result (defaulted whole_number name.now default (option_map view found)) }
+    ensures { ReadsAs (λ n. n) result
+        (defaulted whole_number name.now default (option_map view found)) }
 {
     match member_readers::optional::<WholeNumber>(alloc, name, found)? {
         Some(WholeNumber(n)) => Ok(n),

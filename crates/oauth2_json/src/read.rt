@@ -4,11 +4,12 @@ ghost use Rattle.std.specs.Prelude.{◌≡◌, Some};
 ghost use Rattle.oauth2_json.specs.ErrorTexts.{cause_text, parse_fault_text, read_error_text};
 ghost use Rattle.oauth2_json.specs.Reading.{FaultsAs, IsFault, UnderAs, fault_of, whole};
 
+use oauth2_types::display::write_display;
 use serde_json::Value;
 use std::alloc::{AllocError, AllocFailed, Global};
 use std::fmt;
 
-/// Why a value reads to nothing.
+/// Why a JSON value cannot be read as the type that was asked for.
 #[derive(Clone, Copy, Debug, PartialEq, Eq, Drop)]
 pub enum ParseCause {
     /// The body is not one whole JSON value.
@@ -19,19 +20,21 @@ pub enum ParseCause {
     Missing,
     /// The value is of another type.
     WrongType,
-    /// The number is no whole one.
+    /// The number is not a whole number.
     NotWhole,
     /// The number is outside the range.
     OutOfRange,
     /// The text is not a URL.
     BadUrl,
-    /// The member stands under both of its names.
+    /// The object has the member under both of its names.
     BothNames,
-    /// The object is of another shape.
+    /// The type's own rules refuse the value: an object with another shape, or a code that it does
+    /// not know.
     Refused,
 }
 
-/// The member at fault, empty where it is the whole value.
+/// Which member could not be read, and why. The name is empty if the fault is in the value as a
+/// whole.
 #[derive(Debug, PartialEq, Eq, Drop)]
 pub struct ParseFault {
     /// The name of the member.
@@ -70,6 +73,8 @@ impl ParseCause {
 impl fmt::Display for ParseCause {
     ghost output = { λ cause. Some (cause_text cause) };
 
+    ghost styled_output = { λ cause _. Some (cause_text cause) };
+
     fn fmt<W: fmt::Write>(&self, f: &mut fmt::Formatter<W>) -> fmt::Result {
         f.write_str(self.text())
     }
@@ -78,20 +83,24 @@ impl fmt::Display for ParseCause {
 impl fmt::Display for ParseFault {
     ghost output = { λ fault. Some (parse_fault_text (fault_of fault)) };
 
+    ghost styled_output = { λ fault _. Some (parse_fault_text (fault_of fault)) };
+
     fn fmt<W: fmt::Write>(&self, f: &mut fmt::Formatter<W>) -> fmt::Result {
         if self.member.as_str().is_empty() {
-            return write!(f, "{}", self.cause);
+            return f.write_str(self.cause.text());
         }
-        write!(f, "{}: {}", self.member, self.cause)
+        write_display(f, format_args!("{}: {}", self.member, self.cause))
     }
 }
 
 impl fmt::Display for ReadError {
     ghost output = { λ error. Some (read_error_text error) };
 
+    ghost styled_output = { λ error _. Some (read_error_text error) };
+
     fn fmt<W: fmt::Write>(&self, f: &mut fmt::Formatter<W>) -> fmt::Result {
         match self {
-            ReadError::Fault(fault) => write!(f, "{fault}"),
+            ReadError::Fault(fault) => fmt::Display::fmt(fault, f),
             ReadError::Memory => f.write_str("out of memory"),
         }
     }
@@ -138,7 +147,8 @@ impl ReadError {
         }
     }
 
-    /// The same cause, under the outer member's name.
+    /// The error under the name of an outer member, for a fault inside that member. The cause
+    /// stays the same.
     pub fn under(self, alloc: Global, name: &str) -> ReadError
         ensures { UnderAs name.now self result }
     {
@@ -149,7 +159,7 @@ impl ReadError {
     }
 }
 
-/// A type that JSON values read to.
+/// A type whose values can be read from JSON.
 pub trait FromJson {
     ghost use Rattle.std.specs.Prelude.{◌≡◌, false};
     ghost use Rattle.oauth2_json.specs.Body.{body_reading};
@@ -182,7 +192,8 @@ pub trait FromJson {
         }
     }
 
-    /// Whether an object's members matter; extra fields of which none is kept say no.
+    /// Whether reading depends on the members of an object. Extra fields that keep none of them
+    /// return false.
     fn reads_members() -> bool
         ensures { result ≡ false → (a b : Members) → reading (object a) ≡ reading (object b) }
     {

@@ -1,6 +1,7 @@
 //! Texts that hold a list, with one space between two entries (RFC 6749, section 3.3).
 
-ghost use Rattle.std.specs.Prelude.{◌≡◌, List, IfOk, OnOk, string_bytes, [], ◌++◌, map, option_map};
+ghost use Rattle.std.specs.Prelude.{◌≡◌, List, IfOk, OnOk, string_bytes, [], ◌++◌, map};
+ghost use Rattle.std.specs.Prelude.{option_map};
 ghost use Rattle.serde_json.specs.Data.{string};
 ghost use Rattle.serde_json.specs.View.{view};
 ghost use Rattle.oauth2_json.specs.Reading.{ReadsAs, at_member};
@@ -21,7 +22,7 @@ fn piece<T: FromJson>(alloc: Global, text: &str) -> Result<T, ReadError>
     member_readers::under_name(alloc, "", Value::try_from_str(alloc, text)?)
 }
 
-/// Each piece of the text between spaces, as `T` reads it.
+/// Splits the text at every space, and reads each piece as a `T`.
 pub fn pieces<T: FromJson + Drop>(alloc: Global, text: &str) -> Result<Vec<T>, ReadError>
     ensures { ReadsAs (λ v. map T.meaning v.items) result (each T.reading (pieces text.now)) }
 {
@@ -36,7 +37,8 @@ pub fn pieces<T: FromJson + Drop>(alloc: Global, text: &str) -> Result<Vec<T>, R
 }
 
 fn push_word(text: &mut String, is_first: bool, word: &str) -> Result<(), AllocError>
-    ensures { OnOk result (string_bytes text.new ≡ string_bytes text.old ++ lead is_first word.now) }
+    ensures { OnOk result
+        (string_bytes text.new ≡ string_bytes text.old ++ lead is_first word.now) }
 {
     if !is_first {
         text.push_str(" ")?;

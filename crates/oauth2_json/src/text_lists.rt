@@ -78,7 +78,8 @@ pub fn optional_texts(
 /// The value of a list of texts that may be absent.
 pub fn texts_value(alloc: Global, texts: &Option<Vec<String>>) -> Result<Option<Value>, AllocError>
     ensures { IfOk result (λ v. option_map view v
-        ≡ option_map (λ ps. array (text_items ps)) (option_map (λ t. map string_bytes t.items) texts.now)) }
+        ≡ option_map (λ ps. array (text_items ps))
+        (option_map (λ t. map string_bytes t.items) texts.now)) }
 {
     match texts {
         Some(texts) => Ok(Some(Value::Array(values(alloc, texts.as_slice())?))),

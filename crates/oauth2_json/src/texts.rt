@@ -2,6 +2,8 @@
 
 ghost use Rattle.std.specs.Prelude.{ℕ, List, Ok, string_bytes};
 ghost use Rattle.serde_json.specs.Data.{string};
+ghost use Rattle.serde_json.specs.View.{view};
+ghost use Rattle.oauth2_json.specs.Reading.{ReadsAs, ReadsExactly};
 ghost use Rattle.oauth2_json.specs.Values.{text};
 
 use crate::read::{FromJson, ParseCause, ReadError};
@@ -18,7 +20,11 @@ impl FromJson for String {
 
     ghost reading = { text };
 
-    fn from_json(alloc: Global, value: Value) -> Result<String, ReadError> {
+    fn from_json(alloc: Global, value: Value) -> Result<String, ReadError>
+        ensures reads { ReadsAs string_bytes result (text (view value)) }
+        // Takes no memory.
+        ensures exactly { ReadsExactly string_bytes result (text (view value)) }
+    {
         match value {
             Value::String(text) => Ok(text),
             _ => Err(ReadError::whole(alloc, ParseCause::WrongType)),

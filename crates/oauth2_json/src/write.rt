@@ -12,7 +12,7 @@ use std::fmt;
 pub enum WriteError {
     /// Memory ran out.
     Memory,
-    /// An extra member bears one of the type's own names.
+    /// An extra member has a name that the type itself writes.
     NameClash,
     /// An extra member holds a float, at any depth.
     Float,
@@ -20,6 +20,8 @@ pub enum WriteError {
 
 impl fmt::Display for WriteError {
     ghost output = { λ error. Some (write_error_text error) };
+
+    ghost styled_output = { λ error _. Some (write_error_text error) };
 
     fn fmt<W: fmt::Write>(&self, f: &mut fmt::Formatter<W>) -> fmt::Result {
         match self {

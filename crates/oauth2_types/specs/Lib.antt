@@ -1,2 +1,4 @@
 pub mod Digest
+pub mod Display
+pub mod Passing
 pub mod Pkce

@@ -48,7 +48,8 @@ impl CsrfToken {
 
     /// The text of 16 random bytes.
     pub fn new_random<R: Rng>(alloc: Global, rng: &mut R) -> Result<CsrfToken, AllocError>
-        ensures random { IfOk result (λ token. IsRandomText 16 (R.stream rng.old) (R.stream rng.new) token) }
+        ensures random { IfOk result
+            (λ token. IsRandomText 16 (R.stream rng.old) (R.stream rng.new) token) }
         ensures err { OnErr result (DrewAtMost 16 (R.stream rng.old) (R.stream rng.new)) }
     {
         CsrfToken::new_random_len(alloc, rng, 16)
@@ -60,7 +61,8 @@ impl CsrfToken {
         rng: &mut R,
         n: u32,
     ) -> Result<CsrfToken, AllocError>
-        ensures random { IfOk result (λ token. IsRandomText n (R.stream rng.old) (R.stream rng.new) token) }
+        ensures random { IfOk result
+            (λ token. IsRandomText n (R.stream rng.old) (R.stream rng.new) token) }
         ensures err { OnErr result (DrewAtMost n (R.stream rng.old) (R.stream rng.new)) }
     {
         let text = random_text(alloc, rng, n)?;

@@ -8,6 +8,7 @@ mod client_id;
 mod client_secret;
 mod csrf_token;
 mod device_code;
+pub mod display;
 mod pkce_code_challenge;
 mod pkce_code_challenge_method;
 mod pkce_code_verifier;

@@ -2,7 +2,8 @@
 
 ghost use Rattle.std.specs.Prelude.{◌≡◌, ◌≤◌, IfOk, OnErr, Some, codes, string_bytes};
 ghost use Rattle.std.specs.Fmt.{DisplaysOnOk, WritesStyledOnOk, formatter_spec, spec_alternate};
-ghost use Rattle.oauth2_types.specs.Pkce.{Accepts, DrewAtMost, HasValidLength, IsRandomText, plain_challenge, sha256_challenge};
+ghost use Rattle.oauth2_types.specs.Pkce.{Accepts, DrewAtMost, HasValidLength, IsRandomText};
+ghost use Rattle.oauth2_types.specs.Pkce.{plain_challenge, sha256_challenge};
 ghost use Rattle.oauth2_types.specs.Pkce.{challenge_debug, plain_debug, plain_debug_text};
 
 use crate::pkce_code_challenge_method::PkceCodeChallengeMethod;
@@ -16,7 +17,7 @@ use std::alloc::{AllocError, Global};
 use std::fmt;
 use std::marker::Model;
 
-/// What the client sends with an authorization URL, and what the server later checks a verifier by.
+/// What the client sends with an authorization URL. The server later checks a verifier by it.
 #[derive(PartialEq, Eq, Drop)]
 pub struct PkceCodeChallenge {
     code_challenge: PlainText,
@@ -39,9 +40,11 @@ impl PkceCodeChallenge {
         alloc: Global,
         rng: &mut R,
     ) -> Result<(PkceCodeChallenge, PkceCodeVerifier), AllocError>
-        ensures random { IfOk result (λ (_, verifier). IsRandomText 32 (R.stream rng.old) (R.stream rng.new) verifier) }
+        ensures random { IfOk result
+            (λ (_, verifier). IsRandomText 32 (R.stream rng.old) (R.stream rng.new) verifier) }
         ensures length { IfOk result (λ (_, verifier). HasValidLength verifier) }
-        ensures value { IfOk result (λ (challenge, verifier). challenge ≡ sha256_challenge verifier) }
+        ensures value { IfOk result
+            (λ (challenge, verifier). challenge ≡ sha256_challenge verifier) }
         ensures accepts { IfOk result (λ (challenge, verifier). Accepts challenge verifier) }
         ensures err { OnErr result (DrewAtMost 32 (R.stream rng.old) (R.stream rng.new)) }
     {
@@ -56,9 +59,11 @@ impl PkceCodeChallenge {
     ) -> Result<(PkceCodeChallenge, PkceCodeVerifier), AllocError>
         requires least { 32 ≤ n }
         requires most { n ≤ 96 }
-        ensures random { IfOk result (λ (_, verifier). IsRandomText n (R.stream rng.old) (R.stream rng.new) verifier) }
+        ensures random { IfOk result
+            (λ (_, verifier). IsRandomText n (R.stream rng.old) (R.stream rng.new) verifier) }
         ensures length { IfOk result (λ (_, verifier). HasValidLength verifier) }
-        ensures value { IfOk result (λ (challenge, verifier). challenge ≡ sha256_challenge verifier) }
+        ensures value { IfOk result
+            (λ (challenge, verifier). challenge ≡ sha256_challenge verifier) }
         ensures accepts { IfOk result (λ (challenge, verifier). Accepts challenge verifier) }
         ensures err { OnErr result (DrewAtMost n (R.stream rng.old) (R.stream rng.new)) }
     {
@@ -67,14 +72,17 @@ impl PkceCodeChallenge {
         Ok((challenge, verifier))
     }
 
-    /// A verifier of 32 random bytes, which is its own challenge. Only where S256 can't be had.
+    /// A verifier of 32 random bytes, and the challenge `plain`, which is the verifier itself. Use
+    /// it only with a server that does not support S256.
     pub fn new_random_plain<R: Rng>(
         alloc: Global,
         rng: &mut R,
     ) -> Result<(PkceCodeChallenge, PkceCodeVerifier), AllocError>
-        ensures random { IfOk result (λ (_, verifier). IsRandomText 32 (R.stream rng.old) (R.stream rng.new) verifier) }
+        ensures random { IfOk result
+            (λ (_, verifier). IsRandomText 32 (R.stream rng.old) (R.stream rng.new) verifier) }
         ensures length { IfOk result (λ (_, verifier). HasValidLength verifier) }
-        ensures value { IfOk result (λ (challenge, verifier). challenge ≡ plain_challenge verifier) }
+        ensures value { IfOk result
+            (λ (challenge, verifier). challenge ≡ plain_challenge verifier) }
         ensures accepts { IfOk result (λ (challenge, verifier). Accepts challenge verifier) }
         ensures err { OnErr result (DrewAtMost 32 (R.stream rng.old) (R.stream rng.new)) }
     {
@@ -117,7 +125,8 @@ impl PkceCodeChallenge {
         code_challenge: String,
         code_challenge_method: PkceCodeChallengeMethod,
     ) -> PkceCodeChallenge
-        ensures { result ≡ record { text = string_bytes code_challenge; method = code_challenge_method } }
+        ensures { result
+            ≡ record { text = string_bytes code_challenge; method = code_challenge_method } }
     {
         PkceCodeChallenge {
             code_challenge: PlainText::new(code_challenge),
@@ -178,9 +187,11 @@ impl fmt::Debug for PkceCodeChallenge {
 
     #[tactic(auto, unfolding(crate::specs::Pkce::challenge_debug))]
     fn fmt<W: fmt::Write>(&self, f: &mut fmt::Formatter<W>) -> fmt::Result
-        ensures writes { DisplaysOnOk W.write_str_gives f.old result (challenge_debug self.now) f.new }
+        ensures writes { DisplaysOnOk W.write_str_gives f.old result
+            (challenge_debug self.now) f.new }
         // Whatever options the formatter has, as under `{:#?}`.
-        ensures redacted { self.now.method ≡ codes "plain" → WritesStyledOnOk W.write_str_gives f.old result
+        ensures redacted { self.now.method ≡ codes "plain"
+            → WritesStyledOnOk W.write_str_gives f.old result
             (plain_debug_text (spec_alternate (formatter_spec f.old))) f.new }
     {
         if self.code_challenge_method.as_str() == "plain" {

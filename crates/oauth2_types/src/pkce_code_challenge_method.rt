@@ -1,7 +1,8 @@
 //! Methods of code challenges (RFC 7636, section 4.2).
 
 ghost use Rattle.std.specs.Prelude.{◌≡◌, ℕ, List, codes, string_bytes};
-ghost use Rattle.std.specs.Fmt.{debug_str, debug_variant};
+ghost use Rattle.std.specs.Fmt.{DisplaysOnOk, debug_str, debug_variant};
+ghost use Rattle.oauth2_types.specs.Display.{WritesDebugText};
 
 use crate::plain_text::PlainText;
 use crate::try_clone::TryClone;
@@ -62,7 +63,13 @@ impl TryClone for PkceCodeChallengeMethod {
 impl fmt::Debug for PkceCodeChallengeMethod {
     ghost debug_output = { λ text. debug_variant (codes "PkceCodeChallengeMethod") (debug_str text) };
 
-    fn fmt<W: fmt::Write>(&self, f: &mut fmt::Formatter<W>) -> fmt::Result {
+    fn fmt<W: fmt::Write>(&self, f: &mut fmt::Formatter<W>) -> fmt::Result
+        ensures writes { DisplaysOnOk W.write_str_gives f.old result
+            (debug_variant (codes "PkceCodeChallengeMethod") (debug_str self.now)) f.new }
+        // Whatever options the formatter has, as under `{:#?}`.
+        ensures styled { WritesDebugText W.write_str_gives f.old result
+            (codes "PkceCodeChallengeMethod") self.now f.new }
+    {
         self.0.debug(f, "PkceCodeChallengeMethod")
     }
 }

@@ -8,7 +8,9 @@ ghost use Rattle.std.proofs.Common.{rules};
 ghost use Rattle.std.specs.Fmt.{DisplaysOnOk, debug_str, debug_variant};
 ghost use Rattle.std.specs.Hash as fed;
 ghost use Rattle.std.specs.Str.{bytes_eq};
+ghost use Rattle.oauth2_types.specs.Display.{WritesDebugText};
 
+use crate::display::write_debug_text;
 use std::alloc::{AllocError, Global};
 use std::fmt;
 use std::hash::{Hash, Hasher};
@@ -54,12 +56,11 @@ impl PlainText {
 
     // The name, and the text in quotes and parentheses.
     pub(crate) fn debug<W: fmt::Write>(&self, f: &mut fmt::Formatter<W>, name: &str) -> fmt::Result
-        ensures { DisplaysOnOk W.write_str_gives f.old result (debug_variant name.now (debug_str self.now)) f.new }
+        ensures writes { DisplaysOnOk W.write_str_gives f.old result
+            (debug_variant name.now (debug_str self.now)) f.new }
+        ensures styled { WritesDebugText W.write_str_gives f.old result name.now self.now f.new }
     {
-        if f.alternate() {
-            return f.debug_tuple(name).field(&self.text).finish();
-        }
-        write!(f, "{name}({:?})", self.text)
+        write_debug_text(f, name, self.text.as_str())
     }
 }
 

@@ -15,7 +15,8 @@ use std::alloc::{AllocError, Global};
 #[tactic(auto, unfolding(crate::specs::Pkce::base64url))]
 pub(crate) fn base64url(alloc: Global, bytes: &[u8]) -> Result<String, AllocError>
     ensures text { IfOk result (λ text. string_bytes text ≡ base64url bytes.now) }
-    ensures decodes { IfOk result (λ text. decode_of url_safe_no_pad (string_bytes text) ≡ Ok bytes.now) }
+    ensures decodes { IfOk result
+        (λ text. decode_of url_safe_no_pad (string_bytes text) ≡ Ok bytes.now) }
 {
     URL_SAFE_NO_PAD.encode(alloc, bytes)
 }
@@ -23,7 +24,8 @@ pub(crate) fn base64url(alloc: Global, bytes: &[u8]) -> Result<String, AllocErro
 // The text of n random bytes, drawn by one call of the generator.
 #[tactic(auto, using(crate::proofs::Lengths::lengths))]
 pub(crate) fn random_text<R: Rng>(alloc: Global, rng: &mut R, n: u32) -> Result<String, AllocError>
-    ensures random { IfOk result (λ text. IsRandomText n (R.stream rng.old) (R.stream rng.new) (string_bytes text)) }
+    ensures random { IfOk result
+        (λ text. IsRandomText n (R.stream rng.old) (R.stream rng.new) (string_bytes text)) }
     ensures length { IfOk result (λ text. length (string_bytes text) ≡ unpadded_len n) }
     ensures err { OnErr result (DrewAtMost n (R.stream rng.old) (R.stream rng.new)) }
 {
@@ -40,7 +42,8 @@ pub(crate) fn random_verifier<R: Rng>(
 ) -> Result<PkceCodeVerifier, AllocError>
     requires least { 32 ≤ n }
     requires most { n ≤ 96 }
-    ensures random { IfOk result (λ verifier. IsRandomText n (R.stream rng.old) (R.stream rng.new) verifier) }
+    ensures random { IfOk result
+        (λ verifier. IsRandomText n (R.stream rng.old) (R.stream rng.new) verifier) }
     ensures length { IfOk result (λ verifier. HasValidLength verifier) }
     ensures err { OnErr result (DrewAtMost n (R.stream rng.old) (R.stream rng.new)) }
 {

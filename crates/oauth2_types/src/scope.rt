@@ -1,7 +1,8 @@
 //! Access token scopes (RFC 6749, section 3.3).
 
 ghost use Rattle.std.specs.Prelude.{◌≡◌, ℕ, List, codes, string_bytes};
-ghost use Rattle.std.specs.Fmt.{debug_str, debug_variant};
+ghost use Rattle.std.specs.Fmt.{DisplaysOnOk, debug_str, debug_variant};
+ghost use Rattle.oauth2_types.specs.Display.{WritesDebugText};
 
 use crate::plain_text::PlainText;
 use crate::try_clone::TryClone;
@@ -71,7 +72,13 @@ impl TryClone for Scope {
 impl fmt::Debug for Scope {
     ghost debug_output = { λ text. debug_variant (codes "Scope") (debug_str text) };
 
-    fn fmt<W: fmt::Write>(&self, f: &mut fmt::Formatter<W>) -> fmt::Result {
+    fn fmt<W: fmt::Write>(&self, f: &mut fmt::Formatter<W>) -> fmt::Result
+        ensures writes { DisplaysOnOk W.write_str_gives f.old result
+            (debug_variant (codes "Scope") (debug_str self.now)) f.new }
+        // Whatever options the formatter has, as under `{:#?}`.
+        ensures styled { WritesDebugText W.write_str_gives f.old result
+            (codes "Scope") self.now f.new }
+    {
         self.0.debug(f, "Scope")
     }
 }

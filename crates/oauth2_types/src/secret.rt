@@ -66,8 +66,8 @@ impl PartialEq for Secret {
     }
 }
 
-// Reflexive, symmetric and transitive. Secrets of equal texts are equal; equal secrets may have other texts,
-// where two texts have one digest.
+// Reflexive, symmetric and transitive. Secrets of equal texts are equal; equal secrets may have
+// other texts, where two texts have one digest.
 impl Eq for Secret {
     ghost laws = { Prim.search (comparing, rules) };
 }

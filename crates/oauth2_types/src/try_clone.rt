@@ -4,7 +4,7 @@ ghost use Rattle.std.specs.Prelude.{List, ℕ, Option, option_map, map, string_b
 
 use std::alloc::{AllocError, Global};
 
-/// A copy that contracts see as the original.
+/// A type that can be copied with an allocator. Contracts see the copy as equal to the original.
 pub trait TryClone: Sized {
     ghost use Rattle.std.specs.Prelude.{◌≡◌, IfOk};
 

@@ -2,15 +2,18 @@
 
 ghost use Rattle.std.specs.Prelude.{◌≡◌, Some, string_bytes, IfOk, refl};
 ghost use Rattle.std.specs.Cmp.{on_equiv, on_per, on_po, on_total, partial_equiv_from_equiv};
-ghost use Rattle.std.specs.Cmp.Lexicographic.{slice_cmp, nat_list_eq_equiv, nat_list_cmp_total, texts_ties, texts_po};
+ghost use Rattle.std.specs.Cmp.Lexicographic.{slice_cmp, nat_list_eq_equiv, nat_list_cmp_total};
+ghost use Rattle.std.specs.Cmp.Lexicographic.{texts_ties, texts_po};
 ghost use Rattle.std.specs.Cmp.Rules.{hashing};
 ghost use Rattle.std.proofs.Common.{rules};
 ghost use Rattle.std.specs.Fmt.{DisplaysOnOk, debug_str, debug_variant};
 ghost use Rattle.std.specs.Hash as fed;
 ghost use Rattle.std.specs.Ordering.{nat_cmp};
 ghost use Rattle.std.specs.Str.{bytes_eq};
+ghost use Rattle.oauth2_types.specs.Display.{WritesDebugText};
 ghost use Rattle.oauth2_urls.specs.Addressed.{Addresses, written_url};
 
+use oauth2_types::display::write_debug_text;
 use std::alloc::{AllocError, Global};
 use std::cmp::Ordering;
 use std::fmt;
@@ -70,12 +73,12 @@ impl AddressedUrl {
 
     // The name, and the text in quotes and parentheses.
     pub(crate) fn debug<W: fmt::Write>(&self, f: &mut fmt::Formatter<W>, name: &str) -> fmt::Result
-        ensures { DisplaysOnOk W.write_str_gives f.old result (debug_variant name.now (debug_str self.now.text)) f.new }
+        ensures writes { DisplaysOnOk W.write_str_gives f.old result
+            (debug_variant name.now (debug_str self.now.text)) f.new }
+        ensures styled { WritesDebugText W.write_str_gives f.old result
+            name.now self.now.text f.new }
     {
-        if f.alternate() {
-            return f.debug_tuple(name).field(&self.text).finish();
-        }
-        write!(f, "{name}({:?})", self.text)
+        write_debug_text(f, name, self.text.as_str())
     }
 }
 

@@ -1,7 +1,8 @@
 //! The URL of the authorization endpoint.
 
 ghost use Rattle.std.specs.Prelude.{◌≡◌, Some, IfOk, codes, string_bytes};
-ghost use Rattle.std.specs.Fmt.{debug_str, debug_variant};
+ghost use Rattle.std.specs.Fmt.{DisplaysOnOk, debug_str, debug_variant};
+ghost use Rattle.oauth2_types.specs.Display.{WritesDebugText};
 ghost use Rattle.oauth2_urls.specs.Addressed.{Addressed, Addresses, written_url};
 
 use crate::addressed::AddressedUrl;
@@ -25,7 +26,7 @@ impl Model for AuthUrl {
 }
 
 impl AuthUrl {
-    /// The text beside the URL that it parses to; the error is the parser's.
+    /// Parses the text, and keeps both the text and the URL. The error is the parser's.
     pub fn new(alloc: Global, url: String) -> Result<AuthUrl, ParseError>
         ensures { Addresses (string_bytes url) result }
     {
@@ -39,7 +40,7 @@ impl AuthUrl {
         Ok(AuthUrl(AddressedUrl::from_url(alloc, url)?))
     }
 
-    /// The URL beside the text; the text is what `deref` gives.
+    /// The parsed URL. `Deref` returns the text.
     pub fn url(&self) -> &Url
         ensures { result.now ≡ self.now.url }
     {
@@ -70,6 +71,8 @@ impl TryClone for AuthUrl {
 impl fmt::Display for AuthUrl {
     ghost output = { λ u. Some u.text };
 
+    ghost styled_output = { λ u _. Some u.text };
+
     fn fmt<W: fmt::Write>(&self, f: &mut fmt::Formatter<W>) -> fmt::Result {
         f.write_str(self.0.text().as_str())
     }
@@ -78,7 +81,13 @@ impl fmt::Display for AuthUrl {
 impl fmt::Debug for AuthUrl {
     ghost debug_output = { λ u. debug_variant (codes "AuthUrl") (debug_str u.text) };
 
-    fn fmt<W: fmt::Write>(&self, f: &mut fmt::Formatter<W>) -> fmt::Result {
+    fn fmt<W: fmt::Write>(&self, f: &mut fmt::Formatter<W>) -> fmt::Result
+        ensures writes { DisplaysOnOk W.write_str_gives f.old result
+            (debug_variant (codes "AuthUrl") (debug_str self.now.text)) f.new }
+        // Whatever options the formatter has, as under `{:#?}`.
+        ensures styled { WritesDebugText W.write_str_gives f.old result
+            (codes "AuthUrl") self.now.text f.new }
+    {
         self.0.debug(f, "AuthUrl")
     }
 }

@@ -1,4 +1,5 @@
-//! The URLs of an OAuth 2.0 client: each the text that was given, beside the URL that it parses to.
+//! The URLs of an OAuth 2.0 client: each the text that was given, beside the URL that it parses
+//! to.
 
 #![tactic(auto)]
 

@@ -1,7 +1,8 @@
 //! The URL of the revocation endpoint.
 
 ghost use Rattle.std.specs.Prelude.{◌≡◌, Some, IfOk, codes, string_bytes};
-ghost use Rattle.std.specs.Fmt.{debug_str, debug_variant};
+ghost use Rattle.std.specs.Fmt.{DisplaysOnOk, debug_str, debug_variant};
+ghost use Rattle.oauth2_types.specs.Display.{WritesDebugText};
 ghost use Rattle.oauth2_urls.specs.Addressed.{Addressed, Addresses, written_url};
 
 use crate::addressed::AddressedUrl;
@@ -25,7 +26,7 @@ impl Model for RevocationUrl {
 }
 
 impl RevocationUrl {
-    /// The text beside the URL that it parses to; the error is the parser's.
+    /// Parses the text, and keeps both the text and the URL. The error is the parser's.
     pub fn new(alloc: Global, url: String) -> Result<RevocationUrl, ParseError>
         ensures { Addresses (string_bytes url) result }
     {
@@ -39,7 +40,7 @@ impl RevocationUrl {
         Ok(RevocationUrl(AddressedUrl::from_url(alloc, url)?))
     }
 
-    /// The URL beside the text; the text is what `deref` gives.
+    /// The parsed URL. `Deref` returns the text.
     pub fn url(&self) -> &Url
         ensures { result.now ≡ self.now.url }
     {
@@ -70,6 +71,8 @@ impl TryClone for RevocationUrl {
 impl fmt::Display for RevocationUrl {
     ghost output = { λ u. Some u.text };
 
+    ghost styled_output = { λ u _. Some u.text };
+
     fn fmt<W: fmt::Write>(&self, f: &mut fmt::Formatter<W>) -> fmt::Result {
         f.write_str(self.0.text().as_str())
     }
@@ -78,7 +81,13 @@ impl fmt::Display for RevocationUrl {
 impl fmt::Debug for RevocationUrl {
     ghost debug_output = { λ u. debug_variant (codes "RevocationUrl") (debug_str u.text) };
 
-    fn fmt<W: fmt::Write>(&self, f: &mut fmt::Formatter<W>) -> fmt::Result {
+    fn fmt<W: fmt::Write>(&self, f: &mut fmt::Formatter<W>) -> fmt::Result
+        ensures writes { DisplaysOnOk W.write_str_gives f.old result
+            (debug_variant (codes "RevocationUrl") (debug_str self.now.text)) f.new }
+        // Whatever options the formatter has, as under `{:#?}`.
+        ensures styled { WritesDebugText W.write_str_gives f.old result
+            (codes "RevocationUrl") self.now.text f.new }
+    {
         self.0.debug(f, "RevocationUrl")
     }
 }
