@@ -58,7 +58,9 @@ fn with_all_scopes<'a>(
     scopes: &[String],
 ) -> Result<CredentialsRequest<'a>, AllocError>
     ensures { IfOk result (λ r. r ≡ record request.entry {
-      base = record request.entry.base { scope = with_scopes request.entry.base.scope (map string_bytes scopes.now) };
+      base = record request.entry.base {
+        scope = with_scopes request.entry.base.scope (map string_bytes scopes.now);
+      };
     }) }
 {
     let mut request = request;
@@ -73,7 +75,9 @@ fn with_all_params<'a>(
     params: &'a [(String, String)],
 ) -> Result<CredentialsRequest<'a>, AllocError>
     ensures { IfOk result (λ r. r ≡ record request.entry {
-      base = record request.entry.base { extra_params = request.entry.base.extra_params ++ map pair_texts params.now };
+      base = record request.entry.base {
+        extra_params = request.entry.base.extra_params ++ map pair_texts params.now;
+      };
     }) }
 {
     let mut request = request;

@@ -41,7 +41,8 @@ fn exchange(
     http_client: &mut CannedClient,
 ) -> Result<BasicTokenResponse, RequestTokenError<AllocError, BasicErrorResponse>>
     ensures { IfOk result (λ token.
-        answer_of client.now.reply_rule ⟦<BasicTokenResponse as FromJson>⟧.reading ⟦<BasicErrorResponse as FromJson>⟧.reading
+        answer_of client.now.reply_rule ⟦<BasicTokenResponse as FromJson>⟧.reading
+        ⟦<BasicErrorResponse as FromJson>⟧.reading
         (canned_reply (string_bytes http_client.old.body))
         ≡ accepted (⟦<BasicTokenResponse as FromJson>⟧.meaning token)) }
 {

@@ -14,8 +14,8 @@ use oauth2::{
 use std::alloc::{AllocError, Global};
 use std::time::Duration;
 
-const DEVICE: &str =
-    "{\"device_code\":\"12345\",\"user_code\":\"abcde\",\"verification_uri\":\"https://verify/here\",\"expires_in\":3600,\"interval\":5}";
+const DEVICE: &str = "{\"device_code\":\"12345\",\"user_code\":\"abcde\",\
+    \"verification_uri\":\"https://verify/here\",\"expires_in\":3600,\"interval\":5}";
 
 const PENDING: &str = "{\"error\":\"authorization_pending\"}";
 

@@ -3,7 +3,11 @@
 use std::alloc::{AllocError, Global};
 
 const INTROSPECTION: &str =
-    "{\"active\":true,\"scope\":\"email profile openid offline_access read write admin\",\"client_id\":\"s6BhdRkqt3\",\"username\":\"jdoe\",\"token_type\":\"Bearer\",\"exp\":1604073517,\"iat\":1604073217,\"nbf\":1604073317,\"sub\":\"Z5O3upPC88QrAjx00dis\",\"aud\":[\"https://protected.example.net/resource\",\"https://other.example.net/\"],\"iss\":\"https://server.example.com/\",\"jti\":\"2b7a4a2e-8d6e-4f0c-9c2a-0f6b7c1d5e11\"";
+    "{\"active\":true,\"scope\":\"email profile openid offline_access read write admin\",\
+    \"client_id\":\"s6BhdRkqt3\",\"username\":\"jdoe\",\"token_type\":\"Bearer\",\
+    \"exp\":1604073517,\"iat\":1604073217,\"nbf\":1604073317,\"sub\":\"Z5O3upPC88QrAjx00dis\",\
+    \"aud\":[\"https://protected.example.net/resource\",\"https://other.example.net/\"],\
+    \"iss\":\"https://server.example.com/\",\"jti\":\"2b7a4a2e-8d6e-4f0c-9c2a-0f6b7c1d5e11\"";
 
 /// A token response without a lifetime, scopes or a refresh token.
 pub fn short_token(alloc: Global) -> Result<String, AllocError> {
@@ -20,7 +24,8 @@ pub fn long_token(alloc: Global, size: u32) -> Result<String, AllocError> {
         body.push((b'a' + (i % 26) as u8) as char)?;
     }
     body.push_str(
-        "\",\"token_type\":\"bearer\",\"expires_in\":3600,\"refresh_token\":\"r1\",\"scope\":\"read write\"}",
+        "\",\"token_type\":\"bearer\",\"expires_in\":3600,\"refresh_token\":\"r1\",\
+        \"scope\":\"read write\"}",
     )?;
     Ok(body)
 }

@@ -1,9 +1,9 @@
 //! What the calls of the client cost: each operation a few times, or one of them so many times by
 //! the clock.
 //!
-//! Without arguments it runs every operation and prints its name, how many bytes its last request's
-//! body had and a length of what was read. With `--time NAME ITERATIONS` it prints the nanoseconds
-//! that so many runs of one operation took.
+//! Without arguments it runs every operation and prints its name, how many bytes its last
+//! request's body had and a length of what was read. With `--time NAME ITERATIONS` it prints the
+//! nanoseconds that so many runs of one operation took.
 
 #![tactic(auto)]
 

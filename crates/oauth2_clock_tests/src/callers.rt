@@ -65,8 +65,8 @@ pub type TokenClient = BasicClient<
 >;
 
 /// The token of a device, by a clock and a sleep function of the caller's: the client is asked for
-/// this device's token and for nothing else, and the sleep function is called for sleeps alone that
-/// the response's interval and the answers before them pace.
+/// this device's token and for nothing else, and the sleep function is called for sleeps alone
+/// that the response's interval and the answers before them pace.
 pub fn device_token<C: SyncHttpClient, F: FnMut() -> Timestamp + Drop, S: FnMut(Duration)>(
     alloc: Global,
     client: &TokenClient,
@@ -85,7 +85,8 @@ pub fn device_token<C: SyncHttpClient, F: FnMut() -> Timestamp + Drop, S: FnMut(
         × EachRequest
         (IsDeviceRequest (new_device_token_request client.now endpoint response.now)) e
         × SleepsArePaced (seconds response.now.interval) (seconds 10)
-        (plain (device_answer client.now.reply_rule ⟦<BasicTokenResponse as FromJson>⟧.reading) e) }
+        (plain
+        (device_answer client.now.reply_rule ⟦<BasicTokenResponse as FromJson>⟧.reading) e) }
     ensures sleep { S.IsAlwaysCallable sleep_fn.new }
 {
     client

@@ -5,8 +5,8 @@ use crate::support::{Scripted, client, duration, is_fault, is_so, is_token, mome
 use oauth2_keeper::{BasicTokenKeeper, TokenKeeper};
 use std::process::Abort;
 
-// A call: the second and the nanosecond of its moment, the body of its request, which is empty where
-// none is sent, and the token or the text of the fault.
+// A call: the second and the nanosecond of its moment, the body of its request, which is empty
+// where none is sent, and the token or the text of the fault.
 type Call<'a> = (i64, i32, &'a str, Result<&'a str, &'a str>);
 
 // A keeper without a refresh token, whose life is 0: its margin in seconds and nanoseconds, the

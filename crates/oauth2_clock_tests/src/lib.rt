@@ -1,5 +1,5 @@
-//! What depends on a clock, for its users: the poll of a device and the keeper of a token, by callers
-//! with contracts of their own and by worked runs.
+//! What depends on a clock, for its users: the poll of a device and the keeper of a token, by
+//! callers with contracts of their own and by worked runs.
 
 #![tactic(auto)]
 

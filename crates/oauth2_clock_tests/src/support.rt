@@ -14,8 +14,8 @@ use std::fmt::Display;
 use std::process::Abort;
 use std::time::Duration;
 
-/// An HTTP client that gets these replies in turn, each a status and a body, and then fails. It keeps
-/// the body of the last request.
+/// An HTTP client that gets these replies in turn, each a status and a body, and then fails. It
+/// keeps the body of the last request.
 #[derive(Drop)]
 pub struct Scripted<'a> {
     alloc: Global,
@@ -81,8 +81,8 @@ pub fn moments(rt: &(impl Abort + AllocGlobal), seconds: &[i64]) -> Vec<Timestam
     moments
 }
 
-/// What a poll did: read the clock (in seconds), sent a request, slept (seconds and nanoseconds). A
-/// run over lists has its answers too.
+/// What a poll did: read the clock (in seconds), sent a request, slept (seconds and nanoseconds).
+/// A run over lists has its answers too.
 #[derive(Clone, Copy, Debug, PartialEq, Eq)]
 pub enum Seen {
     Reading(i64),

@@ -21,8 +21,8 @@ type TokenResult = Result<
 >;
 
 // The response to a device, whose code is good for two seconds; its interval is one second.
-const TWO_SECONDS: &str =
-    "{\"device_code\":\"12345\",\"user_code\":\"abcde\",\"verification_uri\":\"https://verify/here\",\"expires_in\":2,\"interval\":1}";
+const TWO_SECONDS: &str = "{\"device_code\":\"12345\",\"user_code\":\"abcde\",\
+    \"verification_uri\":\"https://verify/here\",\"expires_in\":2,\"interval\":1}";
 
 const PENDING: (u16, &str) = (400, "{\"error\":\"authorization_pending\"}");
 
@@ -74,8 +74,8 @@ impl PollWorld for Recorder<'_> {
     }
 }
 
-// A poll: for how long, with which cap in seconds and nanoseconds, how often at most, by which clock
-// and replies; what its world sees, and the token or the text of the fault.
+// A poll: for how long, with which cap in seconds and nanoseconds, how often at most, by which
+// clock and replies; what its world sees, and the token or the text of the fault.
 #[derive(Clone, Copy)]
 struct Poll<'a> {
     timeout: Option<u64>,

@@ -39,7 +39,8 @@ pub const USUAL: ClientTexts<'static> = ClientTexts {
 };
 
 fn revocation_url(alloc: Global, url: Option<&str>) -> Result<Option<RevocationUrl>, Ended>
-    ensures { IfOk result (λ made. option_map (λ url. url.text) made ≡ option_map (λ text. text.now) url.entry) }
+    ensures { IfOk result (λ made. option_map (λ url. url.text) made
+        ≡ option_map (λ text. text.now) url.entry) }
 {
     match url {
         Some(url) => Ok(Some(RevocationUrl::new(alloc, text(alloc, url)?)?)),
@@ -108,7 +109,8 @@ fn public_client(alloc: Global, texts: ClientTexts<'_>) -> Result<RowClient, End
 /// A client of these texts.
 pub fn client_of(alloc: Global, texts: ClientTexts<'_>) -> Result<RowClient, Ended>
     ensures id { IfOk result (λ client. client.client_id ≡ texts.entry.id.now) }
-    ensures secret { IfOk result (λ client. client.client_secret ≡ option_map (λ text. text.now) texts.entry.secret) }
+    ensures secret { IfOk result (λ client. client.client_secret
+        ≡ option_map (λ text. text.now) texts.entry.secret) }
 {
     let secret = secret(alloc, texts.secret)?;
     let client = public_client(alloc, texts)?;

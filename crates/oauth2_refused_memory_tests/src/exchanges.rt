@@ -22,7 +22,8 @@ pub fn exchange(
     http_client: &mut CountingClient,
 ) -> Result<BasicTokenResponse, BasicRequestTokenError<NoReply>>
     requires { http_client.old.calls ≡ 0 }
-    ensures token { IfOk result (λ token. (reply : HttpResponse) × (http_client.old.reply ≡ Some reply)
+    ensures token { IfOk result (λ token. (reply : HttpResponse)
+        × (http_client.old.reply ≡ Some reply)
         × (answer_of client.now.reply_rule ⟦<BasicTokenResponse as FromJson>⟧.reading
         ⟦<BasicErrorResponse as FromJson>⟧.reading (reply_of reply)
         ≡ accepted (⟦<BasicTokenResponse as FromJson>⟧.meaning token))) }

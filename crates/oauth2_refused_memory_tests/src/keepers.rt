@@ -29,7 +29,8 @@ pub type RowKeeper<'a> = BasicTokenKeeper<
 const FIRST: ReplyTexts<'static> = ReplyTexts {
     status: 200,
     content_type: None,
-    body: "{\"access_token\":\"t1\",\"token_type\":\"bearer\",\"expires_in\":100,\"refresh_token\":\"r1\"}",
+    body: "{\"access_token\":\"t1\",\"token_type\":\"bearer\",\"expires_in\":100,\
+    \"refresh_token\":\"r1\"}",
 };
 
 // The reply after that.

@@ -27,7 +27,8 @@ pub fn login(
     requires { HasValidLength verifier }
     ensures url { IfOk result (λ flow. LeadsTo client.now
         (λ url. flow_authorization client.now url state verifier) (flow.url, flow.state)) }
-    ensures request { IfOk result (λ flow. (endpoint : Addressed) × (client.now.token_url ≡ Some endpoint)
+    ensures request { IfOk result (λ flow. (endpoint : Addressed)
+        × (client.now.token_url ≡ Some endpoint)
         × IsRequestOf (code_configuration (flow_exchange client.now endpoint verifier code))
         (serialize endpoint.url) (view_of flow.request)) }
 {

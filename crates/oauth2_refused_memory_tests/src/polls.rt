@@ -43,8 +43,8 @@ pub type PollResult = Result<
 
 /// A response to the device whose code is good for two seconds, with an interval of one.
 pub fn device(alloc: Global) -> Result<StandardDeviceAuthorizationResponse, Ended> {
-    let body =
-        "{\"device_code\":\"12345\",\"user_code\":\"abcde\",\"verification_uri\":\"https://verify/here\",\"expires_in\":2,\"interval\":1}";
+    let body = "{\"device_code\":\"12345\",\"user_code\":\"abcde\",\
+        \"verification_uri\":\"https://verify/here\",\"expires_in\":2,\"interval\":1}";
     Ok(read_body(alloc, body.as_bytes())?)
 }
 
@@ -83,11 +83,14 @@ pub fn polled(
     max_polls: u64,
 ) -> PollResult
     requires { 0 < max_polls }
-    ensures { (endpoint : Addressed) × (client.now.token_url ≡ Some endpoint) × (e : List (Event NoReply))
+    ensures { (endpoint : Addressed) × (client.now.token_url ≡ Some endpoint)
+        × (e : List (Event NoReply))
         × Records world.old e world.new
-        × Polls ⟦<BasicTokenResponse as FromJson>⟧.meaning ⟦<BasicTokenResponse as FromJson>⟧.reading
+        × Polls ⟦<BasicTokenResponse as FromJson>⟧.meaning
+        ⟦<BasicTokenResponse as FromJson>⟧.reading
         (new_device_token_request client.now endpoint device.now)
-        (timeout_of (new_device_token_request client.now endpoint device.now) timeout) max_polls e result }
+        (timeout_of (new_device_token_request client.now endpoint device.now) timeout)
+        max_polls e result }
 {
     client
         .exchange_device_access_token(alloc, device)

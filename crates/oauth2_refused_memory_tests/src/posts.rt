@@ -40,7 +40,8 @@ pub fn scoped_credentials(
     name: &str,
 ) -> Result<HttpRequest, Ended>
     ensures { IfOk result (IsPostOf client.now.token_url
-        (configuration_of (record (base_of client.now) { scope = Some name.now }) client_credentials_pairs None)) }
+        (configuration_of (record (base_of client.now) { scope = Some name.now })
+        client_credentials_pairs None)) }
 {
     let request = client
         .exchange_client_credentials(alloc)
@@ -56,7 +57,9 @@ pub fn extended_credentials(
     value: &str,
 ) -> Result<HttpRequest, Ended>
     ensures { IfOk result (IsPostOf client.now.token_url
-        (configuration_of (record (base_of client.now) { extra_params = (name.now, value.now) ∷ [] }) client_credentials_pairs None)) }
+        (configuration_of
+        (record (base_of client.now) { extra_params = (name.now, value.now) ∷ [] })
+        client_credentials_pairs None)) }
 {
     let request = client
         .exchange_client_credentials(alloc)
@@ -94,7 +97,8 @@ pub fn password(
     second: Scope,
 ) -> Result<HttpRequest, Ended>
     ensures { IfOk result (IsPostOf client.now.token_url
-        (configuration_of (record (base_of client.now) { scope = Some (first ++ codes " " ++ second) })
+        (configuration_of
+        (record (base_of client.now) { scope = Some (first ++ codes " " ++ second) })
         (password_pairs username.now password.now) None)) }
 {
     let request = client
@@ -155,7 +159,8 @@ pub fn introspection(
     hint: &str,
 ) -> Result<HttpRequest, Ended>
     ensures { IfOk result (IsPostOf client.now.introspection_url
-        (configuration_of (base_of client.now) (hinted_token_pairs token.now (Some hint.now)) None)) }
+        (configuration_of (base_of client.now)
+        (hinted_token_pairs token.now (Some hint.now)) None)) }
 {
     let request = client
         .introspect(alloc, token)

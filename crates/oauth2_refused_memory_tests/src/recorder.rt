@@ -16,8 +16,8 @@ pub enum Seen {
     Sleep(Duration),
 }
 
-/// Its clock shows these seconds in turn and then stands still; its client gives these replies, the
-/// last first, and then fails. The replies and the room for what it sees stand ready.
+/// Its clock shows these seconds in turn and then stands still; its client gives these replies,
+/// the last first, and then fails. The replies and the room for what it sees stand ready.
 #[derive(Drop)]
 pub struct Recorder<'a> {
     pub readings: &'a [i64],

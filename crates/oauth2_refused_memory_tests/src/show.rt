@@ -12,7 +12,10 @@ use std::fmt::Display;
 use std::io::Write;
 
 /// A request, as it is sent and as a server reads it.
-pub fn show_post<W: Write>(alloc: Global, request: &HttpRequest, out: &mut W) -> Result<(), Ended> {
+pub fn show_post<W>(alloc: Global, request: &HttpRequest, out: &mut W) -> Result<(), Ended>
+where
+    W: Write,
+{
     let view = server_view(alloc, request)?;
     show_request(out, request, &view)
 }

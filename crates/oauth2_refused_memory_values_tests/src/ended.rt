@@ -2,7 +2,10 @@
 
 ghost use Rattle.std.specs.Prelude.{◌≡◌, string_bytes, IfErr, IfOk};
 ghost use Rattle.oauth2_refused_memory_values_tests.specs.Ended as spec;
-ghost use Rattle.oauth2_refused_memory_values_tests.specs.declared.ended.Ended.TheVariants.{Starved, Unwritten};
+ghost use Rattle.oauth2_refused_memory_values_tests.specs.declared.ended.Ended.TheVariants.{
+  Starved,
+  Unwritten,
+};
 ghost use Rattle.oauth2_refused_memory_values_tests.specs.declared.ended.Want.TheVariants as want;
 
 use oauth2::url::ParseError;

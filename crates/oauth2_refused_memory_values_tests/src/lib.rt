@@ -1,6 +1,6 @@
-//! The rows without a client of the calls that are refused memory: challenges, JSON and the poll over
-//! lists; what every row is made of: its name, how it ends and its lines; and a generator of one word
-//! for all tests.
+//! The rows without a client of the calls that are refused memory: challenges, JSON and the poll
+//! over lists; what every row is made of: its name, how it ends and its lines; and a generator of
+//! one word for all tests.
 
 #![tactic(auto)]
 

@@ -41,7 +41,8 @@ const ROWS: [(&str, ValueRow); 15] = [
     (
         "token_with_a_null_lifetime",
         ValueRow::Token(
-            "{\"access_token\":\"t\",\"token_type\":\"BEARER\",\"scope\":\"\",\"expires_in\":null}",
+            "{\"access_token\":\"t\",\"token_type\":\"BEARER\",\"scope\":\"\",\
+            \"expires_in\":null}",
         ),
     ),
     ("no_token", ValueRow::NoToken("{\"token_type\":null}")),
@@ -60,19 +61,22 @@ const ROWS: [(&str, ValueRow); 15] = [
     (
         "both_addresses",
         ValueRow::NoDevice(
-            "{\"device_code\":\"d\",\"user_code\":\"u\",\"verification_uri\":\"https://v/\",\"verification_url\":\"https://v/\",\"expires_in\":300}",
+            "{\"device_code\":\"d\",\"user_code\":\"u\",\"verification_uri\":\"https://v/\",\
+            \"verification_url\":\"https://v/\",\"expires_in\":300}",
         ),
     ),
     (
         "null_interval",
         ValueRow::Device(
-            "{\"device_code\":\"d\",\"user_code\":\"u\",\"verification_uri\":\"https://v/\",\"expires_in\":300,\"interval\":null}",
+            "{\"device_code\":\"d\",\"user_code\":\"u\",\"verification_uri\":\"https://v/\",\
+            \"expires_in\":300,\"interval\":null}",
         ),
     ),
     (
         "no_interval",
         ValueRow::Device(
-            "{\"device_code\":\"d\",\"user_code\":\"u\",\"verification_uri\":\"https://v/\",\"expires_in\":300}",
+            "{\"device_code\":\"d\",\"user_code\":\"u\",\"verification_uri\":\"https://v/\",\
+            \"expires_in\":300}",
         ),
     ),
     ("poll_over_lists", ValueRow::PollOverLists),

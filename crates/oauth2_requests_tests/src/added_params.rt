@@ -35,9 +35,9 @@ fn request_of(rt: &(impl Abort + AllocGlobal), params: &ParamBuffer) -> HttpRequ
     .expect(rt, "a request")
 }
 
-fn sends(rt: &(impl Abort + AllocGlobal), additions: &[Addition<'_>], has_scope: bool, body: &str) {
+fn sends(rt: &(impl Abort + AllocGlobal), added: &[Addition<'_>], has_scope: bool, body: &str) {
     let mut params = ParamBuffer::new(rt.alloc());
-    for addition in additions {
+    for addition in added {
         add(rt, &mut params, *addition);
     }
     is_equal(rt, params.has_scope(), has_scope);

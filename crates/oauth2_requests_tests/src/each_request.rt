@@ -45,7 +45,8 @@ fn client(rt: &(impl Abort + AllocGlobal)) -> PostClient {
 
 // A body that reads to each kind of response.
 const WHOLE: &str =
-    r#"{"access_token":"t","token_type":"bearer","active":true,"device_code":"d","user_code":"u","verification_uri":"https://v/","expires_in":2}"#;
+    "{\"access_token\":\"t\",\"token_type\":\"bearer\",\"active\":true,\"device_code\":\"d\",\
+    \"user_code\":\"u\",\"verification_uri\":\"https://v/\",\"expires_in\":2}";
 
 // The response to a device whose code is `d` and is good for two seconds.
 fn device(rt: &(impl Abort + AllocGlobal)) -> StandardDeviceAuthorizationResponse {
@@ -309,13 +310,15 @@ const TYPES: [(&[&[u8]], Outcome<'static>); 3] = [
     (
         &[b"text/html", b"application/json"],
         Outcome::Shown(
-            "Other error: unexpected response Content-Type: \"text/html\", should be `application/json`",
+            "Other error: unexpected response Content-Type: \"text/html\", should be \
+            `application/json`",
         ),
     ),
     (
         &[b"application/json; x=\xe9"],
         Outcome::Shown(
-            "Other error: unexpected response Content-Type: \"application/json; x=\\xe9\", should be `application/json`",
+            "Other error: unexpected response Content-Type: \"application/json; x=\\xe9\", \
+            should be `application/json`",
         ),
     ),
 ];

@@ -1,5 +1,5 @@
-//! Requests to an endpoint (RFC 6749, section 2.3.1): what is in their bodies, and how many headers
-//! they have.
+//! Requests to an endpoint (RFC 6749, section 2.3.1): what is in their bodies, and how many
+//! headers they have.
 
 use crate::support::{is_equal, is_text, text, url};
 use oauth2::AuthType::{BasicAuth, RequestBody};
@@ -14,7 +14,8 @@ fn redirect_url(rt: &(impl Abort + AllocGlobal)) -> RedirectUrl {
 }
 
 fn two_scopes(rt: &(impl Abort + AllocGlobal)) -> Vec<Scope> {
-    vec![in rt.alloc(); Scope::new(text(rt, "a")), Scope::new(text(rt, "b c"))].expect(rt, "a list")
+    let scopes = vec![in rt.alloc(); Scope::new(text(rt, "a")), Scope::new(text(rt, "b c"))];
+    scopes.expect(rt, "a list")
 }
 
 // A name that is borrowed, and a value that is owned.
@@ -57,8 +58,10 @@ fn sends(
 ) {
     let request = request_of(rt, auth_type, secret);
     let body = format!(in rt.alloc();
-        "grant_type=client_credentials&scope=a+b+c{credentials}&redirect_uri=https%3A%2F%2Fexample.com&x+y=%C3%A9%26%3D"
-    ).expect(rt, "a body");
+        "grant_type=client_credentials&scope=a+b+c{credentials}\
+        &redirect_uri=https%3A%2F%2Fexample.com&x+y=%C3%A9%26%3D"
+    )
+    .expect(rt, "a body");
     is_equal(rt, request.body().as_slice(), body.as_bytes());
     is_equal(rt, request.headers().len(), headers);
 }

@@ -1,6 +1,6 @@
-//! Tests of what a request is made of, what a server reads of it, how it is sent and what its reply
-//! says, through the names of `oauth2`. They have what the stored scripts of `oauth2_scripts_tests`
-//! cannot say.
+//! Tests of what a request is made of, what a server reads of it, how it is sent and what its
+//! reply says, through the names of `oauth2`. They have what the stored scripts of
+//! `oauth2_scripts_tests` cannot say.
 
 #![tactic(auto)]
 

@@ -13,8 +13,8 @@ fn empty_request(rt: &impl AllocGlobal) -> HttpRequest {
     Request::new(rt.alloc(), Vec::new(rt.alloc()))
 }
 
-// What is said of one request by a rule, and how often the client is called, whose reply is a token
-// of the type `application/jsonfoo`.
+// What is said of one request by a rule, and how often the client is called, whose reply is a
+// token of the type `application/jsonfoo`.
 fn sends(
     rt: &(impl Abort + AllocGlobal),
     rule: ReplyRule,

@@ -73,7 +73,8 @@ pub fn json_foo(rt: &(impl Abort + AllocGlobal)) -> HttpResponse {
 
 /// What is said of it by the rule for the media type.
 pub const JSON_FOO_REFUSED: &str =
-    "Other error: unexpected response Content-Type: \"application/jsonfoo\", should be `application/json`";
+    "Other error: unexpected response Content-Type: \"application/jsonfoo\", should be \
+    `application/json`";
 
 #[test]
 fn replies_that_a_caller_got(rt: HostRuntime) {

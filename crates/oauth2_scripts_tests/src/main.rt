@@ -1,5 +1,5 @@
-//! Runs the scripts that standard input holds, one a line, and shows of each the lines that its run
-//! writes and how it ends.
+//! Runs the scripts that standard input holds, one a line, and shows of each the lines that its
+//! run writes and how it ends.
 //!
 //! A line that begins with `#` is a heading, and is shown as it is. The scripts stand in the file
 //! `stdin` beside `src`, and what is wanted of them in the file `stdout`.

@@ -7,10 +7,14 @@ use std::process::Abort;
 use std::test::Fail;
 
 const SCRIPT: &str =
-    "{\"client\":{\"id\":\"aaa\",\"secret\":\"bbb\",\"token_url\":\"https://example.com/token\"},\"command\":\"code\",\"params\":{\"code\":\"ccc\"},\"replies\":[{\"status\":200,\"body\":\"{\\\"access_token\\\": \\\"12/34\\\", \\\"token_type\\\": \\\"BEARER\\\"}\"}]}";
+    "{\"client\":{\"id\":\"aaa\",\"secret\":\"bbb\",\"token_url\":\"https://example.com/token\"},\
+    \"command\":\"code\",\"params\":{\"code\":\"ccc\"},\"replies\":[{\"status\":200,\
+    \"body\":\"{\\\"access_token\\\": \\\"12/34\\\", \\\"token_type\\\": \\\"BEARER\\\"}\"}]}";
 
-const LINES: &str =
-    "request POST https://example.com/token\nauthorization Basic YWFhOmJiYg==\nbody \"grant_type=authorization_code&code=ccc\"\nbasic \"aaa\" \"bbb\"\npair \"grant_type\" \"authorization_code\"\npair \"code\" \"ccc\"\nanswer ok {\"access_token\":\"12/34\",\"token_type\":\"bearer\"}\n";
+const LINES: &str = "request POST https://example.com/token\nauthorization Basic YWFhOmJiYg==\n\
+    body \"grant_type=authorization_code&code=ccc\"\nbasic \"aaa\" \"bbb\"\n\
+    pair \"grant_type\" \"authorization_code\"\npair \"code\" \"ccc\"\n\
+    answer ok {\"access_token\":\"12/34\",\"token_type\":\"bearer\"}\n";
 
 // Gives the bytes one at a time, and fails at one of its reads.
 #[derive(Drop)]

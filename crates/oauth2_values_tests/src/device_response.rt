@@ -25,7 +25,8 @@ fn has_times(rt: &impl Abort, device: &StandardDeviceAuthorizationResponse) {
 fn members_of_a_device_response(rt: HostRuntime) {
     let device = read::<StandardDeviceAuthorizationResponse>(
         &rt,
-        r#"{"device_code":"d","expires_in":300,"interval":7,"user_code":"u","verification_uri":"https://v/","verification_uri_complete":"https://v/u"}"#,
+        "{\"device_code\":\"d\",\"expires_in\":300,\"interval\":7,\"user_code\":\"u\",\
+        \"verification_uri\":\"https://v/\",\"verification_uri_complete\":\"https://v/u\"}",
     );
     has_texts(&rt, &device);
     has_times(&rt, &device);

@@ -52,8 +52,8 @@ fn response_with_a_code_of_any_text(rt: HostRuntime) {
 
 #[test]
 fn error_response_is_written(rt: HostRuntime) {
-    let written =
-        r#"{"error":"invalid_client","error_description":"Invalid client_id","error_uri":"https://example.com/errors/invalid_client"}"#;
+    let written = "{\"error\":\"invalid_client\",\"error_description\":\"Invalid client_id\",\
+        \"error_uri\":\"https://example.com/errors/invalid_client\"}";
     let response: BasicErrorResponse = StandardErrorResponse::new(
         BasicErrorResponseType::InvalidClient,
         Some(text(&rt, "Invalid client_id")),

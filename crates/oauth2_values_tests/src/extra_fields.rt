@@ -16,19 +16,21 @@ fn members_left_are_extra_fields(rt: HostRuntime) {
     is_rewritten::<RawToken>(&rt, token, token);
     is_rewritten::<RawToken>(
         &rt,
-        "{\"z\":1,\"token_type\":\"Bearer\",\"y\":{\"b\":[\"\\u0061\",{\"c\":null}],\"a\":-1},\"access_token\":\"t\",\"z\":true}",
+        "{\"z\":1,\"token_type\":\"Bearer\",\"y\":{\"b\":[\"\\u0061\",{\"c\":null}],\"a\":-1},\
+        \"access_token\":\"t\",\"z\":true}",
         r#"{"access_token":"t","token_type":"bearer","y":{"a":-1,"b":["a",{"c":null}]},"z":true}"#,
     );
 }
 
 #[test]
 fn extra_fields_of_a_device_response(rt: HostRuntime) {
-    let written =
-        r#"{"device_code":"d","expires_in":1,"interval":5,"user_code":"u","verification_uri":"https://v/","z":[]}"#;
+    let written = "{\"device_code\":\"d\",\"expires_in\":1,\"interval\":5,\"user_code\":\"u\",\
+        \"verification_uri\":\"https://v/\",\"z\":[]}";
     is_rewritten::<DeviceAuthorizationResponse<ExtraFields>>(&rt, written, written);
     is_rewritten::<DeviceAuthorizationResponse<ExtraFields>>(
         &rt,
-        r#"{"device_code":"d","user_code":"u","verification_url":"https://v/","expires_in":1,"z":[]}"#,
+        "{\"device_code\":\"d\",\"user_code\":\"u\",\"verification_url\":\"https://v/\",\
+        \"expires_in\":1,\"z\":[]}",
         written,
     );
 }

@@ -3,13 +3,11 @@
 use crate::support::{is_equal, is_written_as, scope_list, text};
 use jiff::Timestamp;
 use oauth2::basic::{BasicTokenIntrospectionResponse, BasicTokenType};
-use oauth2::{
-    ClientId, EmptyExtraTokenFields, StandardTokenIntrospectionResponse, TokenIntrospectionResponse,
-};
+use oauth2::{ClientId, EmptyExtraTokenFields, TokenIntrospectionResponse};
 use std::process::Abort;
 
 fn active() -> BasicTokenIntrospectionResponse {
-    StandardTokenIntrospectionResponse::new(true, EmptyExtraTokenFields {})
+    BasicTokenIntrospectionResponse::new(true, EmptyExtraTokenFields {})
 }
 
 fn time(rt: &impl Abort, nanosecond: i128) -> Timestamp {
@@ -87,6 +85,7 @@ fn other_members_are_set(rt: HostRuntime) {
     is_written_as(
         &rt,
         &response,
-        r#"{"active":true,"aud":["audience"],"client_id":"aaa","scope":"read","token_type":"bearer"}"#,
+        "{\"active\":true,\"aud\":[\"audience\"],\"client_id\":\"aaa\",\"scope\":\"read\",\
+        \"token_type\":\"bearer\"}",
     );
 }

@@ -104,15 +104,19 @@ fn copies_of_error_responses_are_written_alike(rt: HostRuntime) {
 fn copies_of_responses_are_written_alike(rt: HostRuntime) {
     copy_is_kept::<BasicTokenResponse>(
         &rt,
-        r#"{"access_token":"t","expires_in":1,"refresh_token":"r","scope":"read write","token_type":"bearer"}"#,
+        "{\"access_token\":\"t\",\"expires_in\":1,\"refresh_token\":\"r\",\
+        \"scope\":\"read write\",\"token_type\":\"bearer\"}",
     );
     copy_is_kept::<BasicTokenIntrospectionResponse>(
         &rt,
-        r#"{"active":true,"aud":["audience"],"client_id":"aaa","exp":3,"iat":1,"iss":"issuer","jti":"identifier","nbf":2,"scope":"read write","sub":"subject","token_type":"bearer","username":"demo"}"#,
+        "{\"active\":true,\"aud\":[\"audience\"],\"client_id\":\"aaa\",\"exp\":3,\"iat\":1,\
+        \"iss\":\"issuer\",\"jti\":\"identifier\",\"nbf\":2,\"scope\":\"read write\",\
+        \"sub\":\"subject\",\"token_type\":\"bearer\",\"username\":\"demo\"}",
     );
     copy_is_kept::<StandardDeviceAuthorizationResponse>(
         &rt,
-        r#"{"device_code":"d","expires_in":300,"interval":7,"user_code":"u","verification_uri":"https://v/","verification_uri_complete":"https://v/u"}"#,
+        "{\"device_code\":\"d\",\"expires_in\":300,\"interval\":7,\"user_code\":\"u\",\
+        \"verification_uri\":\"https://v/\",\"verification_uri_complete\":\"https://v/u\"}",
     );
 }
 

@@ -1,5 +1,5 @@
-//! Tests of texts, secrets, challenges, URLs and clients, and of what is read from JSON and written
-//! as JSON, through the names of `oauth2`.
+//! Tests of texts, secrets, challenges, URLs and clients, and of what is read from JSON and
+//! written as JSON, through the names of `oauth2`.
 
 #![tactic(auto)]
 

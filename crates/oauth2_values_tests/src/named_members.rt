@@ -140,8 +140,8 @@ fn members_of_another_kind_are_refused(rt: HostRuntime) {
 fn identity_is_written<Fields: ExtraTokenFields + TryClone + Drop>(
     rt: &(impl Abort + AllocGlobal),
 ) {
-    let whole =
-        r#"{"access_token":"t","cnf":[],"ext_expires_in":7,"id_token":"x","offline":true,"token_type":"bearer"}"#;
+    let whole = "{\"access_token\":\"t\",\"cnf\":[],\"ext_expires_in\":7,\"id_token\":\"x\",\
+        \"offline\":true,\"token_type\":\"bearer\"}";
     copy_is_kept::<StandardTokenResponse<Fields, BasicTokenType>>(rt, whole);
     is_rewritten::<StandardTokenResponse<Fields, BasicTokenType>>(
         rt,
@@ -159,7 +159,8 @@ fn named_members_are_written(rt: HostRuntime) {
     identity_is_written::<IdentityFields>(&rt);
     is_kept::<DeviceAuthorizationResponse<DeviceFields>>(
         &rt,
-        r#"{"cnf":[],"device_code":"d","expires_in":1,"interval":5,"user_code":"u","verification_uri":"https://v/"}"#,
+        "{\"cnf\":[],\"device_code\":\"d\",\"expires_in\":1,\"interval\":5,\"user_code\":\"u\",\
+        \"verification_uri\":\"https://v/\"}",
     );
 }
 

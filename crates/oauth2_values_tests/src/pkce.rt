@@ -55,7 +55,8 @@ fn plain_challenge(rt: HostRuntime) {
         &challenge,
         VERIFIER,
         "plain",
-        "PkceCodeChallenge { code_challenge: [redacted], code_challenge_method: PkceCodeChallengeMethod(\"plain\") }",
+        "PkceCodeChallenge { code_challenge: [redacted], code_challenge_method: \
+        PkceCodeChallengeMethod(\"plain\") }",
     );
     let method = PkceCodeChallengeMethod::new(text(&rt, "plain"));
     assert!(rt; PkceCodeChallenge::from_parts(text(&rt, VERIFIER), method) == challenge);
@@ -94,7 +95,8 @@ fn random_states(rt: HostRuntime) {
 
 // Of 96 zero bytes.
 const LONGEST: &str =
-    "AAAAAAAAAAAAAAAAAAAAAAAAAAAAAAAAAAAAAAAAAAAAAAAAAAAAAAAAAAAAAAAAAAAAAAAAAAAAAAAAAAAAAAAAAAAAAAAAAAAAAAAAAAAAAAAAAAAAAAAAAAAAAAAA";
+    "AAAAAAAAAAAAAAAAAAAAAAAAAAAAAAAAAAAAAAAAAAAAAAAAAAAAAAAAAAAAAAAAAAAAAAAAAAAAAAAAAAAAAAAAAAAA\
+    AAAAAAAAAAAAAAAAAAAAAAAAAAAAAAAAAAAA";
 
 // Of 32 zero bytes.
 const SHORTEST: &str = "AAAAAAAAAAAAAAAAAAAAAAAAAAAAAAAAAAAAAAAAAAA";
