@@ -29,14 +29,14 @@ pub fn client(alloc: Global) -> Result<BenchClient, Fault> {
     )
 }
 
-/// The same with a redirect.
+/// The client `aaa` with the secret `bbb` and a redirect.
 pub fn redirecting_client(alloc: Global) -> Result<BenchClient, Fault> {
     let text = String::from_str(alloc, "https://localhost/redirect")?;
     let redirect = RedirectUrl::new(alloc, text)?;
     Ok(client(alloc)?.set_redirect_uri(redirect))
 }
 
-/// A client with an introspection endpoint alone.
+/// A client whose only endpoint is the introspection endpoint.
 pub type IntrospectionClient = BasicClient<
     EndpointNotSet,
     EndpointNotSet,

@@ -19,7 +19,7 @@ const DEVICE: &str = "{\"device_code\":\"12345\",\"user_code\":\"abcde\",\
 
 const PENDING: &str = "{\"error\":\"authorization_pending\"}";
 
-// A world whose clock stands still, and whose user decides late.
+// A world whose clock always shows the same time, and whose user decides late.
 #[derive(Drop)]
 struct LateWorld {
     alloc: Global,
@@ -57,7 +57,7 @@ impl PollWorld for LateWorld {
     fn sleep(&mut self, _duration: Duration) {}
 }
 
-/// A poll that is answered so often before the token comes.
+/// A poll that gets so many other replies before the token.
 #[derive(Drop)]
 pub struct PollOperation {
     client: BenchClient,
@@ -67,7 +67,7 @@ pub struct PollOperation {
 }
 
 impl PollOperation {
-    /// The poll that this body answers, after so many replies that the user has not decided.
+    /// The poll that ends with this body, after so many replies that the user has not decided.
     pub fn new(alloc: Global, token: String, pending: u32) -> Result<PollOperation, Fault> {
         Ok(PollOperation {
             client: client(alloc)?,

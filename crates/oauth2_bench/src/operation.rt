@@ -5,8 +5,8 @@ use std::alloc::Global;
 use std::rt::Clock;
 use std::time::Instant;
 
-/// What shows that a run did its work: how many bytes its request's body had, if it sent one, and
-/// a length of what it gave.
+/// Shows that a run did its work: how many bytes the body of its request had, if it sent one, and
+/// a length of its result.
 #[derive(Clone, Copy, Debug, PartialEq, Eq)]
 pub struct Done {
     pub sent: usize,

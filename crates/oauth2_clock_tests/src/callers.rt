@@ -38,7 +38,8 @@ use std::alloc::{AllocError, Global};
 use std::fmt;
 use std::time::Duration;
 
-/// A run whose requests are bounded by timeout and interval alone, if the clock passes each sleep.
+/// Runs a poll over lists. If the clock moves on by each sleep, timeout and interval bound how
+/// many requests it makes.
 pub fn poll_within(
     alloc: Global,
     timeout: Duration,
@@ -55,7 +56,7 @@ pub fn poll_within(
     DevicePoll::run(alloc, timeout, settings, readings, answers)
 }
 
-/// A client with a token endpoint alone.
+/// A client whose only endpoint is the token endpoint.
 pub type TokenClient = BasicClient<
     EndpointNotSet,
     EndpointNotSet,
@@ -64,9 +65,9 @@ pub type TokenClient = BasicClient<
     EndpointSet,
 >;
 
-/// The token of a device, by a clock and a sleep function of the caller's: the client is asked for
-/// this device's token and for nothing else, and the sleep function is called for sleeps alone
-/// that the response's interval and the answers before them pace.
+/// Polls for the token of a device, with the caller's clock and sleep function. Each request that
+/// the client sends is the request for this device's token. Each sleep is paced by the response's
+/// interval and the answers before it.
 pub fn device_token<C: SyncHttpClient, F: FnMut() -> Timestamp + Drop, S: FnMut(Duration)>(
     alloc: Global,
     client: &TokenClient,
@@ -95,8 +96,8 @@ pub fn device_token<C: SyncHttpClient, F: FnMut() -> Timestamp + Drop, S: FnMut(
         .request(alloc, http_client, sleep_fn, None, 100)
 }
 
-/// What to send as `Authorization` to a resource (RFC 6750, section 2.1): the kept token, by the
-/// scheme `Bearer`. While it is good, nothing is sent for it.
+/// What to send as `Authorization` to a resource (RFC 6750, section 2.1): `Bearer` and the kept
+/// token. While the token is good, no request is sent for it.
 pub fn bearer<C: SyncHttpClient>(
     alloc: Global,
     keeper: &mut BasicTokenKeeper<'_>,

@@ -14,8 +14,8 @@ use std::fmt::Display;
 use std::process::Abort;
 use std::time::Duration;
 
-/// An HTTP client that gets these replies in turn, each a status and a body, and then fails. It
-/// keeps the body of the last request.
+/// An HTTP client that returns these replies one after the other, each a status and a body, and
+/// then fails. It keeps the body of the last request.
 #[derive(Drop)]
 pub struct Scripted<'a> {
     alloc: Global,
@@ -95,17 +95,17 @@ pub fn slept(duration: Duration) -> Seen {
     Seen::Sleep(duration.as_secs(), duration.subsec_nanos())
 }
 
-/// It is so, in this case. (A call costs a proof far less than the assertion would in its place.)
+/// Checks a condition in one case. (A call is much cheaper to prove than the assertion itself.)
 pub fn is_so(rt: &impl Abort, is_so: bool, case: &str) {
     assert!(rt; is_so, "{case}");
 }
 
-/// The token is the wanted answer.
+/// Checks that the token is the expected answer.
 pub fn is_token(rt: &impl Abort, token: &AccessToken, answer: Result<&str, &str>) {
     is_so(rt, answer == Ok(token.secret().as_str()), "a token");
 }
 
-/// The text of the fault is the wanted answer.
+/// Checks that the text of the fault is the expected answer.
 pub fn is_fault<E: Display>(
     rt: &(impl Abort + AllocGlobal),
     error: &E,

@@ -14,7 +14,7 @@ use std::alloc::AllocError;
 use std::process::Abort;
 use std::time::Duration;
 
-// The result of a poll by a client whose own error is want of memory.
+// The result of a poll whose client can fail only because memory runs out.
 type TokenResult = Result<
     BasicTokenResponse,
     RequestTokenError<AllocError, DeviceCodeErrorResponse>,
@@ -34,7 +34,7 @@ const TOKEN: (u16, &str) = (
 const EXPIRED: &str =
     "Server returned error response: expired_token: This device code has expired.";
 
-// A world whose clock shows these readings in turn and then stands still, and which has a client.
+// A world with a client. Its clock shows these readings one after the other, and then stops.
 #[derive(Drop)]
 struct Recorder<'a> {
     readings: &'a [Timestamp],
@@ -168,7 +168,7 @@ fn polled_in(
         )
 }
 
-// The poll gives this token, or no token and says this.
+// Checks that the poll returns this token, or an error with this text.
 fn says(rt: &(impl Abort + AllocGlobal), polled: TokenResult, answer: Result<&str, &str>) {
     match polled {
         Ok(token) => is_token(rt, token.access_token(), answer),

@@ -25,7 +25,7 @@ fn add(buffer: &mut ParamBuffer, addition: Addition<'_>) -> Result<(), AllocErro
     }
 }
 
-/// Adds, and does so again where memory was refused; answers whether it was.
+/// Adds to the buffer. If memory runs out, it tries once more. Returns whether it had to.
 pub fn add_at_last(buffer: &mut ParamBuffer, addition: Addition<'_>) -> Result<bool, AllocError>
     ensures { OnOk result (buffer.new ≡ with_addition buffer.old addition.entry) }
 {
@@ -36,7 +36,7 @@ pub fn add_at_last(buffer: &mut ParamBuffer, addition: Addition<'_>) -> Result<b
     Ok(true)
 }
 
-/// Adds all, each as `add_at_last` does; answers whether memory was refused.
+/// Adds all of them by `add_at_last`. Returns whether one had to be tried again.
 pub fn add_all(buffer: &mut ParamBuffer, additions: &[Addition<'_>]) -> Result<bool, AllocError> {
     let mut was_refused = false;
     for addition in additions {

@@ -10,7 +10,7 @@ use oauth2::{
 use oauth2_refused_memory_values_tests::{Ended, text};
 use std::alloc::Global;
 
-/// A client with every endpoint but, in some rows, that of revocations.
+/// A client with every endpoint; in some rows the revocation endpoint is missing.
 pub type RowClient = BasicClient<
     EndpointSet,
     EndpointSet,
@@ -29,7 +29,7 @@ pub struct ClientTexts<'a> {
     pub revocation_url: Option<&'a str>,
 }
 
-/// What most rows have.
+/// The texts that most rows use.
 pub const USUAL: ClientTexts<'static> = ClientTexts {
     id: "aaa",
     secret: Some("bbb"),
@@ -155,7 +155,7 @@ fn shows_the_same(alloc: Global, client: &RowClient, copy: &RowClient) -> Result
     }
 }
 
-/// Whether a client tells what its copy tells, and shows the same credentials.
+/// Whether a client and its copy return the same values, and send the same credentials.
 pub fn is_as(alloc: Global, client: &RowClient, copy: &RowClient) -> Result<bool, Ended> {
     Ok(has_same_endpoints(client, copy) && shows_the_same(alloc, client, copy)?)
 }

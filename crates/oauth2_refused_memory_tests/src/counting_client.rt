@@ -4,11 +4,12 @@ ghost use Rattle.std.specs.Prelude.{◌≡◌, Some, None};
 
 use oauth2::{HttpRequest, HttpResponse, SyncHttpClient};
 
-/// The reply was given before.
+/// The reply was returned before.
 #[derive(Clone, Copy)]
 pub struct NoReply;
 
-/// Answers its first call with a reply that stands ready, so that a call takes no memory.
+/// A client that returns a reply at its first call. The reply was made before, so a call takes no
+/// memory.
 #[derive(Drop)]
 pub struct CountingClient {
     pub calls: u64,

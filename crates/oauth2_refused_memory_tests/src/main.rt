@@ -1,9 +1,10 @@
-//! What each call answers where memory is refused: it runs the rows that standard input names, one
-//! a line, and shows what came of each.
+//! Shows what each call returns when memory is refused: runs the rows that standard input names,
+//! one on each line, and prints the result of each.
 //!
-//! A row's own lines take no memory, so a growth that is refused is one of its calls, or of what
-//! it is called with. Exit status 0: every row was answered; 1: memory ran out in one; 2: there is
-//! no such row, or a call refused what it is given; 3: standard input or output failed.
+//! Printing a row takes no memory, so a growth that is refused belongs to one of its calls, or to
+//! the values that they are called with. Exit status 0: every row has a result; 1: memory ran out
+//! in one; 2: there is no such row, or a call refused its arguments; 3: standard input or output
+//! failed.
 
 #![tactic(auto)]
 

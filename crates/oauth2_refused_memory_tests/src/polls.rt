@@ -97,7 +97,7 @@ pub fn polled(
         .poll_with(alloc, world, timeout, max_polls)
 }
 
-/// Polls in a world of its own.
+/// Makes a world, polls in it, and shows what came of it.
 pub fn show_poll<W: Write>(
     alloc: Global,
     client: &RowClient,

@@ -82,7 +82,7 @@ const ADDITIONS: [Addition<'static>; 5] = [
     Addition::Extra("x y", "é&="),
 ];
 
-// A buffer that was refused memory takes the same again.
+// A buffer that ran out of memory takes the same addition again.
 fn show_buffer<W: Write>(alloc: Global, client: &RowClient, out: &mut W) -> Result<(), Ended> {
     let mut buffer = ParamBuffer::new(alloc);
     let was_refused = add_all(&mut buffer, &ADDITIONS)?;

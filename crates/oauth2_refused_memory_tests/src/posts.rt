@@ -33,7 +33,7 @@ pub fn credentials(alloc: Global, client: &RowClient) -> Result<HttpRequest, End
     Ok(request.prepare_request(alloc)?)
 }
 
-/// The same with a scope.
+/// The request for the client's own token, with a scope.
 pub fn scoped_credentials(
     alloc: Global,
     client: &RowClient,
@@ -49,7 +49,7 @@ pub fn scoped_credentials(
     Ok(request.prepare_request(alloc)?)
 }
 
-/// The same with an extra parameter.
+/// The request for the client's own token, with an extra parameter.
 pub fn extended_credentials(
     alloc: Global,
     client: &RowClient,
@@ -117,7 +117,7 @@ pub fn device_authorization(alloc: Global, client: &RowClient) -> Result<HttpReq
     Ok(request.prepare_request(alloc)?)
 }
 
-/// The same with a scope and an extra parameter.
+/// The request of a device for its codes, with a scope and an extra parameter.
 pub fn extended_device_authorization(
     alloc: Global,
     client: &RowClient,

@@ -16,8 +16,9 @@ pub enum Seen {
     Sleep(Duration),
 }
 
-/// Its clock shows these seconds in turn and then stands still; its client gives these replies,
-/// the last first, and then fails. The replies and the room for what it sees stand ready.
+/// A world whose clock shows these seconds one after the other, and then stops. Its client returns
+/// these replies, the last one first, and then fails. The replies, and the room for what it sees,
+/// are made before.
 #[derive(Drop)]
 pub struct Recorder<'a> {
     pub readings: &'a [i64],

@@ -1,4 +1,4 @@
-//! Replies that stand ready before a row's call.
+//! Replies that are made before a row's call.
 
 ghost use Rattle.std.specs.Prelude.{◌≡◌, IfOk};
 ghost use Rattle.oauth2_wire.specs.Reply.{reply_of};

@@ -7,7 +7,7 @@ use oauth2_refused_memory_values_tests::{Ended, Want, show_value_row, value_row}
 use std::alloc::Global;
 use std::io::Write;
 
-/// Runs the rows of these names, one a line; answers whether memory was there for all of them.
+/// Runs the rows of these names, one on each line. Returns whether none of them ran out of memory.
 pub fn show_rows<W: Write>(alloc: Global, names: &str, out: &mut W) -> Result<bool, Ended> {
     let mut is_fed = true;
     for name in names.lines() {
@@ -20,7 +20,7 @@ pub fn show_rows<W: Write>(alloc: Global, names: &str, out: &mut W) -> Result<bo
     Ok(is_fed)
 }
 
-// Want of memory ends a row, anything else the run.
+// A row that runs out of memory ends; any other error ends the run.
 fn wanted(ended: Result<(), Ended>) -> Result<Option<Want>, Ended> {
     match ended {
         Ok(()) => Ok(None),

@@ -55,7 +55,7 @@ pub fn show_url<W: Write>(out: &mut W, url: &Url, state: &CsrfToken) -> Result<(
     Ok(())
 }
 
-/// A token, or why there is none; want of memory ends the row.
+/// Shows a token, or why there is none. If memory ran out, the row ends.
 pub fn show_answer<W: Write, TE: Display + Drop>(
     out: &mut W,
     answer: Result<BasicTokenResponse, RequestTokenError<NoReply, TE>>,

@@ -22,7 +22,7 @@ pub fn authorization_url(
     Ok(request.url(alloc)?)
 }
 
-/// The same with a scope.
+/// The URL of a request with a scope.
 pub fn scoped_url(
     alloc: Global,
     client: &RowClient,
@@ -36,7 +36,7 @@ pub fn scoped_url(
     Ok(request.url(alloc)?)
 }
 
-/// The same with another redirect.
+/// The URL of a request with another redirect.
 pub fn redirected_url(
     alloc: Global,
     client: &RowClient,
@@ -52,7 +52,7 @@ pub fn redirected_url(
     Ok(request.url(alloc)?)
 }
 
-/// The same with another response type and an extra parameter.
+/// The URL of a request with another response type and an extra parameter.
 pub fn typed_url(
     alloc: Global,
     client: &RowClient,

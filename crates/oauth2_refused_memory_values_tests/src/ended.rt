@@ -13,10 +13,10 @@ use oauth2::{CodeFlowError, ReadError, RequestFault, ViewError, WriteError};
 use std::alloc::{AllocError, Global};
 use std::io;
 
-/// How want of memory was answered.
+/// Which error says that memory ran out.
 #[derive(Clone, Copy, Debug)]
 pub enum Want {
-    /// Outside of the row's calls: for what it hands them.
+    /// Before the row's calls: memory ran out for what they are called with.
     Row,
     AllocError,
     CodeFlowError,
@@ -32,7 +32,7 @@ pub enum Want {
 #[derive(Clone, Copy)]
 pub enum Ended {
     Starved(Want),
-    /// A call refused what it is given.
+    /// A call refused its arguments.
     Refused,
     /// There is no such row.
     Unknown,
@@ -125,7 +125,7 @@ impl From<ViewError> for Ended {
     }
 }
 
-/// A text of the row's own.
+/// Makes a text that the row owns.
 pub fn text(alloc: Global, text: &str) -> Result<String, Ended>
     ensures made { IfOk result (λ s. string_bytes s ≡ text.now) }
     ensures starved { IfErr result (λ e. e ≡ Starved want.Row) }

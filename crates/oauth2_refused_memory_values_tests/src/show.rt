@@ -21,13 +21,13 @@ pub fn show_text<W: Write, T: Display>(out: &mut W, text: &T) -> Result<(), Ende
     Ok(())
 }
 
-/// Why a body does not read.
+/// Why a body cannot be read.
 pub fn show_fault<W: Write>(out: &mut W, fault: &ParseFault) -> Result<(), Ended> {
     writeln!(out, "fault {:?} {:?}", fault.member.as_str(), fault.cause)?;
     Ok(())
 }
 
-/// How long is slept.
+/// How long the poll sleeps.
 pub fn show_sleep<W: Write>(out: &mut W, duration: Duration) -> Result<(), Ended> {
     writeln!(
         out,

@@ -45,13 +45,13 @@ pub fn verifier_of_zeros(alloc: Global, number: u32) -> Result<PkceCodeVerifier,
     Ok(verifier)
 }
 
-/// What a body reads to, written again.
+/// Reads a body, and writes it again.
 pub fn rewritten<T: FromJson + ToJson + Drop>(alloc: Global, body: &str) -> Result<String, Ended> {
     let value = read_body::<T>(alloc, body.as_bytes())?;
     Ok(compact(alloc, &value)?)
 }
 
-/// Why a body does not read.
+/// Why a body cannot be read.
 pub fn fault_in<T: FromJson + Drop>(alloc: Global, body: &str) -> Result<ParseFault, Ended> {
     match read_body::<T>(alloc, body.as_bytes()) {
         Ok(_) => Err(Ended::Refused),

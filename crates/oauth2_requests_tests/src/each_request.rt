@@ -227,7 +227,7 @@ fn polls_once(
     tells(rt, answer, reply.body, wanted);
 }
 
-// Status 200 alone is the success, whatever else the reply says.
+// Only status 200 is a success, whatever else the reply says.
 fn revokes(
     rt: &(impl Abort + AllocGlobal),
     client: &PostClient,

@@ -51,7 +51,7 @@ pub fn reply_of(
     Response::from_parts(head, body_of(rt, body))
 }
 
-/// The text that is answered, or the text of the error.
+/// Checks what was read from a reply: its text, or the text of the error.
 pub fn says(rt: &(impl Abort + AllocGlobal), answer: TextResult, wanted: &str) {
     match answer {
         Ok(text) => is_text(rt, text.as_str(), wanted),
@@ -71,7 +71,7 @@ pub fn json_foo(rt: &(impl Abort + AllocGlobal)) -> HttpResponse {
     reply_of(rt, 200, &types, b"\"a token\"")
 }
 
-/// What is said of it by the rule for the media type.
+/// The error that the rule `MediaType` returns for `json_foo`.
 pub const JSON_FOO_REFUSED: &str =
     "Other error: unexpected response Content-Type: \"application/jsonfoo\", should be \
     `application/json`";
@@ -85,7 +85,7 @@ fn replies_that_a_caller_got(rt: HostRuntime) {
     says(&rt, answer, JSON_FOO_REFUSED);
 }
 
-// What is said of a reply where the status alone tells a success.
+// Checks what is read from a reply when only its status says whether the request succeeded.
 fn answers_by_status(rt: &(impl Abort + AllocGlobal), status: u16, body: &str, wanted: &str) {
     let types = [b"application/octet-stream".as_slice()];
     let reply = reply_of(rt, status, &types, body.as_bytes());

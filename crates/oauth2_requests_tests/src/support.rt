@@ -25,22 +25,22 @@ pub fn text(rt: &(impl Abort + AllocGlobal), text: &str) -> String {
     String::from_str(rt.alloc(), text).expect(rt, "a text")
 }
 
-/// The URL of a text of which proofs know nothing, so that none parses it.
+/// Makes a URL of a text whose bytes proofs do not see, so that no proof parses it.
 pub fn url(rt: &(impl Abort + AllocGlobal), text: &str) -> Url {
     Url::parse(rt.alloc(), text).expect(rt, "a URL")
 }
 
-/// The two are equal. (A call costs a proof far less than the assertion would in its place.)
+/// Checks that the two are equal. (A call is much cheaper to prove than the assertion itself.)
 pub fn is_equal<T: PartialEq + Debug + Drop>(rt: &impl Abort, found: T, wanted: T) {
     assert_eq!(rt; found, wanted);
 }
 
-/// It is so, at this row of a table.
+/// Checks a condition for one row of a table.
 pub fn is_so_at(rt: &impl Abort, is_so: bool, row: &str) {
     assert!(rt; is_so, "at {row}");
 }
 
-/// The text that the value displays.
+/// Checks the text that the value displays.
 pub fn shows<T: Display>(rt: &(impl Abort + AllocGlobal), value: &T, wanted: &str) {
     let text = format!(in rt.alloc(); "{value}").expect(rt, "a text");
     is_text(rt, text.as_str(), wanted);

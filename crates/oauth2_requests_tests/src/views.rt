@@ -10,7 +10,7 @@ fn header(rt: &(impl Abort + AllocGlobal), text: &str) -> HeaderValue {
     HeaderValue::from_str(rt.alloc(), text).expect(rt, "a header's value")
 }
 
-// A request with this Authorization header alone.
+// A request with this Authorization header and nothing else.
 fn request_with(rt: &(impl Abort + AllocGlobal), value: HeaderValue) -> HttpRequest {
     let mut request = Request::new(rt.alloc(), Vec::new(rt.alloc()));
     let _ = request

@@ -1,8 +1,8 @@
-//! Runs the scripts that standard input holds, one a line, and shows of each the lines that its
-//! run writes and how it ends.
+//! Runs the scripts on standard input, one on each line, and prints for each script the lines that
+//! its run writes and how it ends.
 //!
-//! A line that begins with `#` is a heading, and is shown as it is. The scripts stand in the file
-//! `stdin` beside `src`, and what is wanted of them in the file `stdout`.
+//! A line that begins with `#` is a heading, and is printed as it is. The scripts are in the file
+//! `stdin` next to `src`, and the expected output is in the file `stdout`.
 
 #![tactic(auto)]
 

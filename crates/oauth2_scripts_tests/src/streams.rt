@@ -16,7 +16,7 @@ const LINES: &str = "request POST https://example.com/token\nauthorization Basic
     pair \"grant_type\" \"authorization_code\"\npair \"code\" \"ccc\"\n\
     answer ok {\"access_token\":\"12/34\",\"token_type\":\"bearer\"}\n";
 
-// Gives the bytes one at a time, and fails at one of its reads.
+// Returns the bytes one at a time, and fails at one of its reads.
 #[derive(Drop)]
 struct FailingReader<'a> {
     left: &'a [u8],
@@ -41,7 +41,7 @@ impl Read for FailingReader<'_> {
     }
 }
 
-// Gives a space at every call.
+// Returns a space at every call.
 #[derive(Drop)]
 struct EndlessReader {
     reads: u32,

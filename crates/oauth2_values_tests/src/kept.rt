@@ -1,4 +1,4 @@
-//! Values that read to a value which is written as the text, and copies of values.
+//! Texts that are read and written again as the same text, and copies of what was read.
 
 use crate::support::{copy_is_kept, is_kept, is_refused, is_rewritten};
 use oauth2::basic::{

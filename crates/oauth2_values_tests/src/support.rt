@@ -8,7 +8,7 @@ use std::fmt::{Debug, Display};
 use std::hash::{DefaultHasher, Hash, Hasher};
 use std::process::Abort;
 
-/// A text of which proofs know nothing, so that none computes a digest or parses it.
+/// Makes a text whose bytes proofs do not see, so that no proof computes its digest or parses it.
 pub fn text(rt: &(impl Abort + AllocGlobal), text: &str) -> String {
     String::from_str(rt.alloc(), text).expect(rt, "a text")
 }
@@ -28,12 +28,12 @@ pub fn parsed(rt: &(impl Abort + AllocGlobal), text: &str) -> Value {
     Value::from_str(rt.alloc(), text).expect(rt, "a JSON value")
 }
 
-/// What the body reads to.
+/// Reads the body as a `T`.
 pub fn read<T: FromJson>(rt: &(impl Abort + AllocGlobal), body: &str) -> T {
     read_body::<T>(rt.alloc(), body.as_bytes()).expect(rt, "a value")
 }
 
-/// The two are equal. (A call costs a proof far less than the assertion would in its place.)
+/// Checks that the two are equal. (A call is much cheaper to prove than the assertion itself.)
 pub fn is_equal<T: PartialEq + Debug + Drop>(rt: &impl Abort, found: T, wanted: T) {
     assert_eq!(rt; found, wanted);
 }
@@ -43,7 +43,7 @@ pub fn is_text(rt: &impl Abort, found: &str, wanted: &str) {
     assert_eq!(rt; found, wanted);
 }
 
-/// It is so, at this row of a table.
+/// Checks a condition for one row of a table.
 pub fn is_so_at(rt: &impl Abort, is_so: bool, row: &str) {
     assert!(rt; is_so, "at {row}");
 }
@@ -72,7 +72,7 @@ fn hash_of<T: Hash>(value: &T) -> u64 {
     hasher.finish()
 }
 
-/// A copy is equal and hashes alike.
+/// Checks that a copy is equal and has the same hash.
 pub fn copies_alike<T: Debug + Eq + Hash + TryClone + Drop>(
     rt: &(impl Abort + AllocGlobal),
     value: &T,
@@ -87,12 +87,13 @@ pub fn value(rt: &(impl Abort + AllocGlobal)) -> String {
     text(rt, "top_secret")
 }
 
-/// The text of the other.
+/// The text of the other value.
 pub fn other(rt: &(impl Abort + AllocGlobal)) -> String {
     text(rt, "top_secreu")
 }
 
-/// Two values of different texts: how the first is shown in debug, its copy, and that they differ.
+/// Checks two values with different texts: the debug text of the first, its copy, and that the two
+/// differ.
 pub fn compares<T: Debug + Eq + Hash + TryClone + Drop>(
     rt: &(impl Abort + AllocGlobal),
     value: T,
@@ -110,7 +111,7 @@ pub fn is_written_as<T: ToJson>(rt: &(impl Abort + AllocGlobal), value: &T, want
     is_text(rt, json.as_str(), wanted);
 }
 
-/// The body reads to a value that is written as this text.
+/// Checks that what is read from the body is written as this text.
 pub fn is_rewritten<T: FromJson + ToJson + Drop>(
     rt: &(impl Abort + AllocGlobal),
     body: &str,
@@ -120,12 +121,12 @@ pub fn is_rewritten<T: FromJson + ToJson + Drop>(
     is_written_as(rt, &value, wanted);
 }
 
-/// The text reads to a value that is written as the text.
+/// Checks that what is read from the text is written as the same text.
 pub fn is_kept<T: FromJson + ToJson + Drop>(rt: &(impl Abort + AllocGlobal), text: &str) {
     is_rewritten::<T>(rt, text, text);
 }
 
-/// A copy of what the text reads to is written as the text.
+/// Checks that a copy of what is read from the text is written as the same text.
 pub fn copy_is_kept<T: FromJson + ToJson + TryClone + Drop>(
     rt: &(impl Abort + AllocGlobal),
     text: &str,
@@ -134,7 +135,7 @@ pub fn copy_is_kept<T: FromJson + ToJson + TryClone + Drop>(
     is_written_as(rt, &copy_of(rt, &value), text);
 }
 
-/// The value is not written, for this reason, at this row of a table.
+/// Checks that writing the value fails with this error, for one row of a table.
 pub fn is_not_written<T: ToJson + Drop>(
     rt: &(impl Abort + AllocGlobal),
     value: T,
@@ -145,7 +146,7 @@ pub fn is_not_written<T: ToJson + Drop>(
     is_so_at(rt, refused == Some(refusal), row);
 }
 
-/// Whether reading answers this fault.
+/// Whether reading returned this fault.
 pub fn is_fault<T: Drop>(read: Result<T, ReadError>, member: &str, cause: ParseCause) -> bool {
     let Err(ReadError::Fault(fault)) = read else {
         return false;
@@ -153,7 +154,7 @@ pub fn is_fault<T: Drop>(read: Result<T, ReadError>, member: &str, cause: ParseC
     fault.member.as_str() == member && fault.cause == cause
 }
 
-/// The body reads to this fault.
+/// Checks that reading the body returns this fault.
 pub fn is_refused<T: FromJson + Drop>(
     rt: &(impl Abort + AllocGlobal),
     body: &str,
