@@ -3,6 +3,7 @@ use Rattle.std.proofs.Common.{◌≡◌, ℕ, List, [], ◌∷◌, Bool, true, f
 use Rattle.std.proofs.lemmas.Slice.Eq.{bytes_eq-Decides}
 use Rattle.oauth2_codes.specs.Codes.{code_in, TokenCode, extension, token_codes, token_code_text, token_code_of, canonical}
 use Rattle.oauth2_codes.specs.ErrorCodes.{ErrorCode, extension as error_extension, error_codes, error_code_text, error_code_of, error_canonical, DeviceErrorCode, basic, device_error_codes, device_error_code_text, device_error_code_of, device_error_canonical, RevocationErrorCode, basic as revocation_basic, revocation_error_codes, revocation_error_code_text, revocation_error_code_of, revocation_error_canonical}
+use Rattle.oauth2_codes.specs.AuthorizationCodes.{AuthorizationErrorCode, extension as authorization_extension, authorization_error_codes, authorization_error_code_text, authorization_error_code_of, authorization_error_canonical}
 
 -- each code of a table is written as its own text
 abbrev are_written : {C : Type 0} → (C → List ℕ) → List (List ℕ × C) → Bool
@@ -46,3 +47,9 @@ revocation_error_code_text-of s = text_of-code_in revocation_error_code_text rev
 
 pub revocation_error_canonical-canonical : (c : RevocationErrorCode) → revocation_error_canonical (revocation_error_canonical c) ≡ revocation_error_canonical c
 revocation_error_canonical-canonical c = ap revocation_error_code_of (revocation_error_code_text-of (revocation_error_code_text c))
+
+pub authorization_error_code_text-of : (s : List ℕ) → authorization_error_code_text (authorization_error_code_of s) ≡ s
+authorization_error_code_text-of s = text_of-code_in authorization_error_code_text authorization_error_codes (authorization_extension s) s refl refl
+
+pub authorization_error_canonical-canonical : (c : AuthorizationErrorCode) → authorization_error_canonical (authorization_error_canonical c) ≡ authorization_error_canonical c
+authorization_error_canonical-canonical c = ap authorization_error_code_of (authorization_error_code_text-of (authorization_error_code_text c))

@@ -1,3 +1,4 @@
+pub mod AuthorizationCodes
 pub mod Codes
 pub mod ErrorCodes
 pub mod ErrorResponse

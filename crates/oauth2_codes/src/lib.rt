@@ -2,6 +2,7 @@
 
 #![tactic(auto)]
 
+mod authorization_error;
 mod basic_error;
 mod device_error;
 mod error_response;
@@ -10,6 +11,7 @@ mod revocation_error;
 mod text_error;
 mod token_type;
 
+pub use authorization_error::{AuthorizationErrorResponseType, authorization_error_laws};
 pub use basic_error::{BasicErrorResponseType, basic_error_laws};
 pub use device_error::{DeviceCodeErrorResponseType, device_code_error_laws};
 pub use error_response::{
