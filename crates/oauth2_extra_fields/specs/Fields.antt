@@ -6,17 +6,29 @@ use Rattle.oauth2_json.specs.Reading.{Reading, read_then, ◌⊛◌}
 use Rattle.oauth2_json.specs.Writing.{Writing, write_then}
 use Rattle.oauth2_json.specs.Members.{members_of_object, optional, without, put_some, beside}
 
+-- the value of the named member, where it is there, and the other fields
+pub record MemberAndRest (T E : Type 0) : Type 0 where
+  pub value : Option T
+  pub rest : E
+
+abbrev pub member_and_rest : {T E : Type 0} → Option T → E → MemberAndRest T E
+member_and_rest value rest = record { value = value; rest = rest }
+
+-- fields whose value is seen by f and whose rest is seen by g
+abbrev pub with_member_seen : {T E A F : Type 0} → (T → A) → (E → F) → MemberAndRest T E → MemberAndRest A F
+with_member_seen f g fields = member_and_rest (option_map f fields.value) (g fields.rest)
+
 -- of an object: the member, which may be absent or null, and then the rest of the members left
-abbrev pub with_member_reading : {A B : Type 0} → List ℕ → (Data → Reading A) → (Data → Reading B) → Data → Reading (Option A × B)
+abbrev pub with_member_reading : {A F : Type 0} → List ℕ → (Data → Reading A) → (Data → Reading F) → Data → Reading (MemberAndRest A F)
 with_member_reading name kind rest d = read_then (members_of_object d) (λ ms.
-    Ok (λ a b. (a, b)) ⊛ optional kind name (get_member name ms) ⊛ rest (object (without name ms)))
+    Ok member_and_rest ⊛ optional kind name (get_member name ms) ⊛ rest (object (without name ms)))
 
 -- the member where it is there, beside the rest, which must not write that name
-abbrev pub with_member_writing : {T E : Type 0} → List ℕ → (T → Data) → (E → Writing) → Option T → E → Writing
-with_member_writing name written rest value x =
-    write_then (rest x) (λ d.
+abbrev pub with_member_writing : {T E : Type 0} → List ℕ → (T → Data) → (E → Writing) → MemberAndRest T E → Writing
+with_member_writing name written rest fields =
+    write_then (rest fields.rest) (λ d.
     write_then (beside (name ∷ []) d) (λ ms.
-    Ok (object (put_some name (option_map written value) ms))))
+    Ok (object (put_some name (option_map written fields.value) ms))))
 
 abbrev pub IsNotNull : Data → Type 0
 IsNotNull null = ⊥

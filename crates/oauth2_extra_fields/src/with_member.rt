@@ -1,9 +1,16 @@
 //! Extra fields: a named member, and the rest.
 
-ghost use Rattle.std.specs.Prelude.{◌≡◌, Ok, Option, option_copied, option_map, IfOk};
+ghost use Rattle.std.specs.Prelude.{◌≡◌, option_copied, IfOk};
 ghost use Rattle.oauth2_json.specs.Writing.{WritesAs};
 ghost use Rattle.oauth2_replies.specs.Kept.{AreFieldsKept};
-ghost use Rattle.oauth2_extra_fields.specs.Fields.{with_member_reading, with_member_writing, IsValueKept};
+ghost use Rattle.oauth2_extra_fields.specs.Fields.{
+  MemberAndRest,
+  member_and_rest,
+  with_member_seen,
+  with_member_reading,
+  with_member_writing,
+  IsValueKept,
+};
 ghost use Rattle.oauth2_extra_fields.specs.private.Written.{object_written};
 
 use crate::member_value::MemberValue;
@@ -12,6 +19,7 @@ use oauth2_replies::{ExtraDeviceAuthorizationFields, ExtraTokenFields};
 use oauth2_types::TryClone;
 use serde_json::Value;
 use std::alloc::{AllocError, Global};
+use std::marker::Model;
 
 /// A member that the standard does not name: its name, and the kind of its value.
 pub trait NamedMember {
@@ -34,11 +42,18 @@ pub struct WithMember<M: NamedMember, Rest> {
     rest: Rest,
 }
 
+impl<M: NamedMember, Rest> Model for WithMember<M, Rest> {
+    ghost use Rattle.oauth2_extra_fields.specs.Fields.{MemberAndRest, member_and_rest};
+
+    ghost Value = { MemberAndRest M.Value Rest };
+
+    ghost view = { λ fields. member_and_rest fields.value fields.rest };
+}
+
 impl<M: NamedMember, Rest> WithMember<M, Rest> {
     /// Fields of this value, where it is there, and the rest.
     pub fn new(value: Option<M::Value>, rest: Rest) -> WithMember<M, Rest>
-        ensures value { result.value ≡ value }
-        ensures rest { result.rest ≡ rest }
+        ensures { result ≡ member_and_rest value rest }
     {
         WithMember { value, rest }
     }
@@ -67,9 +82,9 @@ impl<M: NamedMember, Rest: Drop> Drop for WithMember<M, Rest> {
 }
 
 impl<M: NamedMember, Rest: FromJson + Drop> FromJson for WithMember<M, Rest> {
-    ghost Meaning = { Option M.Value.Meaning × Rest.Meaning };
+    ghost Meaning = { MemberAndRest M.Value.Meaning Rest.Meaning };
 
-    ghost meaning = { λ fields. (option_map M.Value.meaning fields.value, Rest.meaning fields.rest) };
+    ghost meaning = { with_member_seen M.Value.meaning Rest.meaning };
 
     ghost reading = { with_member_reading M.name M.Value.reading Rest.reading };
 
@@ -84,8 +99,8 @@ impl<M: NamedMember, Rest: FromJson + Drop> FromJson for WithMember<M, Rest> {
 
 impl<M: NamedMember, Rest: ToJson> WithMember<M, Rest> {
     fn written(&self, alloc: Global) -> Result<Value, WriteError>
-        ensures { WritesAs result (with_member_writing M.name M.Value.written Rest.writing
-            self.now.value self.now.rest) }
+        ensures { WritesAs result
+            (with_member_writing M.name M.Value.written Rest.writing self.now) }
     {
         let rest = self.rest.to_json(alloc)?;
         let mut members = members::beside(&[M::name()], rest)?;
@@ -96,39 +111,35 @@ impl<M: NamedMember, Rest: ToJson> WithMember<M, Rest> {
 }
 
 impl<M: NamedMember, Rest: FromJson + ToJson> ToJson for WithMember<M, Rest> {
-    ghost writing = { λ fields. with_member_writing M.name M.Value.written Rest.writing
-        fields.value fields.rest };
+    ghost writing = { with_member_writing M.name M.Value.written Rest.writing };
 
     fn to_json(&self, alloc: Global) -> Result<Value, WriteError>
-        ensures written { WritesAs result (with_member_writing M.name M.Value.written Rest.writing
-            self.now.value self.now.rest) }
+        ensures written { WritesAs result
+            (with_member_writing M.name M.Value.written Rest.writing self.now) }
         // So a response that holds them reads back.
         ensures kept { IfOk result (λ _. IsValueKept M.Value.written self.now.value
             → AreFieldsKept Rest.reading Rest.meaning Rest.writing self.now.rest
             → AreFieldsKept (with_member_reading M.name M.Value.reading Rest.reading)
-            (λ fields. (option_map M.Value.meaning fields.value, Rest.meaning fields.rest))
-            (λ fields. with_member_writing M.name M.Value.written Rest.writing fields.value fields.rest)
-            self.now) }
+            (with_member_seen M.Value.meaning Rest.meaning)
+            (with_member_writing M.name M.Value.written Rest.writing) self.now) }
     {
         self.written(alloc)
     }
 }
 
 impl<M: NamedMember, Rest: ExtraTokenFields + Drop> ExtraTokenFields for WithMember<M, Rest> {
-    ghost writes_object = { λ fields d h. object_written M.name M.Value.written
-        Rest.ToJson.writing fields.value fields.rest d h };
+    ghost writes_object = { object_written M.name M.Value.written Rest.ToJson.writing };
 }
 
 impl<M: NamedMember, Rest: ExtraDeviceAuthorizationFields + Drop> ExtraDeviceAuthorizationFields
     for WithMember<M, Rest> {
-    ghost writes_object = { λ fields d h. object_written M.name M.Value.written
-        Rest.ToJson.writing fields.value fields.rest d h };
+    ghost writes_object = { object_written M.name M.Value.written Rest.ToJson.writing };
 }
 
 impl<M: NamedMember, Rest: TryClone + Drop> TryClone for WithMember<M, Rest> {
-    ghost Seen = { Option M.Value.Meaning × Rest.Seen };
+    ghost Seen = { MemberAndRest M.Value.Meaning Rest.Seen };
 
-    ghost seen = { λ fields. (option_map M.Value.meaning fields.value, Rest.seen fields.rest) };
+    ghost seen = { with_member_seen M.Value.meaning Rest.seen };
 
     fn try_clone(&self, alloc: Global) -> Result<WithMember<M, Rest>, AllocError> {
         let value = match &self.value {

@@ -1,9 +1,9 @@
 -- What is written of a named member and the rest is an object.
-use Rattle.std.specs.Prelude.{◌≡◌, List, ℕ, [], ◌∷◌, Option, option_map, Result, Ok, Err}
+use Rattle.std.specs.Prelude.{◌≡◌, List, ℕ, [], ◌∷◌, option_map, Result, Ok, Err}
 use Rattle.serde_json.specs.Data.{Data, Members, object}
 use Rattle.oauth2_json.specs.Members.{beside, put_some}
 use Rattle.oauth2_json.specs.Writing.{Writing, Refusal, write_then}
-use Rattle.oauth2_extra_fields.specs.Fields.{with_member_writing}
+use Rattle.oauth2_extra_fields.specs.Fields.{MemberAndRest, with_member_writing}
 
 by_members : (written : Result Members Refusal) (f : Members → Members) (d : Data) → write_then written (λ ms. Ok (object (f ms))) ≡ Ok d → (ms : Members) × (d ≡ object ms)
 by_members (Ok ms) f d h = (f ms, cc)
@@ -13,5 +13,5 @@ by_rest : (w : Writing) (name : List ℕ) (f : Members → Members) (d : Data) �
 by_rest (Ok x) name f d h = by_members (beside (name ∷ []) x) f d h
 by_rest (Err e) name f d h = cc
 
-pub object_written : {T E : Type 0} (name : List ℕ) (written : T → Data) (rest : E → Writing) (value : Option T) (x : E) (d : Data) → with_member_writing name written rest value x ≡ Ok d → (ms : Members) × (d ≡ object ms)
-object_written name written rest value x d h = by_rest (rest x) name (put_some name (option_map written value)) d h
+pub object_written : {T E : Type 0} (name : List ℕ) (written : T → Data) (rest : E → Writing) (fields : MemberAndRest T E) (d : Data) → with_member_writing name written rest fields ≡ Ok d → (ms : Members) × (d ≡ object ms)
+object_written name written rest fields d h = by_rest (rest fields.rest) name (put_some name (option_map written fields.value)) d h

@@ -1,7 +1,6 @@
-use Rattle.std.proofs.Common.{option_map}
 use Rattle.oauth2_json.proofs.Objects.{if_written}
 use Rattle.oauth2_replies.specs.Kept.{AreFieldsKept}
-use Rattle.oauth2_extra_fields.specs.Fields.{with_member_reading, with_member_writing, IsValueKept}
+use Rattle.oauth2_extra_fields.specs.Fields.{with_member_seen, with_member_reading, with_member_writing, IsValueKept}
 use Rattle.oauth2_extra_fields.proofs.FieldLaws.{members_again}
 use Rattle.oauth2_extra_fields.proofs.with_member.WithMemberToJson.to_json.Goals as goal
 
@@ -12,8 +11,7 @@ returns-clause-kept g c =
     let V = g.M.Value.MemberValue in
     let F = g.Rest.FromJson in
     let w = g.Rest.ToJson.writing in
-    if_written c.written.result (with_member_writing name V.written w fields.value fields.rest)
-    (λ d. IsValueKept V.written fields.value → AreFieldsKept F.reading F.meaning w fields.rest → AreFieldsKept (with_member_reading name V.reading F.reading) (λ x. (option_map V.meaning x.value, F.meaning x.rest)) (λ x. with_member_writing name V.written w x.value x.rest) fields)
+    if_written c.written.result (with_member_writing name V.written w fields)
+    (λ d. IsValueKept V.written fields.value → AreFieldsKept F.reading F.meaning w fields.rest → AreFieldsKept (with_member_reading name V.reading F.reading) (with_member_seen V.meaning F.meaning) (with_member_writing name V.written w) fields)
     c.written.ensures (λ d h kept rest.
-    let again = members_again name V.reading V.meaning V.written F.reading F.meaning w fields.value fields.rest d g.met.M.Value.MemberValue.reads_back h kept rest in
-    record { members = again.0; written = again.1.0; back = again.1.1 })
+    members_again name V.reading V.meaning V.written F.reading F.meaning w fields d g.met.M.Value.MemberValue.reads_back h kept rest)
