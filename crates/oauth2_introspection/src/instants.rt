@@ -4,7 +4,13 @@ ghost use Rattle.std.specs.Prelude.{◌≡◌, ℕ, ℤ, List, Ok, IfSome, optio
 ghost use Rattle.serde_json.specs.View.{view};
 ghost use Rattle.oauth2_json.specs.Reading.{ReadsAs};
 ghost use Rattle.oauth2_json.specs.Members.{optional};
-ghost use Rattle.oauth2_introspection.specs.Instants.{instant, instant_at, second_of, second_data, IsWholeSeconds};
+ghost use Rattle.oauth2_introspection.specs.Instants.{
+  instant,
+  instant_at,
+  second_of,
+  second_data,
+  IsWholeSeconds,
+};
 
 use jiff::Timestamp;
 use oauth2_json::{FromJson, ParseCause, ReadError, members};
@@ -72,8 +78,10 @@ fn second_of(at: Timestamp) -> i64
 
 /// The value of an instant that may be absent: its whole seconds, rounded down.
 pub fn time_value(at: Option<Timestamp>) -> Option<Value>
-    ensures value { option_map view result ≡ option_map second_data (option_map (λ t. t.nanosecond) at) }
-    ensures reads_back { (name : List ℕ) → IfSome (option_map (λ t. t.nanosecond) at) IsWholeSeconds
+    ensures value { option_map view result
+        ≡ option_map second_data (option_map (λ t. t.nanosecond) at) }
+    ensures reads_back { (name : List ℕ)
+        → IfSome (option_map (λ t. t.nanosecond) at) IsWholeSeconds
         → optional instant name (option_map view result) ≡ Ok (option_map (λ t. t.nanosecond) at) }
 {
     match at {

@@ -1,6 +1,16 @@
 //! The response of an introspection endpoint (RFC 7662, section 2.2).
 
-ghost use Rattle.std.specs.Prelude.{◌≡◌, ℕ, List, None, IfOk, map, option_map, option_copied, string_bytes};
+ghost use Rattle.std.specs.Prelude.{
+  ◌≡◌,
+  ℕ,
+  List,
+  None,
+  IfOk,
+  map,
+  option_map,
+  option_copied,
+  string_bytes,
+};
 ghost use Rattle.oauth2_introspection.specs.Introspection.{Introspection, introspection_seen};
 
 use jiff::Timestamp;
@@ -20,7 +30,18 @@ pub type BasicTokenIntrospectionResponse = StandardTokenIntrospectionResponse<
 
 /// What every introspection response tells.
 pub trait TokenIntrospectionResponse: FromJson + ToJson + fmt::Debug {
-    ghost use Rattle.std.specs.Prelude.{◌≡◌, ℕ, ℤ, Bool, List, Option, map, option_map, option_copied, string_bytes};
+    ghost use Rattle.std.specs.Prelude.{
+      ◌≡◌,
+      ℕ,
+      ℤ,
+      Bool,
+      List,
+      Option,
+      map,
+      option_map,
+      option_copied,
+      string_bytes,
+    };
 
     type TokenType: TokenType;
 
@@ -145,7 +166,8 @@ impl<EF: Drop, TT: Drop> StandardTokenIntrospectionResponse<EF, TT> {
     /// A response that tells nothing else.
     pub fn new(active: bool, extra_fields: EF) -> Self
         ensures { result
-            ≡ introspection active None None None None None None None None None None None extra_fields }
+            ≡ introspection active None None None None None None None None None None None
+            extra_fields }
     {
         StandardTokenIntrospectionResponse {
             active,
@@ -220,7 +242,9 @@ impl<EF: Drop, TT: Drop> StandardTokenIntrospectionResponse<EF, TT> {
     }
 
     pub fn set_aud(&mut self, aud: Option<Vec<String>>)
-        ensures { self.new ≡ record self.old { aud = option_map (λ list. map string_bytes list.items) aud } }
+        ensures { self.new ≡ record self.old {
+          aud = option_map (λ list. map string_bytes list.items) aud;
+        } }
     {
         self.aud = aud;
     }
@@ -367,9 +391,11 @@ pub(crate) struct Claims {
 impl<EF, TT> StandardTokenIntrospectionResponse<EF, TT> {
     fn copied_grant(&self, alloc: Global) -> Result<Grant, AllocError>
         ensures active { IfOk result (λ g. g.active ≡ self.now.active) }
-        ensures scopes { IfOk result (λ g. option_map (λ list. list.items) g.scopes ≡ self.now.scopes) }
+        ensures scopes { IfOk result (λ g.
+            option_map (λ list. list.items) g.scopes ≡ self.now.scopes) }
         ensures client_id { IfOk result (λ g. g.client_id ≡ self.now.client_id) }
-        ensures username { IfOk result (λ g. option_map string_bytes g.username ≡ self.now.username) }
+        ensures username { IfOk result (λ g.
+            option_map string_bytes g.username ≡ self.now.username) }
     {
         Ok(Grant {
             active: self.active,
@@ -381,7 +407,8 @@ impl<EF, TT> StandardTokenIntrospectionResponse<EF, TT> {
 
     fn copied_claims(&self, alloc: Global) -> Result<Claims, AllocError>
         ensures sub { IfOk result (λ c. option_map string_bytes c.sub ≡ self.now.sub) }
-        ensures aud { IfOk result (λ c. option_map (λ list. map string_bytes list.items) c.aud ≡ self.now.aud) }
+        ensures aud { IfOk result (λ c.
+            option_map (λ list. map string_bytes list.items) c.aud ≡ self.now.aud) }
         ensures iss { IfOk result (λ c. option_map string_bytes c.iss ≡ self.now.iss) }
         ensures jti { IfOk result (λ c. option_map string_bytes c.jti ≡ self.now.jti) }
     {

@@ -8,9 +8,28 @@ ghost use Rattle.oauth2_json.specs.Members.{others};
 ghost use Rattle.oauth2_json.specs.Writing.{WritesAs};
 ghost use Rattle.oauth2_json.specs.Puts.{put_all};
 ghost use Rattle.oauth2_body_members.specs.Object.{object_members};
-ghost use Rattle.oauth2_introspection.specs.Introspection.{Introspection, introspection_seen, introspection_reading, introspection_writing, own_rows, IsIntrospectionKept};
+ghost use Rattle.oauth2_introspection.specs.Introspection.{
+  Introspection,
+  introspection_seen,
+  introspection_reading,
+  introspection_writing,
+  own_rows,
+  IsIntrospectionKept,
+};
 ghost use Rattle.oauth2_introspection.specs.private.Groups.{quadruple};
-ghost use Rattle.oauth2_introspection.specs.private.IntrospectionRows.{grant_names, grant_reading, grant_rows, validity_names, validity_reading, validity_rows, claims_names, claims_reading, claims_rows, in_turn, AreInstants};
+ghost use Rattle.oauth2_introspection.specs.private.IntrospectionRows.{
+  grant_names,
+  grant_reading,
+  grant_rows,
+  validity_names,
+  validity_reading,
+  validity_rows,
+  claims_names,
+  claims_reading,
+  claims_rows,
+  in_turn,
+  AreInstants,
+};
 
 use crate::instants::{optional_time, time_value};
 use crate::introspection::{Claims, Grant, StandardTokenIntrospectionResponse, Validity};
@@ -163,10 +182,10 @@ fn from_members<EF: ExtraTokenFields + Drop, TT: TokenType + Drop>(
     })
 }
 
-fn client_id_value(alloc: Global, client_id: &Option<ClientId>) -> Result<Option<Value>, AllocError>
-    ensures { IfOk result (λ v. option_map view v ≡ option_map string client_id.now) }
+fn client_id_value(alloc: Global, id: &Option<ClientId>) -> Result<Option<Value>, AllocError>
+    ensures { IfOk result (λ v. option_map view v ≡ option_map string id.now) }
 {
-    match client_id {
+    match id {
         Some(client_id) => Ok(Some(Value::try_from_str(alloc, client_id.deref().as_str())?)),
         None => Ok(None),
     }
@@ -206,7 +225,8 @@ impl<EF: ExtraTokenFields, TT: TokenType> StandardTokenIntrospectionResponse<EF,
         mut members: Map<String, Value>,
     ) -> Result<Map<String, Value>, AllocError>
         ensures { IfOk result (λ all. members_view all.entries
-            ≡ put_all (own_rows (option_map view token_type) self.now) (members_view members.entries)) }
+            ≡ put_all (own_rows (option_map view token_type) self.now)
+            (members_view members.entries)) }
     {
         self.put_claims(alloc, &mut members)?;
         self.put_validity(alloc, token_type, &mut members)?;
@@ -235,7 +255,8 @@ impl<EF: ExtraTokenFields, TT: TokenType> StandardTokenIntrospectionResponse<EF,
         members: &mut Map<String, Value>,
     ) -> Result<(), AllocError>
         ensures { IfOk result (λ _. members_view members.new.entries
-            ≡ put_all (validity_rows (option_map view token_type) self.now) (members_view members.old.entries)) }
+            ≡ put_all (validity_rows (option_map view token_type) self.now)
+            (members_view members.old.entries)) }
     {
         members::put_some(members, alloc, "nbf", time_value(self.nbf))?;
         members::put_some(members, alloc, "iat", time_value(self.iat))?;
@@ -264,7 +285,8 @@ impl<EF: ExtraTokenFields, TT: TokenType> ToJson for StandardTokenIntrospectionR
         ensures written { WritesAs result (introspection_writing EF.writing TT.writing self.now) }
         // What is kept reads back as the same response.
         ensures reads_back { IfOk result (λ v.
-            IsIntrospectionKept EF.reading EF.meaning EF.writing TT.reading TT.meaning TT.writing self.now
+            IsIntrospectionKept EF.reading EF.meaning EF.writing TT.reading TT.meaning TT.writing
+            self.now
             → introspection_reading EF.reading TT.reading (view v)
             ≡ Ok (introspection_seen EF.meaning TT.meaning self.now)) }
     {

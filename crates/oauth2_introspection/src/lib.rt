@@ -8,5 +8,7 @@ mod introspection_json;
 
 pub use instants::{optional_time, time_value};
 pub use introspection::{
-    BasicTokenIntrospectionResponse, StandardTokenIntrospectionResponse, TokenIntrospectionResponse,
+    // The standard's, and what every response tells.
+    BasicTokenIntrospectionResponse, StandardTokenIntrospectionResponse,
+    TokenIntrospectionResponse,
 };
