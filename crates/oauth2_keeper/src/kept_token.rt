@@ -39,8 +39,8 @@ impl KeptToken {
     }
 }
 
-// So long after a moment, in nanoseconds since 1970. The sum is always there: a moment has less than
-// 2^69 nanoseconds, a duration less than 2^94.
+// So long after a moment, in nanoseconds since 1970. The sum is always there: a moment has less
+// than 2^69 nanoseconds, a duration less than 2^94.
 fn nanosecond_after(moment: Timestamp, duration: Duration) -> i128
     ensures { result ≡ moment.nanosecond +ℤ pos (as_nanos duration) }
 {

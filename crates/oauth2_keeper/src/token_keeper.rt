@@ -1,10 +1,27 @@
 //! A client's access token, kept and renewed.
 
-ghost use Rattle.std.specs.Prelude.{◌≡◌, Some, None, IsSome, OnOk, OnErr, option_copied, option_map};
+ghost use Rattle.std.specs.Prelude.{
+  ◌≡◌,
+  Some,
+  None,
+  IsSome,
+  OnOk,
+  OnErr,
+  option_copied,
+  option_map,
+};
 ghost use Rattle.std.specs.Duration.{as_nanos};
 ghost use Rattle.std.specs.Fn.{FnOnceReturnsAt};
 ghost use Rattle.oauth2_requests.specs.Once.{AsksOnce};
-ghost use Rattle.oauth2_keeper.specs.Keeper.{Keeper, given_by, is_good, accept, Renews, Calls, Answers};
+ghost use Rattle.oauth2_keeper.specs.Keeper.{
+  Keeper,
+  given_by,
+  is_good,
+  accept,
+  Renews,
+  Calls,
+  Answers,
+};
 ghost use Rattle.oauth2_keeper.specs.private.Settled.{Settles, RenewsAndSettles};
 
 use crate::given::Given;
@@ -165,10 +182,10 @@ where
     I: EndpointState,
     R: EndpointState,
 {
-    /// Sees to it that the kept token is good: where it is, nothing is sent and no memory is taken;
-    /// else one request is made, by the refresh token where there is one and by the client's own
-    /// credentials where there is none. After `Ok` the token is there, and is one that is good or
-    /// was accepted just now; a fault changes nothing that is kept.
+    /// Sees to it that the kept token is good: where it is, nothing is sent and no memory is
+    /// taken; else one request is made, by the refresh token where there is one and by the
+    /// client's own credentials where there is none. After `Ok` the token is there, and is one
+    /// that is good or was accepted just now; a fault changes nothing that is kept.
     pub fn keep_good<C: SyncHttpClient>(
         &mut self,
         alloc: Global,
@@ -189,8 +206,8 @@ where
         self.renew(alloc, now, http_client)
     }
 
-    /// The kept token after `keep_good`, or that call's fault. This contract leaves open what is kept
-    /// afterwards; that of `with_token`, or of `keep_good` and `get`, says it too.
+    /// The kept token after `keep_good`, or that call's fault. This contract leaves open what is
+    /// kept afterwards; that of `with_token`, or of `keep_good` and `get`, says it too.
     pub fn token<C: SyncHttpClient>(
         &mut self,
         alloc: Global,
@@ -200,7 +217,8 @@ where
         requires { C.is_ready http_client.old }
         ensures call { (kept : Keeper)
             × Answers (AsksOnce TR.meaning TE.meaning TR.reading TE.reading C.step)
-            (given_by TR.access_token TR.expires_in TR.refresh_token) (λ text token. token.now ≡ text)
+            (given_by TR.access_token TR.expires_in TR.refresh_token)
+            (λ text token. token.now ≡ text)
             self.old now.nanosecond http_client.old result http_client.new kept }
         ensures ready { C.is_ready http_client.new }
     {
@@ -242,7 +260,8 @@ where
         http_client: &mut C,
     ) -> Result<(), RequestTokenError<C::Error, TE>>
         requires { C.is_ready http_client.old }
-        ensures settles { RenewsAndSettles (AsksOnce TR.meaning TE.meaning TR.reading TE.reading C.step)
+        ensures settles { RenewsAndSettles
+            (AsksOnce TR.meaning TE.meaning TR.reading TE.reading C.step)
             (given_by TR.access_token TR.expires_in TR.refresh_token)
             self.old now.nanosecond http_client.old result http_client.new self.new }
         ensures ready { C.is_ready http_client.new }
