@@ -1,7 +1,16 @@
 //! An application of a server that tells who the user is: an HTTP client of its own, and the
 //! `id_token` beside the access token.
 
-ghost use Rattle.std.specs.Prelude.{◌≡◌, Ok, IfOk, codes, option_and_then, option_copied, option_map, string_bytes};
+ghost use Rattle.std.specs.Prelude.{
+  ◌≡◌,
+  Ok,
+  IfOk,
+  codes,
+  option_and_then,
+  option_copied,
+  option_map,
+  string_bytes,
+};
 ghost use Rattle.serde_json.specs.Find.{as_str, get_member};
 ghost use Rattle.oauth2_replies.specs.Extra.{extra_members};
 ghost use Rattle.oauth2_wire.specs.OneShot.{HttpRequest};
@@ -113,7 +122,8 @@ pub fn own_token<'a>(
 /// The `id_token` of a response, where it has one.
 pub fn id_token(token: &IdentityTokenResponse) -> Option<&str>
     ensures { option_copied result
-        ≡ option_and_then as_str (get_member (codes "id_token") (extra_members token.now.extra_fields)) }
+        ≡ option_and_then as_str
+        (get_member (codes "id_token") (extra_members token.now.extra_fields)) }
 {
     token.extra_fields().text("id_token")
 }
@@ -127,7 +137,8 @@ pub fn token_response<C: SyncHttpClient>(
 ) -> Result<IdentityTokenResponse, BasicRequestTokenError<C::Error>>
     requires { C.is_ready http_client.old }
     ensures token { IfOk result (λ token. (request : HttpRequest)
-        × IsRequestOf (code_configuration started.entry) (serialize started.entry.token_url.url) (view_of request)
+        × IsRequestOf (code_configuration started.entry) (serialize started.entry.token_url.url)
+        (view_of request)
         × (reply : HttpResponse) × C.step http_client.old request (Ok reply) http_client.new
         × (answer_of started.entry.base.reply_rule ⟦<IdentityTokenResponse as FromJson>⟧.reading
         ⟦<BasicErrorResponse as FromJson>⟧.reading (reply_of reply)

@@ -1,6 +1,20 @@
 //! Authorization URLs.
 
-ghost use Rattle.std.specs.Prelude.{◌≡◌, ◌↔◌, ◌++◌, ◌∷◌, [], codes, Some, None, IfOk, IfErr, IfSome, IsSome, IsTrue};
+ghost use Rattle.std.specs.Prelude.{
+  ◌≡◌,
+  ◌↔◌,
+  ◌++◌,
+  ◌∷◌,
+  [],
+  codes,
+  Some,
+  None,
+  IfOk,
+  IfErr,
+  IfSome,
+  IsSome,
+  IsTrue,
+};
 ghost use Rattle.url.specs.Parser.{IsOutOfRoom};
 ghost use Rattle.url.specs.Parts.{serialize};
 ghost use Rattle.oauth2_urls.specs.Addressed.{Addressed};
@@ -20,7 +34,8 @@ use oauth2::{
 use std::alloc::Global;
 use url::{ParseError, Url};
 
-/// The URL for a login whose state was made before: the endpoint's own query, and then these pairs.
+/// The URL for a login whose state was made before: the endpoint's own query, and then these
+/// pairs.
 pub fn login_url(
     alloc: Global,
     client: &CodeClient,
@@ -45,8 +60,8 @@ pub fn login_url_if_set(
     client.authorize_url(alloc, move || state).is_ok()
 }
 
-/// A login with a code challenge in place of a redirect, and a parameter of the caller's: the pairs
-/// stand in the order of the standard's, and the caller's last.
+/// A login with a code challenge in place of a redirect, and a parameter of the caller's: the
+/// pairs stand in the order of the standard's, and the caller's last.
 pub fn challenged_login(
     alloc: Global,
     client: &PlainClient<EndpointSet>,
@@ -56,9 +71,11 @@ pub fn challenged_login(
 ) -> Result<Url, ParseError>
     requires { client.now.redirect_url ≡ None }
     ensures refusal { IfErr result IsOutOfRoom }
-    ensures url { IfOk result (λ url. (endpoint : Addressed) × (client.now.auth_url ≡ Some endpoint)
+    ensures url { IfOk result (λ url. (endpoint : Addressed)
+        × (client.now.auth_url ≡ Some endpoint)
         × ExtendsQuery endpoint.url url (login_pairs client.now state
-        ++ (codes "code_challenge", challenge.text) ∷ (codes "code_challenge_method", challenge.method)
+        ++ (codes "code_challenge", challenge.text)
+        ∷ (codes "code_challenge_method", challenge.method)
         ∷ (codes "nonce", nonce.now) ∷ [])) }
 {
     let request = client
@@ -69,8 +86,8 @@ pub fn challenged_login(
     Ok(url)
 }
 
-/// Both ends of a login whose endpoint's URL has no query, so that none of its own can hide what is
-/// sent: a server that reads by name finds a verifier that passes its check.
+/// Both ends of a login whose endpoint's URL has no query, so that none of its own can hide what
+/// is sent: a server that reads by name finds a verifier that passes its check.
 pub fn checked_login(
     alloc: Global,
     client: &CodeClient,
@@ -81,10 +98,12 @@ pub fn checked_login(
     requires length { HasValidLength verifier }
     requires no_query { IfSome client.now.auth_url (λ endpoint. endpoint.url.query ≡ None) }
     ensures state { IfOk result (λ flow. flow.state ≡ state) }
-    ensures request { IfOk result (λ flow. (endpoint : Addressed) × (client.now.token_url ≡ Some endpoint)
+    ensures request { IfOk result (λ flow. (endpoint : Addressed)
+        × (client.now.token_url ≡ Some endpoint)
         × IsRequestOf (code_configuration (flow_exchange client.now endpoint verifier code))
         (serialize endpoint.url) (view_of flow.request)) }
-    ensures check { IfOk result (λ flow. PassesCheck verifier (query_form flow.url) (form (view_of flow.request).body)) }
+    ensures check { IfOk result (λ flow. PassesCheck verifier (query_form flow.url)
+        (form (view_of flow.request).body)) }
 {
     code_flow(alloc, client, state, verifier, code)
 }

@@ -27,8 +27,8 @@ pub type DeviceClient = BasicClient<
     EndpointSet,
 >;
 
-/// The codes for a device and its user: the client is called once, with this request, and the answer
-/// is what its reply says; or it is not called at all.
+/// The codes for a device and its user: the client is called once, with this request, and the
+/// answer is what its reply says; or it is not called at all.
 pub fn device_codes<C: SyncHttpClient>(
     alloc: Global,
     client: &DeviceClient,
@@ -49,8 +49,8 @@ pub fn device_codes<C: SyncHttpClient>(
         .request(alloc, http_client)
 }
 
-/// The token of a device that got such codes, by a clock and a sleep function of the caller's, with
-/// a hundred requests at most.
+/// The token of a device that got such codes, by a clock and a sleep function of the caller's,
+/// with a hundred requests at most.
 pub fn polled_token<C: SyncHttpClient, F: FnMut() -> Timestamp + Drop, S: FnMut(Duration)>(
     alloc: Global,
     client: &DeviceClient,
@@ -62,9 +62,10 @@ pub fn polled_token<C: SyncHttpClient, F: FnMut() -> Timestamp + Drop, S: FnMut(
     requires client { C.is_ready http_client.old }
     requires clock { F.IsAlwaysCallable time_fn }
     requires sleep { S.IsAlwaysCallable sleep_fn.old }
-    ensures poll { (endpoint : Addressed) × (client.now.token_url ≡ Some endpoint) × (e : List (Event C.Error))
-        × ClientLeads C.step http_client.old e http_client.new
-        × Polls ⟦<BasicTokenResponse as FromJson>⟧.meaning ⟦<BasicTokenResponse as FromJson>⟧.reading
+    ensures poll { (endpoint : Addressed) × (client.now.token_url ≡ Some endpoint)
+        × (e : List (Event C.Error)) × ClientLeads C.step http_client.old e http_client.new
+        × Polls ⟦<BasicTokenResponse as FromJson>⟧.meaning
+        ⟦<BasicTokenResponse as FromJson>⟧.reading
         (new_device_token_request client.now endpoint device.now)
         (timeout_of (new_device_token_request client.now endpoint device.now) None) 100 e result }
     ensures ready { C.is_ready http_client.new }

@@ -36,8 +36,8 @@ pub fn new_client(
 ) -> Result<TokenOnlyClient, ParseError>
     ensures id { IfOk result (λ client. client.client_id ≡ string_bytes id) }
     ensures secret { IfOk result (λ client. client.client_secret ≡ Some (string_bytes secret)) }
-    ensures url { IfOk result (λ client. (endpoint : Addressed) × (client.token_url ≡ Some endpoint)
-        × Addresses (string_bytes token_url) (Ok endpoint)) }
+    ensures url { IfOk result (λ client. (endpoint : Addressed)
+        × (client.token_url ≡ Some endpoint) × Addresses (string_bytes token_url) (Ok endpoint)) }
     ensures refusal { IfErr result (λ error. Addresses (string_bytes token_url) (Err error)) }
 {
     let token_url = TokenUrl::new(alloc, token_url)?;
@@ -59,7 +59,8 @@ pub fn token_for_code<C: SyncHttpClient>(
     requires { C.is_ready http_client.old }
     ensures token { IfOk result (λ token. (request : HttpRequest)
         × ((endpoint : Addressed) × (client.now.token_url ≡ Some endpoint)
-        × IsRequestOf (configuration_of (base_of client.now) (code_pairs (string_bytes code) None) client.now.redirect_url)
+        × IsRequestOf (configuration_of (base_of client.now)
+        (code_pairs (string_bytes code) None) client.now.redirect_url)
         (serialize endpoint.url) (view_of request))
         × (reply : HttpResponse) × C.step http_client.old request (Ok reply) http_client.new
         × (answer_of client.now.reply_rule ⟦<BasicTokenResponse as FromJson>⟧.reading

@@ -1,6 +1,19 @@
 //! Requests at the token endpoint.
 
-ghost use Rattle.std.specs.Prelude.{◌≡◌, ◌↔◌, ◌++◌, ◌∷◌, [], codes, Some, None, Ok, Err, IfOk, IsTrue};
+ghost use Rattle.std.specs.Prelude.{
+  ◌≡◌,
+  ◌↔◌,
+  ◌++◌,
+  ◌∷◌,
+  [],
+  codes,
+  Some,
+  None,
+  Ok,
+  Err,
+  IfOk,
+  IsTrue,
+};
 ghost use Rattle.http_uri.specs.Uri.{SpellsNone};
 ghost use Rattle.url.specs.Parts.{serialize};
 ghost use Rattle.oauth2_urls.specs.Addressed.{Addressed};
@@ -38,7 +51,8 @@ pub fn code_request(
     verifier: PkceCodeVerifier,
 ) -> Result<HttpRequest, RequestFault>
     ensures ok { IfOk result (λ r. (endpoint : Addressed) × (client.now.token_url ≡ Some endpoint)
-        × IsRequestOf (configuration_of (base_of client.now) (code_pairs code (Some verifier)) client.now.redirect_url)
+        × IsRequestOf (configuration_of (base_of client.now)
+        (code_pairs code (Some verifier)) client.now.redirect_url)
         (serialize endpoint.url) (view_of r)) }
     ensures not_http { result ≡ Err RequestFault.NotHttp → (endpoint : Addressed)
         × (client.now.token_url ≡ Some endpoint) × SpellsNone (serialize endpoint.url) }
@@ -61,7 +75,8 @@ pub fn refresh_request(
     ensures basic { IfOk result (λ r. basic_of (view_of r) ≡ None) }
     ensures form { IfOk result (λ r. form (view_of r).body ≡
         (codes "grant_type", codes "refresh_token") ∷ (codes "refresh_token", token.now)
-        ∷ (codes "scope", first ++ codes " " ++ second) ∷ (codes "client_id", client.now.client_id) ∷ []) }
+        ∷ (codes "scope", first ++ codes " " ++ second)
+        ∷ (codes "client_id", client.now.client_id) ∷ []) }
     ensures not_http { result ≡ Err RequestFault.NotHttp → (endpoint : Addressed)
         × (client.now.token_url ≡ Some endpoint) × SpellsNone (serialize endpoint.url) }
 {
@@ -95,7 +110,8 @@ pub fn password_token<F: FnMut(HttpRequest) -> Result<HttpResponse, ()>>(
     requires { F.IsAlwaysCallable http_client.old }
     ensures { IfOk result (λ token. (request : HttpRequest)
         × ((endpoint : Addressed) × (client.now.token_url ≡ Some endpoint)
-        × IsRequestOf (configuration_of (base_of client.now) (password_pairs username.now password.now) None)
+        × IsRequestOf (configuration_of (base_of client.now)
+        (password_pairs username.now password.now) None)
         (serialize endpoint.url) (view_of request))
         × (reply : HttpResponse) × F.step http_client.old request (Ok reply) http_client.new
         × (answer_of client.now.reply_rule ⟦<BasicTokenResponse as FromJson>⟧.reading

@@ -1,6 +1,6 @@
-//! Callers of the client's calls at concrete types, with contracts of their own, and tests that call
-//! them. All is compiled with the tests alone: a library would pass on all that its public names
-//! mention.
+//! Callers of the client's calls at concrete types, with contracts of their own, and tests that
+//! call them. All is compiled with the tests alone: a library would pass on all that its public
+//! names mention.
 
 #![tactic(auto)]
 

@@ -1,4 +1,5 @@
-//! A login from its URL to the exchange of its code, at once and in the two steps of an application.
+//! A login from its URL to the exchange of its code, at once and in the two steps of an
+//! application.
 
 ghost use Rattle.oauth2_types.specs.Pkce.{HasValidLength};
 
@@ -69,8 +70,8 @@ fn leads_to(rt: &(impl Abort + AllocGlobal), auth: &str, url: &str) {
     let flow = login(rt, auth, TOKEN).expect(rt, "a login");
     is_text(rt, flow.url.as_str(), url);
     is_text(rt, flow.state.secret().as_str(), "csrf_token");
-    let body =
-        "grant_type=authorization_code&code=ccc&code_verifier=dBjftJeZ4CVP-mB92K27uhbUJU1p1r_wW1gFWFOEjXk";
+    let body = "grant_type=authorization_code&code=ccc\
+         &code_verifier=dBjftJeZ4CVP-mB92K27uhbUJU1p1r_wW1gFWFOEjXk";
     is_equal(rt, flow.request.body().as_slice(), body.as_bytes());
 }
 
@@ -90,8 +91,9 @@ fn joined_login_beside_another_challenge(rt: HostRuntime) {
     leads_to(
         &rt,
         "https://example.com/auth?code_challenge=x",
-        "https://example.com/auth?code_challenge=x&response_type=code&client_id=aaa&state=csrf_token\
-         &code_challenge=E9Melhoa2OwvFrEMTJguCHaoeK1t8URWbuGJSstw-cM&code_challenge_method=S256",
+        "https://example.com/auth?code_challenge=x&response_type=code&client_id=aaa\
+         &state=csrf_token&code_challenge=E9Melhoa2OwvFrEMTJguCHaoeK1t8URWbuGJSstw-cM\
+         &code_challenge_method=S256",
     );
 }
 
@@ -128,7 +130,8 @@ fn started(rt: &(impl Abort + AllocGlobal), client: &OpenIdClient) -> Login {
         rt,
         url.as_str(),
         "https://example.com/auth?response_type=code&client_id=aaa&state=AAAAAAAAAAAAAAAAAAAAAA\
-         &code_challenge=DwBzhbb51LfusnSGBa_hqYSgo7-j8BTQnip4TOnlzRo&code_challenge_method=S256&scope=openid&nonce=n-0S6_WzA2Mj",
+         &code_challenge=DwBzhbb51LfusnSGBa_hqYSgo7-j8BTQnip4TOnlzRo&code_challenge_method=S256\
+         &scope=openid&nonce=n-0S6_WzA2Mj",
     );
     login
 }

@@ -1,7 +1,20 @@
 //! A login with OpenID Connect (Core 1.0, section 3.1), as an application has it in a crate of its
 //! own: the provider's `id_token` beside the access token, and a `nonce` in the login's URL.
 
-ghost use Rattle.std.specs.Prelude.{◌≡◌, ◌↔◌, ◌⊎◌, Some, None, Err, IfOk, IfErr, IsSome, true, false, string_bytes};
+ghost use Rattle.std.specs.Prelude.{
+  ◌≡◌,
+  ◌↔◌,
+  ◌⊎◌,
+  Some,
+  None,
+  Err,
+  IfOk,
+  IfErr,
+  IsSome,
+  true,
+  false,
+  string_bytes,
+};
 ghost use Rattle.rand_core.specs.Stream.{Stream};
 ghost use Rattle.url.specs.Parser.{IsOutOfRoom};
 ghost use Rattle.oauth2_replies.specs.Extra.{extra_members};
@@ -80,8 +93,8 @@ impl<E> From<AllocError> for LoginError<E> {
     }
 }
 
-/// The URL to send the user to, and what to keep until the user is back: a state of 16 random bytes
-/// and a verifier of 32.
+/// The URL to send the user to, and what to keep until the user is back: a state of 16 random
+/// bytes and a verifier of 32.
 pub fn start_login<R: Rng>(
     alloc: Global,
     client: &OpenIdClient,
@@ -91,8 +104,9 @@ pub fn start_login<R: Rng>(
     ensures random { IfOk result (λ (_, login). (between : Stream)
         × IsRandomText 16 (R.stream rng.old) between login.state
         × IsRandomText 32 between (R.stream rng.new) login.verifier) }
-    ensures url { IfOk result (λ (url, login). (endpoint : Addressed) × (client.now.auth_url ≡ Some endpoint)
-        × ExtendsQuery endpoint.url url (openid_pairs client.now login.state login.verifier nonce.now)) }
+    ensures url { IfOk result (λ (url, login). (endpoint : Addressed)
+        × (client.now.auth_url ≡ Some endpoint) × ExtendsQuery endpoint.url url
+        (openid_pairs client.now login.state login.verifier nonce.now)) }
     ensures refusal { IfErr result IsOutOfRoom }
 {
     let scope = Scope::new(String::from_str(alloc, "openid")?);
@@ -108,7 +122,8 @@ pub fn start_login<R: Rng>(
 }
 
 /// The ID token for the code that came back, if the state that came with it is the login's. It is
-/// what one request with the code and the login's verifier was answered, and still to be validated.
+/// what one request with the code and the login's verifier was answered, and still to be
+/// validated.
 pub fn finish_login<C: SyncHttpClient>(
     alloc: Global,
     client: &OpenIdClient,
@@ -119,22 +134,31 @@ pub fn finish_login<C: SyncHttpClient>(
 ) -> Result<String, LoginError<C::Error>>
     requires { C.is_ready http_client.old }
     ensures same_state { IfOk result (λ _. digest_eq state login.state ≡ true) }
-    ensures other_state { (result ≡ Err LoginError.OtherState) ↔ (digest_eq state login.state ≡ false) }
+    ensures other_state { (result ≡ Err LoginError.OtherState)
+        ↔ (digest_eq state login.state ≡ false) }
     ensures unsent { digest_eq state login.state ≡ false → http_client.new ≡ http_client.old }
-    ensures id_token { IfOk result (λ text. (response : ⟦<IdentityTokenResponse as FromJson>⟧.Meaning)
-        × IsAnsweredBy ⟦<IdentityTokenResponse as FromJson>⟧.reading ⟦<BasicErrorResponse as FromJson>⟧.reading C.step
+    ensures id_token { IfOk result (λ text.
+        (response : ⟦<IdentityTokenResponse as FromJson>⟧.Meaning)
+        × IsAnsweredBy ⟦<IdentityTokenResponse as FromJson>⟧.reading
+        ⟦<BasicErrorResponse as FromJson>⟧.reading C.step
         client.now login.verifier (string_bytes code) http_client.old response http_client.new
         × (id_token_in response.extra_fields ≡ Some (string_bytes text))) }
-    ensures no_id_token { result ≡ Err LoginError.NoIdToken → (response : ⟦<IdentityTokenResponse as FromJson>⟧.Meaning)
-        × IsAnsweredBy ⟦<IdentityTokenResponse as FromJson>⟧.reading ⟦<BasicErrorResponse as FromJson>⟧.reading C.step
+    ensures no_id_token { result ≡ Err LoginError.NoIdToken
+        → (response : ⟦<IdentityTokenResponse as FromJson>⟧.Meaning)
+        × IsAnsweredBy ⟦<IdentityTokenResponse as FromJson>⟧.reading
+        ⟦<BasicErrorResponse as FromJson>⟧.reading C.step
         client.now login.verifier (string_bytes code) http_client.old response http_client.new
         × (id_token_in response.extra_fields ≡ None) }
     ensures token { (error : _) → result ≡ Err (LoginError.Token error)
-        → IsExchange ⟦<IdentityTokenResponse as FromJson>⟧.meaning ⟦<BasicErrorResponse as FromJson>⟧.meaning
-        ⟦<IdentityTokenResponse as FromJson>⟧.reading ⟦<BasicErrorResponse as FromJson>⟧.reading C.step
+        → IsExchange ⟦<IdentityTokenResponse as FromJson>⟧.meaning
+        ⟦<BasicErrorResponse as FromJson>⟧.meaning
+        ⟦<IdentityTokenResponse as FromJson>⟧.reading
+        ⟦<BasicErrorResponse as FromJson>⟧.reading C.step
         client.now login.verifier (string_bytes code) http_client.old (Err error) http_client.new }
-    ensures memory { result ≡ Err LoginError.Memory → (response : ⟦<IdentityTokenResponse as FromJson>⟧.Meaning)
-        × IsAnsweredBy ⟦<IdentityTokenResponse as FromJson>⟧.reading ⟦<BasicErrorResponse as FromJson>⟧.reading C.step
+    ensures memory { result ≡ Err LoginError.Memory
+        → (response : ⟦<IdentityTokenResponse as FromJson>⟧.Meaning)
+        × IsAnsweredBy ⟦<IdentityTokenResponse as FromJson>⟧.reading
+        ⟦<BasicErrorResponse as FromJson>⟧.reading C.step
         client.now login.verifier (string_bytes code) http_client.old response http_client.new
         × IsSome (id_token_in response.extra_fields) }
     ensures ready { C.is_ready http_client.new }
@@ -146,7 +170,8 @@ pub fn finish_login<C: SyncHttpClient>(
     id_token_of(alloc, &token)
 }
 
-// The ID token of a response, copied. (The one call leaves one way out that lets go of the response.)
+// The ID token of a response, copied. (The one call leaves one way out that lets go of the
+// response.)
 fn id_token_of<E>(alloc: Global, token: &IdentityTokenResponse) -> Result<String, LoginError<E>>
     ensures id_token { IfOk result
         (λ text. id_token_in (extra_members token.now.extra_fields) ≡ Some (string_bytes text)) }
@@ -154,7 +179,8 @@ fn id_token_of<E>(alloc: Global, token: &IdentityTokenResponse) -> Result<String
         → id_token_in (extra_members token.now.extra_fields) ≡ None }
     ensures memory { result ≡ Err LoginError.Memory
         → IsSome (id_token_in (extra_members token.now.extra_fields)) }
-    ensures error { IfErr result (λ error. (error ≡ LoginError.NoIdToken) ⊎ (error ≡ LoginError.Memory)) }
+    ensures error { IfErr result
+        (λ error. (error ≡ LoginError.NoIdToken) ⊎ (error ≡ LoginError.Memory)) }
 {
     match id_token(token) {
         Some(text) => Ok(String::from_str(alloc, text)?),
@@ -172,11 +198,14 @@ fn exchanged<C: SyncHttpClient>(
 ) -> Result<IdentityTokenResponse, BasicRequestTokenError<C::Error>>
     requires { C.is_ready http_client.old }
     ensures token { IfOk result (λ token. IsAnsweredBy
-        ⟦<IdentityTokenResponse as FromJson>⟧.reading ⟦<BasicErrorResponse as FromJson>⟧.reading C.step
+        ⟦<IdentityTokenResponse as FromJson>⟧.reading
+        ⟦<BasicErrorResponse as FromJson>⟧.reading C.step
         client.now verifier (string_bytes code) http_client.old
         (⟦<IdentityTokenResponse as FromJson>⟧.meaning token) http_client.new) }
-    ensures exchange { IsExchange ⟦<IdentityTokenResponse as FromJson>⟧.meaning ⟦<BasicErrorResponse as FromJson>⟧.meaning
-        ⟦<IdentityTokenResponse as FromJson>⟧.reading ⟦<BasicErrorResponse as FromJson>⟧.reading C.step
+    ensures exchange { IsExchange ⟦<IdentityTokenResponse as FromJson>⟧.meaning
+        ⟦<BasicErrorResponse as FromJson>⟧.meaning
+        ⟦<IdentityTokenResponse as FromJson>⟧.reading
+        ⟦<BasicErrorResponse as FromJson>⟧.reading C.step
         client.now verifier (string_bytes code) http_client.old result http_client.new }
     ensures ready { C.is_ready http_client.new }
 {

@@ -21,9 +21,11 @@ pub fn refreshed_token<C: SyncHttpClient>(
 ) -> Result<BasicTokenResponse, BasicRequestTokenError<C::Error>>
     requires { C.is_ready http_client.old }
     ensures once { (endpoint : Addressed) × (client.now.token_url ≡ Some endpoint)
-        × AsksOnce ⟦<BasicTokenResponse as FromJson>⟧.meaning ⟦<BasicErrorResponse as FromJson>⟧.meaning
-        ⟦<BasicTokenResponse as FromJson>⟧.reading ⟦<BasicErrorResponse as FromJson>⟧.reading C.step
-        client.now.reply_rule (refresh_configuration (new_refresh_request client.now endpoint token.now)) endpoint
+        × AsksOnce ⟦<BasicTokenResponse as FromJson>⟧.meaning
+        ⟦<BasicErrorResponse as FromJson>⟧.meaning
+        ⟦<BasicTokenResponse as FromJson>⟧.reading
+        ⟦<BasicErrorResponse as FromJson>⟧.reading C.step client.now.reply_rule
+        (refresh_configuration (new_refresh_request client.now endpoint token.now)) endpoint
         http_client.old result http_client.new }
     ensures ready { C.is_ready http_client.new }
 {

@@ -34,9 +34,10 @@ pub fn sign_out<C: SyncHttpClient>(
 where
     C::Error: fmt::Debug,
     requires { C.is_ready http_client.old }
-    ensures revoked { OnOk result ((endpoint : Addressed) × (client.now.revocation_url ≡ Some endpoint)
-        × IsHttps endpoint × (request : HttpRequest)
-        × IsRequestOf (revocation_configuration (new_revocation_request client.now endpoint token (Some (codes "refresh_token"))))
+    ensures revoked { OnOk result ((endpoint : Addressed)
+        × (client.now.revocation_url ≡ Some endpoint) × IsHttps endpoint × (request : HttpRequest)
+        × IsRequestOf (revocation_configuration
+        (new_revocation_request client.now endpoint token (Some (codes "refresh_token"))))
         (serialize endpoint.url) (view_of request)
         × (reply : HttpResponse) × C.step http_client.old request (Ok reply) http_client.new
         × ((reply_of reply).status ≡ 200)) }

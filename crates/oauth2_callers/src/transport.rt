@@ -29,9 +29,11 @@ pub fn token_over<F: FnOnce(HttpRequest) -> HttpResponse>(
     requires { F.IsAlwaysCallable round_trip }
     ensures { (endpoint : Addressed) × (client.now.token_url ≡ Some endpoint)
         × (((request : HttpRequest)
-        × IsRequestOf (code_configuration (new_code_request client.now endpoint code)) (serialize endpoint.url) (view_of request)
+        × IsRequestOf (code_configuration (new_code_request client.now endpoint code))
+        (serialize endpoint.url) (view_of request)
         × (reply : HttpResponse) × F.post round_trip request reply
-        × ShowsAnswer ⟦<BasicTokenResponse as FromJson>⟧.meaning ⟦<BasicErrorResponse as FromJson>⟧.meaning
+        × ShowsAnswer ⟦<BasicTokenResponse as FromJson>⟧.meaning
+        ⟦<BasicErrorResponse as FromJson>⟧.meaning
         (answer_of client.now.reply_rule ⟦<BasicTokenResponse as FromJson>⟧.reading
         ⟦<BasicErrorResponse as FromJson>⟧.reading (reply_of reply)) result)
         ⊎ ((result ≡ Err (Request RequestFault.NotHttp)) × SpellsNone (serialize endpoint.url))

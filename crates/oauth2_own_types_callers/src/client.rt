@@ -1,7 +1,18 @@
-//! A client of a server with a token type, extra fields, error codes and a kind of tokens of its own,
-//! and each of its requests.
+//! A client of a server with a token type, extra fields, error codes and a kind of tokens of its
+//! own, and each of its requests.
 
-ghost use Rattle.std.specs.Prelude.{◌≡◌, Some, None, codes, string_bytes, IfSome, IsErrAnd, IsOkAnd, IsSome, List};
+ghost use Rattle.std.specs.Prelude.{
+  ◌≡◌,
+  Some,
+  None,
+  codes,
+  string_bytes,
+  IfSome,
+  IsErrAnd,
+  IsOkAnd,
+  IsSome,
+  List,
+};
 ghost use Rattle.oauth2_urls.specs.Addressed.{Addressed};
 ghost use Rattle.oauth2_wire.specs.declared.content_type.ReplyRule.TheVariants.{Prefix};
 ghost use Rattle.oauth2_wire.specs.declared.request.AuthType.TheVariants.{BasicAuth};
@@ -14,8 +25,24 @@ ghost use Rattle.oauth2_requests.specs.TokenIntrospection.{introspection_configu
 ghost use Rattle.oauth2_requests.specs.TokenRevocation.{revocation_configuration};
 ghost use Rattle.oauth2_wire.specs.ConfigurationError.{IsInsecureUrl};
 ghost use Rattle.oauth2_device.specs.Events.{Event, Leads};
-ghost use Rattle.oauth2.specs.NewRequest.{IsHttps, new_client_credentials_request, new_code_request, new_device_request, new_device_token_request, new_introspection_request, new_password_request, new_refresh_request, new_revocation_request};
-ghost use Rattle.oauth2_own_types_callers.specs.Asked.{AsksForToken, AsksForIntrospection, AsksForCodes, AsksForRevocation, PollsForToken};
+ghost use Rattle.oauth2.specs.NewRequest.{
+  IsHttps,
+  new_client_credentials_request,
+  new_code_request,
+  new_device_request,
+  new_device_token_request,
+  new_introspection_request,
+  new_password_request,
+  new_refresh_request,
+  new_revocation_request,
+};
+ghost use Rattle.oauth2_own_types_callers.specs.Asked.{
+  AsksForToken,
+  AsksForIntrospection,
+  AsksForCodes,
+  AsksForRevocation,
+  PollsForToken,
+};
 
 use crate::colorful_error::ColorfulErrorResponseType;
 use crate::colorful_fields::ColorfulFields;
@@ -134,7 +161,8 @@ pub fn token_for_password<C: SyncHttpClient>(
     requires { C.is_ready http_client.old }
     ensures once { (endpoint : Addressed) × (client.now.token_url ≡ Some endpoint)
         × AsksForToken C.step client.now.reply_rule
-        (password_configuration (new_password_request client.now endpoint username.now password.now))
+        (password_configuration
+        (new_password_request client.now endpoint username.now password.now))
         endpoint http_client.old result http_client.new }
     ensures ready { C.is_ready http_client.new }
 {
@@ -189,7 +217,8 @@ pub fn revocation(
 >
     ensures there { IsSome client.now.revocation_url }
     ensures started { IfSome client.now.revocation_url (λ url. IsHttps url → IsOkAnd result
-        (λ r. r ≡ new_revocation_request client.now url (string_bytes token.0) (Some (codes "red_token")))) }
+        (λ r. r ≡ new_revocation_request client.now url (string_bytes token.0)
+        (Some (codes "red_token")))) }
     ensures insecure { IfSome client.now.revocation_url (λ url. ¬ (IsHttps url)
         → IsErrAnd result (IsInsecureUrl (codes "revocation"))) }
 {

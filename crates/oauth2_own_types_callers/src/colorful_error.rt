@@ -1,8 +1,14 @@
 //! Error codes that are an enum: the server tells these and no others.
 
 ghost use Rattle.std.specs.Prelude.{Some};
-ghost use Rattle.oauth2_own_types_callers.specs.ColorErrors.{error_text, error_reading, error_writing};
-ghost use Rattle.oauth2_own_types_callers.specs.declared.colorful_error.ColorfulErrorResponseType.{ColorfulErrorResponseType};
+ghost use Rattle.oauth2_own_types_callers.specs.ColorErrors.{
+  error_text,
+  error_reading,
+  error_writing,
+};
+ghost use Rattle.oauth2_own_types_callers.specs.declared.colorful_error.ColorfulErrorResponseType.{
+  ColorfulErrorResponseType,
+};
 
 use oauth2::{ErrorResponseType, FromJson, ParseCause, ReadError, ToJson, WriteError};
 use serde_json::Value;

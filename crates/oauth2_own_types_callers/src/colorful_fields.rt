@@ -1,7 +1,14 @@
 //! Extra fields that are a struct: an optional shape and a height.
 
 ghost use Rattle.oauth2_json.specs.Reading.{ReadsAs};
-ghost use Rattle.oauth2_own_types_callers.specs.Fields.{Fields, fields_seen, fields_members, fields_reading, fields_writing, height_of};
+ghost use Rattle.oauth2_own_types_callers.specs.Fields.{
+  Fields,
+  fields_seen,
+  fields_members,
+  fields_reading,
+  fields_writing,
+  height_of,
+};
 
 use oauth2::{
     ExtraDeviceAuthorizationFields, ExtraTokenFields, FromJson, ParseCause, ReadError, ToJson,

@@ -1,7 +1,9 @@
 //! Token types that are colors.
 
 ghost use Rattle.oauth2_own_types_callers.specs.Colors.{color_text, color_reading, color_writing};
-ghost use Rattle.oauth2_own_types_callers.specs.declared.colorful_token_type.ColorfulTokenType.{ColorfulTokenType};
+ghost use Rattle.oauth2_own_types_callers.specs.declared.colorful_token_type.ColorfulTokenType.{
+  ColorfulTokenType,
+};
 
 use oauth2::{FromJson, ParseCause, ReadError, ToJson, TokenType, TryClone, WriteError};
 use serde_json::Value;

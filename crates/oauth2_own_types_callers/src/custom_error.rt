@@ -1,7 +1,11 @@
 //! An error response that is not the standard's.
 
 ghost use Rattle.std.specs.Prelude.{Some, ℕ, List};
-ghost use Rattle.oauth2_own_types_callers.specs.CustomError.{custom_seen, custom_reading, custom_writing};
+ghost use Rattle.oauth2_own_types_callers.specs.CustomError.{
+  custom_seen,
+  custom_reading,
+  custom_writing,
+};
 
 use oauth2::{ErrorResponse, FromJson, ReadError, ToJson, WriteError, members};
 use serde_json::{Map, Value};

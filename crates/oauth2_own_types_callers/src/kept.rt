@@ -9,8 +9,19 @@ ghost use Rattle.oauth2_json.specs.declared.write.WriteError.TheVariants.{Memory
 ghost use Rattle.oauth2_replies.specs.Device.{device_reading, device_seen};
 ghost use Rattle.oauth2_replies.specs.Kept.{AreFieldsKept, AreScopesKept};
 ghost use Rattle.oauth2_replies.specs.Token.{IsTokenKept, token_seen};
-ghost use Rattle.oauth2_own_types_callers.specs.Asked.{colorful_error_reading, colorful_error_seen, colorful_introspection_reading, colorful_introspection_seen, colorful_token_reading, colorful_token_seen};
-ghost use Rattle.oauth2_own_types_callers.specs.Fields.{fields_reading, fields_seen, fields_writing};
+ghost use Rattle.oauth2_own_types_callers.specs.Asked.{
+  colorful_error_reading,
+  colorful_error_seen,
+  colorful_introspection_reading,
+  colorful_introspection_seen,
+  colorful_token_reading,
+  colorful_token_seen,
+};
+ghost use Rattle.oauth2_own_types_callers.specs.Fields.{
+  fields_reading,
+  fields_seen,
+  fields_writing,
+};
 
 use crate::client::{ColorfulErrorResponse, ColorfulIntrospectionResponse, ColorfulTokenResponse};
 use crate::colorful_fields::ColorfulFields;
@@ -21,8 +32,8 @@ use oauth2::{
 use serde_json::Value;
 use std::alloc::Global;
 
-/// Writes a token response and reads it again. What is kept comes back as it was, whatever the types
-/// of its token and of its extra fields.
+/// Writes a token response and reads it again. What is kept comes back as it was, whatever the
+/// types of its token and of its extra fields.
 pub fn reread<EF: ExtraTokenFields + Drop, TT: TokenType + Drop>(
     alloc: Global,
     token: &StandardTokenResponse<EF, TT>,
@@ -37,7 +48,8 @@ pub fn reread<EF: ExtraTokenFields + Drop, TT: TokenType + Drop>(
 
 /// The fields are written as an object that reads back as them.
 pub fn fields_are_kept(fields: &ColorfulFields)
-    ensures { AreFieldsKept fields_reading fields_seen (λ f. fields_writing (fields_seen f)) fields.now }
+    ensures { AreFieldsKept fields_reading fields_seen
+        (λ f. fields_writing (fields_seen f)) fields.now }
 {
     // Read for the proof alone: a height is below 2^32.
     let _height = fields.height;
@@ -47,7 +59,8 @@ pub fn fields_are_kept(fields: &ColorfulFields)
 /// scopes is not empty.
 pub fn stored_token(alloc: Global, token: &ColorfulTokenResponse) -> Result<String, WriteError>
     ensures text { IfOk result (λ text. AreScopesKept token.now.scopes
-        → body_reading colorful_token_reading (string_bytes text) ≡ Ok (colorful_token_seen token.now)) }
+        → body_reading colorful_token_reading (string_bytes text)
+        ≡ Ok (colorful_token_seen token.now)) }
     ensures refusal { IfErr result (λ error. error ≡ Memory) }
 {
     fields_are_kept(token.extra_fields());
@@ -62,15 +75,17 @@ pub fn restored_token(alloc: Global, text: &str) -> Result<ColorfulTokenResponse
     read_body(alloc, text.as_bytes())
 }
 
-/// The value to keep for an introspection response. It reads back where its scopes are as above and
-/// its times are whole seconds.
+/// The value to keep for an introspection response. It reads back where its scopes are as above
+/// and its times are whole seconds.
 pub fn introspection_value(
     alloc: Global,
     response: &ColorfulIntrospectionResponse,
 ) -> Result<Value, WriteError>
     ensures value { IfOk result (λ value. AreScopesKept response.now.scopes
-        → IfSome response.now.exp IsWholeSeconds → IfSome response.now.iat IsWholeSeconds → IfSome response.now.nbf IsWholeSeconds
-        → colorful_introspection_reading (view value) ≡ Ok (colorful_introspection_seen response.now)) }
+        → IfSome response.now.exp IsWholeSeconds → IfSome response.now.iat IsWholeSeconds
+        → IfSome response.now.nbf IsWholeSeconds
+        → colorful_introspection_reading (view value)
+        ≡ Ok (colorful_introspection_seen response.now)) }
     ensures refusal { IfErr result (λ error. error ≡ Memory) }
 {
     fields_are_kept(response.extra_fields());
@@ -82,7 +97,8 @@ pub fn codes_value(
     alloc: Global,
     codes: &DeviceAuthorizationResponse<ColorfulFields>,
 ) -> Result<Value, WriteError>
-    ensures value { IfOk result (λ value. device_reading fields_reading (view value) ≡ Ok (device_seen fields_seen codes.now)) }
+    ensures value { IfOk result (λ value. device_reading fields_reading (view value)
+        ≡ Ok (device_seen fields_seen codes.now)) }
     ensures refusal { IfErr result (λ error. error ≡ Memory) }
 {
     fields_are_kept(codes.extra_fields());
@@ -91,7 +107,8 @@ pub fn codes_value(
 
 /// The value to keep for an error response, which reads back.
 pub fn error_value(alloc: Global, error: &ColorfulErrorResponse) -> Result<Value, WriteError>
-    ensures value { IfOk result (λ value. colorful_error_reading (view value) ≡ Ok (colorful_error_seen error.now)) }
+    ensures value { IfOk result (λ value. colorful_error_reading (view value)
+        ≡ Ok (colorful_error_seen error.now)) }
     ensures refusal { IfErr result (λ error. error ≡ Memory) }
 {
     error.to_json(alloc)

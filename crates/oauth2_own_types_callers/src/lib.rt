@@ -1,6 +1,6 @@
-//! Types of a user's own: a token type, extra fields, error codes, an error response and a token to
-//! revoke; a client that asks every endpoint with them, and its tests. The functions are compiled
-//! with the tests alone: a library would pass on all that its public names mention.
+//! Types of a user's own: a token type, extra fields, error codes, an error response and a token
+//! to revoke; a client that asks every endpoint with them, and its tests. The functions are
+//! compiled with the tests alone: a library would pass on all that its public names mention.
 
 #![tactic(auto)]
 

@@ -366,7 +366,8 @@ fn introspection_that_is_kept(rt: HostRuntime) {
 }
 
 const CODES: &str =
-    r#"{"device_code":"d","expires_in":300,"height":12,"interval":5,"shape":"round","user_code":"abcde","verification_uri":"https://v/"}"#;
+    "{\"device_code\":\"d\",\"expires_in\":300,\"height\":12,\"interval\":5,\"shape\":\"round\",\
+     \"user_code\":\"abcde\",\"verification_uri\":\"https://v/\"}";
 
 // The codes of a server that replies like this.
 fn codes_from(
