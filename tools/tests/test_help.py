@@ -10,7 +10,12 @@ sys.path.insert(0, os.path.dirname(os.path.dirname(os.path.abspath(__file__))))
 import repository
 import tool
 
-NAMES = sorted(it for it in os.listdir(tool.TOOLS) if os.access(os.path.join(tool.TOOLS, it), os.X_OK) and '.' not in it and it != 'tests')
+def can_run(name):
+    path = os.path.join(tool.TOOLS, name)
+    return os.path.isfile(path) and os.access(path, os.X_OK)
+
+
+NAMES = sorted(filter(can_run, os.listdir(tool.TOOLS)))
 
 
 def text_of(*path):
