@@ -1,0 +1,52 @@
+"""Tests of tools/bench: the names of functions, what is said of growth, and the parts of the page."""
+import os
+import sys
+import unittest
+from unittest import mock
+
+sys.dont_write_bytecode = True
+sys.path.insert(0, os.path.dirname(os.path.abspath(__file__)))
+sys.path.insert(0, os.path.dirname(os.path.dirname(os.path.abspath(__file__))))
+import repository
+import tool
+
+bench = tool.load('bench')
+
+
+class Names(unittest.TestCase):
+    def test_short(self):
+        for symbol, name in [
+            ('core::fmt::formatter::Formatter::write_raw::<#bf264aed5fa78656>', '`core` `write_raw`'),
+            ('<http::request::Builder>::and_then::<http::request::Builder::header::{closure#0}>', '`http` `and_then`'),
+            ('<&mut serde_json::de::Deserializer<X> as serde::de::Deserializer>::deserialize_map::<x>', '`serde_json` `deserialize_map`'),
+            ("a::b'2", '`a` `b`'), ('__memcpy_avx512_unaligned_erms', '`memcpy`'), ('_int_free', '`_int_free`'), ('malloc', '`malloc`'),
+        ]:
+            with self.subTest(symbol):
+                self.assertEqual(bench.short(symbol), name)
+
+
+class Page(unittest.TestCase):
+    def test_growth(self):
+        rows = [('(e) 64 KB', '', 1, 2, 64), ('(e) 1 MB', '', 1, 2, 1024)]
+        costs = [([2, 4], [10, 20]), ([80, 64], [150, 320])]
+        with mock.patch.object(bench, 'measured', lambda *_: iter((row, *it) for row, it in zip(rows, costs))):
+            said = list(bench.growth(['here', 'there'], rows))
+        self.assertEqual(said[-3], '| (e) 1 MB | 80 | 64 | 150 | 320 | 0 | 0 |')
+        self.assertEqual(said[-1].split(), '- (e) 1 MB beside 64 KB: 16 times the input; the instructions are 15.0 times here and 16.0 times '
+                                           'there; the time is 40.0 times here and 16.0 times there.'.split())
+
+    def test_part(self):
+        page = 'one\n<!-- bench: times -->\n\nold\n\n<!-- end -->\ntwo\n<!-- bench: growth -->\n\nold\n\n<!-- end -->\n'
+        self.assertEqual(bench.with_part(page, 'times', 'new'), page.replace('old', 'new', 1))
+        self.assertRaises(SystemExit, bench.with_part, page, 'memories', 'new')
+
+    def test_parts_of_the_page(self):
+        with open(os.path.join(repository.ROOT, 'docs', 'PERFORMANCE.md'), encoding='utf-8') as f:
+            page = f.read()
+        with mock.patch.object(bench, 'HAS_VALGRIND', True):
+            for name in bench.parts(['here', 'there'], None):
+                self.assertIn('new', bench.with_part(page, name, 'new'), name)
+
+
+if __name__ == '__main__':
+    unittest.main()
