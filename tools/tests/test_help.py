@@ -1,6 +1,7 @@
-"""Tests of what all tools share: each one's docstring is its help, and docs/ARCHITECTURE.md names it."""
+"""Tests of what all tools share: each one's docstring is its help, and a row of CONTRIBUTING.md begins with it."""
 import ast
 import os
+import re
 import subprocess
 import sys
 import unittest
@@ -9,6 +10,7 @@ sys.dont_write_bytecode = True
 sys.path.insert(0, os.path.dirname(os.path.dirname(os.path.abspath(__file__))))
 import repository
 import tool
+
 
 def can_run(name):
     path = os.path.join(tool.TOOLS, name)
@@ -23,6 +25,11 @@ def text_of(*path):
         return f.read()
 
 
+def tools_of_rows(page):
+    """The tools that rows of the page's tables begin with."""
+    return re.findall(r'^\| `tools/([\w-]+)', page, re.M)
+
+
 class Help(unittest.TestCase):
     def test_docstring(self):
         for name in NAMES:
@@ -32,9 +39,12 @@ class Help(unittest.TestCase):
                 self.assertIn(about.partition(': ')[2], run.stdout)
                 self.assertTrue(run.stdout.rstrip().endswith(more.rstrip()))
 
-    def test_named_in_the_architecture(self):
-        page = text_of(repository.ROOT, 'docs', 'ARCHITECTURE.md')
-        self.assertEqual([it for it in NAMES if 'tools/' + it not in page], [])
+    def test_listed_for_contributors(self):
+        rows = set(tools_of_rows(text_of(repository.ROOT, 'CONTRIBUTING.md')))
+        self.assertEqual(sorted(rows), NAMES)
+
+    def test_rows(self):
+        self.assertEqual(tools_of_rows('`tools/a` in a text\n| `tools/b --all` | `tools/c` |\n| `tools/d` | 1 |\n| `rt check` | 1 |\n'), ['b', 'd'])
 
 
 if __name__ == '__main__':
