@@ -1,3 +1,4 @@
 pub mod ByNameLemmas
 pub mod ParamsLemmas
 pub mod OneShotLemmas
+pub mod TextLemmas

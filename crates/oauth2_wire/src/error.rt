@@ -1,5 +1,8 @@
 //! Why a request could not be made, was not sent, or got no answer.
 
+ghost use Rattle.std.specs.Prelude.{◌++◌};
+ghost use Rattle.std.specs.Fmt.{WritesOnOk, WritesStyledOnOk};
+
 use oauth2_codes::{BasicErrorResponseType, StandardErrorResponse};
 use oauth2_json::ParseFault;
 use std::alloc::AllocError;
@@ -20,18 +23,39 @@ impl fmt::Display for ConfigurationError {
 
     ghost output = { configuration_text };
 
+    ghost styled_output = { λ error _. configuration_text error };
+
     fn fmt<W: fmt::Write>(&self, f: &mut fmt::Formatter<W>) -> fmt::Result {
         match self {
-            ConfigurationError::MissingUrl(name) => write!(f, "No {name} endpoint URL specified"),
-            ConfigurationError::InsecureUrl(name) => write!(
-                f,
-                "Scheme for {name} endpoint URL must be HTTPS"
-            ),
+            ConfigurationError::MissingUrl(name) => {
+                write_between(f, "No ", name, " endpoint URL specified")
+            }
+            ConfigurationError::InsecureUrl(name) => {
+                write_between(f, "Scheme for ", name, " endpoint URL must be HTTPS")
+            }
         }
     }
 }
 
 impl std::error::Error for ConfigurationError {}
+
+// Writes `name` between two texts, whatever options `f` has.
+#[tactic(auto, using(crate::proofs::TextLemmas::three_written))]
+fn write_between<W: fmt::Write>(
+    f: &mut fmt::Formatter<W>,
+    before: &str,
+    name: &str,
+    after: &str,
+) -> fmt::Result
+    ensures plain { let text = before.now ++ name.now ++ after.now in
+        WritesOnOk W.write_str_gives f.old result text f.new }
+    ensures styled { let text = before.now ++ name.now ++ after.now in
+        WritesStyledOnOk W.write_str_gives f.old result text f.new }
+{
+    f.write_str(before)?;
+    f.write_str(name)?;
+    f.write_str(after)
+}
 
 /// Why a request got no answer.
 #[derive(Debug, Drop)]
@@ -62,6 +86,9 @@ impl<RE, T: fmt::Display> fmt::Display for RequestTokenError<RE, T> {
 
     ghost output = { fault_text T.output };
 
+    ghost styled_output = { λ error spec. fault_text (λ inner. T.styled_output inner spec) error };
+
+    #[tactic(auto, using(crate::proofs::TextLemmas::two_written))]
     fn fmt<W: fmt::Write>(&self, f: &mut fmt::Formatter<W>) -> fmt::Result {
         match self {
             RequestTokenError::ServerResponse(error) => {
@@ -127,6 +154,8 @@ impl<RE> fmt::Display for HttpClientError<RE> {
     ghost use Rattle.oauth2_wire.specs.Display.{client_text};
 
     ghost output = { client_text };
+
+    ghost styled_output = { λ error _. client_text error };
 
     fn fmt<W: fmt::Write>(&self, f: &mut fmt::Formatter<W>) -> fmt::Result {
         match self {

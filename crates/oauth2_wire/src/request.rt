@@ -64,6 +64,8 @@ impl fmt::Display for RequestFault {
 
     ghost output = { request_fault_text };
 
+    ghost styled_output = { λ fault _. request_fault_text fault };
+
     fn fmt<W: fmt::Write>(&self, f: &mut fmt::Formatter<W>) -> fmt::Result {
         match self {
             RequestFault::NotHttp => f.write_str("endpoint URL is not an HTTP target"),

@@ -43,6 +43,8 @@ impl fmt::Display for ViewError {
 
     ghost output = { view_error_text };
 
+    ghost styled_output = { λ error _. view_error_text error };
+
     fn fmt<W: fmt::Write>(&self, f: &mut fmt::Formatter<W>) -> fmt::Result {
         match self {
             ViewError::BadBasic => {
