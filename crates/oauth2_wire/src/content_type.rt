@@ -3,7 +3,9 @@
 ghost use Rattle.std.specs.Prelude.{◌≡◌, ◌<◌, ◌++◌, take, drop, IfOk, OnOk, string_bytes};
 ghost use Rattle.std.specs.List.{list_all};
 ghost use Rattle.std.specs.Char.{digit_char};
-ghost use Rattle.oauth2_wire.specs.ContentType.{is_text_byte, begins_with_json, ends_the_type, is_json_type, shown_byte, shown_value, unexpected_type_text};
+ghost use Rattle.oauth2_wire.specs.ContentType.{is_text_byte, begins_with_json, ends_the_type};
+ghost use Rattle.oauth2_wire.specs.ContentType.{is_json_type, shown_byte, shown_value};
+ghost use Rattle.oauth2_wire.specs.ContentType.{unexpected_type_text};
 
 use oauth2_types::TryClone;
 use std::alloc::{AllocError, Global};
@@ -86,7 +88,8 @@ pub(crate) fn unexpected_type_text(alloc: Global, value: &[u8]) -> Result<String
 }
 
 fn push_shown(text: &mut String, value: &[u8]) -> Result<(), AllocError>
-    ensures { OnOk result (string_bytes text.new ≡ string_bytes text.old ++ shown_value value.now) }
+    ensures { OnOk result (string_bytes text.new
+        ≡ string_bytes text.old ++ shown_value value.now) }
 {
     for &b in value {
         push_shown_byte(text, b)?;

@@ -75,7 +75,8 @@ pub enum RequestTokenError<RE, T> {
     },
 }
 
-/// The error of a request to an endpoint that answers with the basic errors (RFC 6749, section 5.2).
+/// The error of a request to an endpoint that answers with the basic errors (RFC 6749, section
+/// 5.2).
 pub type BasicRequestTokenError<RE> = RequestTokenError<
     RE,
     StandardErrorResponse<BasicErrorResponseType>,

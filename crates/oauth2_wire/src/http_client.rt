@@ -9,10 +9,10 @@ pub type HttpResponse = Response<Vec<u8>>;
 
 /// A client that sends one request and waits for its reply.
 ///
-/// A client that may always be called leaves `is_ready` as it is, and no caller of that client writes
-/// a word of it. A caller that is generic over the client writes `requires { C.is_ready client.old }`,
-/// and hands on `ensures { C.is_ready client.new }` where its own callers call again. For a `?` into
-/// `anyhow` it writes `where C::Error: fmt::Debug`.
+/// A client that may always be called leaves `is_ready` as it is, and no caller of that client
+/// writes a word of it. A caller that is generic over the client writes
+/// `requires { C.is_ready client.old }`, and hands on `ensures { C.is_ready client.new }` where
+/// its own callers call again. For a `?` into `anyhow` it writes `where C::Error: fmt::Debug`.
 pub trait SyncHttpClient {
     ghost use Rattle.std.specs.Prelude.{ℕ, Vec, Result, ⊤};
     ghost use Rattle.std.specs.declared.alloc.Global.{Global};
@@ -26,8 +26,8 @@ pub trait SyncHttpClient {
     ghost is_ready: { Self → Type 0 } = { λ _. ⊤ };
 
     // What a call may do: the state before, the request, the answer and the state after.
-    ghost step: { Self → Request (Vec ℕ Global) → Result (Response (Vec ℕ Global)) Self.Error → Self
-        → Type 0 } = { λ _ _ _ _. ⊤ };
+    ghost step: { Self → Request (Vec ℕ Global) → Result (Response (Vec ℕ Global)) Self.Error
+        → Self → Type 0 } = { λ _ _ _ _. ⊤ };
 
     /// Sends one request.
     fn call(&mut self, request: HttpRequest) -> Result<HttpResponse, Self::Error>

@@ -20,7 +20,8 @@ pub fn send_once<C: SyncHttpClient, TE: FromJson, DO: FromJson>(
     http_client: &mut C,
 ) -> Result<DO, RequestTokenError<C::Error, TE>>
     requires { C.is_ready http_client.old }
-    ensures once { SendsOnce DO.meaning TE.meaning C.step (λ reply. answer_of rule DO.reading TE.reading (reply_of reply))
+    ensures once { SendsOnce DO.meaning TE.meaning C.step
+        (λ reply. answer_of rule DO.reading TE.reading (reply_of reply))
         http_client.old prepared result http_client.new }
     ensures ready { C.is_ready http_client.new }
 {
@@ -37,7 +38,8 @@ pub fn send_once_status_only<C: SyncHttpClient, TE: FromJson>(
     http_client: &mut C,
 ) -> Result<(), RequestTokenError<C::Error, TE>>
     requires { C.is_ready http_client.old }
-    ensures once { SendsOnce (λ done. done) TE.meaning C.step (λ reply. status_answer_of TE.reading (reply_of reply))
+    ensures once { SendsOnce (λ done. done) TE.meaning C.step
+        (λ reply. status_answer_of TE.reading (reply_of reply))
         http_client.old prepared result http_client.new }
     ensures ready { C.is_ready http_client.new }
 {

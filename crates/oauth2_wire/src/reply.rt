@@ -3,7 +3,8 @@
 ghost use Rattle.std.specs.Prelude.{◌≡◌, ◌==◌};
 ghost use Rattle.oauth2_wire.specs.declared.content_type.ReplyRule.TheVariants.{Prefix};
 ghost use Rattle.oauth2_wire.specs.ContentType.{unexpected_type_text};
-ghost use Rattle.oauth2_wire.specs.Reply.{reply_of, answer_of, status_answer_of, success_answer, failure_answer, body_answer, ShowsAnswer, other};
+ghost use Rattle.oauth2_wire.specs.Reply.{reply_of, answer_of, status_answer_of, success_answer};
+ghost use Rattle.oauth2_wire.specs.Reply.{failure_answer, body_answer, ShowsAnswer, other};
 ghost use Rattle.oauth2_wire.specs.private.Failure.{ShowsFailure};
 
 use crate::content_type::{ReplyRule, is_json_type, unexpected_type_text};
@@ -19,18 +20,21 @@ pub fn endpoint_response<RE, TE: FromJson, DO: FromJson>(
     alloc: Global,
     reply: HttpResponse,
 ) -> Result<DO, RequestTokenError<RE, TE>>
-    ensures { ShowsAnswer DO.meaning TE.meaning (answer_of Prefix DO.reading TE.reading (reply_of reply)) result }
+    ensures { ShowsAnswer DO.meaning TE.meaning
+        (answer_of Prefix DO.reading TE.reading (reply_of reply)) result }
 {
     endpoint_response_with(alloc, ReplyRule::Prefix, reply)
 }
 
-/// What a reply says to a request for a `DO` (RFC 6749, section 5), by a rule for its Content-Type.
+/// What a reply says to a request for a `DO` (RFC 6749, section 5), by a rule for its
+/// Content-Type.
 pub fn endpoint_response_with<RE, TE: FromJson, DO: FromJson>(
     alloc: Global,
     rule: ReplyRule,
     reply: HttpResponse,
 ) -> Result<DO, RequestTokenError<RE, TE>>
-    ensures { ShowsAnswer DO.meaning TE.meaning (answer_of rule DO.reading TE.reading (reply_of reply)) result }
+    ensures { ShowsAnswer DO.meaning TE.meaning
+        (answer_of rule DO.reading TE.reading (reply_of reply)) result }
 {
     if !is_success(&reply) {
         return Err(read_failure(alloc, reply.into_body()));
@@ -43,7 +47,8 @@ pub fn endpoint_response_status_only<RE, TE: FromJson>(
     alloc: Global,
     reply: HttpResponse,
 ) -> Result<(), RequestTokenError<RE, TE>>
-    ensures { ShowsAnswer (λ done. done) TE.meaning (status_answer_of TE.reading (reply_of reply)) result }
+    ensures { ShowsAnswer (λ done. done) TE.meaning
+        (status_answer_of TE.reading (reply_of reply)) result }
 {
     if is_success(&reply) {
         Ok(())
@@ -65,8 +70,9 @@ fn read_success<RE, TE: FromJson, DO: FromJson>(
     rule: ReplyRule,
     reply: HttpResponse,
 ) -> Result<DO, RequestTokenError<RE, TE>>
-    ensures { ShowsAnswer DO.meaning TE.meaning
-        (success_answer rule DO.reading (reply_of reply).content_type (reply_of reply).body) result }
+    ensures { let seen = reply_of reply in
+        ShowsAnswer DO.meaning TE.meaning
+        (success_answer rule DO.reading seen.content_type seen.body) result }
 {
     match reply.headers().get(CONTENT_TYPE) {
         Some(value) => if is_json_type(rule, value.as_bytes()) {

@@ -1,13 +1,17 @@
 //! The requests of a client: a POST of a form to an endpoint (RFC 6749, sections 2.3.1 and 3.2).
 
-ghost use Rattle.std.specs.Prelude.{◌≡◌, ◌<◌, [], ◌∷◌, ◌++◌, length, map, codes, IfOk, IsErr, OnOk, Err, option_copied, option_and_then, option_map};
+ghost use Rattle.std.specs.Prelude.{◌≡◌, ◌<◌, [], ◌∷◌, ◌++◌, length, map, codes};
+ghost use Rattle.std.specs.Prelude.{Err, IfOk, IsErr, OnOk};
+ghost use Rattle.std.specs.Prelude.{option_copied, option_and_then, option_map};
 ghost use Rattle.form_urlencoded.specs.Form.{pair_text};
 ghost use Rattle.http_header.specs.HeaderMap.{insert, value_count};
 ghost use Rattle.http_uri.specs.Uri.{Spells, SpellsNone};
 ghost use Rattle.url.specs.Parts.{serialize};
 ghost use Rattle.oauth2_form.specs.Params.{with_scopes};
 ghost use Rattle.oauth2_wire.specs.Texts.{param_pair, given_text};
-ghost use Rattle.oauth2_wire.specs.Expected.{joined_scope, expected_pairs, basic_credentials, authorization_header, optional_pair, body_credentials};
+ghost use Rattle.oauth2_wire.specs.Expected.{joined_scope, expected_pairs, optional_pair};
+ghost use Rattle.oauth2_wire.specs.Expected.{basic_credentials, body_credentials};
+ghost use Rattle.oauth2_wire.specs.Expected.{authorization_header};
 ghost use Rattle.oauth2_wire.specs.private.Headers.{headers_with, optional_authorization};
 ghost use Rattle.oauth2_form.specs.Basic.{basic};
 ghost use Rattle.oauth2_wire.specs.Request.{view_of, IsRequestOf};
@@ -191,7 +195,10 @@ fn filled_buffer(
 // A buffer of the scopes alone.
 #[tactic(auto, using(crate::proofs::ParamsLemmas::joined))]
 fn scopes_buffer(alloc: Global, scopes: Option<&[Scope]>) -> Result<ParamBuffer, AllocError>
-    ensures { IfOk result (λ buffer. buffer ≡ record { scope = joined_scope (option_copied scopes.entry); pairs = [] }) }
+    ensures { IfOk result (λ buffer. buffer ≡ record {
+      scope = joined_scope (option_copied scopes.entry);
+      pairs = [];
+    }) }
 {
     let mut buffer = ParamBuffer::new(alloc);
     match scopes {
@@ -205,7 +212,9 @@ fn scopes_buffer(alloc: Global, scopes: Option<&[Scope]>) -> Result<ParamBuffer,
 
 // Adds the scopes, in order.
 fn add_scopes(buffer: &mut ParamBuffer, scopes: &[Scope]) -> Result<(), AllocError>
-    ensures { OnOk result (buffer.new ≡ record buffer.old { scope = with_scopes buffer.old.scope scopes.now }) }
+    ensures { OnOk result (buffer.new ≡ record buffer.old {
+      scope = with_scopes buffer.old.scope scopes.now;
+    }) }
 {
     for scope in scopes {
         buffer.add_scope(scope.as_str())?;
@@ -218,7 +227,9 @@ fn add_extras(
     buffer: &mut ParamBuffer,
     params: &[(ParamText<'_>, ParamText<'_>)],
 ) -> Result<(), AllocError>
-    ensures { OnOk result (buffer.new ≡ record buffer.old { pairs = buffer.old.pairs ++ map param_pair params.now }) }
+    ensures { OnOk result (buffer.new ≡ record buffer.old {
+      pairs = buffer.old.pairs ++ map param_pair params.now;
+    }) }
 {
     for (name, value) in params {
         buffer.add_extra(name.as_str(), value.as_str())?;
@@ -283,7 +294,8 @@ fn with_encoded(
     name: &str,
     value: Option<&EncodedText>,
 ) -> Result<FormBody, AllocError>
-    ensures { IfOk result (λ new. new ≡ body ++ optional_pair name.now (option_copied value.entry)) }
+    ensures { IfOk result (λ new. new
+        ≡ body ++ optional_pair name.now (option_copied value.entry)) }
 {
     match value {
         Some(value) => Ok(body.push_encoded(name, value)?),
@@ -324,7 +336,8 @@ fn push_id(body: &mut FormBody, client_id: &ClientId) -> Result<(), AllocError>
 }
 
 fn push_secret(body: &mut FormBody, client_secret: &ClientSecret) -> Result<(), AllocError>
-    ensures { OnOk result (body.new ≡ body.old ++ (codes "client_secret", client_secret.now) ∷ []) }
+    ensures { OnOk result (body.new
+        ≡ body.old ++ (codes "client_secret", client_secret.now) ∷ []) }
 {
     body.push("client_secret", client_secret.secret().as_str())?;
     Ok(())
@@ -332,8 +345,8 @@ fn push_secret(body: &mut FormBody, client_secret: &ClientSecret) -> Result<(), 
 
 // Adds the redirect URL's text, where there is one.
 fn push_redirect(body: &mut FormBody, redirect_url: Option<&RedirectUrl>) -> Result<(), AllocError>
-    ensures { OnOk result (body.new
-        ≡ body.old ++ optional_pair (codes "redirect_uri") (option_map given_text (option_copied redirect_url.entry))) }
+    ensures { let text = option_map given_text (option_copied redirect_url.entry) in
+        OnOk result (body.new ≡ body.old ++ optional_pair (codes "redirect_uri") text) }
 {
     match redirect_url {
         Some(url) => {
@@ -351,7 +364,8 @@ fn authorization(
     client_id: &ClientId,
     client_secret: Option<&ClientSecret>,
 ) -> Result<Option<HeaderValue>, AllocError>
-    ensures { let credentials = basic_credentials auth_type.now client_id.now (option_copied client_secret.entry) in
+    ensures { let secret = option_copied client_secret.entry in
+        let credentials = basic_credentials auth_type.now client_id.now secret in
         IfOk result (λ value. authorization_header credentials ≡ optional_authorization value
         × (option_and_then (λ v. basic v.bytes) value ≡ credentials)) }
 {

@@ -1,6 +1,7 @@
 //! A request as a server that only decodes reads it.
 
-ghost use Rattle.std.specs.Prelude.{◌≡◌, ◌<◌, ◌==◌, length, position, IfSome, None, Some, Err, map, option_map, IfOk, string_bytes};
+ghost use Rattle.std.specs.Prelude.{◌≡◌, ◌<◌, ◌==◌, length, position, map, string_bytes};
+ghost use Rattle.std.specs.Prelude.{None, Some, IfSome, option_map, Err, IfOk};
 ghost use Rattle.std.specs.Str.Lossy.{utf8_lossy};
 ghost use Rattle.form_urlencoded.specs.Form.{decode as decoded};
 ghost use Rattle.oauth2_form.specs.Pairs.{form};
@@ -97,7 +98,8 @@ fn first_colon(text: &[u8]) -> Option<usize>
 // A text cut at its first colon, both halves decoded.
 #[tactic(auto, unfolding(oauth2_form::specs::Basic::pair_of_text))]
 fn read_pair(alloc: Global, text: &[u8]) -> Result<Option<(String, String)>, AllocError>
-    ensures { IfOk result (λ pair. option_map pair_texts pair ≡ option_map shown_pair (pair_of_text text.now)) }
+    ensures { IfOk result (λ pair. option_map pair_texts pair
+        ≡ option_map shown_pair (pair_of_text text.now)) }
 {
     match first_colon(text) {
         Some(i) => Ok(Some((shown(alloc, &text[..i])?, shown(alloc, &text[i + 1..])?))),
@@ -108,7 +110,8 @@ fn read_pair(alloc: Global, text: &[u8]) -> Result<Option<(String, String)>, All
 // The identifier and the secret of a header value.
 #[tactic(auto, unfolding(oauth2_form::specs::Basic::basic))]
 fn read_basic(alloc: Global, value: &[u8]) -> Result<Option<(String, String)>, AllocError>
-    ensures { IfOk result (λ pair. option_map pair_texts pair ≡ option_map shown_pair (basic value.now)) }
+    ensures { IfOk result (λ pair. option_map pair_texts pair
+        ≡ option_map shown_pair (basic value.now)) }
 {
     let Some(encoded) = value.strip_prefix(b"Basic ".as_slice()) else {
         return Ok(None);
