@@ -18,8 +18,10 @@ pub fn basic_header(alloc: Global, id: &str, secret: &str) -> Result<HeaderValue
     ensures read_back { IfOk result (λ v. basic v.bytes ≡ Some (id.now, secret.now)) }
 
     // No other two texts have this header.
-    ensures injective { IfOk result (λ v. (other_id other_secret : List ℕ) → All IsByte other_id → All IsByte other_secret
-        → v.bytes ≡ basic_value other_id other_secret → (other_id ≡ id.now) × (other_secret ≡ secret.now)) }
+    ensures injective { IfOk result
+        (λ v. (other_id other_secret : List ℕ) → All IsByte other_id → All IsByte other_secret
+        → v.bytes ≡ basic_value other_id other_secret
+        → (other_id ≡ id.now) × (other_secret ≡ secret.now)) }
 {
     match HeaderValue::from_string(basic_value(alloc, id, secret)?) {
         Ok(value) => Ok(value),

@@ -56,7 +56,8 @@ impl EncodedText {
 
 // Appends the encoding of a space and a word, or leaves what there was.
 fn append_word(text: &mut Vec<u8>, word: &str) -> Result<(), AllocError>
-    ensures ok { OnOk result (text.new.items ≡ text.old.items ++ encoded_text (codes " " ++ word.now)) }
+    ensures ok { OnOk result
+        (text.new.items ≡ text.old.items ++ encoded_text (codes " " ++ word.now)) }
     ensures err { OnErr result (text.new.items ≡ text.old.items) }
 {
     let end = text.len();

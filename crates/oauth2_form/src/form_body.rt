@@ -1,7 +1,8 @@
 //! The body of a form, as the list of its pairs.
 
 ghost use Rattle.std.specs.Prelude.{◌≡◌, ℕ, List, [], ◌∷◌, ◌++◌, IfOk, OnOk, OnErr};
-ghost use Rattle.form_urlencoded.specs.Form.{append_pair as with_pair, byte_serialize as encoded_text, extend_pairs};
+ghost use Rattle.form_urlencoded.specs.Form.{append_pair as with_pair};
+ghost use Rattle.form_urlencoded.specs.Form.{byte_serialize as encoded_text, extend_pairs};
 ghost use Rattle.oauth2_form.specs.Pairs.{form};
 ghost use Rattle.oauth2_form.specs.private.Written.{IsWritten, JoinsForms};
 
@@ -96,7 +97,8 @@ fn append_name_and_encoded_value(
 
 // The texts of two forms as one.
 fn join_forms(text: Vec<u8>, other: &[u8]) -> Result<Vec<u8>, AllocError>
-    ensures { IfOk result (λ new. IsWritten text.items → IsWritten other.now → JoinsForms text.items other.now new.items) }
+    ensures { IfOk result (λ new. IsWritten text.items → IsWritten other.now →
+        JoinsForms text.items other.now new.items) }
 {
     let mut new = text;
     if other.is_empty() {

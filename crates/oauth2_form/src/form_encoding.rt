@@ -1,8 +1,10 @@
 //! Texts and pairs as a form encodes them (URL Standard, section 5.2), appended to what there is.
 
-ghost use Rattle.std.specs.Prelude.{◌≡◌, ◌≤◌, ◌+◌, ◌∷◌, [], ◌++◌, OnOk, OnErr, vec_len, vec_capacity};
+ghost use Rattle.std.specs.Prelude.{◌≡◌, ◌≤◌, ◌+◌, ◌∷◌, [], ◌++◌, OnOk, OnErr, vec_len};
+ghost use Rattle.std.specs.Prelude.{vec_capacity};
 ghost use Rattle.percent_encoding.specs.Percent.{percent_encode_byte};
-ghost use Rattle.form_urlencoded.specs.Form.{append_pair, byte_serialize, equals_sign, separator, serialize_pair, IsPrefix};
+ghost use Rattle.form_urlencoded.specs.Form.{append_pair, byte_serialize, equals_sign, separator};
+ghost use Rattle.form_urlencoded.specs.Form.{serialize_pair, IsPrefix};
 ghost use Rattle.oauth2_form.specs.ExtendsForm.{ExtendsForm};
 ghost use Rattle.oauth2_form.specs.FormEncoding.{form_text};
 ghost use Rattle.oauth2_form.specs.private.EncodingTable.{single_byte};
@@ -49,7 +51,8 @@ pub fn append_encoded_text(out: &mut Vec<u8>, text: &str) -> Result<(), AllocErr
 /// Appends a pair to a form. If memory runs out, the form is as it was.
 pub fn append_pair(form: &mut Vec<u8>, name: &str, value: &str) -> Result<(), AllocError>
     ensures ok { OnOk result (form.new.items ≡ append_pair form.old.items name.now value.now) }
-    ensures extends { OnOk result (ExtendsForm form.old.items form.new.items ((name.now, value.now) ∷ [])) }
+    ensures extends { OnOk result
+        (ExtendsForm form.old.items form.new.items ((name.now, value.now) ∷ [])) }
     ensures err { OnErr result (form.new.items ≡ form.old.items) }
 {
     let end = form.len();
@@ -63,17 +66,20 @@ pub fn append_pair(form: &mut Vec<u8>, name: &str, value: &str) -> Result<(), Al
 // Appends `&` unless the form is empty, the name, `=` and the value. A refused growth may leave a
 // part of them.
 fn append_name_and_value(form: &mut Vec<u8>, name: &str, value: &str) -> Result<(), AllocError>
-    ensures ok { OnOk result (form.new.items ≡ form.old.items ++ separator form.old.items ++ serialize_pair (name.now, value.now)) }
+    ensures ok { OnOk result (form.new.items
+        ≡ form.old.items ++ separator form.old.items ++ serialize_pair (name.now, value.now)) }
     ensures grows { IsPrefix form.old.items form.new.items }
 {
     append_name(form, name)?;
     append_encoded_bytes(form, value.as_bytes())
 }
 
-// Appends `&` unless the form is empty, the name and `=`. A refused growth may leave a part of them.
+// Appends `&` unless the form is empty, the name and `=`. A refused growth may leave a part of
+// them.
 pub(crate) fn append_name(form: &mut Vec<u8>, name: &str) -> Result<(), AllocError>
     ensures ok { OnOk result (form.new.items
-        ≡ form.old.items ++ separator form.old.items ++ byte_serialize name.now ++ equals_sign ∷ []) }
+        ≡ form.old.items ++ separator form.old.items
+            ++ byte_serialize name.now ++ equals_sign ∷ []) }
     ensures grows { IsPrefix form.old.items form.new.items }
 {
     append_separator(form)?;
@@ -93,8 +99,9 @@ pub(crate) fn append_separator(form: &mut Vec<u8>) -> Result<(), AllocError>
     Ok(())
 }
 
-// Appends the encoding of the bytes. A refused growth may leave a part of it. Where `reserve` moves
-// a `Vec` it at least doubles its room, so many short texts are moved no more often than one long.
+// Appends the encoding of the bytes. A refused growth may leave a part of it. Where `reserve`
+// moves a `Vec` it at least doubles its room, so many short texts are moved no more often than one
+// long.
 fn append_encoded_bytes(out: &mut Vec<u8>, bytes: &[u8]) -> Result<(), AllocError>
     ensures ok { OnOk result (out.new.items ≡ out.old.items ++ byte_serialize bytes.now) }
     ensures grows { IsPrefix out.old.items out.new.items }

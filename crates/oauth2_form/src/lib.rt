@@ -1,5 +1,5 @@
-//! Forms, `application/x-www-form-urlencoded` (URL Standard, section 5): the body of a request, the
-//! query of a URL, and the two halves of HTTP Basic credentials.
+//! Forms, `application/x-www-form-urlencoded` (URL Standard, section 5): the body of a request,
+//! the query of a URL, and the two halves of HTTP Basic credentials.
 
 #![tactic(auto)]
 

@@ -1,6 +1,7 @@
 //! The scopes and the extra parameters of a request, encoded as they are added.
 
-ghost use Rattle.std.specs.Prelude.{◌≡◌, ◌↔◌, ◌∷◌, [], ◌++◌, None, Some, OnOk, OnErr, IsSome, IsTrue, option_copied};
+ghost use Rattle.std.specs.Prelude.{◌≡◌, ◌↔◌, ◌∷◌, [], ◌++◌, None, Some, OnOk, OnErr, IsSome};
+ghost use Rattle.std.specs.Prelude.{IsTrue, option_copied};
 ghost use Rattle.oauth2_form.specs.Params.{no_params, with_scope};
 
 use crate::encoded_text::EncodedText;
@@ -41,7 +42,8 @@ impl ParamBuffer {
 
     /// Adds a scope. If memory runs out, the buffer is as it was.
     pub fn add_scope(&mut self, scope: &str) -> Result<(), AllocError>
-        ensures ok { OnOk result (self.new ≡ record self.old { scope = Some (with_scope self.old.scope scope.now) }) }
+        ensures ok { OnOk result
+            (self.new ≡ record self.old { scope = Some (with_scope self.old.scope scope.now) }) }
         ensures err { OnErr result (self.new ≡ self.old) }
     {
         match &mut self.scope {
@@ -58,7 +60,9 @@ impl ParamBuffer {
 
     /// Adds a parameter. If memory runs out, the buffer is as it was.
     pub fn add_extra(&mut self, name: &str, value: &str) -> Result<(), AllocError>
-        ensures ok { OnOk result (self.new ≡ record self.old { pairs = self.old.pairs ++ (name.now, value.now) ∷ [] }) }
+        ensures ok { OnOk result (self.new ≡ record self.old {
+          pairs = self.old.pairs ++ (name.now, value.now) ∷ [];
+        }) }
         ensures err { OnErr result (self.new ≡ self.old) }
     {
         self.pairs.push(name, value)?;

@@ -27,11 +27,12 @@ pub fn query_text(alloc: Global, url: &Url) -> Result<Vec<u8>, AllocError>
     Ok(form)
 }
 
-/// Appends a pair whose name needs no escape, such as `client_id`. If memory runs out, the form is as
-/// it was.
+/// Appends a pair whose name needs no escape, such as `client_id`. If memory runs out, the form is
+/// as it was.
 pub fn append_plain_pair(form: &mut Vec<u8>, name: &str, value: &str) -> Result<(), AllocError>
     requires { byte_serialize name.now ≡ name.now }
-    ensures ok { OnOk result (ExtendsForm form.old.items form.new.items ((name.now, value.now) ∷ [])) }
+    ensures ok { OnOk result
+        (ExtendsForm form.old.items form.new.items ((name.now, value.now) ∷ [])) }
     ensures err { OnErr result (form.new.items ≡ form.old.items) }
 {
     let end = form.len();
@@ -42,15 +43,16 @@ pub fn append_plain_pair(form: &mut Vec<u8>, name: &str, value: &str) -> Result<
     Ok(())
 }
 
-// Appends `&` unless the form is empty, the name as it is, `=` and the value. If memory runs out, a
-// part of them may be left.
+// Appends `&` unless the form is empty, the name as it is, `=` and the value. If memory runs out,
+// a part of them may be left.
 fn append_plain_name_and_value(
     form: &mut Vec<u8>,
     name: &str,
     value: &str,
 ) -> Result<(), AllocError>
     requires { byte_serialize name.now ≡ name.now }
-    ensures ok { OnOk result (ExtendsForm form.old.items form.new.items ((name.now, value.now) ∷ [])) }
+    ensures ok { OnOk result
+        (ExtendsForm form.old.items form.new.items ((name.now, value.now) ∷ [])) }
     ensures grows { IsPrefix form.old.items form.new.items }
 {
     append_separator(form)?;

@@ -1,10 +1,8 @@
 //! Why a request could not be made, was not sent, or got no answer.
 
-ghost use Rattle.std.specs.Prelude.{◌++◌};
-ghost use Rattle.std.specs.Fmt.{WritesOnOk, WritesStyledOnOk};
-
 use oauth2_codes::{BasicErrorResponseType, StandardErrorResponse};
 use oauth2_json::ParseFault;
+use oauth2_types::display::write_display;
 use std::alloc::AllocError;
 use std::{fmt, io};
 use thiserror::Error;
@@ -27,35 +25,19 @@ impl fmt::Display for ConfigurationError {
 
     fn fmt<W: fmt::Write>(&self, f: &mut fmt::Formatter<W>) -> fmt::Result {
         match self {
-            ConfigurationError::MissingUrl(name) => {
-                write_between(f, "No ", name, " endpoint URL specified")
-            }
-            ConfigurationError::InsecureUrl(name) => {
-                write_between(f, "Scheme for ", name, " endpoint URL must be HTTPS")
-            }
+            ConfigurationError::MissingUrl(name) => write_display(
+                f,
+                format_args!("No {name} endpoint URL specified"),
+            ),
+            ConfigurationError::InsecureUrl(name) => write_display(
+                f,
+                format_args!("Scheme for {name} endpoint URL must be HTTPS"),
+            ),
         }
     }
 }
 
 impl std::error::Error for ConfigurationError {}
-
-// Writes `name` between two texts, whatever options `f` has.
-#[tactic(auto, using(crate::proofs::TextLemmas::three_written))]
-fn write_between<W: fmt::Write>(
-    f: &mut fmt::Formatter<W>,
-    before: &str,
-    name: &str,
-    after: &str,
-) -> fmt::Result
-    ensures plain { let text = before.now ++ name.now ++ after.now in
-        WritesOnOk W.write_str_gives f.old result text f.new }
-    ensures styled { let text = before.now ++ name.now ++ after.now in
-        WritesStyledOnOk W.write_str_gives f.old result text f.new }
-{
-    f.write_str(before)?;
-    f.write_str(name)?;
-    f.write_str(after)
-}
 
 /// Why a request got no answer.
 #[derive(Debug, Drop)]
@@ -87,21 +69,17 @@ impl<RE, T: fmt::Display> fmt::Display for RequestTokenError<RE, T> {
 
     ghost output = { fault_text T.output };
 
-    ghost styled_output = { λ error spec. fault_text (λ inner. T.styled_output inner spec) error };
+    ghost styled_output = { λ error _. fault_text T.output error };
 
-    #[tactic(auto, using(crate::proofs::TextLemmas::two_written))]
     fn fmt<W: fmt::Write>(&self, f: &mut fmt::Formatter<W>) -> fmt::Result {
         match self {
-            RequestTokenError::ServerResponse(error) => {
-                f.write_str("Server returned error response: ")?;
-                fmt::Display::fmt(error, f)
-            }
+            RequestTokenError::ServerResponse(error) => write_display(
+                f,
+                format_args!("Server returned error response: {error}"),
+            ),
             RequestTokenError::Request(_) => f.write_str("Request failed"),
             RequestTokenError::Parse(_, _) => f.write_str("Failed to parse server response"),
-            RequestTokenError::Other(text) => {
-                f.write_str("Other error: ")?;
-                f.write_str(text.as_str())
-            }
+            RequestTokenError::Other(text) => write_display(f, format_args!("Other error: {text}")),
             RequestTokenError::Memory { sent: _ } => f.write_str("Out of memory"),
         }
     }
