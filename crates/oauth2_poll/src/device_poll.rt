@@ -87,8 +87,8 @@ impl DevicePoll {
         timeout.as_secs() <= 9_223_372_036_854_775_807
     }
 
-    /// A poll that may ask until `timeout` after `start`, the `expires_in` of RFC 8628, 3.2; `None`
-    /// where there is no such timestamp.
+    /// A poll that may ask until `timeout` after `start`, the `expires_in` of RFC 8628, 3.2;
+    /// `None` where there is no such timestamp.
     pub fn new(start: Timestamp, timeout: Duration, settings: PollSettings) -> Option<DevicePoll>
         requires { TimeoutFits (as_nanos timeout) }
         ensures variant { IsSome result

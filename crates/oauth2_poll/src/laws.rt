@@ -1,6 +1,7 @@
 //! Laws of every poll, whoever drives it.
 
-ghost use Rattle.oauth2_poll.specs.Laws.{EachEndingIsTheOnlyOne, EachSleepIsPaced, RequestsAreBounded};
+ghost use Rattle.oauth2_poll.specs.Laws.{EachEndingIsTheOnlyOne, EachSleepIsPaced};
+ghost use Rattle.oauth2_poll.specs.Laws.{RequestsAreBounded};
 
 /// No poll ends in two ways, or in two rounds: its end is a function of what it goes by.
 pub fn ending_is_the_only_one()
