@@ -143,9 +143,9 @@ impl<'a, TR, EF, T> DeviceAccessTokenRequest<'a, TR, EF, T> {
     }
 
     // The request with another clock, and the one that it had.
-    pub(crate) fn replace_clock<F>(self, time_fn: F) -> (DeviceAccessTokenRequest<'a, TR, EF, F>, T)
+    pub(crate) fn replace_clock<F>(self, clock: F) -> (DeviceAccessTokenRequest<'a, TR, EF, F>, T)
         ensures request { result.0.request ≡ self.entry.request }
-        ensures clock { result.0.time_fn ≡ time_fn }
+        ensures clock { result.0.time_fn ≡ clock }
         ensures before { result.1 ≡ self.entry.time_fn }
     {
         let DeviceAccessTokenRequest {
@@ -161,7 +161,7 @@ impl<'a, TR, EF, T> DeviceAccessTokenRequest<'a, TR, EF, T> {
             token_url,
             response,
             max_backoff_interval,
-            time_fn,
+            time_fn: clock,
             phantom: PhantomData,
         };
         (request, before)

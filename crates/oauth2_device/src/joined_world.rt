@@ -19,7 +19,8 @@ where
     C: SyncHttpClient,
     S: FnMut(Duration),
 {
-    ghost use Rattle.oauth2_device.specs.private.Joined.{joined_reads, joined_sends, joined_sleeps};
+    ghost use Rattle.oauth2_device.specs.private.Joined.{joined_reads, joined_sends};
+    ghost use Rattle.oauth2_device.specs.private.Joined.{joined_sleeps};
 
     type Error = C::Error;
 

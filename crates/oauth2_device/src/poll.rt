@@ -23,10 +23,10 @@ impl<'a, TR: TokenResponse, EF, T> DeviceAccessTokenRequest<'a, TR, EF, T> {
     /// requests at most (RFC 8628, section 3.5).
     ///
     /// It ends with the first reply that decides; a call that fails, `authorization_pending` and
-    /// `slow_down` do not. A reading after the deadline ends it with `ServerResponse`, whose code is
-    /// `ExpiredToken`; the last request without a decision with `Other`, "polling limit reached"; a
-    /// timeout that cannot be used with `Other`, "failed to convert the timeout" or "failed to
-    /// calculate timeout".
+    /// `slow_down` do not. A reading after the deadline ends it with `ServerResponse`, whose code
+    /// is `ExpiredToken`; the last request without a decision with `Other`, "polling limit
+    /// reached"; a timeout that cannot be used with `Other`, "failed to convert the timeout" or
+    /// "failed to calculate timeout".
     pub fn poll_with<W: PollWorld>(
         self,
         alloc: Global,
@@ -107,7 +107,8 @@ impl<'a, TR: TokenResponse, EF, T> DeviceAccessTokenRequest<'a, TR, EF, T> {
             × Leads W.reads W.sends W.sleeps world.old e world.new
             × EachRequest (IsDeviceRequest self.now.request) e
             × IsTurn TR.meaning (device_answer self.now.request.base.reply_rule TR.reading)
-            (SpellsNone (serialize self.now.request.token_url.url)) poll.old sent e result poll.new }
+            (SpellsNone (serialize self.now.request.token_url.url))
+            poll.old sent e result poll.new }
         ensures ready { W.is_ready world.new }
     {
         let now = world.now();
@@ -137,7 +138,8 @@ impl<'a, TR: TokenResponse, EF, T> DeviceAccessTokenRequest<'a, TR, EF, T> {
 
     // What came of the request.
     fn judge<RE: Drop>(&self, alloc: Global, reply: Result<HttpResponse, RE>) -> Verdict<TR, RE>
-        ensures { IsJudged TR.meaning (device_answer self.now.request.base.reply_rule TR.reading) reply result }
+        ensures { IsJudged TR.meaning
+            (device_answer self.now.request.base.reply_rule TR.reading) reply result }
     {
         judge(alloc, self.reply_rule(), reply)
     }

@@ -25,8 +25,8 @@ pub trait PollWorld {
     // What each call may do: the state before, what is told, what is answered, the state after.
     ghost reads: { Self → Timestamp → Self → Type 0 } = { λ _ _ _. ⊤ };
 
-    ghost sends: { Self → Request (Vec ℕ Global) → Result (Response (Vec ℕ Global)) Self.Error → Self
-        → Type 0 } = { λ _ _ _ _. ⊤ };
+    ghost sends: { Self → Request (Vec ℕ Global)
+        → Result (Response (Vec ℕ Global)) Self.Error → Self → Type 0 } = { λ _ _ _ _. ⊤ };
 
     ghost sleeps: { Self → Duration → Self → Type 0 } = { λ _ _ _. ⊤ };
 

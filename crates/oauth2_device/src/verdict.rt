@@ -1,7 +1,8 @@
 //! What an answer means to a device that polls (RFC 8628, section 3.5).
 
 ghost use Rattle.oauth2_wire.specs.Reply.{Answer, ShowsAnswer};
-ghost use Rattle.oauth2_device.specs.Poll.{DeviceError, SaysOther, SaysExpired, device_answer, device_error};
+ghost use Rattle.oauth2_device.specs.Poll.{DeviceError, SaysOther, SaysExpired};
+ghost use Rattle.oauth2_device.specs.Poll.{device_answer, device_error};
 ghost use Rattle.oauth2_device.specs.private.Round.{IsJudged, IsRefusal, IsVerdict, OrMemory};
 
 use oauth2_codes::{DeviceCodeErrorResponse, DeviceCodeErrorResponseType};
