@@ -29,8 +29,8 @@ pub trait ExtraDeviceAuthorizationFields: FromJson + ToJson + fmt::Debug {
         → (ms : Members) × (d ≡ object ms) };
 }
 
-/// The device authorization response of the standard, with extra fields `EF`. It is made by reading
-/// one.
+/// The device authorization response of the standard, with extra fields `EF`. It is made by
+/// reading one.
 #[derive(Debug, Drop)]
 pub struct DeviceAuthorizationResponse<EF> {
     pub(crate) device_code: DeviceCode,
@@ -140,7 +140,8 @@ impl<EF> DeviceAuthorizationResponse<EF> {
 
     fn copied_addresses(&self, alloc: Global) -> Result<Addresses, AllocError>
         ensures uri { IfOk result (λ a. a.verification_uri ≡ self.now.verification_uri) }
-        ensures complete { IfOk result (λ a. a.verification_uri_complete ≡ self.now.verification_uri_complete) }
+        ensures complete { IfOk result (λ a.
+            a.verification_uri_complete ≡ self.now.verification_uri_complete) }
         ensures address { IsAddress self.now.verification_uri }
     {
         Ok(Addresses {
@@ -218,7 +219,7 @@ impl TryClone for EmptyExtraDeviceAuthorizationFields {
 
     ghost seen = { λ _. tt };
 
-    fn try_clone(&self, _alloc: Global) -> Result<EmptyExtraDeviceAuthorizationFields, AllocError> {
+    fn try_clone(&self, _alloc: Global) -> Result<Self, AllocError> {
         Ok(EmptyExtraDeviceAuthorizationFields {})
     }
 }

@@ -9,10 +9,25 @@ ghost use Rattle.oauth2_json.specs.Writing.{WritesAs};
 ghost use Rattle.oauth2_json.specs.Puts.{put_all};
 ghost use Rattle.oauth2_body_members.specs.Object.{object_members};
 ghost use Rattle.oauth2_replies.specs.Kept.{AreFieldsKept};
-ghost use Rattle.oauth2_replies.specs.Device.{DeviceAuthorization, device_seen, device_reading, device_writing, own_rows, address_reading};
+ghost use Rattle.oauth2_replies.specs.Device.{
+  DeviceAuthorization,
+  device_seen,
+  device_reading,
+  device_writing,
+  own_rows,
+  address_reading,
+};
 ghost use Rattle.oauth2_replies.specs.private.Address.{IsAddress};
 ghost use Rattle.oauth2_replies.specs.private.Groups.{pair};
-ghost use Rattle.oauth2_replies.specs.private.DeviceRows.{code_names, codes_reading, address_names, addresses_reading, time_names, times_reading, in_turn};
+ghost use Rattle.oauth2_replies.specs.private.DeviceRows.{
+  code_names,
+  codes_reading,
+  address_names,
+  addresses_reading,
+  time_names,
+  times_reading,
+  in_turn,
+};
 
 use crate::device::{
     Addresses, Codes, DeviceAuthorizationResponse, ExtraDeviceAuthorizationFields, Times,
@@ -133,7 +148,8 @@ fn from_members<EF: ExtraDeviceAuthorizationFields + Drop>(
     alloc: Global,
     mut members: Object<'_>,
 ) -> Result<DeviceAuthorizationResponse<EF>, ReadError>
-    ensures { ReadsAs (device_seen EF.meaning) result (in_turn EF.reading (object_members members.entry)) }
+    ensures { ReadsAs (device_seen EF.meaning) result
+        (in_turn EF.reading (object_members members.entry)) }
 {
     let codes = take_codes(alloc, &mut members)?;
     let addresses = take_addresses(alloc, &mut members)?;

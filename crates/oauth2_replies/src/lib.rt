@@ -1,5 +1,5 @@
-//! Responses of an OAuth 2.0 server: tokens (RFC 6749) and device authorization (RFC 8628); and the
-//! tokens that can be revoked (RFC 7009).
+//! Responses of an OAuth 2.0 server: tokens (RFC 6749) and device authorization (RFC 8628); and
+//! the tokens that can be revoked (RFC 7009).
 
 #![tactic(auto)]
 

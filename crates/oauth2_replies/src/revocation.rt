@@ -35,14 +35,17 @@ pub enum StandardRevocableToken {
 }
 
 impl StandardRevocableToken {
-    ghost use Rattle.oauth2_replies.specs.declared.revocation.StandardRevocableToken.{StandardRevocableToken};
+    ghost use Rattle.oauth2_replies.specs.declared.revocation.StandardRevocableToken.{
+      StandardRevocableToken,
+    };
 
     /// The token of a copy.
     pub fn from_access_token_ref(
         alloc: Global,
         token: &AccessToken,
     ) -> Result<StandardRevocableToken, AllocError>
-        ensures { IfOk result (λ revocable. revocable ≡ StandardRevocableToken.AccessToken token.now) }
+        ensures { IfOk result (λ revocable.
+            revocable ≡ StandardRevocableToken.AccessToken token.now) }
     {
         Ok(StandardRevocableToken::AccessToken(token.try_clone(alloc)?))
     }
@@ -52,16 +55,19 @@ impl StandardRevocableToken {
         alloc: Global,
         token: &RefreshToken,
     ) -> Result<StandardRevocableToken, AllocError>
-        ensures { IfOk result (λ revocable. revocable ≡ StandardRevocableToken.RefreshToken token.now) }
+        ensures { IfOk result (λ revocable.
+            revocable ≡ StandardRevocableToken.RefreshToken token.now) }
     {
         Ok(StandardRevocableToken::RefreshToken(token.try_clone(alloc)?))
     }
 }
 
 impl From<AccessToken> for StandardRevocableToken {
-    ghost use Rattle.oauth2_replies.specs.declared.revocation.StandardRevocableToken.TheVariants as variants;
+    ghost use Rattle.oauth2_replies.specs.declared.revocation.StandardRevocableToken.TheVariants.{
+      AccessToken,
+    };
 
-    ghost from_gives = { λ token revocable. revocable ≡ variants.AccessToken token };
+    ghost from_gives = { λ token revocable. revocable ≡ AccessToken token };
 
     fn from(token: AccessToken) -> StandardRevocableToken {
         StandardRevocableToken::AccessToken(token)
@@ -69,9 +75,11 @@ impl From<AccessToken> for StandardRevocableToken {
 }
 
 impl From<RefreshToken> for StandardRevocableToken {
-    ghost use Rattle.oauth2_replies.specs.declared.revocation.StandardRevocableToken.TheVariants as variants;
+    ghost use Rattle.oauth2_replies.specs.declared.revocation.StandardRevocableToken.TheVariants.{
+      RefreshToken,
+    };
 
-    ghost from_gives = { λ token revocable. revocable ≡ variants.RefreshToken token };
+    ghost from_gives = { λ token revocable. revocable ≡ RefreshToken token };
 
     fn from(token: RefreshToken) -> StandardRevocableToken {
         StandardRevocableToken::RefreshToken(token)
@@ -114,7 +122,9 @@ impl VariantName for StandardRevocableToken {
 }
 
 impl TryClone for StandardRevocableToken {
-    ghost use Rattle.oauth2_replies.specs.declared.revocation.StandardRevocableToken.{StandardRevocableToken};
+    ghost use Rattle.oauth2_replies.specs.declared.revocation.StandardRevocableToken.{
+      StandardRevocableToken,
+    };
 
     ghost Seen = { StandardRevocableToken };
 
@@ -144,7 +154,8 @@ fn sole_token(
     rest: Map<String, Value>,
 ) -> Result<StandardRevocableToken, ReadError>
     ensures { ReadsAs (λ token. token) result
-        (sole_token (option_map view access_token) (option_map view refresh_token) (members_view rest.entries)) }
+        (sole_token (option_map view access_token) (option_map view refresh_token)
+        (members_view rest.entries)) }
 {
     if has_any(&rest) {
         return Err(ReadError::whole(alloc, ParseCause::Refused));
@@ -165,7 +176,9 @@ fn sole_token(
 }
 
 impl FromJson for StandardRevocableToken {
-    ghost use Rattle.oauth2_replies.specs.declared.revocation.StandardRevocableToken.{StandardRevocableToken};
+    ghost use Rattle.oauth2_replies.specs.declared.revocation.StandardRevocableToken.{
+      StandardRevocableToken,
+    };
     ghost use Rattle.oauth2_replies.specs.Revocable.{revocable_reading};
 
     ghost Meaning = { StandardRevocableToken };

@@ -12,9 +12,10 @@ use std::alloc::{AllocError, Global};
 
 /// The value of scopes that may be absent.
 #[tactic(auto, using(oauth2_json::proofs::Optionals::words_alone))]
-pub fn scopes_value(alloc: Global, scopes: &Option<Vec<Scope>>) -> Result<Option<Value>, AllocError>
+pub fn scopes_value(alloc: Global, scope: &Option<Vec<Scope>>) -> Result<Option<Value>, AllocError>
     ensures { IfOk result (λ v. option_map view v
-        ≡ option_map (λ words. string (joined words)) (option_map (λ list. list.items) scopes.now)) }
+        ≡ option_map (λ words. string (joined words))
+        (option_map (λ list. list.items) scope.now)) }
 {
-    members::words_value(alloc, scopes)
+    members::words_value(alloc, scope)
 }

@@ -119,7 +119,8 @@ impl<EF: Drop, TT: Drop> StandardTokenResponse<EF, TT> {
     /// Keeps the whole seconds.
     pub fn set_expires_in(&mut self, expires_in: Option<&Duration>)
         ensures { self.new ≡ record self.old {
-          expires_in = option_map (λ lifetime. as_nanos lifetime.now / 1_000_000_000) expires_in.entry;
+          expires_in =
+              option_map (λ lifetime. as_nanos lifetime.now / 1_000_000_000) expires_in.entry;
         } }
     {
         self.expires_in = match expires_in {
@@ -204,7 +205,8 @@ impl<EF, TT> StandardTokenResponse<EF, TT> {
     fn copied_terms(&self, alloc: Global) -> Result<Terms, AllocError>
         ensures expires_in { IfOk result (λ t. t.expires_in ≡ self.now.expires_in) }
         ensures refresh_token { IfOk result (λ t. t.refresh_token ≡ self.now.refresh_token) }
-        ensures scopes { IfOk result (λ t. option_map (λ list. list.items) t.scopes ≡ self.now.scopes) }
+        ensures scopes { IfOk result (λ t.
+            option_map (λ list. list.items) t.scopes ≡ self.now.scopes) }
     {
         Ok(Terms {
             expires_in: self.expires_in,

@@ -8,9 +8,22 @@ ghost use Rattle.oauth2_json.specs.Members.{others};
 ghost use Rattle.oauth2_json.specs.Writing.{WritesAs};
 ghost use Rattle.oauth2_json.specs.Puts.{put_all};
 ghost use Rattle.oauth2_body_members.specs.Object.{object_members};
-ghost use Rattle.oauth2_replies.specs.Token.{Token, token_seen, token_reading, token_writing, own_rows, IsTokenKept};
+ghost use Rattle.oauth2_replies.specs.Token.{
+  Token,
+  token_seen,
+  token_reading,
+  token_writing,
+  own_rows,
+  IsTokenKept,
+};
 ghost use Rattle.oauth2_replies.specs.private.Groups.{pair, triple};
-ghost use Rattle.oauth2_replies.specs.private.TokenRows.{credential_names, credential_reading, terms_names, terms_reading, in_turn};
+ghost use Rattle.oauth2_replies.specs.private.TokenRows.{
+  credential_names,
+  credential_reading,
+  terms_names,
+  terms_reading,
+  in_turn,
+};
 
 use crate::scopes;
 use crate::token::{ExtraTokenFields, StandardTokenResponse, Terms};
@@ -21,7 +34,11 @@ use oauth2_types::{AccessToken, RefreshToken};
 use serde_json::{Map, Value};
 use std::alloc::{AllocError, Global};
 
-impl<EF: ExtraTokenFields + Drop, TT: TokenType + Drop> FromJson for StandardTokenResponse<EF, TT> {
+impl<EF, TT> FromJson for StandardTokenResponse<EF, TT>
+where
+    EF: ExtraTokenFields + Drop,
+    TT: TokenType + Drop,
+{
     ghost Meaning = { Token EF.Meaning TT.Meaning };
 
     ghost meaning = { token_seen EF.meaning TT.meaning };
@@ -75,8 +92,9 @@ fn take_credential<TT: TokenType + Drop>(
 
 #[tactic(auto, unfolding(crate::specs::private::TokenRows::terms_reading))]
 fn take_terms(alloc: Global, members: &mut Object<'_>) -> Result<Terms, ReadError>
-    ensures read { ReadsAs (λ t. triple t.expires_in t.refresh_token (option_map (λ list. list.items) t.scopes)) result
-        (terms_reading (object_members members.old)) }
+    ensures read { ReadsAs (λ t. triple t.expires_in t.refresh_token
+        (option_map (λ list. list.items) t.scopes))
+        result (terms_reading (object_members members.old)) }
     ensures rest { IfOk result (λ _. object_members members.new
         ≡ others terms_names (object_members members.old)) }
 {
@@ -175,7 +193,8 @@ impl<EF: ExtraTokenFields, TT: TokenType> ToJson for StandardTokenResponse<EF, T
         // What is kept reads back as the same response.
         ensures reads_back { IfOk result (λ v.
             IsTokenKept EF.reading EF.meaning EF.writing TT.reading TT.meaning TT.writing self.now
-            → token_reading EF.reading TT.reading (view v) ≡ Ok (token_seen EF.meaning TT.meaning self.now)) }
+            → token_reading EF.reading TT.reading (view v)
+            ≡ Ok (token_seen EF.meaning TT.meaning self.now)) }
     {
         self.written(alloc)
     }
