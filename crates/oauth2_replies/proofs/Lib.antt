@@ -1,3 +1,4 @@
 pub mod TokenLaws
 pub mod DeviceLaws
 pub mod ExtraLaws
+pub mod RevocableLaws

@@ -1,9 +1,15 @@
 //! Tokens that can be revoked (RFC 7009, section 2.1).
 
-ghost use Rattle.std.specs.Prelude.{◌≡◌, IfOk, Some, option_map, option_copied};
+ghost use Rattle.std.specs.Prelude.{◌≡◌, IfOk, Ok, Some, option_map, option_copied};
 ghost use Rattle.serde_json.specs.View.{view, members_view};
 ghost use Rattle.oauth2_json.specs.Reading.{ReadsAs};
-ghost use Rattle.oauth2_replies.specs.Revocable.{has_any, sole_token};
+ghost use Rattle.oauth2_json.specs.Writing.{WritesAs};
+ghost use Rattle.oauth2_replies.specs.Revocable.{
+  has_any,
+  sole_token,
+  revocable_reading,
+  revocable_writing,
+};
 
 use oauth2_json::helpers::VariantName;
 use oauth2_json::{FromJson, ParseCause, ReadError, ToJson, WriteError, members};
@@ -179,7 +185,6 @@ impl FromJson for StandardRevocableToken {
     ghost use Rattle.oauth2_replies.specs.declared.revocation.StandardRevocableToken.{
       StandardRevocableToken,
     };
-    ghost use Rattle.oauth2_replies.specs.Revocable.{revocable_reading};
 
     ghost Meaning = { StandardRevocableToken };
 
@@ -196,15 +201,25 @@ impl FromJson for StandardRevocableToken {
     }
 }
 
-impl ToJson for StandardRevocableToken {
-    ghost use Rattle.oauth2_replies.specs.Revocable.{revocable_writing};
-
-    ghost writing = { revocable_writing };
-
-    fn to_json(&self, alloc: Global) -> Result<Value, WriteError> {
+impl StandardRevocableToken {
+    fn written(&self, alloc: Global) -> Result<Value, WriteError>
+        ensures { WritesAs result (revocable_writing self.now) }
+    {
         let mut members = Map::new(alloc);
         let secret = Value::try_from_str(alloc, self.secret())?;
         members::put_some(&mut members, alloc, self.variant_name(), Some(secret))?;
         Ok(Value::Object(members))
+    }
+}
+
+impl ToJson for StandardRevocableToken {
+    ghost writing = { revocable_writing };
+
+    fn to_json(&self, alloc: Global) -> Result<Value, WriteError>
+        ensures written { WritesAs result (revocable_writing self.now) }
+        // It reads back as the same token.
+        ensures reads_back { IfOk result (λ v. revocable_reading (view v) ≡ Ok self.now) }
+    {
+        self.written(alloc)
     }
 }
