@@ -17,7 +17,8 @@ use std::alloc::{AllocError, Global};
 use std::marker::{Model, PhantomData};
 use std::time::Duration;
 
-/// No clock yet: such a request polls in a world of the caller's alone.
+/// No clock was set. Such a request can poll only with `poll_with`, in a world of yours, which has
+/// a clock itself.
 #[derive(Clone, Copy, Debug)]
 pub struct NoClock;
 
@@ -73,7 +74,7 @@ impl<'a, TR, EF> DeviceAccessTokenRequest<'a, TR, EF> {
 }
 
 impl<'a, TR, EF, T> DeviceAccessTokenRequest<'a, TR, EF, T> {
-    /// Adds a parameter. It may bear a name that the request itself sends, and both are then sent.
+    /// Adds a parameter. If the request itself sends a parameter of that name, both are sent.
     pub fn add_extra_param(
         mut self,
         name: ParamText<'a>,
@@ -106,8 +107,8 @@ impl<'a, TR, EF, T> DeviceAccessTokenRequest<'a, TR, EF, T> {
         request
     }
 
-    /// Sets how long a failed call makes the device wait at most, where the interval itself is
-    /// not longer.
+    /// Sets the cap of the interval: each failed call doubles the interval, but not beyond the
+    /// cap. An interval that is longer than the cap stays as it is.
     pub fn set_max_backoff_interval(mut self, interval: Duration) -> Self
         ensures request { result.request
             ≡ record self.entry.request { max_backoff_interval = as_nanos interval } }

@@ -19,14 +19,15 @@ use std::alloc::Global;
 use std::time::Duration;
 
 impl<'a, TR: TokenResponse, EF, T> DeviceAccessTokenRequest<'a, TR, EF, T> {
-    /// Polls in a world, for the given time or as long as the device's code is good, with so many
-    /// requests at most (RFC 8628, section 3.5).
+    /// Polls for the token (RFC 8628, section 3.5), in a world that has a clock, sends requests
+    /// and sleeps: for `timeout`, or the lifetime of the device code if `timeout` is `None`, with
+    /// at most `max_polls` requests.
     ///
-    /// It ends with the first reply that decides; a call that fails, `authorization_pending` and
-    /// `slow_down` do not. A reading after the deadline ends it with `ServerResponse`, whose code
-    /// is `ExpiredToken`; the last request without a decision with `Other`, "polling limit
-    /// reached"; a timeout that cannot be used with `Other`, "failed to convert the timeout" or
-    /// "failed to calculate timeout".
+    /// A token, or an error other than `authorization_pending` and `slow_down`, ends the poll; a
+    /// failed call does not. If the clock is past the deadline, the error is `ServerResponse` with
+    /// the code `ExpiredToken`. If `max_polls` requests were sent without a decision, it is
+    /// `Other`, "polling limit reached". If the timeout cannot be used, it is `Other`, "failed to
+    /// convert the timeout" or "failed to calculate timeout".
     pub fn poll_with<W: PollWorld>(
         self,
         alloc: Global,

@@ -6,8 +6,8 @@ use std::time::Duration;
 
 /// What a device polls in: a clock, a client and a way to sleep.
 ///
-/// A world whose calls may always be made leaves `is_ready` as it is. One that leaves `reads`,
-/// `sends` and `sleeps` as they are lets contracts say nothing of what it saw.
+/// If each call may always be made, do not define `is_ready`. Without `reads`, `sends` and
+/// `sleeps`, contracts say nothing of what the world does.
 pub trait PollWorld {
     ghost use Rattle.std.specs.Prelude.{ℕ, Vec, Result, ⊤};
     ghost use Rattle.std.specs.declared.alloc.Global.{Global};

@@ -79,7 +79,7 @@ fn append_name_and_value(form: &mut Vec<u8>, name: &str, value: &str) -> Result<
 pub(crate) fn append_name(form: &mut Vec<u8>, name: &str) -> Result<(), AllocError>
     ensures ok { OnOk result (form.new.items
         ≡ form.old.items ++ separator form.old.items
-            ++ byte_serialize name.now ++ equals_sign ∷ []) }
+        ++ byte_serialize name.now ++ equals_sign ∷ []) }
     ensures grows { IsPrefix form.old.items form.new.items }
 {
     append_separator(form)?;

@@ -182,10 +182,10 @@ where
     I: EndpointState,
     R: EndpointState,
 {
-    /// Sees to it that the kept token is good: where it is, nothing is sent and no memory is
-    /// taken; else one request is made, by the refresh token where there is one and by the
-    /// client's own credentials where there is none. After `Ok` the token is there, and is one
-    /// that is good or was accepted just now; a fault changes nothing that is kept.
+    /// Makes sure that a good token is kept. If the kept token is good, nothing is sent and no
+    /// memory is taken. If not, one request is made: with the refresh token if there is one, else
+    /// with the client's own credentials. After `Ok` a token is kept, which is good or was
+    /// accepted in this call. After an error, what was kept is unchanged.
     pub fn keep_good<C: SyncHttpClient>(
         &mut self,
         alloc: Global,
@@ -206,8 +206,9 @@ where
         self.renew(alloc, now, http_client)
     }
 
-    /// The kept token after `keep_good`, or that call's fault. This contract leaves open what is
-    /// kept afterwards; that of `with_token`, or of `keep_good` and `get`, says it too.
+    /// Calls `keep_good` and returns the kept token, or the error of that call. This contract does
+    /// not say what the keeper keeps afterwards; use `with_token`, or `keep_good` and `get`, to
+    /// know it too.
     pub fn token<C: SyncHttpClient>(
         &mut self,
         alloc: Global,

@@ -3,7 +3,8 @@
 ghost use Rattle.oauth2_poll.specs.Laws.{EachEndingIsTheOnlyOne, EachSleepIsPaced};
 ghost use Rattle.oauth2_poll.specs.Laws.{RequestsAreBounded};
 
-/// No poll ends in two ways, or in two rounds: its end is a function of what it goes by.
+/// A poll ends in one way and in one round only: its settings, readings and answers determine its
+/// end.
 pub fn ending_is_the_only_one()
     ensures { EachEndingIsTheOnlyOne }
 {}

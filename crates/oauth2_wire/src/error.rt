@@ -95,9 +95,9 @@ impl<RE, T> RequestTokenError<RE, T> {
     ghost use Rattle.std.specs.Prelude.{◌≡◌, false};
     ghost use Rattle.oauth2_wire.specs.declared.error.RequestTokenError.TheVariants.{Memory};
 
-    /// Want of memory before any request was sent, for a `?` on what only takes memory, as
-    /// `.map_err(RequestTokenError::refused)?`. A function that is generic over its client writes
-    /// the closure `|_| RequestTokenError::Memory { sent: false }` in its place.
+    /// The error for memory that ran out before a request was sent. It turns the error of a call
+    /// that only allocates: `.map_err(RequestTokenError::refused)?`. A function that is generic
+    /// over its client writes the closure `|_| RequestTokenError::Memory { sent: false }` instead.
     pub fn refused(_error: AllocError) -> RequestTokenError<RE, T>
         ensures { result ≡ Memory false }
     {

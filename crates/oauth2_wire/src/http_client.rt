@@ -9,10 +9,10 @@ pub type HttpResponse = Response<Vec<u8>>;
 
 /// A client that sends one request and waits for its reply.
 ///
-/// A client that may always be called leaves `is_ready` as it is, and no caller of that client
-/// writes a word of it. A caller that is generic over the client writes
-/// `requires { C.is_ready client.old }`, and hands on `ensures { C.is_ready client.new }` where
-/// its own callers call again. For a `?` into `anyhow` it writes `where C::Error: fmt::Debug`.
+/// If your client may always be called, do not define `is_ready`: its callers then need no
+/// precondition. A function that is generic over the client writes
+/// `requires { C.is_ready client.old }`, and also `ensures { C.is_ready client.new }` if its
+/// callers may call again. To use `?` into `anyhow` it writes `where C::Error: fmt::Debug`.
 pub trait SyncHttpClient {
     ghost use Rattle.std.specs.Prelude.{ℕ, Vec, Result, ⊤};
     ghost use Rattle.std.specs.declared.alloc.Global.{Global};

@@ -31,7 +31,8 @@ pub fn send_once<C: SyncHttpClient, TE: FromJson, DO: FromJson>(
     }
 }
 
-/// Sends a prepared request whose success says nothing more once, and reads its reply.
+/// Sends a prepared request once, and reads from its reply whether it succeeded. The body of a
+/// success is not read.
 pub fn send_once_status_only<C: SyncHttpClient, TE: FromJson>(
     alloc: Global,
     prepared: Result<HttpRequest, RequestFault>,

@@ -14,8 +14,8 @@ use http_header::CONTENT_TYPE;
 use oauth2_json::{FromJson, ReadError, read_body};
 use std::alloc::{AllocError, Global};
 
-/// What a reply says to a request for a `DO` (RFC 6749, section 5), by the rule `Prefix`. Want of
-/// memory is `Memory { sent: true }`, here and in the next two.
+/// Reads a reply as a `DO` or as the server's error (RFC 6749, section 5), by the rule `Prefix`.
+/// If memory runs out, the error is `Memory { sent: true }`, here and in the next two functions.
 pub fn endpoint_response<RE, TE: FromJson, DO: FromJson>(
     alloc: Global,
     reply: HttpResponse,
@@ -42,7 +42,8 @@ pub fn endpoint_response_with<RE, TE: FromJson, DO: FromJson>(
     read_success(alloc, rule, reply)
 }
 
-/// What a reply says to a request whose success says nothing more (RFC 7009, section 2.2).
+/// Reads from a reply whether the request succeeded (RFC 7009, section 2.2). The body of a success
+/// is not read.
 pub fn endpoint_response_status_only<RE, TE: FromJson>(
     alloc: Global,
     reply: HttpResponse,

@@ -91,7 +91,8 @@ impl From<AllocError> for RequestFault {
     }
 }
 
-/// The POST to an endpoint: its own pairs `params`, and what the client is and asks beside them.
+/// Builds the POST to an endpoint: the pairs `params` of this kind of request, the client's
+/// credentials, the redirect, the scopes and the extra parameters.
 pub fn endpoint_request(
     alloc: Global,
     auth_type: &AuthType,

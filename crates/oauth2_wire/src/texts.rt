@@ -10,7 +10,7 @@ use oauth2_urls::RedirectUrl;
 pub enum ParamText<'a> {
     /// A text of the caller's.
     Borrowed(&'a str),
-    /// A text of its own.
+    /// A text that this value owns.
     Owned(String),
 }
 
