@@ -41,13 +41,13 @@ other_name own name is_own avoids =
     not_true (bytes_eq name own) (λ e. false≢true (sym avoids ∙ ap is_own_name ((bytes_eq-Decides name own).0 e) ∙ is_own))
 
 -- pairs that avoid the own names have none of this name
-none_of : (own : List ℕ) (pairs : List Pair) → is_own_name own ≡ true → avoid_own_names pairs ≡ true → filter (bears own) pairs ≡ []
+pub none_of : (own : List ℕ) (pairs : List Pair) → is_own_name own ≡ true → avoid_own_names pairs ≡ true → filter (bears own) pairs ≡ []
 none_of own [] is_own avoid = refl
 none_of own (pair ∷ pairs) is_own avoid =
     cond-false _ _ _ (other_name own pair.0 is_own (not-true _ (and_left _ _ avoid))) ∙ none_of own pairs is_own (and_right _ _ avoid)
 
 -- behind such pairs an own name is read as if they were not there
-read-behind : (own : List ℕ) (pairs more : List Pair) → is_own_name own ≡ true → avoid_own_names pairs ≡ true → read_by_name own (pairs ++ more) ≡ read_by_name own more
+pub read-behind : (own : List ℕ) (pairs more : List Pair) → is_own_name own ≡ true → avoid_own_names pairs ≡ true → read_by_name own (pairs ++ more) ≡ read_by_name own more
 read-behind own pairs more is_own avoid =
     ap sole (filter-append (bears own) pairs more ∙ ap (λ x. x ++ filter (bears own) more) (none_of own pairs is_own avoid))
 
@@ -73,7 +73,7 @@ method-read : (url : Addressed) (id state : List ℕ) (challenge : Challenge) (r
 method-read url id state challenge None = refl
 method-read url id state challenge (Some redirect) = refl
 
-abbrev exchange : AuthType → List ℕ → Option (List ℕ) → List ℕ → List ℕ → Option (List ℕ) → Configuration
+abbrev pub exchange : AuthType → List ℕ → Option (List ℕ) → List ℕ → List ℕ → Option (List ℕ) → Configuration
 exchange auth_type id secret code verifier redirect = record {
   auth_type = auth_type;
   client_id = id;
@@ -84,7 +84,7 @@ exchange auth_type id secret code verifier redirect = record {
   extra_pairs = [];
 }
 
-verifier-read : (auth_type : AuthType) (id : List ℕ) (secret : Option (List ℕ)) (code verifier : List ℕ) (redirect : Option (List ℕ)) → read_by_name (codes "code_verifier") (expected_pairs (exchange auth_type id secret code verifier redirect)) ≡ Some verifier
+pub verifier-read : (auth_type : AuthType) (id : List ℕ) (secret : Option (List ℕ)) (code verifier : List ℕ) (redirect : Option (List ℕ)) → read_by_name (codes "code_verifier") (expected_pairs (exchange auth_type id secret code verifier redirect)) ≡ Some verifier
 verifier-read BasicAuth id None code verifier None = refl
 verifier-read BasicAuth id None code verifier (Some redirect) = refl
 verifier-read BasicAuth id (Some secret) code verifier None = refl
