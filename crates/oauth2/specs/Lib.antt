@@ -1,4 +1,5 @@
 pub mod Settings
+pub mod ClientText
 pub mod NewRequest
 pub mod CodeFlow
 pub use Rattle.oauth2_types.specs.Digest

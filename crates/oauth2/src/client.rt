@@ -4,7 +4,9 @@ ghost use Rattle.std.specs.Prelude.{◌≡◌, Some, None, IfOk, option_copied};
 ghost use Rattle.oauth2_wire.specs.declared.content_type.ReplyRule.TheVariants.{Prefix};
 ghost use Rattle.oauth2_wire.specs.declared.request.AuthType.TheVariants.{BasicAuth};
 
+use crate::client_text::ClientText;
 use crate::endpoint::{EndpointMaybeSet, EndpointNotSet, EndpointSet, EndpointState};
+use crate::unstyled::write_unstyled;
 use oauth2_codes::{BasicErrorResponse, BasicRevocationErrorResponse};
 use oauth2_introspection::BasicTokenIntrospectionResponse;
 use oauth2_replies::{BasicTokenResponse, StandardRevocableToken};
@@ -15,6 +17,7 @@ use oauth2_urls::{
 use oauth2_wire::{AuthType, ReplyRule};
 use std::alloc::{AllocError, Global};
 use std::fmt;
+use std::fmt::Debug;
 use std::marker::{Model, PhantomData};
 
 /// The configuration of a client, whose type says which endpoints have a URL.
@@ -63,23 +66,23 @@ where
 }
 
 // What a client of any type holds beside its endpoints.
-#[derive(Debug, Drop)]
-struct Parts {
-    client_id: ClientId,
-    client_secret: Option<ClientSecret>,
-    auth_type: AuthType,
-    reply_rule: ReplyRule,
-    redirect_url: Option<RedirectUrl>,
+#[derive(Drop)]
+pub(crate) struct Parts {
+    pub(crate) client_id: ClientId,
+    pub(crate) client_secret: Option<ClientSecret>,
+    pub(crate) auth_type: AuthType,
+    pub(crate) reply_rule: ReplyRule,
+    pub(crate) redirect_url: Option<RedirectUrl>,
 }
 
 // Where a client of any type sends its requests.
-#[derive(Debug, Drop)]
-struct Endpoints {
-    auth_url: Option<AuthUrl>,
-    device_authorization_url: Option<DeviceAuthorizationUrl>,
-    introspection_url: Option<IntrospectionUrl>,
-    revocation_url: Option<RevocationUrl>,
-    token_url: Option<TokenUrl>,
+#[derive(Drop)]
+pub(crate) struct Endpoints {
+    pub(crate) auth_url: Option<AuthUrl>,
+    pub(crate) device_authorization_url: Option<DeviceAuthorizationUrl>,
+    pub(crate) introspection_url: Option<IntrospectionUrl>,
+    pub(crate) revocation_url: Option<RevocationUrl>,
+    pub(crate) token_url: Option<TokenUrl>,
 }
 
 impl Parts {
@@ -658,7 +661,7 @@ where
     }
 }
 
-impl<TE, TR, TIR, RT, TRE, A, D, I, R, T> fmt::Debug for Client<TE, TR, TIR, RT, TRE, A, D, I, R, T>
+impl<TE, TR, TIR, RT, TRE, A, D, I, R, T> Debug for Client<TE, TR, TIR, RT, TRE, A, D, I, R, T>
 where
     A: EndpointState,
     D: EndpointState,
@@ -666,11 +669,30 @@ where
     R: EndpointState,
     T: EndpointState,
 {
-    fn fmt<W: fmt::Write>(&self, f: &mut fmt::Formatter<W>) -> fmt::Result {
-        f.debug_tuple("Client")
-            .field(&self.parts)
-            .field(&self.endpoints)
-            .finish()
+    ghost use Rattle.std.specs.Prelude.{false};
+    ghost use Rattle.std.specs.Fmt.{DisplaysOnOk, DisplaysStyledOnOk};
+    ghost use Rattle.std.specs.Fmt.{formatter_spec, spec_alternate};
+    ghost use Rattle.oauth2.specs.ClientText.{client_text};
+
+    ghost debug_output = { client_text false };
+
+    #[tactic(auto, using(crate::proofs::ClientTextLaws::displays_of_styled))]
+    fn fmt<W: fmt::Write>(&self, f: &mut fmt::Formatter<W>) -> fmt::Result
+        ensures writes { DisplaysOnOk W.write_str_gives f.old result
+            (client_text false self.now) f.new }
+        // Whatever options the formatter has, as under `{:#?}`.
+        ensures styled { DisplaysStyledOnOk W.write_str_gives f.old result
+            (client_text (spec_alternate (formatter_spec f.old)) self.now) f.new }
+    {
+        let in_lines = f.alternate();
+        write_unstyled(
+            f,
+            ClientText {
+                in_lines,
+                parts: &self.parts,
+                endpoints: &self.endpoints,
+            },
+        )
     }
 }
 

@@ -9,6 +9,7 @@
 mod authorization_endpoint;
 pub mod basic;
 mod client;
+mod client_text;
 mod device_authorization_endpoint;
 mod endpoint;
 mod flow;
@@ -16,6 +17,7 @@ mod introspection_endpoint;
 pub mod members;
 mod revocation_endpoint;
 mod token_endpoint;
+mod unstyled;
 
 pub use client::Client;
 pub use endpoint::EndpointMaybeSet;
