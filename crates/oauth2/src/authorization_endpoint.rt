@@ -67,16 +67,18 @@ where
     R: EndpointState,
     T: EndpointState,
 {
-    /// Starts a request for an authorization URL, whose state `state_fn` answers. Where there is no
-    /// endpoint, it is an error, and `state_fn` is not called.
+    /// Starts a request for an authorization URL, whose state `state_fn` answers. Where there is
+    /// no endpoint, it is an error, and `state_fn` is not called.
     pub fn authorize_url<S: FnOnce() -> CsrfToken + Drop>(
         &self,
         alloc: Global,
         state_fn: S,
     ) -> Result<AuthorizationRequest<'_>, ConfigurationError>
         requires { OnSome self.now.auth_url (S.IsAlwaysCallable state_fn) }
-        ensures there { IfSome self.now.auth_url (λ url. IsOkAnd result (IsAuthorization (S.post state_fn) self.now url)) }
-        ensures missing { IfNone self.now.auth_url (IsErrAnd result (IsMissingUrl (codes "authorization"))) }
+        ensures there { IfSome self.now.auth_url
+            (λ url. IsOkAnd result (IsAuthorization (S.post state_fn) self.now url)) }
+        ensures missing { IfNone self.now.auth_url
+            (IsErrAnd result (IsMissingUrl (codes "authorization"))) }
     {
         match self.auth_uri() {
             Some(auth_url) => Ok(self.authorize_url_at(alloc, auth_url, state_fn)),

@@ -356,7 +356,9 @@ where
         self,
         device_authorization_url: DeviceAuthorizationUrl,
     ) -> Client<TE, TR, TIR, RT, TRE, A, EndpointSet, I, R, T>
-        ensures { result ≡ record self { device_authorization_url = Some device_authorization_url } }
+        ensures { result ≡ record self {
+          device_authorization_url = Some device_authorization_url;
+        } }
     {
         Client {
             parts: self.parts,

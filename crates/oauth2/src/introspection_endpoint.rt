@@ -25,7 +25,8 @@ where
         token: &'a AccessToken,
     ) -> IntrospectionRequest<'a, TE, TIR>
         ensures url { self.now.introspection_url ≡ Some result.introspection_url }
-        ensures new { result ≡ new_introspection_request self.now result.introspection_url token.now }
+        ensures new { result
+            ≡ new_introspection_request self.now result.introspection_url token.now }
     {
         IntrospectionRequest::new(self.base_request(alloc), self.introspection_url(), token)
     }

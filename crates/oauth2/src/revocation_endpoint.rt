@@ -28,7 +28,8 @@ where
         token: RT,
     ) -> Result<RevocationRequest<'a, RT, TRE>, ConfigurationError>
         ensures secure { IsHttps revocation_url.now → IsOkAnd result
-            (λ r. r ≡ new_revocation_request self.now revocation_url.now (RT.secret token) (RT.type_hint token)) }
+            (λ r. r ≡ new_revocation_request self.now revocation_url.now
+            (RT.secret token) (RT.type_hint token)) }
         ensures insecure { ¬ (IsHttps revocation_url.now)
             → IsErrAnd result (IsInsecureUrl (codes "revocation")) }
     {
@@ -56,7 +57,8 @@ where
     ) -> Result<RevocationRequest<'_, RT, TRE>, ConfigurationError>
         ensures there { IsSome self.now.revocation_url }
         ensures secure { IfSome self.now.revocation_url (λ url. IsHttps url → IsOkAnd result
-            (λ r. r ≡ new_revocation_request self.now url (RT.secret token) (RT.type_hint token))) }
+            (λ r. r ≡ new_revocation_request self.now url
+            (RT.secret token) (RT.type_hint token))) }
         ensures insecure { IfSome self.now.revocation_url (λ url. ¬ (IsHttps url)
             → IsErrAnd result (IsInsecureUrl (codes "revocation"))) }
     {
@@ -72,15 +74,16 @@ where
     I: EndpointState,
     T: EndpointState,
 {
-    /// Starts the revocation of a token; an error where there is no revocation endpoint, or where its
-    /// URL is not an `https` URL (RFC 7009, section 2). The token is not given back then.
+    /// Starts the revocation of a token; an error where there is no revocation endpoint, or where
+    /// its URL is not an `https` URL (RFC 7009, section 2). The token is not given back then.
     pub fn revoke_token(
         &self,
         alloc: Global,
         token: RT,
     ) -> Result<RevocationRequest<'_, RT, TRE>, ConfigurationError>
         ensures secure { IfSome self.now.revocation_url (λ url. IsHttps url → IsOkAnd result
-            (λ r. r ≡ new_revocation_request self.now url (RT.secret token) (RT.type_hint token))) }
+            (λ r. r ≡ new_revocation_request self.now url
+            (RT.secret token) (RT.type_hint token))) }
         ensures insecure { IfSome self.now.revocation_url (λ url. ¬ (IsHttps url)
             → IsErrAnd result (IsInsecureUrl (codes "revocation"))) }
         ensures missing { IfNone self.now.revocation_url

@@ -2,7 +2,14 @@
 
 ghost use Rattle.std.specs.Prelude.{◌≡◌, Some, IfSome, IfNone, IsOkAnd, IsErrAnd, codes};
 ghost use Rattle.oauth2_wire.specs.ConfigurationError.{IsMissingUrl};
-ghost use Rattle.oauth2.specs.NewRequest.{base_of, new_client_credentials_request, new_code_request, new_device_token_request, new_password_request, new_refresh_request};
+ghost use Rattle.oauth2.specs.NewRequest.{
+  base_of,
+  new_client_credentials_request,
+  new_code_request,
+  new_device_token_request,
+  new_password_request,
+  new_refresh_request,
+};
 
 use crate::client::Client;
 use crate::endpoint::{EndpointMaybeSet, EndpointSet, EndpointState};
@@ -83,7 +90,8 @@ where
         password: &'a ResourceOwnerPassword,
     ) -> PasswordTokenRequest<'a, TE, TR>
         ensures url { self.now.token_url ≡ Some result.token_url }
-        ensures new { result ≡ new_password_request self.now result.token_url username.now password.now }
+        ensures new { result
+            ≡ new_password_request self.now result.token_url username.now password.now }
     {
         PasswordTokenRequest::new(
             self.base_request(alloc),
@@ -111,7 +119,8 @@ where
         auth_response: &'a DeviceAuthorizationResponse<EF>,
     ) -> DeviceAccessTokenRequest<'a, TR, EF>
         ensures url { self.now.token_url ≡ Some result.request.token_url }
-        ensures new { result.request ≡ new_device_token_request self.now result.request.token_url auth_response.now }
+        ensures new { result.request
+            ≡ new_device_token_request self.now result.request.token_url auth_response.now }
     {
         DeviceAccessTokenRequest::new(self.base_request(alloc), self.token_uri(), auth_response)
     }
@@ -132,7 +141,8 @@ where
     ) -> Result<CodeTokenRequest<'_, TE, TR>, ConfigurationError>
         ensures there { IfSome self.now.token_url (λ url. IsOkAnd result
             (λ r. r ≡ new_code_request self.now url code)) }
-        ensures missing { IfNone self.now.token_url (IsErrAnd result (IsMissingUrl (codes "token"))) }
+        ensures missing { IfNone self.now.token_url
+            (IsErrAnd result (IsMissingUrl (codes "token"))) }
     {
         let token_url = self.token_endpoint()?;
         Ok(CodeTokenRequest::new(
@@ -151,7 +161,8 @@ where
     ) -> Result<RefreshTokenRequest<'a, TE, TR>, ConfigurationError>
         ensures there { IfSome self.now.token_url (λ url. IsOkAnd result
             (λ r. r ≡ new_refresh_request self.now url refresh_token.now)) }
-        ensures missing { IfNone self.now.token_url (IsErrAnd result (IsMissingUrl (codes "token"))) }
+        ensures missing { IfNone self.now.token_url
+            (IsErrAnd result (IsMissingUrl (codes "token"))) }
     {
         let token_url = self.token_endpoint()?;
         Ok(RefreshTokenRequest::new(self.base_request(alloc), token_url, refresh_token))
@@ -167,7 +178,8 @@ where
     ) -> Result<PasswordTokenRequest<'a, TE, TR>, ConfigurationError>
         ensures there { IfSome self.now.token_url (λ url. IsOkAnd result
             (λ r. r ≡ new_password_request self.now url username.now password.now)) }
-        ensures missing { IfNone self.now.token_url (IsErrAnd result (IsMissingUrl (codes "token"))) }
+        ensures missing { IfNone self.now.token_url
+            (IsErrAnd result (IsMissingUrl (codes "token"))) }
     {
         let token_url = self.token_endpoint()?;
         Ok(PasswordTokenRequest::new(self.base_request(alloc), token_url, username, password))
@@ -181,7 +193,8 @@ where
     ) -> Result<ClientCredentialsTokenRequest<'_, TE, TR>, ConfigurationError>
         ensures there { IfSome self.now.token_url (λ url. IsOkAnd result
             (λ r. r ≡ new_client_credentials_request self.now url)) }
-        ensures missing { IfNone self.now.token_url (IsErrAnd result (IsMissingUrl (codes "token"))) }
+        ensures missing { IfNone self.now.token_url
+            (IsErrAnd result (IsMissingUrl (codes "token"))) }
     {
         let token_url = self.token_endpoint()?;
         Ok(ClientCredentialsTokenRequest::new(self.base_request(alloc), token_url))
@@ -196,7 +209,8 @@ where
     ) -> Result<DeviceAccessTokenRequest<'a, TR, EF>, ConfigurationError>
         ensures there { IfSome self.now.token_url (λ url. IsOkAnd result
             (λ r. r.request ≡ new_device_token_request self.now url auth_response.now)) }
-        ensures missing { IfNone self.now.token_url (IsErrAnd result (IsMissingUrl (codes "token"))) }
+        ensures missing { IfNone self.now.token_url
+            (IsErrAnd result (IsMissingUrl (codes "token"))) }
     {
         let token_url = self.token_endpoint()?;
         Ok(DeviceAccessTokenRequest::new(self.base_request(alloc), token_url, auth_response))
@@ -204,7 +218,8 @@ where
 
     fn token_endpoint(&self) -> Result<&TokenUrl, ConfigurationError>
         ensures there { IfSome self.now.token_url (λ url. IsOkAnd result (λ r. r.now ≡ url)) }
-        ensures missing { IfNone self.now.token_url (IsErrAnd result (IsMissingUrl (codes "token"))) }
+        ensures missing { IfNone self.now.token_url
+            (IsErrAnd result (IsMissingUrl (codes "token"))) }
     {
         match self.token_uri() {
             Some(token_url) => Ok(token_url),
