@@ -1,6 +1,6 @@
 //! Clients: made, copied, and where a login leads.
 
-use crate::support::{is_equal, is_text, text};
+use crate::support::{is_debugged_as, is_debugged_in_lines, is_equal, is_text, text};
 use oauth2::basic::BasicClient;
 use oauth2::{
     AuthUrl, AuthorizationRequest, Client, ClientId, ClientSecret, CsrfToken, EndpointMaybeSet,
@@ -74,6 +74,32 @@ fn client_its_copies_and_its_implicit_flow(rt: HostRuntime) {
     );
     let client = client.set_reply_rule(ReplyRule::MediaType);
     copy_tells(&rt, &client, ReplyRule::MediaType);
+}
+
+// As the Rust crate shows it, whose last field is `phantom` in place of `reply_rule`.
+#[test]
+fn client_in_debug(rt: HostRuntime) {
+    let client = client(&rt);
+    is_debugged_as(
+        &rt,
+        &client,
+        "Client { client_id: ClientId(\"aaa\"), client_secret: Some(ClientSecret([redacted])), \
+         auth_url: Some(AuthUrl(\"https://example.com/auth\")), auth_type: BasicAuth, \
+         token_url: Some(TokenUrl(\"https://example.com/token\")), redirect_url: None, \
+         introspection_url: None, revocation_url: None, device_authorization_url: None, \
+         reply_rule: Prefix }",
+    );
+    is_debugged_in_lines(
+        &rt,
+        &client,
+        "Client {\n    client_id: ClientId(\n        \"aaa\",\n    ),\n    \
+         client_secret: Some(\n        ClientSecret([redacted]),\n    ),\n    \
+         auth_url: Some(\n        AuthUrl(\n            \
+         \"https://example.com/auth\",\n        ),\n    ),\n    auth_type: BasicAuth,\n    \
+         token_url: Some(\n        TokenUrl(\n            \"https://example.com/token\",\n        \
+         ),\n    ),\n    redirect_url: None,\n    introspection_url: None,\n    \
+         revocation_url: None,\n    device_authorization_url: None,\n    reply_rule: Prefix,\n}",
+    );
 }
 
 #[test]
