@@ -6,10 +6,10 @@ ghost use Rattle.oauth2_wire.specs.declared.request.AuthType.TheVariants.{BasicA
 
 use crate::client_text::ClientText;
 use crate::endpoint::{EndpointMaybeSet, EndpointNotSet, EndpointSet, EndpointState};
-use crate::unstyled::write_unstyled;
 use oauth2_codes::{BasicErrorResponse, BasicRevocationErrorResponse};
 use oauth2_introspection::BasicTokenIntrospectionResponse;
 use oauth2_replies::{BasicTokenResponse, StandardRevocableToken};
+use oauth2_types::display::write_display;
 use oauth2_types::{ClientId, ClientSecret, TryClone};
 use oauth2_urls::{
     AuthUrl, DeviceAuthorizationUrl, IntrospectionUrl, RedirectUrl, RevocationUrl, TokenUrl,
@@ -687,7 +687,7 @@ where
             (client_text (spec_alternate (formatter_spec f.old)) self.now) f.new }
     {
         let in_lines = f.alternate();
-        write_unstyled(
+        write_display(
             f,
             ClientText {
                 in_lines,

@@ -17,7 +17,6 @@ mod introspection_endpoint;
 pub mod members;
 mod revocation_endpoint;
 mod token_endpoint;
-mod unstyled;
 
 pub use client::Client;
 pub use endpoint::EndpointMaybeSet;
