@@ -1,6 +1,8 @@
 -- The authorization request (RFC 6749, section 4.1.1).
-use Rattle.std.specs.Prelude.{ℕ, List, [], ◌∷◌, ◌++◌, codes, Option, Some, None, option_map}
+use Rattle.std.specs.Prelude.{ℕ, ◌^◌, ◌≤◌, List, [], ◌∷◌, ◌++◌, length, codes, Option, Some, None, option_map}
 use Rattle.std.specs.List.{join_by}
+use Rattle.url.specs.Parts.{Parts, serialize}
+use Rattle.url.specs.Setters.{append_query_pairs}
 use Rattle.oauth2_types.specs.Pkce.{Challenge}
 use Rattle.oauth2_urls.specs.Addressed.{Addressed}
 use Rattle.oauth2_form.specs.Pairs.{Pair}
@@ -47,3 +49,11 @@ optional_pairs r =
 -- the pairs that follow those of the endpoint's own query, in order
 abbrev pub query_pairs : Authorization → List Pair
 query_pairs r = required_pairs r ++ optional_pairs r
+
+-- the URL that a request asks for: the endpoint's, with these pairs after those of its query
+abbrev pub asked_url : Authorization → Parts
+asked_url r = append_query_pairs r.auth_url.url (query_pairs r)
+
+-- the text of the URL has 4 GB or more, and a `Url` holds less
+abbrev pub IsTooLong : Parts → Type 0
+IsTooLong url = 2 ^ 32 ≤ length (serialize url)

@@ -1,12 +1,16 @@
 //! The request for an authorization URL (RFC 6749, section 4.1.1).
 
-ghost use Rattle.std.specs.Prelude.{◌≡◌, ◌++◌, ◌∷◌, [], Some, None, IfOk, IfErr, OnOk, List, ℕ, codes, map, option_copied, option_map, string_bytes};
+ghost use Rattle.std.specs.Prelude.{◌≡◌, ◌↔◌, ◌++◌, ◌∷◌, [], Some, None, Err, IfOk, IfErr, OnOk};
+ghost use Rattle.std.specs.Prelude.{IsTrue, List, ℕ, codes, map, option_copied, option_map};
+ghost use Rattle.std.specs.Prelude.{string_bytes, unwrap_or};
 ghost use Rattle.std.specs.Iterator.{Drains, IsFinite};
 ghost use Rattle.std.specs.List.{join_by, flat_map};
 ghost use Rattle.url.specs.Parser.{IsOutOfRoom};
 ghost use Rattle.oauth2_wire.specs.Expected.{optional_pair};
 ghost use Rattle.oauth2_wire.specs.Texts.{param_bytes, param_pair, redirect_of, given_text};
-ghost use Rattle.oauth2_requests.specs.Authorization.{challenge_pairs, scope_pairs, required_pairs, optional_pairs, query_pairs};
+ghost use Rattle.oauth2_requests.specs.Authorization.{IsTooLong, asked_url, query_pairs};
+ghost use Rattle.oauth2_requests.specs.Authorization.{challenge_pairs, scope_pairs};
+ghost use Rattle.oauth2_requests.specs.Authorization.{required_pairs, optional_pairs};
 ghost use Rattle.oauth2_form.specs.Query.{ExtendsQuery};
 ghost use Rattle.oauth2_form.specs.ExtendsForm.{ExtendsForm};
 
@@ -16,7 +20,7 @@ use oauth2_urls::{AuthUrl, RedirectUrl};
 use oauth2_wire::{ParamText, RedirectRef};
 use std::alloc::{AllocError, Global};
 use std::marker::Model;
-use url::{ParseError, Url};
+use url::{ParseError, Position, Url};
 
 /// A request for an authorization URL.
 #[derive(Debug, Drop)]
@@ -156,28 +160,45 @@ impl<'a> AuthorizationRequest<'a> {
         self
     }
 
-    /// The URL to send a user to, and the state. It refuses only for want of memory, or where the
-    /// URL would be longer than a URL may be.
+    /// The URL to send a user to, and the state. An error is `OutOfMemory`, or `Overflow` where the
+    /// URL would be longer than a `Url` can be.
     pub fn url(self, alloc: Global) -> Result<(Url, CsrfToken), ParseError>
         ensures ok { IfOk result (λ r. ExtendsQuery self.entry.auth_url.url r.0 (query_pairs self.entry)) }
         ensures state { IfOk result (λ r. r.1 ≡ self.entry.state) }
         ensures refusal { IfErr result IsOutOfRoom }
+        ensures overflow { result ≡ Err ParseError.Overflow → IsTooLong (asked_url self.entry) }
     {
         let url = self.extended_url(alloc)?;
         Ok((url, self.state))
     }
 
-    // The endpoint's URL, with the request's pairs after its own.
+    // The endpoint's URL, with the request's pairs after its own. Its length is tested first, since
+    // `with_query` leaves open which of its two errors tells what.
     fn extended_url(&self, alloc: Global) -> Result<Url, ParseError>
         ensures ok { IfOk result (λ url. ExtendsQuery self.now.auth_url.url url (query_pairs self.now)) }
         ensures refusal { IfErr result IsOutOfRoom }
+        ensures overflow { result ≡ Err ParseError.Overflow → IsTooLong (asked_url self.now) }
     {
         let url = self.auth_url.url();
-        let mut form = query_text(alloc, url)?;
+        let form = self.extended_query(alloc)?;
+        if is_too_long(url, form.as_slice()) {
+            return Err(ParseError::Overflow);
+        }
+        match with_query(url, form.as_slice()) {
+            Ok(extended) => Ok(extended),
+            Err(_) => Err(ParseError::OutOfMemory),
+        }
+    }
+
+    // The text of the endpoint's query, with the request's pairs after its own.
+    fn extended_query(&self, alloc: Global) -> Result<Vec<u8>, AllocError>
+        ensures { let query = unwrap_or self.now.auth_url.url.query [] in
+            IfOk result (λ form. ExtendsForm query form.items (query_pairs self.now)) }
+    {
+        let mut form = query_text(alloc, self.auth_url.url())?;
         self.push_required(&mut form)?;
         self.push_optional(alloc, &mut form)?;
-        let extended = with_query(url, form.as_slice())?;
-        Ok(extended)
+        Ok(form)
     }
 
     // Appends the pairs that each request sends.
@@ -200,6 +221,15 @@ impl<'a> AuthorizationRequest<'a> {
         push_extra_params(form, &self.extra_params)?;
         Ok(())
     }
+}
+
+// Whether the URL with this text as its query would be longer than a `Url` can be.
+fn is_too_long(url: &Url, query: &[u8]) -> bool
+    ensures { IsTrue result ↔ IsTooLong (record url.now { query = Some query.now }) }
+{
+    let fragment = url.as_str().len() - url.index(Position::AfterQuery);
+    let others = url.index(Position::AfterPath) + "?".len() + fragment;
+    others.saturating_add(query.len()) > u32::MAX as usize
 }
 
 fn push_challenge(
