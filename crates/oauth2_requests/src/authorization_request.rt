@@ -55,8 +55,8 @@ impl<'a> Model for AuthorizationRequest<'a> {
 }
 
 impl<'a> AuthorizationRequest<'a> {
-    /// A request for a code, with this state. `oauth2::Client` makes it; a caller with endpoints of
-    /// its own can too.
+    /// A request for a code, with this state. `oauth2::Client` makes it; a caller with endpoints
+    /// of its own can too.
     pub fn new(
         alloc: Global,
         auth_url: &'a AuthUrl,
@@ -89,7 +89,9 @@ impl<'a> AuthorizationRequest<'a> {
 
     /// Adds a scope.
     pub fn add_scope(mut self, scope: Scope) -> Result<Self, AllocError>
-        ensures { IfOk result (λ r. r ≡ record self.entry { scopes = self.entry.scopes ++ scope ∷ [] }) }
+        ensures { IfOk result (λ r. r ≡ record self.entry {
+          scopes = self.entry.scopes ++ scope ∷ [];
+        }) }
     {
         self.scopes.push(scope)?;
         Ok(self)
@@ -116,9 +118,10 @@ impl<'a> AuthorizationRequest<'a> {
         name: ParamText<'a>,
         value: ParamText<'a>,
     ) -> Result<Self, AllocError>
-        ensures { IfOk result (λ r. r ≡ record self.entry {
-          extra_params = self.entry.extra_params ++ (param_bytes name.entry, param_bytes value.entry) ∷ [];
-        }) }
+        ensures { let added = (param_bytes name.entry, param_bytes value.entry) ∷ [] in
+            IfOk result (λ r. r ≡ record self.entry {
+              extra_params = self.entry.extra_params ++ added;
+            }) }
     {
         self.extra_params.push((name, value))?;
         Ok(self)
@@ -154,16 +157,19 @@ impl<'a> AuthorizationRequest<'a> {
 
     /// Sets the redirect, which is the client's unless set.
     pub fn set_redirect_uri(mut self, redirect_url: RedirectRef<'a>) -> Self
-        ensures { result ≡ record self.entry { redirect_url = Some (redirect_of redirect_url.entry) } }
+        ensures { result ≡ record self.entry {
+          redirect_url = Some (redirect_of redirect_url.entry);
+        } }
     {
         self.redirect_url = Some(redirect_url);
         self
     }
 
-    /// The URL to send a user to, and the state. An error is `OutOfMemory`, or `Overflow` where the
-    /// URL would be longer than a `Url` can be.
+    /// The URL to send a user to, and the state. An error is `OutOfMemory`, or `Overflow` where
+    /// the URL would be longer than a `Url` can be.
     pub fn url(self, alloc: Global) -> Result<(Url, CsrfToken), ParseError>
-        ensures ok { IfOk result (λ r. ExtendsQuery self.entry.auth_url.url r.0 (query_pairs self.entry)) }
+        ensures ok { IfOk result (λ r.
+            ExtendsQuery self.entry.auth_url.url r.0 (query_pairs self.entry)) }
         ensures state { IfOk result (λ r. r.1 ≡ self.entry.state) }
         ensures refusal { IfErr result IsOutOfRoom }
         ensures overflow { result ≡ Err ParseError.Overflow → IsTooLong (asked_url self.entry) }
@@ -172,10 +178,11 @@ impl<'a> AuthorizationRequest<'a> {
         Ok((url, self.state))
     }
 
-    // The endpoint's URL, with the request's pairs after its own. Its length is tested first, since
-    // `with_query` leaves open which of its two errors tells what.
+    // The endpoint's URL, with the request's pairs after its own. Its length is tested first,
+    // since `with_query` leaves open which of its two errors tells what.
     fn extended_url(&self, alloc: Global) -> Result<Url, ParseError>
-        ensures ok { IfOk result (λ url. ExtendsQuery self.now.auth_url.url url (query_pairs self.now)) }
+        ensures ok { IfOk result (λ url.
+            ExtendsQuery self.now.auth_url.url url (query_pairs self.now)) }
         ensures refusal { IfErr result IsOutOfRoom }
         ensures overflow { result ≡ Err ParseError.Overflow → IsTooLong (asked_url self.now) }
     {
@@ -203,7 +210,8 @@ impl<'a> AuthorizationRequest<'a> {
 
     // Appends the pairs that each request sends.
     fn push_required(&self, form: &mut Vec<u8>) -> Result<(), AllocError>
-        ensures { OnOk result (ExtendsForm form.old.items form.new.items (required_pairs self.now)) }
+        ensures { OnOk result
+            (ExtendsForm form.old.items form.new.items (required_pairs self.now)) }
     {
         append_plain_pair(form, "response_type", self.response_type.as_str())?;
         append_plain_pair(form, "client_id", self.client_id.as_str())?;
@@ -213,7 +221,8 @@ impl<'a> AuthorizationRequest<'a> {
 
     // Appends the pairs that a request sends only where they were set.
     fn push_optional(&self, alloc: Global, form: &mut Vec<u8>) -> Result<(), AllocError>
-        ensures { OnOk result (ExtendsForm form.old.items form.new.items (optional_pairs self.now)) }
+        ensures { OnOk result
+            (ExtendsForm form.old.items form.new.items (optional_pairs self.now)) }
     {
         push_challenge(form, &self.pkce_challenge)?;
         push_redirect(form, &self.redirect_url)?;
@@ -236,7 +245,8 @@ fn push_challenge(
     form: &mut Vec<u8>,
     challenge: &Option<PkceCodeChallenge>,
 ) -> Result<(), AllocError>
-    ensures { OnOk result (ExtendsForm form.old.items form.new.items (challenge_pairs challenge.now)) }
+    ensures { OnOk result
+        (ExtendsForm form.old.items form.new.items (challenge_pairs challenge.now)) }
 {
     if let Some(challenge) = challenge {
         append_plain_pair(form, "code_challenge", challenge.as_str())?;
@@ -247,7 +257,8 @@ fn push_challenge(
 
 fn push_redirect(form: &mut Vec<u8>, redirect: &Option<RedirectRef<'_>>) -> Result<(), AllocError>
     ensures { let text = option_map given_text (option_map redirect_of redirect.now) in
-        OnOk result (ExtendsForm form.old.items form.new.items (optional_pair (codes "redirect_uri") text)) }
+        OnOk result (ExtendsForm form.old.items form.new.items
+        (optional_pair (codes "redirect_uri") text)) }
 {
     if let Some(redirect) = redirect {
         append_plain_pair(form, "redirect_uri", redirect.redirect_url().as_str())?;
@@ -277,7 +288,8 @@ fn push_extra_params(
     form: &mut Vec<u8>,
     extra_params: &[(ParamText<'_>, ParamText<'_>)],
 ) -> Result<(), AllocError>
-    ensures { OnOk result (ExtendsForm form.old.items form.new.items (map param_pair extra_params.now)) }
+    ensures { OnOk result
+        (ExtendsForm form.old.items form.new.items (map param_pair extra_params.now)) }
 {
     for (name, value) in extra_params {
         append_pair(form, name.as_str(), value.as_str())?;
@@ -303,7 +315,8 @@ fn scope_text(alloc: Global, scopes: &[Scope]) -> Result<String, AllocError>
 
 // Appends the scopes with a space before each.
 fn append_spaced(text: &mut String, scopes: &[Scope]) -> Result<(), AllocError>
-    ensures { OnOk result (string_bytes text.new ≡ string_bytes text.old ++ flat_map (λ s. codes " " ++ s) scopes.now) }
+    ensures { OnOk result (string_bytes text.new
+        ≡ string_bytes text.old ++ flat_map (λ s. codes " " ++ s) scopes.now) }
 {
     for scope in scopes {
         text.push(' ')?;

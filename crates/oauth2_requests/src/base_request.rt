@@ -1,6 +1,7 @@
 //! What every request to an endpoint holds.
 
-ghost use Rattle.std.specs.Prelude.{◌≡◌, ◌++◌, ◌∷◌, [], Some, None, IfOk, OnOk, OnErr, List, ℕ, Err, map, option_copied};
+ghost use Rattle.std.specs.Prelude.{◌≡◌, ◌++◌, ◌∷◌, [], Some, None, Err, IfOk, OnOk, OnErr};
+ghost use Rattle.std.specs.Prelude.{List, ℕ, map, option_copied};
 ghost use Rattle.std.specs.Iterator.{Drains, IsFinite};
 ghost use Rattle.form_urlencoded.specs.Form.{pair_text};
 ghost use Rattle.http_uri.specs.Uri.{SpellsNone};
@@ -52,8 +53,8 @@ impl<'a> Model for BaseRequest<'a> {
 }
 
 impl<'a> BaseRequest<'a> {
-    /// Who asks, with no scope and no extra parameter yet. `oauth2::Client` makes it; a caller with
-    /// endpoints of its own can too.
+    /// Who asks, with no scope and no extra parameter yet. `oauth2::Client` makes it; a caller
+    /// with endpoints of its own can too.
     pub fn new(
         alloc: Global,
         auth_type: &'a AuthType,
@@ -87,7 +88,9 @@ impl<'a> BaseRequest<'a> {
     }
 
     pub(crate) fn add_scope(&mut self, scope: Scope) -> Result<(), AllocError>
-        ensures { OnOk result (self.new ≡ record self.old { scope = Some (with_scope self.old.scope scope) }) }
+        ensures { OnOk result (self.new ≡ record self.old {
+          scope = Some (with_scope self.old.scope scope);
+        }) }
     {
         self.params.add_scope(scope.as_str())?;
         Ok(())
@@ -116,9 +119,10 @@ impl<'a> BaseRequest<'a> {
         name: ParamText<'_>,
         value: ParamText<'_>,
     ) -> Result<(), AllocError>
-        ensures ok { OnOk result (self.new ≡ record self.old {
-          extra_params = self.old.extra_params ++ (param_bytes name.entry, param_bytes value.entry) ∷ [];
-        }) }
+        ensures ok { let added = (param_bytes name.entry, param_bytes value.entry) ∷ [] in
+            OnOk result (self.new ≡ record self.old {
+              extra_params = self.old.extra_params ++ added;
+            }) }
         ensures err { OnErr result (self.new ≡ self.old) }
     {
         self.params.add_extra(name.as_str(), value.as_str())?;
@@ -133,8 +137,9 @@ impl<'a> BaseRequest<'a> {
         redirect_url: Option<&RedirectUrl>,
         own_pairs: &[(&str, &str)],
     ) -> Result<HttpRequest, RequestFault>
-        ensures ok { IfOk result (λ r. IsRequestOf
-            (configuration_of self.now (map pair_text own_pairs.now) (option_copied redirect_url.entry))
+        ensures ok { let redirect = option_copied redirect_url.entry in
+            IfOk result (λ r. IsRequestOf
+            (configuration_of self.now (map pair_text own_pairs.now) redirect)
             (serialize url.now) (view_of r)) }
         ensures not_http { result ≡ Err RequestFault.NotHttp → SpellsNone (serialize url.now) }
     {

@@ -48,8 +48,8 @@ impl<'a, TE, TR> Model for CodeTokenRequest<'a, TE, TR> {
 }
 
 impl<'a, TE, TR> CodeTokenRequest<'a, TE, TR> {
-    /// A request with no verifier yet. `oauth2::Client` makes it; a caller with endpoints of its own
-    /// can too.
+    /// A request with no verifier yet. `oauth2::Client` makes it; a caller with endpoints of its
+    /// own can too.
     pub fn new(
         base: BaseRequest<'a>,
         token_url: &'a TokenUrl,
@@ -100,7 +100,9 @@ impl<'a, TE, TR> CodeTokenRequest<'a, TE, TR> {
 
     /// Sets the redirect, which is the client's unless set.
     pub fn set_redirect_uri(mut self, redirect_url: RedirectRef<'a>) -> Self
-        ensures { result ≡ record self.entry { redirect_url = Some (redirect_of redirect_url.entry) } }
+        ensures { result ≡ record self.entry {
+          redirect_url = Some (redirect_of redirect_url.entry);
+        } }
     {
         self.redirect_url = Some(redirect_url);
         self
@@ -110,7 +112,8 @@ impl<'a, TE, TR> CodeTokenRequest<'a, TE, TR> {
     pub fn prepare_request(&self, alloc: Global) -> Result<HttpRequest, RequestFault>
         ensures ok { IfOk result (λ r. IsRequestOf (code_configuration self.now)
             (serialize self.now.token_url.url) (view_of r)) }
-        ensures not_http { result ≡ Err RequestFault.NotHttp → SpellsNone (serialize self.now.token_url.url) }
+        ensures not_http { result ≡ Err RequestFault.NotHttp
+            → SpellsNone (serialize self.now.token_url.url) }
     {
         let url = self.token_url.url();
         let code = self.code.secret().as_str();
@@ -152,8 +155,9 @@ impl<'a, TE: ErrorResponse, TR: TokenResponse> CodeTokenRequest<'a, TE, TR> {
         http_client: &mut C,
     ) -> Result<TR, RequestTokenError<C::Error, TE>>
         requires { C.is_ready http_client.old }
-        ensures once { AsksOnce TR.meaning TE.meaning TR.reading TE.reading C.step self.entry.base.reply_rule
-            (code_configuration self.entry) self.entry.token_url http_client.old result http_client.new }
+        ensures once { AsksOnce TR.meaning TE.meaning TR.reading TE.reading C.step
+            self.entry.base.reply_rule (code_configuration self.entry)
+            self.entry.token_url http_client.old result http_client.new }
         ensures ready { C.is_ready http_client.new }
     {
         let prepared = self.prepare_request(alloc);

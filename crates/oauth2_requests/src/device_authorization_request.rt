@@ -41,10 +41,13 @@ impl<'a, TE> Model for DeviceAuthorizationRequest<'a, TE> {
 }
 
 impl<'a, TE> DeviceAuthorizationRequest<'a, TE> {
-    /// A request at this endpoint. `oauth2::Client` makes it; a caller with endpoints of its own can
-    /// too.
+    /// A request at this endpoint. `oauth2::Client` makes it; a caller with endpoints of its own
+    /// can too.
     pub fn new(base: BaseRequest<'a>, device_authorization_url: &'a DeviceAuthorizationUrl) -> Self
-        ensures { result ≡ record { base = base.entry; device_authorization_url = device_authorization_url.now } }
+        ensures { result ≡ record {
+          base = base.entry;
+          device_authorization_url = device_authorization_url.now;
+        } }
     {
         DeviceAuthorizationRequest {
             base,
@@ -56,7 +59,9 @@ impl<'a, TE> DeviceAuthorizationRequest<'a, TE> {
     /// Adds a scope.
     pub fn add_scope(mut self, scope: Scope) -> Result<Self, AllocError>
         ensures { let joined = with_scope self.entry.base.scope scope in
-            IfOk result (λ r. r ≡ record self.entry { base = record self.entry.base { scope = Some joined } }) }
+            IfOk result (λ r. r ≡ record self.entry {
+              base = record self.entry.base { scope = Some joined };
+            }) }
     {
         self.base.add_scope(scope)?;
         Ok(self)
@@ -100,7 +105,8 @@ impl<'a, TE> DeviceAuthorizationRequest<'a, TE> {
     pub fn prepare_request(&self, alloc: Global) -> Result<HttpRequest, RequestFault>
         ensures ok { IfOk result (λ r. IsRequestOf (device_authorization_configuration self.now)
             (serialize self.now.device_authorization_url.url) (view_of r)) }
-        ensures not_http { result ≡ Err RequestFault.NotHttp → SpellsNone (serialize self.now.device_authorization_url.url) }
+        ensures not_http { result ≡ Err RequestFault.NotHttp
+            → SpellsNone (serialize self.now.device_authorization_url.url) }
     {
         let url = self.device_authorization_url.url();
         self.base.prepare(alloc, url, None, &[])
@@ -115,8 +121,10 @@ impl<'a, TE: ErrorResponse> DeviceAuthorizationRequest<'a, TE> {
         http_client: &mut C,
     ) -> Result<DeviceAuthorizationResponse<EF>, RequestTokenError<C::Error, TE>>
         requires { C.is_ready http_client.old }
-        ensures once { AsksOnce (device_seen EF.meaning) TE.meaning (device_reading EF.reading) TE.reading C.step self.entry.base.reply_rule
-            (device_authorization_configuration self.entry) self.entry.device_authorization_url http_client.old result http_client.new }
+        ensures once { AsksOnce (device_seen EF.meaning) TE.meaning
+            (device_reading EF.reading) TE.reading C.step
+            self.entry.base.reply_rule (device_authorization_configuration self.entry)
+            self.entry.device_authorization_url http_client.old result http_client.new }
         ensures ready { C.is_ready http_client.new }
     {
         let prepared = self.prepare_request(alloc);

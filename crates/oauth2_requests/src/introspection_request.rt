@@ -44,8 +44,8 @@ impl<'a, TE, TIR> Model for IntrospectionRequest<'a, TE, TIR> {
 }
 
 impl<'a, TE, TIR> IntrospectionRequest<'a, TE, TIR> {
-    /// A request with no hint yet. `oauth2::Client` makes it; a caller with endpoints of its own can
-    /// too.
+    /// A request with no hint yet. `oauth2::Client` makes it; a caller with endpoints of its own
+    /// can too.
     pub fn new(
         base: BaseRequest<'a>,
         introspection_url: &'a IntrospectionUrl,
@@ -70,7 +70,9 @@ impl<'a, TE, TIR> IntrospectionRequest<'a, TE, TIR> {
     /// Sets the hint of the token's type, such as `access_token` or `refresh_token`
     /// (RFC 7662, section 2.1). Any text is sent as given, the empty one too.
     pub fn set_token_type_hint(mut self, token_type_hint: ParamText<'a>) -> Self
-        ensures { result ≡ record self.entry { token_type_hint = Some (param_bytes token_type_hint.entry) } }
+        ensures { result ≡ record self.entry {
+          token_type_hint = Some (param_bytes token_type_hint.entry);
+        } }
     {
         self.token_type_hint = Some(token_type_hint);
         self
@@ -96,7 +98,8 @@ impl<'a, TE, TIR> IntrospectionRequest<'a, TE, TIR> {
     pub fn prepare_request(&self, alloc: Global) -> Result<HttpRequest, RequestFault>
         ensures ok { IfOk result (λ r. IsRequestOf (introspection_configuration self.now)
             (serialize self.now.introspection_url.url) (view_of r)) }
-        ensures not_http { result ≡ Err RequestFault.NotHttp → SpellsNone (serialize self.now.introspection_url.url) }
+        ensures not_http { result ≡ Err RequestFault.NotHttp
+            → SpellsNone (serialize self.now.introspection_url.url) }
     {
         let url = self.introspection_url.url();
         let token = ("token", self.token.secret().as_str());
@@ -113,15 +116,17 @@ impl<'a, TE, TIR> IntrospectionRequest<'a, TE, TIR> {
 }
 
 impl<'a, TE: ErrorResponse, TIR: FromJson> IntrospectionRequest<'a, TE, TIR> {
-    /// Sends the request, once, and reads its reply, which may be of any type that is read from JSON.
+    /// Sends the request, once, and reads its reply, which may be of any type that is read from
+    /// JSON.
     pub fn request<C: SyncHttpClient>(
         self,
         alloc: Global,
         http_client: &mut C,
     ) -> Result<TIR, RequestTokenError<C::Error, TE>>
         requires { C.is_ready http_client.old }
-        ensures once { AsksOnce TIR.meaning TE.meaning TIR.reading TE.reading C.step self.entry.base.reply_rule
-            (introspection_configuration self.entry) self.entry.introspection_url http_client.old result http_client.new }
+        ensures once { AsksOnce TIR.meaning TE.meaning TIR.reading TE.reading C.step
+            self.entry.base.reply_rule (introspection_configuration self.entry)
+            self.entry.introspection_url http_client.old result http_client.new }
         ensures ready { C.is_ready http_client.new }
     {
         let prepared = self.prepare_request(alloc);

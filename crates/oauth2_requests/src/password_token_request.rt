@@ -44,15 +44,20 @@ impl<'a, TE, TR> Model for PasswordTokenRequest<'a, TE, TR> {
 }
 
 impl<'a, TE, TR> PasswordTokenRequest<'a, TE, TR> {
-    /// A request at this endpoint. `oauth2::Client` makes it; a caller with endpoints of its own can
-    /// too.
+    /// A request at this endpoint. `oauth2::Client` makes it; a caller with endpoints of its own
+    /// can too.
     pub fn new(
         base: BaseRequest<'a>,
         token_url: &'a TokenUrl,
         username: &'a ResourceOwnerUsername,
         password: &'a ResourceOwnerPassword,
     ) -> Self
-        ensures { result ≡ record { base = base.entry; token_url = token_url.now; username = username.now; password = password.now } }
+        ensures { result ≡ record {
+          base = base.entry;
+          token_url = token_url.now;
+          username = username.now;
+          password = password.now;
+        } }
     {
         PasswordTokenRequest {
             base,
@@ -66,7 +71,9 @@ impl<'a, TE, TR> PasswordTokenRequest<'a, TE, TR> {
     /// Adds a scope.
     pub fn add_scope(mut self, scope: Scope) -> Result<Self, AllocError>
         ensures { let joined = with_scope self.entry.base.scope scope in
-            IfOk result (λ r. r ≡ record self.entry { base = record self.entry.base { scope = Some joined } }) }
+            IfOk result (λ r. r ≡ record self.entry {
+              base = record self.entry.base { scope = Some joined };
+            }) }
     {
         self.base.add_scope(scope)?;
         Ok(self)
@@ -110,7 +117,8 @@ impl<'a, TE, TR> PasswordTokenRequest<'a, TE, TR> {
     pub fn prepare_request(&self, alloc: Global) -> Result<HttpRequest, RequestFault>
         ensures ok { IfOk result (λ r. IsRequestOf (password_configuration self.now)
             (serialize self.now.token_url.url) (view_of r)) }
-        ensures not_http { result ≡ Err RequestFault.NotHttp → SpellsNone (serialize self.now.token_url.url) }
+        ensures not_http { result ≡ Err RequestFault.NotHttp
+            → SpellsNone (serialize self.now.token_url.url) }
     {
         self.base.prepare(
             alloc,
@@ -133,8 +141,9 @@ impl<'a, TE: ErrorResponse, TR: TokenResponse> PasswordTokenRequest<'a, TE, TR> 
         http_client: &mut C,
     ) -> Result<TR, RequestTokenError<C::Error, TE>>
         requires { C.is_ready http_client.old }
-        ensures once { AsksOnce TR.meaning TE.meaning TR.reading TE.reading C.step self.entry.base.reply_rule
-            (password_configuration self.entry) self.entry.token_url http_client.old result http_client.new }
+        ensures once { AsksOnce TR.meaning TE.meaning TR.reading TE.reading C.step
+            self.entry.base.reply_rule (password_configuration self.entry)
+            self.entry.token_url http_client.old result http_client.new }
         ensures ready { C.is_ready http_client.new }
     {
         let prepared = self.prepare_request(alloc);

@@ -48,8 +48,8 @@ where
 }
 
 impl<'a, RT: RevocableToken, TRE> RevocationRequest<'a, RT, TRE> {
-    /// A request at this endpoint, whose scheme is not tested. `oauth2::Client` makes it, where the
-    /// endpoint is an `https` URL; a caller with endpoints of its own can too.
+    /// A request at this endpoint, whose scheme is not tested. `oauth2::Client` makes it, where
+    /// the endpoint is an `https` URL; a caller with endpoints of its own can too.
     pub fn new(base: BaseRequest<'a>, revocation_url: &'a RevocationUrl, token: RT) -> Self
         ensures { result ≡ record {
           base = base.entry;
@@ -70,7 +70,8 @@ impl<'a, RT: RevocableToken, TRE> RevocationRequest<'a, RT, TRE> {
     pub fn prepare_request(&self, alloc: Global) -> Result<HttpRequest, RequestFault>
         ensures ok { IfOk result (λ r. IsRequestOf (revocation_configuration self.now)
             (serialize self.now.revocation_url.url) (view_of r)) }
-        ensures not_http { result ≡ Err RequestFault.NotHttp → SpellsNone (serialize self.now.revocation_url.url) }
+        ensures not_http { result ≡ Err RequestFault.NotHttp
+            → SpellsNone (serialize self.now.revocation_url.url) }
     {
         let url = self.revocation_url.url();
         let token = ("token", self.token.secret());
@@ -102,8 +103,8 @@ impl<'a, RT: RevocableToken + Drop, TRE> RevocationRequest<'a, RT, TRE> {
 }
 
 impl<'a, RT: RevocableToken + Drop, TRE: ErrorResponse> RevocationRequest<'a, RT, TRE> {
-    /// Sends the request, once. Status 200 says that the token is revoked, or that the server knows
-    /// none such (RFC 7009, section 2.2).
+    /// Sends the request, once. Status 200 says that the token is revoked, or that the server
+    /// knows none such (RFC 7009, section 2.2).
     pub fn request<C: SyncHttpClient>(
         self,
         alloc: Global,
@@ -111,7 +112,8 @@ impl<'a, RT: RevocableToken + Drop, TRE: ErrorResponse> RevocationRequest<'a, RT
     ) -> Result<(), RequestTokenError<C::Error, TRE>>
         requires { C.is_ready http_client.old }
         ensures once { AsksOnceStatusOnly TRE.meaning TRE.reading C.step
-            (revocation_configuration self.entry) self.entry.revocation_url http_client.old result http_client.new }
+            (revocation_configuration self.entry) self.entry.revocation_url
+            http_client.old result http_client.new }
         ensures ready { C.is_ready http_client.new }
     {
         let prepared = self.prepare_request(alloc);
