@@ -2,7 +2,8 @@
 -- follows when the user is back (RFC 6749, section 4.1; RFC 7636).
 use Rattle.std.specs.Prelude.{◌≡◌, ℕ, List, codes, Option, Some}
 use Rattle.http_uri.specs.Uri.{SpellsNone}
-use Rattle.url.specs.Parser.{IsOutOfRoom}
+use Rattle.url.specs.declared.error.ParseError.{ParseError}
+use Rattle.url.specs.declared.error.ParseError.TheVariants.{OutOfMemory, Overflow}
 use Rattle.url.specs.Parts.{serialize}
 use Rattle.oauth2_types.specs.Pkce.{Accepts, sha256_challenge}
 use Rattle.oauth2_urls.specs.Addressed.{Addressed}
@@ -10,7 +11,7 @@ use Rattle.oauth2_wire.specs.ByName.{read_by_name}
 use Rattle.oauth2_form.specs.Pairs.{Pair}
 use Rattle.oauth2_wire.specs.declared.request.RequestFault.{RequestFault}
 use Rattle.oauth2_wire.specs.declared.request.RequestFault.TheVariants as fault
-use Rattle.oauth2_requests.specs.Authorization.{Authorization}
+use Rattle.oauth2_requests.specs.Authorization.{Authorization, IsTooLong, asked_url}
 use Rattle.oauth2_requests.specs.Code.{CodeRequest}
 use Rattle.oauth2.specs.declared.flow.CodeFlowError.{CodeFlowError}
 use Rattle.oauth2.specs.declared.flow.CodeFlowError.TheVariants.{Url, NotHttp, Memory}
@@ -39,13 +40,20 @@ PassesCheck verifier query body =
     × (read_by_name (codes "code_verifier") body ≡ Some verifier)
     × Accepts (record { text = challenge; method = codes "S256" }) verifier
 
--- the cause of an error: the URL has no room, or that of the token endpoint is no HTTP target; want
--- of memory has none that a contract can name
-abbrev pub IsCauseOf : Settings → CodeFlowError → Type 0
-IsCauseOf client (Url error) = IsOutOfRoom error
-IsCauseOf client NotHttp =
+-- the cause of an error, in a login with this state and this verifier: the authorization URL is too
+-- long, or the token endpoint's is no HTTP target; that memory ran out, no contract can name
+abbrev pub IsCauseOf : Settings → List ℕ → List ℕ → CodeFlowError → Type 0
+IsCauseOf client state verifier (Url error) =
+    (error ≡ Overflow) × ((endpoint : Addressed) × (client.auth_url ≡ Some endpoint)
+    × IsTooLong (asked_url (flow_authorization client endpoint state verifier)))
+IsCauseOf client state verifier NotHttp =
     (endpoint : Addressed) × (client.token_url ≡ Some endpoint) × SpellsNone (serialize endpoint.url)
-IsCauseOf client Memory = Unit
+IsCauseOf client state verifier Memory = Unit
+
+-- why the URL could not be built, as an error of the whole
+abbrev pub flow_error_of_url : ParseError → CodeFlowError
+flow_error_of_url OutOfMemory = Memory
+flow_error_of_url error = Url error
 
 -- why the request could not be built, as an error of the whole
 abbrev pub flow_error_of : RequestFault → CodeFlowError
@@ -54,6 +62,6 @@ flow_error_of fault.Memory = Memory
 
 -- the text of an error
 abbrev pub flow_error_text : CodeFlowError → Option (List ℕ)
-flow_error_text (Url _) = Some (codes "no room for the authorization URL")
+flow_error_text (Url _) = Some (codes "authorization URL is too long")
 flow_error_text NotHttp = Some (codes "endpoint URL is not an HTTP target")
 flow_error_text Memory = Some (codes "Out of memory")

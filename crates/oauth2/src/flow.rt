@@ -1,6 +1,7 @@
 //! A login by a code with its verifier (RFC 6749, section 4.1; RFC 7636).
 
-ghost use Rattle.std.specs.Prelude.{◌≡◌, Some, IfOk, IfErr, IsTrue};
+ghost use Rattle.std.specs.Prelude.{◌≡◌, Some, Err, IfOk, IfErr, IsTrue};
+ghost use Rattle.http_uri.specs.Uri.{SpellsNone};
 ghost use Rattle.url.specs.Parts.{serialize};
 ghost use Rattle.oauth2_types.specs.Pkce.{HasValidLength};
 ghost use Rattle.oauth2_urls.specs.Addressed.{Addressed};
@@ -10,7 +11,8 @@ ghost use Rattle.oauth2_wire.specs.Request.{IsRequestOf, view_of};
 ghost use Rattle.oauth2_requests.specs.Authorization.{query_pairs};
 ghost use Rattle.oauth2_requests.specs.Code.{code_configuration};
 ghost use Rattle.oauth2_form.specs.Query.{ExtendsQuery, query_form};
-ghost use Rattle.oauth2.specs.CodeFlow.{IsCauseOf, PassesCheck, flow_authorization, flow_error_of, flow_exchange};
+ghost use Rattle.oauth2.specs.CodeFlow.{IsCauseOf, PassesCheck};
+ghost use Rattle.oauth2.specs.CodeFlow.{flow_authorization, flow_exchange};
 
 use crate::client::Client;
 use crate::endpoint::{EndpointSet, EndpointState};
@@ -36,11 +38,11 @@ pub struct CodeFlow {
 /// Why a login could not be made.
 #[derive(Clone, Copy, Debug, PartialEq, Eq)]
 pub enum CodeFlowError {
-    /// There was no room for the authorization URL.
+    /// The authorization URL would be too long: the error is `Overflow`.
     Url(ParseError),
     /// The token endpoint's URL is not an HTTP target.
     NotHttp,
-    /// Memory ran out.
+    /// Memory ran out, at any step.
     Memory,
 }
 
@@ -49,9 +51,11 @@ impl fmt::Display for CodeFlowError {
 
     ghost output = { flow_error_text };
 
+    ghost styled_output = { λ error _. flow_error_text error };
+
     fn fmt<W: fmt::Write>(&self, f: &mut fmt::Formatter<W>) -> fmt::Result {
         match self {
-            CodeFlowError::Url(_) => f.write_str("no room for the authorization URL"),
+            CodeFlowError::Url(_) => f.write_str("authorization URL is too long"),
             CodeFlowError::NotHttp => f.write_str("endpoint URL is not an HTTP target"),
             CodeFlowError::Memory => f.write_str("Out of memory"),
         }
@@ -73,12 +77,15 @@ impl From<AllocError> for CodeFlowError {
 
 impl From<ParseError> for CodeFlowError {
     ghost use Rattle.std.specs.Prelude.{◌≡◌};
-    ghost use Rattle.oauth2.specs.declared.flow.CodeFlowError.TheVariants.{Url};
+    ghost use Rattle.oauth2.specs.CodeFlow.{flow_error_of_url};
 
-    ghost from_gives = { λ error e. e ≡ Url error };
+    ghost from_gives = { λ error e. e ≡ flow_error_of_url error };
 
     fn from(error: ParseError) -> CodeFlowError {
-        CodeFlowError::Url(error)
+        match error {
+            ParseError::OutOfMemory => CodeFlowError::Memory,
+            _ => CodeFlowError::Url(error),
+        }
     }
 }
 
@@ -113,17 +120,21 @@ where
     R: EndpointState,
     requires { HasValidLength verifier }
     ensures state { IfOk result (λ flow. flow.state ≡ state) }
-    ensures url { IfOk result (λ flow. (endpoint : Addressed) × (client.now.auth_url ≡ Some endpoint)
-        × ExtendsQuery endpoint.url flow.url (query_pairs (flow_authorization client.now endpoint state verifier))) }
-    ensures request { IfOk result (λ flow. (endpoint : Addressed) × (client.now.token_url ≡ Some endpoint)
+    ensures url { IfOk result (λ flow. (endpoint : Addressed)
+        × (client.now.auth_url ≡ Some endpoint)
+        × ExtendsQuery endpoint.url flow.url
+        (query_pairs (flow_authorization client.now endpoint state verifier))) }
+    ensures request { IfOk result (λ flow. (endpoint : Addressed)
+        × (client.now.token_url ≡ Some endpoint)
         × IsRequestOf (code_configuration (flow_exchange client.now endpoint verifier code))
         (serialize endpoint.url) (view_of flow.request)) }
 
     // What a server reads from the bytes that are sent.
-    ensures check { IfOk result (λ flow. (endpoint : Addressed) × (client.now.auth_url ≡ Some endpoint)
+    ensures check { IfOk result (λ flow. (endpoint : Addressed)
+        × (client.now.auth_url ≡ Some endpoint)
         × (IsTrue (avoid_own_names (query_form endpoint.url))
         → PassesCheck verifier (query_form flow.url) (form (view_of flow.request).body))) }
-    ensures refusal { IfErr result (IsCauseOf client.now) }
+    ensures refusal { IfErr result (IsCauseOf client.now state verifier) }
 {
     let (url, state) = login_url(alloc, client, state, &verifier)?;
     let request = exchange(alloc, client, verifier, code)?;
@@ -148,9 +159,11 @@ where
     T: EndpointState,
     requires { HasValidLength verifier.now }
     ensures state { IfOk result (λ r. r.1 ≡ state) }
-    ensures url { IfOk result (λ r. (endpoint : Addressed) × (client.now.auth_url ≡ Some endpoint)
-        × ExtendsQuery endpoint.url r.0 (query_pairs (flow_authorization client.now endpoint state verifier.now))) }
-    ensures refusal { IfErr result (IsCauseOf client.now) }
+    ensures url { IfOk result (λ r. (endpoint : Addressed)
+        × (client.now.auth_url ≡ Some endpoint)
+        × ExtendsQuery endpoint.url r.0
+        (query_pairs (flow_authorization client.now endpoint state verifier.now))) }
+    ensures refusal { IfErr result (IsCauseOf client.now state verifier.now) }
 {
     let challenge = PkceCodeChallenge::from_code_verifier_sha256(alloc, verifier)?;
     let login = client
@@ -172,10 +185,12 @@ where
     D: EndpointState,
     I: EndpointState,
     R: EndpointState,
-    ensures request { IfOk result (λ request. (endpoint : Addressed) × (client.now.token_url ≡ Some endpoint)
+    ensures request { IfOk result (λ request. (endpoint : Addressed)
+        × (client.now.token_url ≡ Some endpoint)
         × IsRequestOf (code_configuration (flow_exchange client.now endpoint verifier code))
         (serialize endpoint.url) (view_of request)) }
-    ensures refusal { IfErr result (λ fault. IsCauseOf client.now (flow_error_of fault)) }
+    ensures not_http { result ≡ Err RequestFault.NotHttp → (endpoint : Addressed)
+        × (client.now.token_url ≡ Some endpoint) × SpellsNone (serialize endpoint.url) }
 {
     client
         .exchange_code(alloc, code)
