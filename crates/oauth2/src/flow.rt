@@ -105,8 +105,9 @@ impl From<RequestFault> for CodeFlowError {
 
 /// The URL and the request of one login, whose challenge is made of the verifier by `S256`.
 ///
-/// For the two ends of a login at once, as a test or a bridge between two steps wants them; an
-/// application whose user is away meanwhile keeps state and verifier and makes each at its time.
+/// Use it where the code is known already when the URL is made, as in a test. An application sends
+/// its user to the URL first: it keeps the state and the verifier, and makes the request when the
+/// user comes back with the code.
 pub fn code_flow<TE, TR, TIR, RT, TRE, D, I, R>(
     alloc: Global,
     client: &Client<TE, TR, TIR, RT, TRE, EndpointSet, D, I, R, EndpointSet>,

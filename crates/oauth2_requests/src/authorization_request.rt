@@ -112,7 +112,7 @@ impl<'a> AuthorizationRequest<'a> {
         Ok(self)
     }
 
-    /// Adds a parameter. It may bear a name that the request itself sends, and both are then sent.
+    /// Adds a parameter. If the request itself sends a parameter of that name, both are sent.
     pub fn add_extra_param(
         mut self,
         name: ParamText<'a>,

@@ -53,8 +53,9 @@ impl<'a> Model for BaseRequest<'a> {
 }
 
 impl<'a> BaseRequest<'a> {
-    /// Who asks, with no scope and no extra parameter yet. `oauth2::Client` makes it; a caller
-    /// with endpoints of its own can too.
+    /// What each request of this client holds, with no scope and no extra parameter yet.
+    /// `oauth2::Client` makes it; you can make it too, if you keep your endpoints without a
+    /// `Client`.
     pub fn new(
         alloc: Global,
         auth_type: &'a AuthType,
@@ -112,8 +113,8 @@ impl<'a> BaseRequest<'a> {
         Ok(())
     }
 
-    /// Adds a parameter. It may bear a name that a request itself sends, and both are then sent.
-    /// Refused memory leaves the request as it was.
+    /// Adds a parameter. If the request itself sends a parameter of that name, both are sent. If
+    /// memory runs out, the request is as it was.
     pub fn add_extra_param(
         &mut self,
         name: ParamText<'_>,

@@ -78,7 +78,7 @@ impl<'a, TE, TIR> IntrospectionRequest<'a, TE, TIR> {
         self
     }
 
-    /// Adds a parameter. It may bear a name that the request itself sends, and both are then sent.
+    /// Adds a parameter. If the request itself sends a parameter of that name, both are sent.
     pub fn add_extra_param(
         mut self,
         name: ParamText<'a>,
@@ -94,7 +94,7 @@ impl<'a, TE, TIR> IntrospectionRequest<'a, TE, TIR> {
         Ok(self)
     }
 
-    /// The POST that `request` sends. `NotHttp` where the endpoint's URL is no HTTP target.
+    /// The POST that `request` sends. `NotHttp` if the endpoint's URL is not an HTTP target.
     pub fn prepare_request(&self, alloc: Global) -> Result<HttpRequest, RequestFault>
         ensures ok { IfOk result (λ r. IsRequestOf (introspection_configuration self.now)
             (serialize self.now.introspection_url.url) (view_of r)) }

@@ -66,7 +66,7 @@ impl<'a, RT: RevocableToken, TRE> RevocationRequest<'a, RT, TRE> {
         }
     }
 
-    /// The POST that `request` sends. `NotHttp` where the endpoint's URL is no HTTP target.
+    /// The POST that `request` sends. `NotHttp` if the endpoint's URL is not an HTTP target.
     pub fn prepare_request(&self, alloc: Global) -> Result<HttpRequest, RequestFault>
         ensures ok { IfOk result (λ r. IsRequestOf (revocation_configuration self.now)
             (serialize self.now.revocation_url.url) (view_of r)) }
@@ -85,7 +85,7 @@ impl<'a, RT: RevocableToken, TRE> RevocationRequest<'a, RT, TRE> {
 }
 
 impl<'a, RT: RevocableToken + Drop, TRE> RevocationRequest<'a, RT, TRE> {
-    /// Adds a parameter. It may bear a name that the request itself sends, and both are then sent.
+    /// Adds a parameter. If the request itself sends a parameter of that name, both are sent.
     pub fn add_extra_param(
         mut self,
         name: ParamText<'a>,
