@@ -6,6 +6,7 @@ ghost use Rattle.std.specs.Prelude.{string_bytes, unwrap_or};
 ghost use Rattle.std.specs.Iterator.{Drains, IsFinite};
 ghost use Rattle.std.specs.List.{join_by, flat_map};
 ghost use Rattle.url.specs.Parser.{IsOutOfRoom};
+ghost use Rattle.url.specs.Parts.{IsValid};
 ghost use Rattle.oauth2_wire.specs.Expected.{optional_pair};
 ghost use Rattle.oauth2_wire.specs.Texts.{param_bytes, param_pair, redirect_of, given_text};
 ghost use Rattle.oauth2_requests.specs.Authorization.{IsTooLong, asked_url, query_pairs};
@@ -234,7 +235,8 @@ impl<'a> AuthorizationRequest<'a> {
 
 // Whether the URL with this text as its query would be longer than a `Url` can be.
 fn is_too_long(url: &Url, query: &[u8]) -> bool
-    ensures { IsTrue result ↔ IsTooLong (record url.now { query = Some query.now }) }
+    ensures longer { IsTrue result ↔ IsTooLong (record url.now { query = Some query.now }) }
+    ensures valid { IsValid url.now }
 {
     let fragment = url.as_str().len() - url.index(Position::AfterQuery);
     let others = url.index(Position::AfterPath) + "?".len() + fragment;

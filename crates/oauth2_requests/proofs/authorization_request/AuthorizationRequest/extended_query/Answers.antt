@@ -1,3 +1,4 @@
+use Rattle.std.proofs.Common.{refl}
 use Rattle.oauth2_form.proofs.QueryLaws.{ExtendsForm-then, ExtendsForm-of_equals}
 use Rattle.oauth2_requests.proofs.authorization_request.AuthorizationRequest.extended_query.Goals as goal
 

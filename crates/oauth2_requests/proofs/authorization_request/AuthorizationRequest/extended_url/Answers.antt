@@ -1,13 +1,17 @@
-use Rattle.oauth2_form.proofs.QueryLaws.{ExtendsForm-then, ExtendsForm-of_equals}
+use Rattle.std.proofs.Common.{◌≡◌, [], ap, sym, subst, rules}
+use Rattle.std.specs.Prelude.{unwrap_or}
+use Rattle.oauth2_form.specs.Query.{ExtendsQuery}
+use Rattle.oauth2_form.proofs.QueryLaws.{ExtendsForm-of_equals}
+use Rattle.oauth2_requests.specs.Authorization.{query_pairs}
 use Rattle.oauth2_requests.proofs.authorization_request.AuthorizationRequest.extended_url.Goals as goal
 
 pub with_query-requires-clause-form : goal.with_query-requires-clause-form
 with_query-requires-clause-form c =
-    let appended = ExtendsForm-then c.in_ok-push_required.ensures c.in_ok-push_optional.ensures in
-    (_, ExtendsForm-of_equals c.in_ok-form.ensures.text c.as_slice.ensures.value appended)
+    let same : c.args.self.now.auth_url.url ≡ c.url-url.result.now = search rules in
+    (query_pairs c.args.self.now, ExtendsForm-of_equals (ap (λ u. unwrap_or u.query []) same) c.as_slice-2.ensures.value c.in_ok-form.ensures)
 
-pub returns-clause-ok : goal.returns-clause-ok
-returns-clause-ok c =
-    let appended = ExtendsForm-then c.in_ok-push_required.ensures c.in_ok-push_optional.ensures in
-    let extended = c.in_ok-extended.ensures.ok _ (ExtendsForm-of_equals c.in_ok-form.ensures.text c.as_slice.ensures.value appended) in
-    rw (← c.self.view_is) (rw (c.url-url.ensures, ← c.self.view_is) at extended)
+pub returns-in-Ok-clause-ok : goal.returns-in-Ok-clause-ok
+returns-in-Ok-clause-ok c =
+    let same : c.args.self.now.auth_url.url ≡ c.url-url.result.now = search rules in
+    let written = ExtendsForm-of_equals (ap (λ u. unwrap_or u.query []) same) c.as_slice-2.ensures.value c.in_ok-form.ensures in
+    subst (λ u. ExtendsQuery u c.in-Ok.extended (query_pairs c.args.self.now)) (sym same) (c.in-Ok.ensures.ok _ written)
