@@ -140,20 +140,24 @@ def lay_out(crate, is_debian):
         put('programs/' + name, read(HERE, name))
 
 
+def fail(why):
+    print('the Rust side was not built: %s; tools/rust/README.md says what to install' % why, file=sys.stderr)
+    sys.exit(2)
+
+
 def build(folder, program):
     """Builds one of the programs over the crate in that folder: its path. Ends the tool with the status 2 where it can't be built."""
     crate, is_debian = sources(folder), os.path.isdir(DEBIAN)
     if 'lib.rs' not in crate:
-        sys.exit('%s has no src/lib.rs of the Rust crate oauth2' % folder)
+        fail('%s has no src/lib.rs' % folder)
     lay_out(crate, is_debian)
     command = ['cargo', 'build', '--quiet', '--release', '--bin', program] + ['--offline'] * is_debian
     try:
         status = subprocess.run(command, cwd=OUT, stdout=sys.stderr).returncode
     except OSError:
-        status = 'cargo does not run here'
+        fail('cargo does not run here')
     if status:
-        print('the Rust side was not built (%s); tools/rust/README.md says what to install' % status, file=sys.stderr)
-        sys.exit(2)
+        fail('cargo ended with the status %d' % status)
     return os.path.join(OUT, 'target', 'release', program)
 
 

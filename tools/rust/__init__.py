@@ -1,0 +1,1 @@
+"""What tools/compare-with-rust and tools/bench set beside this repository; README.md says more."""
