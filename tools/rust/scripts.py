@@ -23,8 +23,8 @@ OF_ANOTHER_KIND = [None, True, 1, 'x', [], {}, 1.5, ['a', 1]]
 NO_BODIES = ['', 'x', '{', '[]', 'null', '1', '"x"', '\ufeff{}']
 TOKEN_TYPES = ['bearer', 'BEARER', 'Mac', 'x', '', 'ÄB', 'K\u212a']
 EARLIEST, LATEST = -377705023201, 253402207200
-COMMANDS = ['code', 'refresh', 'password', 'client_credentials', 'introspect', 'revoke', 'device_authorization', 'device_poll', 'device_poll',
-            'authorize']
+COMMANDS = ['code', 'refresh', 'password', 'client_credentials', 'introspect', 'revoke', 'device_authorization', 'device_poll',
+            'device_poll', 'authorize']
 WITH_SCOPES = ('refresh', 'password', 'client_credentials', 'device_authorization', 'authorize')
 
 

@@ -32,8 +32,8 @@ class Page(unittest.TestCase):
         with mock.patch.object(bench, 'measured', lambda *_: iter((row, *it) for row, it in zip(rows, costs))):
             said = list(bench.growth(['here', 'there'], rows))
         self.assertEqual(said[-3], '| (e) 1 MB | 80 | 64 | 150 | 320 | 0 | 0 |')
-        self.assertEqual(said[-1].split(), '- (e) 1 MB beside 64 KB: 16 times the input; the instructions are 15.0 times here and 16.0 times '
-                                           'there; the time is 40.0 times here and 16.0 times there.'.split())
+        self.assertEqual(' '.join(said[-1].split()), '- (e) 1 MB beside 64 KB: 16 times the input; the instructions are 15.0 times here '
+                                                     'and 16.0 times there; the time is 40.0 times here and 16.0 times there.')
 
     def test_part(self):
         page = 'one\n<!-- bench: times -->\n\nold\n\n<!-- end -->\ntwo\n<!-- bench: growth -->\n\nold\n\n<!-- end -->\n'

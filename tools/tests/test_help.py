@@ -44,7 +44,8 @@ class Help(unittest.TestCase):
         self.assertEqual(sorted(rows), NAMES)
 
     def test_rows(self):
-        self.assertEqual(tools_of_rows('`tools/a` in a text\n| `tools/b --all` | `tools/c` |\n| `tools/d` | 1 |\n| `rt check` | 1 |\n'), ['b', 'd'])
+        page = '`tools/a` in a text\n| `tools/b --all` | `tools/c` |\n| `tools/d` | 1 |\n| `rt check` | 1 |\n'
+        self.assertEqual(tools_of_rows(page), ['b', 'd'])
 
 
 if __name__ == '__main__':
