@@ -51,6 +51,7 @@ pub struct Endpoints {
 }
 
 impl Part for Auth {
+    ghost use Rattle.std.specs.Prelude.{false};
     ghost use Rattle.oauth2_script.specs.declared.client_part.Auth.{Auth};
 
     ghost Meaning = { Auth };
@@ -58,6 +59,8 @@ impl Part for Auth {
     ghost meaning = { λ auth. auth };
 
     ghost reading = { spec.auth };
+
+    ghost allocates = { false };
 
     #[tactic(auto, unfolding(crate::specs::Client::auth_of))]
     fn from_value(_alloc: Global, value: &Value) -> Result<Auth, ScriptError> {
@@ -70,6 +73,7 @@ impl Part for Auth {
 }
 
 impl Part for Rule {
+    ghost use Rattle.std.specs.Prelude.{false};
     ghost use Rattle.oauth2_script.specs.declared.client_part.Rule.{Rule};
 
     ghost Meaning = { Rule };
@@ -77,6 +81,8 @@ impl Part for Rule {
     ghost meaning = { λ rule. rule };
 
     ghost reading = { spec.rule };
+
+    ghost allocates = { false };
 
     #[tactic(auto, unfolding(crate::specs::Client::rule_of))]
     fn from_value(_alloc: Global, value: &Value) -> Result<Rule, ScriptError> {

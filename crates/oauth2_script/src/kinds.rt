@@ -1,6 +1,7 @@
 //! The other kinds of values that stand in scripts.
 
-ghost use Rattle.std.specs.Prelude.{ℕ, ℤ, pos, ◌*ℤ◌, List, string_bytes, option_map};
+ghost use Rattle.std.specs.Prelude.{◌≡◌, ℕ, ℤ, pos, ◌*ℤ◌, List, string_bytes, option_map};
+ghost use Rattle.std.specs.Prelude.{IfErr, false};
 ghost use Rattle.std.specs.Duration.{as_nanos};
 ghost use Rattle.std.specs.Int.NonZero.{non_zero_u64_get};
 ghost use Rattle.serde_json.specs.View.{items_view};
@@ -99,6 +100,8 @@ impl Part for StatusCode {
 
     ghost reading = { spec.status };
 
+    ghost allocates = { false };
+
     fn from_value(_alloc: Global, value: &Value) -> Result<StatusCode, ScriptError> {
         let code = value.as_u64().ok_or(ScriptError::Bad)?;
         if code < 100 || 999 < code {
@@ -112,8 +115,9 @@ impl Part for StatusCode {
 }
 
 fn moment_at(second: i64) -> Result<Timestamp, ScriptError>
-    ensures { Gives (λ t. t.nanosecond) result
+    ensures read { Gives (λ t. t.nanosecond) result
         (option_map (λ z. z *ℤ pos 1_000_000_000) (spec.second_of second)) }
+    ensures fed { IfErr result (λ e. e ≡ ScriptError.Bad) }
 {
     match Timestamp::from_nanosecond(second as i128 * 1_000_000_000) {
         Ok(moment) => Ok(moment),
@@ -129,6 +133,8 @@ impl Part for Timestamp {
 
     ghost reading = { spec.moment };
 
+    ghost allocates = { false };
+
     fn from_value(_alloc: Global, value: &Value) -> Result<Timestamp, ScriptError> {
         let second = value.as_i64().ok_or(ScriptError::Bad)?;
         moment_at(second)
@@ -143,6 +149,8 @@ impl Part for Duration {
 
     ghost reading = { spec.duration };
 
+    ghost allocates = { false };
+
     fn from_value(_alloc: Global, value: &Value) -> Result<Duration, ScriptError> {
         let seconds = value.as_u64().ok_or(ScriptError::Bad)?;
         Ok(Duration::from_secs(seconds))
@@ -156,6 +164,8 @@ impl Part for NonZeroU64 {
     ghost meaning = { non_zero_u64_get };
 
     ghost reading = { spec.count };
+
+    ghost allocates = { false };
 
     fn from_value(_alloc: Global, value: &Value) -> Result<NonZeroU64, ScriptError> {
         let number = value.as_u64().ok_or(ScriptError::Bad)?;

@@ -1,6 +1,7 @@
 //! The parts that scripts are made of, each read from a JSON value.
 
-ghost use Rattle.std.specs.Prelude.{map, option_map};
+ghost use Rattle.std.specs.Prelude.{◌≡◌, map, option_map, IfErr, false};
+ghost use Rattle.serde_json.specs.Find.{get};
 ghost use Rattle.serde_json.specs.View.{view, items_view};
 ghost use Rattle.oauth2_script.specs.Part as spec;
 ghost use Rattle.oauth2_script.specs.Gives.{Gives};
@@ -11,7 +12,7 @@ use std::alloc::Global;
 
 /// What a value of a script may say.
 pub trait Part: Sized {
-    ghost use Rattle.std.specs.Prelude.{Option};
+    ghost use Rattle.std.specs.Prelude.{◌≡◌, Bool, true, false, Option, IfErr};
     ghost use Rattle.serde_json.specs.Data.{Data};
     ghost use Rattle.serde_json.specs.View.{view};
     ghost use Rattle.oauth2_script.specs.Gives.{Gives};
@@ -24,15 +25,21 @@ pub trait Part: Sized {
     /// What a value says.
     ghost reading: { Data → Option Meaning };
 
-    /// Reads a value: `Bad` where it says none.
+    /// Whether reading one takes memory.
+    ghost allocates: { Bool } = { true };
+
+    /// Reads a value: `Bad` if it says none, and only then, unless reading takes memory.
     fn from_value(alloc: Global, value: &Value) -> Result<Self, ScriptError>
-        ensures { Gives meaning result (reading (view value.now)) };
+        ensures read { Gives meaning result (reading (view value.now)) }
+        ensures fed { allocates ≡ false → IfErr result (λ e. e ≡ ScriptError.Bad) };
 }
 
 /// The member of this name; without it the object is `Bad`.
 #[tactic(auto, unfolding(crate::specs::Part::needed))]
 pub fn needed<T: Part>(alloc: Global, object: &Value, name: &str) -> Result<T, ScriptError>
-    ensures { Gives T.meaning result (spec.needed T.reading name.now (view object.now)) }
+    ensures read { Gives T.meaning result (spec.needed T.reading name.now (view object.now)) }
+    ensures absent { get name.now (view object.now) ≡ None → result ≡ Err ScriptError.Bad }
+    ensures fed { T.allocates ≡ false → IfErr result (λ e. e ≡ ScriptError.Bad) }
 {
     let value = object.get(name).ok_or(ScriptError::Bad)?;
     T::from_value(alloc, value)
@@ -45,8 +52,9 @@ pub fn optional<T: Part>(
     object: &Value,
     name: &str,
 ) -> Result<Option<T>, ScriptError>
-    ensures { Gives (option_map T.meaning) result
+    ensures read { Gives (option_map T.meaning) result
         (spec.optional T.reading name.now (view object.now)) }
+    ensures fed { T.allocates ≡ false → IfErr result (λ e. e ≡ ScriptError.Bad) }
 {
     match object.get(name) {
         None => Ok(None),

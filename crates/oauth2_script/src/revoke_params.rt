@@ -23,6 +23,7 @@ pub struct RevokeParams {
 }
 
 impl Part for TokenKind {
+    ghost use Rattle.std.specs.Prelude.{false};
     ghost use Rattle.oauth2_script.specs.declared.revoke_params.TokenKind.{TokenKind};
 
     ghost Meaning = { TokenKind };
@@ -30,6 +31,8 @@ impl Part for TokenKind {
     ghost meaning = { λ kind. kind };
 
     ghost reading = { spec.kind };
+
+    ghost allocates = { false };
 
     #[tactic(auto, unfolding(crate::specs::RevokeParams::kind_of))]
     fn from_value(_alloc: Global, value: &Value) -> Result<TokenKind, ScriptError> {

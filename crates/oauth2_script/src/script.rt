@@ -1,6 +1,6 @@
 //! What a script says, and the script that an input is.
 
-ghost use Rattle.std.specs.Prelude.{◌≡◌, option_map};
+ghost use Rattle.std.specs.Prelude.{◌≡◌, option_map, IfErr};
 ghost use Rattle.serde_json.specs.View.{view};
 ghost use Rattle.serde_json.specs.Data.{object, no_members};
 ghost use Rattle.oauth2_script.specs.Script as spec;
@@ -30,8 +30,9 @@ pub struct Script {
 
 fn params_of<'v>(params: Option<&'v Value>, empty: &'v Value) -> Result<&'v Value, ScriptError>
     requires { view empty.now ≡ object no_members }
-    ensures { Gives (λ v. view v.now) result
+    ensures read { Gives (λ v. view v.now) result
         (spec.object_or_empty (option_map (λ v. view v.now) params.entry)) }
+    ensures fed { IfErr result (λ e. e ≡ ScriptError.Bad) }
 {
     match params {
         None => Ok(empty),

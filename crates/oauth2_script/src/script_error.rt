@@ -1,7 +1,7 @@
 //! Why an input is no script.
 
 ghost use Rattle.std.specs.Prelude.{◌≡◌, ◌⊎◌};
-ghost use Rattle.http_header.specs.declared.value.HeaderValueError.TheVariants.{Invalid};
+ghost use Rattle.http_header.specs.declared.value.HeaderValueError.TheVariants as header;
 ghost use Rattle.url.specs.Parser.{IsOutOfRoom};
 ghost use Rattle.oauth2_script.specs.declared.script_error.ScriptError.TheVariants.{Bad, Memory};
 
@@ -35,7 +35,9 @@ impl<T: Drop> From<AllocFailed<T>> for ScriptError {
 }
 
 impl From<ParseError> for ScriptError {
-    ghost from_gives = { λ given e. (e ≡ Memory) ⊎ ((e ≡ Bad) × (IsOutOfRoom given → ⊥)) };
+    // `Overflow` is a URL of 4 GB or more. What is a URL has no such bound, so that is not `Bad`.
+    ghost from_gives = { λ given e. (IsOutOfRoom given × (e ≡ Memory))
+        ⊎ ((IsOutOfRoom given → ⊥) × (e ≡ Bad)) };
 
     fn from(e: ParseError) -> ScriptError {
         match e {
@@ -47,7 +49,8 @@ impl From<ParseError> for ScriptError {
 }
 
 impl From<HeaderValueError> for ScriptError {
-    ghost from_gives = { λ given e. (e ≡ Memory) ⊎ ((e ≡ Bad) × (given ≡ Invalid)) };
+    ghost from_gives = { λ given e. ((given ≡ header.OutOfMemory) × (e ≡ Memory))
+        ⊎ ((given ≡ header.Invalid) × (e ≡ Bad)) };
 
     fn from(e: HeaderValueError) -> ScriptError {
         match e {

@@ -12,13 +12,13 @@ loop-value-preserved g c =
     let e : map g.T.Part.meaning c.push.new.self.items ≡ map g.T.Part.meaning c.loop-value.parts.items ++ g.T.Part.meaning part ∷ []
     = rw c.in_ok-push.ensures.items (map_push _ c.loop-value.parts.items part) in
     rw e (goes_on g.T.Part.reading (map g.T.Part.meaning c.loop-value.parts.items) c.args.values.now c.loop-value.value-index _
-    c.value-item.result c.loop-value-test.true c.value-item.is c.loop-value.invariant (g.T.Part.meaning part) c.in_ok-from_value.ensures)
+    c.value-item.result c.loop-value-test.true c.value-item.is c.loop-value.invariant (g.T.Part.meaning part) c.in_ok-from_value.ensures.read)
 
 pub returns-in_err-from_value : goal.returns-in_err-from_value
 returns-in_err-from_value g c =
     let refused : Refuses c.in_err-from_value.field-0.0 (spec.each g.T.Part.reading (items_view c.args.values.now))
     = stops g.T.Part.reading (map g.T.Part.meaning c.loop-value.parts.items) c.args.values.now c.loop-value.value-index _
-    c.value-item.result c.loop-value-test.true c.value-item.is c.loop-value.invariant c.in_err-from_value.field-0.0 c.in_err-from_value.ensures in
+    c.value-item.result c.loop-value-test.true c.value-item.is c.loop-value.invariant c.in_err-from_value.field-0.0 c.in_err-from_value.ensures.read in
     search rules
 
 pub returns : goal.returns

@@ -6,16 +6,16 @@ use Rattle.oauth2_script.specs.Gives.{Refuses}
 use Rattle.oauth2_script.proofs.Refusals.{Refuses-then, Gives-refused}
 use Rattle.oauth2_script.proofs.authorize_params.AuthorizeParamsPart.from_value.Goals as goal
 
-pub returns-in_err-response_type : goal.returns-in_err-response_type
+pub returns-in_err-response_type-clause-read : goal.returns-in_err-response_type-clause-read
 unfolding authorize_params
-returns-in_err-response_type c =
+returns-in_err-response_type-clause-read c =
     let refused : Refuses c.in_err-response_type.field-0.0 (authorize_params (view c.args.value.now)) =
-    rw (c.in_ok-state.ensures, c.in_ok-scopes.ensures, c.in_ok-extra.ensures, c.in_ok-challenge.ensures, c.in_ok-redirect.ensures)
-    (Refuses-then c.in_err-response_type.field-0.0 _ _ c.in_err-response_type.ensures) in
+    rw (c.in_ok-state.ensures.read, c.in_ok-scopes.ensures, c.in_ok-extra.ensures, c.in_ok-challenge.ensures.read, c.in_ok-redirect.ensures.read)
+    (Refuses-then c.in_err-response_type.field-0.0 _ _ c.in_err-response_type.ensures.read) in
     Gives-refused _ c.from_residual-in_err-response_type.result c.in_err-response_type.field-0.0 _ c.from_residual-in_err-response_type.ensures.1 refused
 
-pub returns : goal.returns
+pub returns-clause-read : goal.returns-clause-read
 unfolding authorize_params
-returns c =
-    rw (c.in_ok-state.ensures, c.in_ok-scopes.ensures, c.in_ok-extra.ensures, c.in_ok-challenge.ensures, c.in_ok-redirect.ensures, c.in_ok-response_type.ensures)
+returns-clause-read c =
+    rw (c.in_ok-state.ensures.read, c.in_ok-scopes.ensures, c.in_ok-extra.ensures, c.in_ok-challenge.ensures.read, c.in_ok-redirect.ensures.read, c.in_ok-response_type.ensures.read)
     (simp (option_map_id, map-id))

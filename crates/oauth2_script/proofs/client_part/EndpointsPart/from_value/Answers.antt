@@ -5,15 +5,15 @@ use Rattle.oauth2_script.specs.Gives.{Refuses}
 use Rattle.oauth2_script.proofs.Refusals.{Refuses-then, Gives-refused}
 use Rattle.oauth2_script.proofs.client_part.EndpointsPart.from_value.Goals as goal
 
-pub returns-in_err-revocation : goal.returns-in_err-revocation
+pub returns-in_err-revocation-clause-read : goal.returns-in_err-revocation-clause-read
 unfolding endpoints
-returns-in_err-revocation c =
+returns-in_err-revocation-clause-read c =
     let refused : Refuses c.in_err-revocation.field-0.0 (endpoints (view c.args.value.now)) =
-    rw (c.in_ok-auth.ensures, c.in_ok-token.ensures, c.in_ok-device.ensures, c.in_ok-introspection.ensures)
-    (Refuses-then c.in_err-revocation.field-0.0 _ _ c.in_err-revocation.ensures) in
+    rw (c.in_ok-auth.ensures.read, c.in_ok-token.ensures.read, c.in_ok-device.ensures.read, c.in_ok-introspection.ensures.read)
+    (Refuses-then c.in_err-revocation.field-0.0 _ _ c.in_err-revocation.ensures.read) in
     Gives-refused _ c.from_residual-in_err-revocation.result c.in_err-revocation.field-0.0 _ c.from_residual-in_err-revocation.ensures.1 refused
 
-pub returns : goal.returns
+pub returns-clause-read : goal.returns-clause-read
 unfolding endpoints
-returns c =
-    rw (c.in_ok-auth.ensures, c.in_ok-token.ensures, c.in_ok-device.ensures, c.in_ok-introspection.ensures, c.in_ok-revocation.ensures) (simp option_map_id)
+returns-clause-read c =
+    rw (c.in_ok-auth.ensures.read, c.in_ok-token.ensures.read, c.in_ok-device.ensures.read, c.in_ok-introspection.ensures.read, c.in_ok-revocation.ensures.read) (simp option_map_id)
