@@ -1,5 +1,6 @@
 -- Reading the items of a list one after the other, as a loop does.
 use Rattle.std.proofs.Common.{◌≡◌, ◌≢◌, ℕ, suc, ◌+◌, ◌<◌, ◌≤◌, List, [], ◌∷◌, ◌++◌, length, drop, get_or, Option, Some, None, option_map, refl, sym, ap, ◌∙◌, append_assoc, add-one, drop-cons}
+use Rattle.std.proofs.lemmas.Iterator.Adapters.{option_map_id}
 use Rattle.std.proofs.lemmas.List.{append-nil}
 use Rattle.std.proofs.Math.ListN.{drop_of_length-le}
 use Rattle.serde_json.specs.Data.{Data}
@@ -9,6 +10,9 @@ use Rattle.oauth2_script.specs.Part.{each, pair_of}
 use Rattle.oauth2_script.specs.Gives.{Refuses}
 use Rattle.oauth2_script.specs.declared.script_error.ScriptError.{ScriptError}
 use Rattle.oauth2_script.specs.declared.script_error.ScriptError.TheVariants as errors
+
+-- an optional member that is kept as it was read
+pub ruleset kept = (option_map_id)
 
 -- what was read before, and what is still read
 abbrev pub with_front : {A : Type 0} → List A → Option (List A) → Option (List A)

@@ -103,7 +103,7 @@ impl Part for Endpoints {
 
     ghost reading = { spec.endpoints };
 
-    #[tactic(auto, using(std::proofs::lemmas::Iterator::Adapters::option_map_id), unfolding(crate::specs::Client::endpoints))]
+    #[tactic(auto, using(crate::proofs::Parts::kept), unfolding(crate::specs::Client::endpoints))]
     fn from_value(alloc: Global, value: &Value) -> Result<Endpoints, ScriptError> {
         let auth = optional(alloc, value, "auth_url")?;
         let token = optional(alloc, value, "token_url")?;

@@ -1,5 +1,7 @@
 //! The parameters of the command `device_authorization`.
 
+#![tactic(auto, unfolding(crate::specs::DeviceAuthorizationParams::device_authorization_params))]
+
 ghost use Rattle.oauth2_script.specs.DeviceAuthorizationParams as spec;
 
 use crate::part::{Part, listed};
@@ -24,7 +26,6 @@ impl Part for DeviceAuthorizationParams {
 
     ghost reading = { spec.device_authorization_params };
 
-    #[tactic(auto, unfolding(crate::specs::DeviceAuthorizationParams::device_authorization_params))]
     fn from_value(alloc: Global, value: &Value) -> Result<DeviceAuthorizationParams, ScriptError> {
         let scopes = listed(alloc, value, "scopes")?;
         let extra = listed(alloc, value, "extra")?;
