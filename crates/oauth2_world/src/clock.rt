@@ -4,26 +4,29 @@ ghost use Rattle.std.specs.Prelude.{◌≡◌, map};
 ghost use Rattle.oauth2_world.specs.Clock.{new_clock, reading_of, after_reading};
 
 use jiff::Timestamp;
-use std::collections::VecDeque;
 use std::marker::Model;
 
 /// Shows its moments in turn, and the last one ever after.
 #[derive(Drop)]
 pub struct ScriptedClock {
-    moments: VecDeque<jiff_core::Timestamp>,
+    readings: Vec<jiff_core::Timestamp>,
+    // How many of the readings it has shown.
+    shown: usize,
     last: jiff_core::Timestamp,
 }
 
 impl Model for ScriptedClock {
-    ghost use Rattle.std.specs.Prelude.{map};
+    ghost use Rattle.std.specs.Prelude.{◌≤◌, drop, length, map};
     ghost use Rattle.oauth2_world.specs.Clock.{Clock};
 
     ghost Value = { Clock };
 
     ghost view = { λ c. record {
       last = c.last.nanosecond;
-      moments = map (λ t. t.nanosecond) c.moments.items;
+      moments = map (λ t. t.nanosecond) (drop c.shown c.readings.items);
     } };
+
+    ghost invariant = { λ c. c.shown ≤ length c.readings.items };
 }
 
 impl ScriptedClock {
@@ -32,7 +35,8 @@ impl ScriptedClock {
         ensures { result ≡ new_clock (map (λ t. t.nanosecond) readings.items) }
     {
         ScriptedClock {
-            moments: VecDeque::from(readings),
+            readings,
+            shown: 0,
             last: jiff_core::Timestamp::UNIX_EPOCH,
         }
     }
@@ -42,16 +46,17 @@ impl ScriptedClock {
         ensures shown { result.nanosecond ≡ reading_of self.old }
         ensures later { self.new ≡ after_reading self.old }
     {
-        if let Some(moment) = self.moments.pop_front() {
-            self.last = moment;
+        if self.shown < self.readings.len() {
+            self.last = self.readings[self.shown];
+            self.shown += 1;
         }
         Timestamp::from_plain(self.last)
     }
 
     /// What it has still to show, in order.
-    pub fn moments(&mut self) -> &[jiff_core::Timestamp]
-        ensures { map (λ t. t.nanosecond) result.now ≡ self.old.moments }
+    pub fn moments(&self) -> &[jiff_core::Timestamp]
+        ensures { map (λ t. t.nanosecond) result.now ≡ self.now.moments }
     {
-        self.moments.make_contiguous()
+        &self.readings[self.shown..]
     }
 }
