@@ -1,6 +1,7 @@
 //! The lines that a run writes.
 
-ghost use Rattle.std.specs.Prelude.{◌≡◌, ◌++◌, string_bytes, IfOk, OnOk, map, option_map, option_copied};
+ghost use Rattle.std.specs.Prelude.{◌≡◌, ◌++◌, string_bytes, IfOk, OnOk};
+ghost use Rattle.std.specs.Prelude.{map, option_map, option_copied};
 ghost use Rattle.std.specs.Duration.{as_nanos};
 ghost use Rattle.oauth2_wire.specs.Request.{view_of};
 ghost use Rattle.oauth2_wire.specs.ServerView.{pair_texts};
