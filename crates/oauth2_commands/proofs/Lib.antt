@@ -5,3 +5,4 @@ pub mod Commands
 pub mod Scopes
 pub mod Polls
 pub mod Kept
+pub mod Reading

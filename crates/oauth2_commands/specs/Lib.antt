@@ -11,5 +11,6 @@ pub mod Keeper
 pub mod Password
 pub mod Refresh
 pub mod Revoke
+pub mod Input
 pub mod Run
 pub mod private

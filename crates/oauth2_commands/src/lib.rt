@@ -21,6 +21,6 @@ mod run;
 mod status;
 mod token_request;
 
-pub use input::MOST_READS;
+pub use input::{MOST_READS, ScriptReader, Source};
 pub use run::run_script;
 pub use status::{RunFault, RunStatus};

@@ -4,6 +4,7 @@ ghost use Rattle.std.specs.Prelude.{◌≡◌, List, ℕ, Some, false, string_by
 ghost use Rattle.std.specs.Io.KnownBytes.{Appends};
 ghost use Rattle.oauth2_commands.specs.Out.{Shows};
 ghost use Rattle.oauth2_commands.specs.Client.{settings_of};
+ghost use Rattle.oauth2_commands.specs.Input.{Calls};
 ghost use Rattle.oauth2_commands.specs.Run.{IsCommandOutput, IsScriptOutput, IsOutputOf};
 ghost use Rattle.oauth2_commands.specs.private.Added.{Adds};
 ghost use Rattle.oauth2_script.specs.Views.{client_view, command_view, script_view};
@@ -11,12 +12,12 @@ ghost use Rattle.oauth2_world.specs.Replay.{replies_of};
 
 use crate::client::client_of;
 use crate::command::run_command;
-use crate::input::{Source, read_input};
+use crate::input::{ScriptReader, read_input};
 use crate::status::{RunFault, RunStatus};
 use oauth2_script::{ClientPart, Command, Script, ScriptError, script_in};
 use oauth2_world::{ScriptedClient, ScriptedClock, ScriptedWorld};
 use std::alloc::{AllocError, Global};
-use std::io::{Read, Write};
+use std::io::Write;
 
 // Runs a command by the client that a script names, and lets go of that client.
 fn run_by(
@@ -77,8 +78,9 @@ fn output_of(alloc: Global, input: &[u8]) -> Result<(String, RunStatus), AllocEr
 
 /// Reads a script to its end, runs its command, and writes the lines of the run.
 ///
-/// Calls the reader at most 1,048,576 times; an input that has not ended by then is a failed read.
-pub fn run_script<R: Read, W: Write>(
+/// Calls the reader at most 1,048,576 times, and no more once it has ended or failed. An input
+/// that has not ended by then is a failed read.
+pub fn run_script<R: ScriptReader, W: Write>(
     alloc: Global,
     reader: &mut R,
     writer: &mut W,
@@ -87,13 +89,15 @@ pub fn run_script<R: Read, W: Write>(
     ensures shown { IfOk result (λ status. IfSome (R.remaining reader.old) (λ input.
         (written : List ℕ) × Appends (W.contents writer.old) (W.contents writer.new) written
         × Shows written status (IsOutputOf input))) }
+    // How often the reader is called: never behind its end or a failure. A `Read` fault comes of a
+    // failed read, or of the last read that is allowed.
+    ensures calls { Calls R.reads result reader.old reader.new }
     // Where the input can't be read, nothing is written.
     ensures unread { result ≡ Err RunFault.Read → writer.new ≡ writer.old }
     // Nor where memory ran out outside a call of the client.
     ensures unfed { result ≡ Err RunFault.Memory → writer.new ≡ writer.old }
 {
-    let mut source = Source::new(&mut *reader);
-    let input = read_input(alloc, &mut source)?;
+    let input = read_input(alloc, reader)?;
     let (lines, status) = output_of(alloc, input.as_slice())?;
     if writer.write_all(lines.as_bytes()).is_err() {
         return Err(RunFault::Write);

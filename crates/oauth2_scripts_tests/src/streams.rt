@@ -1,6 +1,6 @@
 //! Bytes that are no text, readers and writers that fail, and a reader without an end.
 
-use oauth2_commands::{MOST_READS, RunFault, RunStatus, run_script};
+use oauth2_commands::{RunFault, RunStatus, Source, run_script};
 use std::io;
 use std::io::{Error, ErrorKind, Read, Write};
 use std::process::Abort;
@@ -102,7 +102,7 @@ fn reads_fail(rt: HostRuntime) -> Result<(), Fail> {
             fails_at: at,
         };
         let mut written = Vec::new(rt.alloc());
-        let result = run_script(rt.alloc(), &mut reader, &mut written);
+        let result = run_script(rt.alloc(), &mut Source::new(&mut reader), &mut written);
         if reader.reads < at {
             ends(&rt, result, Ok(RunStatus::Answered));
             return Ok(());
@@ -120,7 +120,7 @@ fn reads_fail(rt: HostRuntime) -> Result<(), Fail> {
 fn writes_fail(rt: HostRuntime) -> Result<(), Fail> {
     let whole = LINES.len();
     for at in 1..=whole {
-        let mut input = SCRIPT.as_bytes();
+        let mut input = Source::new(SCRIPT.as_bytes());
         let mut writer = FailingWriter {
             taken: Vec::new(rt.alloc()),
             writes: 0,
@@ -137,7 +137,7 @@ fn writes_fail(rt: HostRuntime) -> Result<(), Fail> {
 #[test]
 fn writes_end(rt: HostRuntime) -> Result<(), Fail> {
     let whole = LINES.len();
-    let mut input = SCRIPT.as_bytes();
+    let mut input = Source::new(SCRIPT.as_bytes());
     let mut writer = FailingWriter {
         taken: Vec::new(rt.alloc()),
         writes: 0,
@@ -166,7 +166,7 @@ impl Write for FullWriter {
 #[test]
 fn nothing_is_taken(rt: HostRuntime) -> Result<(), Fail> {
     for input in [SCRIPT, "{}"] {
-        let mut input = input.as_bytes();
+        let mut input = Source::new(input.as_bytes());
         let result = run_script(rt.alloc(), &mut input, &mut FullWriter);
         ends(&rt, result, Err(RunFault::Write));
     }
@@ -192,7 +192,7 @@ impl Write for UnflushedWriter {
 
 #[test]
 fn flush_fails(rt: HostRuntime) -> Result<(), Fail> {
-    let mut input = SCRIPT.as_bytes();
+    let mut input = Source::new(SCRIPT.as_bytes());
     let mut writer = UnflushedWriter {
         taken: Vec::new(rt.alloc()),
     };
@@ -206,9 +206,9 @@ fn flush_fails(rt: HostRuntime) -> Result<(), Fail> {
 fn endless_input(rt: HostRuntime) -> Result<(), Fail> {
     let mut reader = EndlessReader { reads: 0 };
     let mut written = Vec::new(rt.alloc());
-    let result = run_script(rt.alloc(), &mut reader, &mut written);
+    let result = run_script(rt.alloc(), &mut Source::new(&mut reader), &mut written);
     ends(&rt, result, Err(RunFault::Read));
-    assert!(rt; reader.reads == MOST_READS);
+    assert!(rt; reader.reads == 1_048_576);
     assert!(rt; written.is_empty());
     Ok(())
 }
@@ -226,7 +226,7 @@ fn inputs_that_are_no_script(rt: HostRuntime) -> Result<(), Fail> {
     ];
     for bytes in cases {
         let mut written = Vec::new(rt.alloc());
-        let mut input = bytes;
+        let mut input = Source::new(bytes);
         let result = run_script(rt.alloc(), &mut input, &mut written);
         ends(&rt, result, Ok(RunStatus::BadScript));
         assert!(rt; written.as_slice() == b"bad script\n".as_slice());
