@@ -1,12 +1,14 @@
 //! What a run shows of the end of a request.
 
-ghost use Rattle.std.specs.Prelude.{◌≡◌, ◌++◌, ℕ, List, Some, false, string_bytes, codes, IfOk, OnOk, IsOkAnd};
+ghost use Rattle.std.specs.Prelude.{◌≡◌, ◌++◌, ℕ, List, Some, false, string_bytes, codes};
+ghost use Rattle.std.specs.Prelude.{IfOk, OnOk, IsOkAnd};
 ghost use Rattle.serde_json.specs.Data.{Data};
 ghost use Rattle.serde_json.specs.Written.{compact_text, has_float};
 ghost use Rattle.oauth2_commands.specs.Exchange.{cause_name, unread_line};
 ghost use Rattle.oauth2_world.specs.Lines.{line};
 ghost use Rattle.oauth2_commands.specs.private.Added.{Prints};
-ghost use Rattle.oauth2_commands.specs.private.Results.{configuration_output, end_output, fault_output, revocation_output};
+ghost use Rattle.oauth2_commands.specs.private.Results.{configuration_output, end_output};
+ghost use Rattle.oauth2_commands.specs.private.Results.{fault_output, revocation_output};
 
 use crate::status::RunStatus;
 use oauth2::basic::{BasicErrorResponse, BasicRevocationErrorResponse};
@@ -48,7 +50,8 @@ fn print_words(
     fourth: &str,
 ) -> Result<(), AllocError>
     ensures { OnOk result (string_bytes lines.new ≡ string_bytes lines.old
-        ++ line (first.now ++ codes " " ++ second.now ++ codes " " ++ third.now ++ codes " " ++ fourth.now)) }
+        ++ line (first.now ++ codes " " ++ second.now ++ codes " " ++ third.now ++ codes " "
+        ++ fourth.now)) }
 {
     writeln!(lines, "{first} {second} {third} {fourth}")
 }
@@ -60,7 +63,8 @@ fn print_unread(
     member: &str,
     cause: &str,
 ) -> Result<(), AllocError>
-    ensures { OnOk result (string_bytes lines.new ≡ string_bytes lines.old ++ unread_line member.now cause.now) }
+    ensures { OnOk result (string_bytes lines.new
+        ≡ string_bytes lines.old ++ unread_line member.now cause.now) }
 {
     let display = quoted(alloc, "Failed to parse server response")?;
     let member = quoted(alloc, member)?;
@@ -93,7 +97,8 @@ pub fn show_fault<T: Display>(
     fault: &RequestTokenError<NoReply, T>,
 ) -> Result<RunStatus, AllocError>
     ensures { IfOk result (λ status. (text : T → List ℕ) → ((e : T) → T.output e ≡ Some (text e))
-        → Prints (string_bytes lines.old) (string_bytes lines.new) status (fault_output text fault.now)) }
+        → Prints (string_bytes lines.old) (string_bytes lines.new) status
+        (fault_output text fault.now)) }
 {
     if let RequestTokenError::Parse(fault, _) = fault {
         print_parse_fault(alloc, lines, fault)?;
@@ -107,7 +112,8 @@ pub fn show_fault<T: Display>(
 // The compact JSON of what is written without a fault and holds no float.
 fn json_of<T: ToJson>(alloc: Global, value: &T) -> Result<String, AllocError>
     requires { IsOkAnd (T.writing value.now) (λ d. has_float d ≡ false) }
-    ensures { IfOk result (λ s. (d : Data) → T.writing value.now ≡ Ok d → string_bytes s ≡ compact_text d) }
+    ensures { IfOk result (λ s. (d : Data) → T.writing value.now ≡ Ok d
+        → string_bytes s ≡ compact_text d) }
 {
     match compact(alloc, value) {
         Ok(json) => Ok(json),
@@ -145,8 +151,8 @@ pub fn show_revocation(
     lines: &mut String,
     end: &Result<(), RevocationFault>,
 ) -> Result<RunStatus, AllocError>
-    ensures { IfOk result (λ status. Prints (string_bytes lines.old) (string_bytes lines.new) status
-        (revocation_output end.now)) }
+    ensures { IfOk result (λ status. Prints (string_bytes lines.old) (string_bytes lines.new)
+        status (revocation_output end.now)) }
 {
     match end {
         Ok(()) => {
@@ -163,8 +169,8 @@ pub fn show_configuration_error(
     lines: &mut String,
     error: &ConfigurationError,
 ) -> Result<RunStatus, AllocError>
-    ensures { IfOk result (λ status. Prints (string_bytes lines.old) (string_bytes lines.new) status
-        (configuration_output error.now)) }
+    ensures { IfOk result (λ status. Prints (string_bytes lines.old) (string_bytes lines.new)
+        status (configuration_output error.now)) }
 {
     let text = error.to_string(alloc)?;
     print_fault(alloc, lines, text.as_str())?;

@@ -1,6 +1,7 @@
 //! The command `authorize`: the URL to send a user to.
 
-ghost use Rattle.std.specs.Prelude.{◌≡◌, ◌++◌, Some, IfSome, IfNone, IsOkAnd, IsErrAnd, OnOk, IfOk, codes, unwrap_or, string_bytes};
+ghost use Rattle.std.specs.Prelude.{◌≡◌, ◌++◌, Some, codes, unwrap_or, string_bytes};
+ghost use Rattle.std.specs.Prelude.{IfSome, IfNone, IsOkAnd, IsErrAnd, OnOk, IfOk};
 ghost use Rattle.oauth2_wire.specs.ConfigurationError.{IsMissingUrl};
 ghost use Rattle.oauth2_commands.specs.Authorize as spec;
 ghost use Rattle.oauth2.specs.NewRequest.{new_authorization};
@@ -26,7 +27,9 @@ impl<'a> Extensible<'a> for AuthorizationRequest<'a> {
 
     ghost extended = { λ r added. record r { extra_params = r.extra_params ++ added } };
 
-    ghost none = { λ r. ap (λ (pairs : List Pair). record r { extra_params = pairs }) (append-nil r.extra_params) };
+    ghost none = { λ r.
+        ap (λ (pairs : List Pair). record r { extra_params = pairs })
+        (append-nil r.extra_params) };
 
     ghost more = { λ r p q. ap (λ (pairs : List Pair). record r { extra_params = pairs })
         (append_assoc r.extra_params p q) };
@@ -45,8 +48,10 @@ fn start<'a>(
     client: &'a ScriptClient,
     state: CsrfToken,
 ) -> Result<AuthorizationRequest<'a>, ConfigurationError>
-    ensures there { IfSome client.now.auth_url (λ url. IsOkAnd result (λ r. r ≡ new_authorization client.now url state)) }
-    ensures missing { IfNone client.now.auth_url (IsErrAnd result (IsMissingUrl (codes "authorization"))) }
+    ensures there { IfSome client.now.auth_url (λ url.
+        IsOkAnd result (λ r. r ≡ new_authorization client.now url state)) }
+    ensures missing { IfNone client.now.auth_url
+        (IsErrAnd result (IsMissingUrl (codes "authorization"))) }
 {
     client.authorize_url(alloc, move || state)
 }
@@ -55,7 +60,9 @@ fn with_challenge<'a>(
     request: AuthorizationRequest<'a>,
     challenge: Option<PkceCodeChallenge>,
 ) -> AuthorizationRequest<'a>
-    ensures { result ≡ record request.entry { pkce_challenge = given_or challenge request.entry.pkce_challenge } }
+    ensures { result ≡ record request.entry {
+      pkce_challenge = given_or challenge request.entry.pkce_challenge;
+    } }
 {
     match challenge {
         Some(challenge) => request.set_pkce_challenge(challenge),
@@ -67,7 +74,9 @@ fn with_redirect<'a>(
     request: AuthorizationRequest<'a>,
     redirect: Option<RedirectUrl>,
 ) -> AuthorizationRequest<'a>
-    ensures { result ≡ record request.entry { redirect_url = given_or redirect request.entry.redirect_url } }
+    ensures { result ≡ record request.entry {
+      redirect_url = given_or redirect request.entry.redirect_url;
+    } }
 {
     match redirect {
         Some(redirect) => request.set_redirect_uri(RedirectRef::Owned(redirect)),
@@ -92,7 +101,8 @@ fn with_response_type<'a>(
 
 #[tactic(auto, unfolding(crate::specs::Authorize::url_line))]
 fn print_url(alloc: Global, lines: &mut String, url: &str) -> Result<(), AllocError>
-    ensures { OnOk result (string_bytes lines.new ≡ string_bytes lines.old ++ spec.url_line url.now) }
+    ensures { OnOk result (string_bytes lines.new
+        ≡ string_bytes lines.old ++ spec.url_line url.now) }
 {
     let url = quoted(alloc, url)?;
     writeln!(lines, "url {url}")
@@ -104,7 +114,8 @@ fn show_url(
     lines: &mut String,
     request: AuthorizationRequest<'_>,
 ) -> Result<RunStatus, AllocError>
-    ensures { IfOk result (λ status. Adds (string_bytes lines.old) (string_bytes lines.new) status (spec.IsUrlShown request.entry)) }
+    ensures { IfOk result (λ status. Adds (string_bytes lines.old) (string_bytes lines.new) status
+        (spec.IsUrlShown request.entry)) }
 {
     match request.url(alloc) {
         Ok((url, state)) => {

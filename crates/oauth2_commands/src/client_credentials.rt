@@ -26,13 +26,15 @@ type ClientCredentialsRequest<'a> = ClientCredentialsTokenRequest<
 impl<'a> Extensible<'a> for ClientCredentialsRequest<'a> {
     ghost use Rattle.std.proofs.Common.{ap};
     ghost use Rattle.oauth2_requests.specs.Base.{Base};
-    ghost use Rattle.oauth2_commands.specs.private.Extra.{with_pairs, with_pairs-none, with_pairs-more};
+    ghost use Rattle.oauth2_commands.specs.private.Extra.{with_pairs, with_pairs-none};
+    ghost use Rattle.oauth2_commands.specs.private.Extra.{with_pairs-more};
 
     ghost extended = { λ r added. record r { base = with_pairs r.base added } };
 
     ghost none = { λ r. ap (λ (b : Base). record r { base = b }) (with_pairs-none r.base) };
 
-    ghost more = { λ r p q. ap (λ (b : Base). record r { base = b }) (with_pairs-more r.base p q) };
+    ghost more = { λ r p q.
+        ap (λ (b : Base). record r { base = b }) (with_pairs-more r.base p q) };
 
     fn with_pair(
         self,
@@ -70,7 +72,8 @@ pub fn run_client_credentials(
 ) -> Result<RunStatus, AllocError>
     ensures { IfOk result (λ status. http_client.new.is_starved ≡ false
         → Adds (string_bytes http_client.old.lines) (string_bytes http_client.new.lines) status
-        (spec.IsClientCredentialsOutput client.now (client_credentials_view params) (replies_of http_client.old))) }
+        (spec.IsClientCredentialsOutput client.now (client_credentials_view params)
+        (replies_of http_client.old))) }
 {
     match client.exchange_client_credentials(alloc) {
         Ok(request) => {

@@ -23,13 +23,15 @@ type CodeRequest<'a> = CodeTokenRequest<'a, BasicErrorResponse, BasicTokenRespon
 impl<'a> Extensible<'a> for CodeRequest<'a> {
     ghost use Rattle.std.proofs.Common.{ap};
     ghost use Rattle.oauth2_requests.specs.Base.{Base};
-    ghost use Rattle.oauth2_commands.specs.private.Extra.{with_pairs, with_pairs-none, with_pairs-more};
+    ghost use Rattle.oauth2_commands.specs.private.Extra.{with_pairs, with_pairs-none};
+    ghost use Rattle.oauth2_commands.specs.private.Extra.{with_pairs-more};
 
     ghost extended = { λ r added. record r { base = with_pairs r.base added } };
 
     ghost none = { λ r. ap (λ (b : Base). record r { base = b }) (with_pairs-none r.base) };
 
-    ghost more = { λ r p q. ap (λ (b : Base). record r { base = b }) (with_pairs-more r.base p q) };
+    ghost more = { λ r p q.
+        ap (λ (b : Base). record r { base = b }) (with_pairs-more r.base p q) };
 
     fn with_pair(self, name: &'a str, value: &'a str) -> Result<CodeRequest<'a>, AllocError> {
         self.add_extra_param(ParamText::Borrowed(name), ParamText::Borrowed(value))
@@ -58,7 +60,9 @@ fn with_verifier<'a>(
     request: CodeRequest<'a>,
     verifier: Option<PkceCodeVerifier>,
 ) -> CodeRequest<'a>
-    ensures { result ≡ record request.entry { pkce_verifier = given_or verifier request.entry.pkce_verifier } }
+    ensures { result ≡ record request.entry {
+      pkce_verifier = given_or verifier request.entry.pkce_verifier;
+    } }
 {
     match verifier {
         Some(verifier) => request.set_pkce_verifier(verifier),
@@ -67,7 +71,9 @@ fn with_verifier<'a>(
 }
 
 fn with_redirect<'a>(request: CodeRequest<'a>, redirect: Option<RedirectUrl>) -> CodeRequest<'a>
-    ensures { result ≡ record request.entry { redirect_url = given_or redirect request.entry.redirect_url } }
+    ensures { result ≡ record request.entry {
+      redirect_url = given_or redirect request.entry.redirect_url;
+    } }
 {
     match redirect {
         Some(redirect) => request.set_redirect_uri(RedirectRef::Owned(redirect)),

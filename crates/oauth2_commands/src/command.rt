@@ -30,8 +30,10 @@ pub fn run_command(
     world: &mut ScriptedWorld,
 ) -> Result<RunStatus, AllocError>
     ensures { IfOk result (λ status. world.new.http_client.is_starved ≡ false
-        → Adds (string_bytes world.old.http_client.lines) (string_bytes world.new.http_client.lines) status
-        (IsCommandOutput client.now world.old.clock (replies_of world.old.http_client) (command_view command))) }
+        → Adds (string_bytes world.old.http_client.lines)
+        (string_bytes world.new.http_client.lines) status
+        (IsCommandOutput client.now world.old.clock (replies_of world.old.http_client)
+        (command_view command))) }
 {
     let http_client = &mut world.http_client;
     match command {

@@ -30,11 +30,15 @@ type DeviceRequest<'a> = DeviceAccessTokenRequest<
 impl<'a> Extensible<'a> for DeviceRequest<'a> {
     ghost use Rattle.std.proofs.Common.{ap};
     ghost use Rattle.oauth2_requests.specs.Base.{Base};
-    ghost use Rattle.oauth2_commands.specs.private.Extra.{with_pairs, with_pairs-none, with_pairs-more};
+    ghost use Rattle.oauth2_commands.specs.private.Extra.{with_pairs, with_pairs-none};
+    ghost use Rattle.oauth2_commands.specs.private.Extra.{with_pairs-more};
 
-    ghost extended = { λ r added. record r { request = record r.request { base = with_pairs r.request.base added } } };
+    ghost extended = { λ r added.
+        record r { request = record r.request { base = with_pairs r.request.base added } } };
 
-    ghost none = { λ r. ap (λ (b : Base). record r { request = record r.request { base = b } }) (with_pairs-none r.request.base) };
+    ghost none = { λ r.
+        ap (λ (b : Base). record r { request = record r.request { base = b } })
+        (with_pairs-none r.request.base) };
 
     ghost more = { λ r p q. ap (λ (b : Base). record r { request = record r.request { base = b } })
         (with_pairs-more r.request.base p q) };
@@ -46,7 +50,8 @@ impl<'a> Extensible<'a> for DeviceRequest<'a> {
 
 fn with_cap<'a>(request: DeviceRequest<'a>, cap: Option<Duration>) -> DeviceRequest<'a>
     ensures { result.request ≡ record request.entry.request {
-      max_backoff_interval = unwrap_or (option_map as_nanos cap) request.entry.request.max_backoff_interval;
+      max_backoff_interval =
+          unwrap_or (option_map as_nanos cap) request.entry.request.max_backoff_interval;
     } }
 {
     match cap {
@@ -64,7 +69,8 @@ fn poll(
     world: &mut ScriptedWorld,
 ) -> Result<RunStatus, AllocError>
     ensures { IfOk result (λ status. world.new.http_client.is_starved ≡ false
-        → Adds (string_bytes world.old.http_client.lines) (string_bytes world.new.http_client.lines) status
+        → Adds (string_bytes world.old.http_client.lines)
+        (string_bytes world.new.http_client.lines) status
         (spec.IsPolled request.entry.request (timeout_of request.entry.request timeout)
         (non_zero_u64_get max_polls) world.old.clock (replies_of world.old.http_client))) }
 {
@@ -80,7 +86,8 @@ pub fn run_device_poll(
     world: &mut ScriptedWorld,
 ) -> Result<RunStatus, AllocError>
     ensures { IfOk result (λ status. world.new.http_client.is_starved ≡ false
-        → Adds (string_bytes world.old.http_client.lines) (string_bytes world.new.http_client.lines) status
+        → Adds (string_bytes world.old.http_client.lines)
+        (string_bytes world.new.http_client.lines) status
         (spec.IsDevicePollOutput client.now (device_poll_view params) world.old.clock
         (replies_of world.old.http_client))) }
 {

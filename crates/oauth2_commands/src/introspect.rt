@@ -27,13 +27,15 @@ type Introspection<'a> = IntrospectionRequest<
 impl<'a> Extensible<'a> for Introspection<'a> {
     ghost use Rattle.std.proofs.Common.{ap};
     ghost use Rattle.oauth2_requests.specs.Base.{Base};
-    ghost use Rattle.oauth2_commands.specs.private.Extra.{with_pairs, with_pairs-none, with_pairs-more};
+    ghost use Rattle.oauth2_commands.specs.private.Extra.{with_pairs, with_pairs-none};
+    ghost use Rattle.oauth2_commands.specs.private.Extra.{with_pairs-more};
 
     ghost extended = { λ r added. record r { base = with_pairs r.base added } };
 
     ghost none = { λ r. ap (λ (b : Base). record r { base = b }) (with_pairs-none r.base) };
 
-    ghost more = { λ r p q. ap (λ (b : Base). record r { base = b }) (with_pairs-more r.base p q) };
+    ghost more = { λ r p q.
+        ap (λ (b : Base). record r { base = b }) (with_pairs-more r.base p q) };
 
     fn with_pair(self, name: &'a str, value: &'a str) -> Result<Introspection<'a>, AllocError> {
         self.add_extra_param(ParamText::Borrowed(name), ParamText::Borrowed(value))
@@ -59,7 +61,8 @@ fn ask(
 ) -> Result<RunStatus, AllocError>
     ensures { IfOk result (λ status. http_client.new.is_starved ≡ false
         → Adds (string_bytes http_client.old.lines) (string_bytes http_client.new.lines) status
-        (spec.IsIntrospected request.entry.base.reply_rule (introspection_configuration request.entry)
+        (spec.IsIntrospected request.entry.base.reply_rule
+        (introspection_configuration request.entry)
         request.entry.introspection_url (replies_of http_client.old))) }
 {
     let end = request.request(alloc, http_client);
@@ -75,7 +78,8 @@ pub fn run_introspect(
 ) -> Result<RunStatus, AllocError>
     ensures { IfOk result (λ status. http_client.new.is_starved ≡ false
         → Adds (string_bytes http_client.old.lines) (string_bytes http_client.new.lines) status
-        (spec.IsIntrospectOutput client.now (introspect_view params) (replies_of http_client.old))) }
+        (spec.IsIntrospectOutput client.now (introspect_view params)
+        (replies_of http_client.old))) }
 {
     let token = params.token;
     match client.introspect(alloc, &token) {

@@ -55,8 +55,8 @@ fn show_kept(
     lines: &mut String,
     token: &AccessToken,
 ) -> Result<RunStatus, AllocError>
-    ensures { IfOk result (λ status. Prints (string_bytes lines.old) (string_bytes lines.new) status
-        (answered (quoted token.now))) }
+    ensures { IfOk result (λ status. Prints (string_bytes lines.old) (string_bytes lines.new)
+        status (answered (quoted token.now))) }
 {
     let json = quoted(alloc, token.secret().as_str())?;
     print_answer(lines, json.as_str())?;
@@ -72,8 +72,10 @@ fn show_call(
 ) -> Result<RunStatus, AllocError>
     ensures { IfOk result (λ status. http_client.new.is_starved ≡ false
         → (http_client.old.is_starved ≡ false)
-        × ((o : Output) × spec.IsCall (standing keeper.old http_client.old) now.nanosecond o (standing keeper.new http_client.new)
-        × Prints (string_bytes http_client.old.lines) (string_bytes http_client.new.lines) status o)) }
+        × ((o : Output) × spec.IsCall (standing keeper.old http_client.old) now.nanosecond o
+        (standing keeper.new http_client.new)
+        × Prints (string_bytes http_client.old.lines) (string_bytes http_client.new.lines)
+        status o)) }
 {
     match keeper.keep_good(alloc, now, http_client) {
         Ok(()) => show_kept(alloc, &mut http_client.lines, keeper.get().unwrap()),
@@ -91,7 +93,8 @@ fn show_calls(
     ensures { IfOk result (λ status. http_client.new.is_starved ≡ false
         → (o : Output) × spec.AreCalls (standing keeper.old http_client.old)
         (map (λ t. t.nanosecond) readings.now) o (standing keeper.new http_client.new)
-        × Prints (string_bytes http_client.old.lines) (string_bytes http_client.new.lines) status o) }
+        × Prints (string_bytes http_client.old.lines) (string_bytes http_client.new.lines)
+        status o) }
 {
     let mut status = RunStatus::Answered;
     for now in readings {
@@ -123,7 +126,8 @@ fn show_new_keeper(
 ) -> Result<RunStatus, AllocError>
     ensures { IfOk result (λ status. http_client.new.is_starved ≡ false
         → Adds (string_bytes http_client.old.lines) (string_bytes http_client.new.lines) status
-        (AreKept client.now (keeper_view params) (map (λ t. t.nanosecond) readings.now) (replies_of http_client.old))) }
+        (AreKept client.now (keeper_view params) (map (λ t. t.nanosecond) readings.now)
+        (replies_of http_client.old))) }
 {
     let KeeperParams {
         margin,
@@ -136,8 +140,8 @@ fn show_new_keeper(
 
 // The client has no token endpoint.
 fn show_no_endpoint(alloc: Global, lines: &mut String) -> Result<RunStatus, AllocError>
-    ensures { IfOk result (λ status. Prints (string_bytes lines.old) (string_bytes lines.new) status
-        (missing (codes "token"))) }
+    ensures { IfOk result (λ status. Prints (string_bytes lines.old) (string_bytes lines.new)
+        status (missing (codes "token"))) }
 {
     let error = ConfigurationError::MissingUrl("token");
     show_configuration_error(alloc, lines, &error)
@@ -153,7 +157,8 @@ pub fn run_keeper(
 ) -> Result<RunStatus, AllocError>
     ensures { IfOk result (λ status. http_client.new.is_starved ≡ false
         → Adds (string_bytes http_client.old.lines) (string_bytes http_client.new.lines) status
-        (spec.IsKeeperOutput client.now (keeper_view params) (map (λ t. t.nanosecond) readings.now) (replies_of http_client.old))) }
+        (spec.IsKeeperOutput client.now (keeper_view params) (map (λ t. t.nanosecond) readings.now)
+        (replies_of http_client.old))) }
 {
     match client.token_uri() {
         Some(token_url) => {

@@ -1,4 +1,5 @@
-//! The command `password`: the name and the password of a resource owner are exchanged for a token.
+//! The command `password`: the name and the password of a resource owner are exchanged for a
+//! token.
 
 ghost use Rattle.std.specs.Prelude.{◌≡◌, false, string_bytes, IfOk};
 ghost use Rattle.oauth2_commands.specs.Password as spec;
@@ -22,13 +23,15 @@ type PasswordRequest<'a> = PasswordTokenRequest<'a, BasicErrorResponse, BasicTok
 impl<'a> Extensible<'a> for PasswordRequest<'a> {
     ghost use Rattle.std.proofs.Common.{ap};
     ghost use Rattle.oauth2_requests.specs.Base.{Base};
-    ghost use Rattle.oauth2_commands.specs.private.Extra.{with_pairs, with_pairs-none, with_pairs-more};
+    ghost use Rattle.oauth2_commands.specs.private.Extra.{with_pairs, with_pairs-none};
+    ghost use Rattle.oauth2_commands.specs.private.Extra.{with_pairs-more};
 
     ghost extended = { λ r added. record r { base = with_pairs r.base added } };
 
     ghost none = { λ r. ap (λ (b : Base). record r { base = b }) (with_pairs-none r.base) };
 
-    ghost more = { λ r p q. ap (λ (b : Base). record r { base = b }) (with_pairs-more r.base p q) };
+    ghost more = { λ r p q.
+        ap (λ (b : Base). record r { base = b }) (with_pairs-more r.base p q) };
 
     fn with_pair(self, name: &'a str, value: &'a str) -> Result<PasswordRequest<'a>, AllocError> {
         self.add_extra_param(ParamText::Borrowed(name), ParamText::Borrowed(value))

@@ -23,13 +23,15 @@ type Revocation<'a> = RevocationRequest<'a, StandardRevocableToken, BasicRevocat
 impl<'a> Extensible<'a> for Revocation<'a> {
     ghost use Rattle.std.proofs.Common.{ap};
     ghost use Rattle.oauth2_requests.specs.Base.{Base};
-    ghost use Rattle.oauth2_commands.specs.private.Extra.{with_pairs, with_pairs-none, with_pairs-more};
+    ghost use Rattle.oauth2_commands.specs.private.Extra.{with_pairs, with_pairs-none};
+    ghost use Rattle.oauth2_commands.specs.private.Extra.{with_pairs-more};
 
     ghost extended = { λ r added. record r { base = with_pairs r.base added } };
 
     ghost none = { λ r. ap (λ (b : Base). record r { base = b }) (with_pairs-none r.base) };
 
-    ghost more = { λ r p q. ap (λ (b : Base). record r { base = b }) (with_pairs-more r.base p q) };
+    ghost more = { λ r p q.
+        ap (λ (b : Base). record r { base = b }) (with_pairs-more r.base p q) };
 
     fn with_pair(self, name: &'a str, value: &'a str) -> Result<Revocation<'a>, AllocError> {
         self.add_extra_param(ParamText::Borrowed(name), ParamText::Borrowed(value))
@@ -54,7 +56,8 @@ fn ask(
 ) -> Result<RunStatus, AllocError>
     ensures { IfOk result (λ status. http_client.new.is_starved ≡ false
         → Adds (string_bytes http_client.old.lines) (string_bytes http_client.new.lines) status
-        (spec.IsRevoked (revocation_configuration request.entry) request.entry.revocation_url (replies_of http_client.old))) }
+        (spec.IsRevoked (revocation_configuration request.entry) request.entry.revocation_url
+        (replies_of http_client.old))) }
 {
     let end = request.request(alloc, http_client);
     show_revocation(alloc, &mut http_client.lines, &end)

@@ -27,7 +27,8 @@ fn run_by(
     world: &mut ScriptedWorld,
 ) -> Result<RunStatus, AllocError>
     ensures { IfOk result (λ status. world.new.http_client.is_starved ≡ false
-        → Adds (string_bytes world.old.http_client.lines) (string_bytes world.new.http_client.lines) status
+        → Adds (string_bytes world.old.http_client.lines)
+        (string_bytes world.new.http_client.lines) status
         (IsCommandOutput (settings_of (client_view client)) world.old.clock
         (replies_of world.old.http_client) (command_view command))) }
 {
@@ -36,7 +37,8 @@ fn run_by(
 
 // The lines of a script, and how its run ends.
 fn run_lines(alloc: Global, script: Script) -> Result<(String, RunStatus), AllocError>
-    ensures { IfOk result (λ r. Shows (string_bytes r.0) r.1 (IsScriptOutput (Some (script_view script)))) }
+    ensures { IfOk result (λ r. Shows (string_bytes r.0) r.1
+        (IsScriptOutput (Some (script_view script)))) }
 {
     let Script {
         client,

@@ -29,7 +29,8 @@ pub trait TokenRequest: Sized {
         alloc: Global,
         http_client: &mut ScriptedClient,
     ) -> Result<BasicTokenResponse, Fault>
-        ensures { AsksForToken (reply_rule self) (configuration self) (endpoint self) http_client.old result http_client.new };
+        ensures { AsksForToken (reply_rule self) (configuration self) (endpoint self)
+            http_client.old result http_client.new };
 }
 
 /// Sends the request, and shows what came of it.
@@ -40,7 +41,8 @@ pub fn exchange<T: TokenRequest + Drop>(
 ) -> Result<RunStatus, AllocError>
     ensures { IfOk result (λ status. http_client.new.is_starved ≡ false
         → Adds (string_bytes http_client.old.lines) (string_bytes http_client.new.lines) status
-        (IsTokenExchange (T.reply_rule request) (T.configuration request) (T.endpoint request) (replies_of http_client.old))) }
+        (IsTokenExchange (T.reply_rule request) (T.configuration request) (T.endpoint request)
+        (replies_of http_client.old))) }
 {
     let end = request.send(alloc, http_client);
     show_end(alloc, &mut http_client.lines, &end)
