@@ -35,8 +35,6 @@ of_request_fault fault.NotHttp = Refused
 
 abbrev pub of_code_flow_error : CodeFlowError → Ended
 of_code_flow_error flow.Memory = Starved want.CodeFlowError
-of_code_flow_error (flow.Url parse.OutOfMemory) = Starved want.CodeFlowError
-of_code_flow_error (flow.Url parse.Overflow) = Starved want.CodeFlowError
 of_code_flow_error (flow.Url error) = Refused
 of_code_flow_error flow.NotHttp = Refused
 

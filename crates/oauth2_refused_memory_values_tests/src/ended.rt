@@ -106,9 +106,6 @@ impl From<CodeFlowError> for Ended {
     fn from(error: CodeFlowError) -> Ended {
         match error {
             CodeFlowError::Memory => Ended::Starved(Want::CodeFlowError),
-            CodeFlowError::Url(ParseError::OutOfMemory | ParseError::Overflow) => {
-                Ended::Starved(Want::CodeFlowError)
-            }
             CodeFlowError::Url(_) | CodeFlowError::NotHttp => Ended::Refused,
         }
     }
