@@ -24,6 +24,8 @@ const ASKED: &str = "grant_type=client_credentials";
 
 const REFRESHED: &str = "grant_type=refresh_token&refresh_token=r1";
 
+const REFRESHED_BY_THE_SECOND: &str = "grant_type=refresh_token&refresh_token=r2";
+
 const HUNDRED_SECONDS: (u16, &str) = (
     200,
     r#"{"access_token":"t1","token_type":"bearer","expires_in":100,"refresh_token":"r1"}"#,
@@ -51,9 +53,17 @@ const FOREVER: (u16, &str) = (
     r#"{"access_token":"u4","token_type":"bearer","expires_in":18446744073709551615}"#,
 );
 
+const SECOND_REFRESH_TOKEN: (u16, &str) = (
+    200,
+    r#"{"access_token":"u5","token_type":"bearer","expires_in":1,"refresh_token":"r2"}"#,
+);
+
 const UNREAD: (u16, &str) = (200, r#"{"access_token":"u6"}"#);
 
-const RUNS: [Run<'static>; 7] = [
+// A status that is none: the client fails.
+const CLIENT_FAILS: (u16, &str) = (0, "");
+
+const RUNS: [Run<'static>; 9] = [
     // A lifetime lasts to its last nanosecond.
     Run {
         margin: (0, 0),
@@ -122,6 +132,40 @@ const RUNS: [Run<'static>; 7] = [
             (101, 0, REFRESHED, Err("Failed to parse server response")),
             (101, 0, REFRESHED, Err("Request failed")),
             (100, 0, KEPT, Ok("t1")),
+        ],
+    },
+    // After an answered call the refresh token is that of the last reply that gave one.
+    Run {
+        margin: (0, 0),
+        replies: &[HUNDRED_SECONDS, NEITHER, SECOND_REFRESH_TOKEN, NEITHER],
+        calls: &[
+            (0, 0, ASKED, Ok("t1")),
+            (100, 1, REFRESHED, Ok("t2")),
+            (100, 2, REFRESHED, Ok("u5")),
+            (101, 2, KEPT, Ok("u5")),
+            (101, 3, REFRESHED_BY_THE_SECOND, Ok("t2")),
+            (101, 4, REFRESHED_BY_THE_SECOND, Err("Request failed")),
+        ],
+    },
+    // After a failed client all is as before: the token, its moment, its lifetime, the margin, the
+    // refresh token, and the lifetime where a reply tells none.
+    Run {
+        margin: (10, 0),
+        replies: &[
+            HUNDRED_SECONDS,
+            CLIENT_FAILS,
+            CLIENT_FAILS,
+            NEITHER,
+            NO_TIME,
+        ],
+        calls: &[
+            (0, 0, ASKED, Ok("t1")),
+            (90, 1, REFRESHED, Err("Request failed")),
+            (90, 0, KEPT, Ok("t1")),
+            (90, 1, REFRESHED, Err("Request failed")),
+            (90, 0, KEPT, Ok("t1")),
+            (90, 1, REFRESHED, Ok("t2")),
+            (90, 1, REFRESHED, Ok("u3")),
         ],
     },
 ];
