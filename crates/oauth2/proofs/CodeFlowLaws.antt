@@ -1,29 +1,23 @@
 -- What reading by name gives of the query and the body of a login.
-use Rattle.std.proofs.Common.{◌≡◌, ℕ, List, [], ◌∷◌, ◌++◌, Option, None, Some, Bool, true, false, ◌&&◌, filter, codes, ap, ◌∙◌, sym, refl, subst, inl, inr, bytes_eq}
+use Rattle.std.proofs.Common.{◌≡◌, ℕ, List, [], ◌∷◌, ◌++◌, Option, None, Some, Bool, true, false, ◌&&◌, filter, codes, ap, ◌∙◌, sym, refl, inl, bytes_eq}
 use Rattle.std.proofs.lemmas.Bool.{cond-false, not-true, false≢true}
 use Rattle.std.proofs.lemmas.List.Elements.{filter-append}
 use Rattle.std.proofs.lemmas.Slice.Eq.{bytes_eq-Decides}
-use Rattle.std.specs.Prelude.{Result, Ok, Err, IfErr, option_map}
-use Rattle.http_uri.specs.Uri.{SpellsNone}
-use Rattle.url.specs.declared.error.ParseError.{ParseError}
-use Rattle.url.specs.declared.error.ParseError.TheVariants.{OutOfMemory, Overflow}
-use Rattle.url.specs.Parser.{IsOutOfRoom}
+use Rattle.std.specs.Prelude.{option_map}
 use Rattle.url.specs.Parts.{Parts, serialize}
 use Rattle.oauth2_types.specs.Pkce.{Challenge, sha256_challenge}
 use Rattle.oauth2_urls.specs.Addressed.{Addressed}
 use Rattle.oauth2_wire.specs.declared.request.AuthType.{AuthType}
 use Rattle.oauth2_wire.specs.declared.request.AuthType.TheVariants.{BasicAuth, RequestBody}
-use Rattle.oauth2_wire.specs.declared.request.RequestFault.{RequestFault}
-use Rattle.oauth2_wire.specs.declared.request.RequestFault.TheVariants as fault
 use Rattle.oauth2_form.specs.Pairs.{Pair, form}
 use Rattle.oauth2_wire.specs.ByName.{bears, sole, read_by_name, is_request_name, is_shared_name, is_own_name, avoid_own_names}
 use Rattle.oauth2_wire.specs.Expected.{Configuration, expected_pairs}
 use Rattle.oauth2_wire.specs.Request.{RequestView, IsRequestOf}
 use Rattle.oauth2_wire.specs.Texts.{given_text}
-use Rattle.oauth2_requests.specs.Authorization.{Authorization, IsTooLong, asked_url, query_pairs}
+use Rattle.oauth2_requests.specs.Authorization.{Authorization, query_pairs}
 use Rattle.oauth2_requests.specs.Code.{code_pairs, code_configuration}
 use Rattle.oauth2_form.specs.Query.{ExtendsQuery, query_form}
-use Rattle.oauth2.specs.CodeFlow.{IsCauseOf, PassesCheck, flow_error_of, flow_error_of_url, flow_authorization, flow_exchange}
+use Rattle.oauth2.specs.CodeFlow.{PassesCheck, flow_authorization, flow_exchange}
 use Rattle.oauth2.specs.Settings.{Settings}
 
 and_left : (a b : Bool) → (a && b) ≡ true → a ≡ true
@@ -125,21 +119,3 @@ PassesCheck-of_flow client auth_url token_url state verifier code url v extends 
       ap (read_by_name (codes "code_verifier")) is.form ∙ verifier-read client.auth_type client.client_id client.client_secret code verifier (option_map given_text client.redirect_url),
       inl (refl, refl),
     )
-
--- ---- why there is none
-
-pub IsCauseOf-of_url : {X : Type 0} (client : Settings) (state verifier : List ℕ) (endpoint : Addressed) (result : Result X ParseError) → client.auth_url ≡ Some endpoint
-    → IfErr result IsOutOfRoom → (result ≡ Err Overflow → IsTooLong (asked_url (flow_authorization client endpoint state verifier)))
-    → IfErr result (λ error. IsCauseOf client state verifier (flow_error_of_url error))
-IsCauseOf-of_url client state verifier endpoint (Ok url) is room too_long = tt
-IsCauseOf-of_url client state verifier endpoint (Err error) is (inl memory) too_long =
-    subst (λ e. IsCauseOf client state verifier (flow_error_of_url e)) (sym memory) tt
-IsCauseOf-of_url client state verifier endpoint (Err error) is (inr overflow) too_long =
-    subst (λ e. IsCauseOf client state verifier (flow_error_of_url e)) (sym overflow) (refl, endpoint, is, too_long (ap Err overflow))
-
-pub IsCauseOf-of_fault : {X : Type 0} (client : Settings) (state verifier : List ℕ) (result : Result X RequestFault)
-    → (result ≡ Err fault.NotHttp → (endpoint : Addressed) × (client.token_url ≡ Some endpoint) × SpellsNone (serialize endpoint.url))
-    → IfErr result (λ fault. IsCauseOf client state verifier (flow_error_of fault))
-IsCauseOf-of_fault client state verifier (Ok request) no_target = tt
-IsCauseOf-of_fault client state verifier (Err fault.NotHttp) no_target = no_target refl
-IsCauseOf-of_fault client state verifier (Err fault.Memory) no_target = tt
