@@ -1,0 +1,4 @@
+pub mod Names
+pub mod Values
+pub mod StartLaws
+pub mod EndLaws

@@ -1,0 +1,48 @@
+-- The end of a login.
+use Rattle.std.specs.Prelude.{◌≡◌, ℕ, ◌⊎◌, List, Option, Some, Result, Ok, Err}
+use Rattle.serde_json.specs.Data.{Data}
+use Rattle.oauth2_json.specs.Reading.{Reading}
+use Rattle.oauth2_urls.specs.Addressed.{Addressed}
+use Rattle.oauth2_wire.specs.OneShot.{HttpRequest}
+use Rattle.oauth2_wire.specs.Reply.{HttpResponse}
+use Rattle.oauth2_wire.specs.declared.error.RequestTokenError.{RequestTokenError}
+use Rattle.oauth2_wire.specs.Display.{fault_text}
+use Rattle.oauth2_requests.specs.Code.{code_configuration}
+use Rattle.oauth2_requests.specs.Once.{AsksOnce}
+use Rattle.oauth2.specs.CodeFlow.{flow_exchange}
+use Rattle.oauth2.specs.Settings.{Settings}
+use Rattle.oauth2_redirect.specs.declared.redirect.RedirectError.{RedirectError}
+use Rattle.oauth2_redirect.specs.declared.login_error.LoginError.{LoginError}
+use Rattle.oauth2_redirect.specs.declared.login_error.LoginError.TheVariants.{Redirect, Token}
+use Rattle.oauth2_redirect.specs.Redirect.{Refusal, TellsRefusal, redirect_error_text}
+
+-- the text of an error
+abbrev pub login_error_text : {RE T : Type 0} → (T → Option (List ℕ)) → LoginError RE T → Option (List ℕ)
+login_error_text text (Redirect error) = redirect_error_text error
+login_error_text text (Token error) = fault_text text error
+
+module _ {D T RE : Type 0} where
+  -- the result of a login whose code was exchanged
+  abbrev pub of_exchange : Result D (RequestTokenError RE T) → Result D (LoginError RE T)
+  of_exchange (Ok token) = Ok token
+  of_exchange (Err error) = Err (Token error)
+
+module _ {D A T E RE C : Type 0} where
+  -- the exchange of this code with this verifier is asked for at most once, and this is its result
+  abbrev pub IsExchange : (D → A) → (T → E) → (Data → Reading A) → (Data → Reading E)
+      → (C → HttpRequest → Result HttpResponse RE → C → Type 0) → Settings → List ℕ → List ℕ
+      → C → Result D (RequestTokenError RE T) → C → Type 0
+  IsExchange meaning error_meaning reading error_reading step client verifier code before result after =
+      (endpoint : Addressed) × (client.token_url ≡ Some endpoint)
+      × AsksOnce meaning error_meaning reading error_reading step client.reply_rule
+      (code_configuration (flow_exchange client endpoint verifier code)) endpoint before result after
+
+  -- a redirect that tells a code has that code exchanged with the login's verifier; another tells
+  -- why it gives none, and the HTTP client is as it was, as it is where memory ran out
+  abbrev pub EndsLogin : (D → A) → (T → E) → (Data → Reading A) → (Data → Reading E)
+      → (C → HttpRequest → Result HttpResponse RE → C → Type 0) → Settings → List ℕ → Result (List ℕ) Refusal
+      → C → Result D (LoginError RE T) → C → Type 0
+  EndsLogin meaning error_meaning reading error_reading step client verifier told before result after =
+      ((code : List ℕ) × (told ≡ Ok code) × (outcome : Result D (RequestTokenError RE T)) × (result ≡ of_exchange outcome)
+      × IsExchange meaning error_meaning reading error_reading step client verifier code before outcome after)
+      ⊎ ((error : RedirectError) × (result ≡ Err (Redirect error)) × TellsRefusal error told × (after ≡ before))

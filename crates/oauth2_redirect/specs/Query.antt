@@ -1,0 +1,27 @@
+-- What is read of a redirect's query.
+use Rattle.std.specs.Prelude.{ℕ, List, [], ◌∷◌, Bool, true, false, Option, Some, None, option_map, filter}
+use Rattle.std.specs.Str.Lossy.{utf8_lossy}
+use Rattle.oauth2_form.specs.Pairs.{Pair}
+use Rattle.oauth2_wire.specs.ByName.{bears, read_by_name}
+
+-- a parameter without a value counts as omitted (RFC 6749, 3.1)
+abbrev pub has_value : Pair → Bool
+has_value (name, []) = false
+has_value (name, byte ∷ bytes) = true
+
+abbrev pub sent : List Pair → List Pair
+sent pairs = filter has_value pairs
+
+-- the value of the first pair
+abbrev pub first : List Pair → Option (List ℕ)
+first [] = None
+first (pair ∷ pairs) = Some pair.1
+
+-- the value of the sole parameter of that name, as text, with U+FFFD for what is not UTF-8; one that
+-- is sent twice is none (RFC 6749, 3.1)
+abbrev pub sole_text : List ℕ → List Pair → Option (List ℕ)
+sole_text name pairs = option_map utf8_lossy (read_by_name name (sent pairs))
+
+-- the value of the first parameter of that name, as text
+abbrev pub first_text : List ℕ → List Pair → Option (List ℕ)
+first_text name pairs = option_map utf8_lossy (first (filter (bears name) (sent pairs)))

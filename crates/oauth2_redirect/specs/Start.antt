@@ -1,0 +1,20 @@
+-- The start of a login.
+use Rattle.std.specs.Prelude.{◌≡◌, ℕ, List, codes, Some}
+use Rattle.oauth2_types.specs.Pkce.{sha256_challenge}
+use Rattle.oauth2_form.specs.Pairs.{Pair}
+use Rattle.oauth2_wire.specs.ByName.{read_by_name}
+use Rattle.oauth2_requests.specs.Authorization.{Authorization}
+use Rattle.oauth2_redirect.specs.Login.{Kept}
+
+-- the request for the login's URL, which sends the challenge, and the challenge's verifier
+pub record Starting : Type 0 where
+  pub request : Authorization
+  pub verifier : List ℕ
+
+-- a server that reads these pairs by name finds the login's state, and its verifier's challenge by
+-- the method `S256`, each once
+abbrev pub ShowsLogin : Kept → List Pair → Type 0
+ShowsLogin login query =
+    (read_by_name (codes "state") query ≡ Some login.state)
+    × (read_by_name (codes "code_challenge") query ≡ Some (sha256_challenge login.verifier).text)
+    × (read_by_name (codes "code_challenge_method") query ≡ Some (codes "S256"))
