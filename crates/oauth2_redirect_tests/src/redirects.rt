@@ -11,6 +11,12 @@ const STATE: &str = "s7";
 
 const ISSUER: &str = "https://honest.example";
 
+const OTHER_STATE: &str = "redirect has another state";
+
+const OTHER_ISSUER: &str = "redirect has another issuer";
+
+const NO_CODE: &str = "redirect has no code";
+
 // What was read, as one line.
 fn line(
     alloc: Global,
@@ -37,110 +43,110 @@ fn told(
     Ok((line(alloc, by_url)?, line(alloc, by_query)?))
 }
 
+// A redirect, and what it says where no issuer is expected.
+const REDIRECTS: [(&str, &str); 42] = [
+    ("https://app.example/cb?code=c1&state=s7", "code c1"),
+    (
+        "https://app.example/cb?state=s7&more=1&code=c1&more=2",
+        "code c1",
+    ),
+    (
+        "http://127.0.0.1:8080/?state=s7&code=c1#state=x&code=y",
+        "code c1",
+    ),
+    (
+        "https://app.example/cb?%73tate=s%37&%63o%64e=c%31",
+        "code c1",
+    ),
+    (
+        "https://app.example/cb?state=s7&code=a+b%20c%2Bd",
+        "code a b c+d",
+    ),
+    ("https://app.example/cb?state=s7&code=%ff", "code \u{FFFD}"),
+    ("https://app.example/cb?&&state=s7&&code=c=1&", "code c=1"),
+    ("https://app.example/cb?state=s7&code=", NO_CODE),
+    ("https://app.example/cb?state=s7&code", NO_CODE),
+    ("https://app.example/cb?state=s7&code=&code=c1", "code c1"),
+    ("https://app.example/cb", OTHER_STATE),
+    ("https://app.example/cb?", OTHER_STATE),
+    ("https://app.example/cb#code=c1&state=s7", OTHER_STATE),
+    ("https://app.example/cb?code=c1", OTHER_STATE),
+    ("https://app.example/cb?code=c1&state=", OTHER_STATE),
+    ("https://app.example/cb?code=c1&state", OTHER_STATE),
+    ("https://app.example/cb?code=c1&state=s8", OTHER_STATE),
+    ("https://app.example/cb?code=c1&state=S7", OTHER_STATE),
+    ("https://app.example/cb?code=c1&State=s7", OTHER_STATE),
+    ("https://app.example/cb?code=c1&state=s7+", OTHER_STATE),
+    (
+        "https://app.example/cb?code=c1&state=s7&state=s7",
+        OTHER_STATE,
+    ),
+    (
+        "https://app.example/cb?code=c1&state=s8&state=s7",
+        OTHER_STATE,
+    ),
+    (
+        "https://app.example/cb?code=c1&state=s7&%73tate=",
+        "code c1",
+    ),
+    ("https://app.example/cb?st%ffate=s7&code=c1", OTHER_STATE),
+    (
+        "https://app.example/cb?error=access_denied&error_description=no&state=s8",
+        OTHER_STATE,
+    ),
+    (
+        "https://app.example/cb?error=access_denied&error_description=no",
+        OTHER_STATE,
+    ),
+    ("https://app.example/cb?state=s7", NO_CODE),
+    ("https://app.example/cb?state=s7&code=c1&code=c2", NO_CODE),
+    ("https://app.example/cb?state=s7&code=c1&code=c1", NO_CODE),
+    ("https://app.example/cb?state=s7&Code=c1", NO_CODE),
+    ("https://app.example/cb?state=s7#code=c1", NO_CODE),
+    (
+        "https://app.example/cb?state=s7&error=access_denied",
+        "access_denied",
+    ),
+    (
+        "https://app.example/cb?error=access_denied&error_description=the+user%20said%20no&state=s7",
+        "access_denied: the user said no",
+    ),
+    (
+        "https://app.example/cb?error=server_error&error_uri=https%3A%2F%2Fas.example%2Fe&state=s7",
+        "server_error (see https://as.example/e)",
+    ),
+    (
+        "https://app.example/cb?error=mfa&error_description=a&error_uri=b&state=s7&code=c1",
+        "mfa: a (see b)",
+    ),
+    (
+        "https://app.example/cb?error=mfa&error_description=a&error_description=b&state=s7",
+        "mfa",
+    ),
+    (
+        "https://app.example/cb?error=first&error=second&error_description=a&state=s7",
+        "first: a",
+    ),
+    (
+        "https://app.example/cb?state=s7&error=%fe&code=c1",
+        "\u{FFFD}",
+    ),
+    ("https://app.example/cb?state=s7&code=c1&error", "code c1"),
+    ("https://app.example/cb?state=s7&code=c1&error=", "code c1"),
+    (
+        "https://app.example/cb?state=s7&error=&error=second&error=third",
+        "second",
+    ),
+    (
+        "https://app.example/cb?state=s7&error=mfa&error_description=&error_uri=",
+        "mfa",
+    ),
+];
+
 #[test]
 fn reads_a_redirect(rt: HostRuntime) -> Result<(), Fail> {
     let alloc = rt.alloc();
-    let other_state = "redirect has another state";
-    let no_code = "redirect has no code";
-    let rows = [
-        ("https://app.example/cb?code=c1&state=s7", "code c1"),
-        (
-            "https://app.example/cb?state=s7&more=1&code=c1&more=2",
-            "code c1",
-        ),
-        (
-            "http://127.0.0.1:8080/?state=s7&code=c1#state=x&code=y",
-            "code c1",
-        ),
-        (
-            "https://app.example/cb?%73tate=s%37&%63o%64e=c%31",
-            "code c1",
-        ),
-        (
-            "https://app.example/cb?state=s7&code=a+b%20c%2Bd",
-            "code a b c+d",
-        ),
-        ("https://app.example/cb?state=s7&code=%ff", "code \u{FFFD}"),
-        ("https://app.example/cb?&&state=s7&&code=c=1&", "code c=1"),
-        ("https://app.example/cb?state=s7&code=", no_code),
-        ("https://app.example/cb?state=s7&code", no_code),
-        ("https://app.example/cb?state=s7&code=&code=c1", "code c1"),
-        ("https://app.example/cb", other_state),
-        ("https://app.example/cb?", other_state),
-        ("https://app.example/cb#code=c1&state=s7", other_state),
-        ("https://app.example/cb?code=c1", other_state),
-        ("https://app.example/cb?code=c1&state=", other_state),
-        ("https://app.example/cb?code=c1&state", other_state),
-        ("https://app.example/cb?code=c1&state=s8", other_state),
-        ("https://app.example/cb?code=c1&state=S7", other_state),
-        ("https://app.example/cb?code=c1&State=s7", other_state),
-        ("https://app.example/cb?code=c1&state=s7+", other_state),
-        (
-            "https://app.example/cb?code=c1&state=s7&state=s7",
-            other_state,
-        ),
-        (
-            "https://app.example/cb?code=c1&state=s8&state=s7",
-            other_state,
-        ),
-        (
-            "https://app.example/cb?code=c1&state=s7&%73tate=",
-            "code c1",
-        ),
-        ("https://app.example/cb?st%ffate=s7&code=c1", other_state),
-        (
-            "https://app.example/cb?error=access_denied&error_description=no&state=s8",
-            other_state,
-        ),
-        (
-            "https://app.example/cb?error=access_denied&error_description=no",
-            other_state,
-        ),
-        ("https://app.example/cb?state=s7", no_code),
-        ("https://app.example/cb?state=s7&code=c1&code=c2", no_code),
-        ("https://app.example/cb?state=s7&code=c1&code=c1", no_code),
-        ("https://app.example/cb?state=s7&Code=c1", no_code),
-        ("https://app.example/cb?state=s7#code=c1", no_code),
-        (
-            "https://app.example/cb?state=s7&error=access_denied",
-            "access_denied",
-        ),
-        (
-            "https://app.example/cb?error=access_denied&error_description=the+user%20said%20no&state=s7",
-            "access_denied: the user said no",
-        ),
-        (
-            "https://app.example/cb?error=server_error&error_uri=https%3A%2F%2Fas.example%2Fe&state=s7",
-            "server_error (see https://as.example/e)",
-        ),
-        (
-            "https://app.example/cb?error=mfa&error_description=a&error_uri=b&state=s7&code=c1",
-            "mfa: a (see b)",
-        ),
-        (
-            "https://app.example/cb?error=mfa&error_description=a&error_description=b&state=s7",
-            "mfa",
-        ),
-        (
-            "https://app.example/cb?error=first&error=second&error_description=a&state=s7",
-            "first: a",
-        ),
-        (
-            "https://app.example/cb?state=s7&error=%fe&code=c1",
-            "\u{FFFD}",
-        ),
-        ("https://app.example/cb?state=s7&code=c1&error", "code c1"),
-        ("https://app.example/cb?state=s7&code=c1&error=", "code c1"),
-        (
-            "https://app.example/cb?state=s7&error=&error=second&error=third",
-            "second",
-        ),
-        (
-            "https://app.example/cb?state=s7&error=mfa&error_description=&error_uri=",
-            "mfa",
-        ),
-    ];
-    for (redirect, expected) in rows {
+    for (redirect, expected) in REDIRECTS {
         let (by_url, by_query) = told(alloc, redirect, None)?;
         assert_eq!(rt; by_url.as_str(), expected, "at {redirect}");
         assert_eq!(rt; by_query.as_str(), expected, "at {redirect}");
@@ -148,59 +154,60 @@ fn reads_a_redirect(rt: HostRuntime) -> Result<(), Fail> {
     Ok(())
 }
 
+// A redirect, and what it says where one issuer is expected.
+const ISSUERS: [(&str, &str); 13] = [
+    (
+        "https://app.example/cb?state=s7&code=c1&iss=https%3A%2F%2Fhonest.example",
+        "code c1",
+    ),
+    (
+        "https://app.example/cb?state=s7&code=c1&iss=https://honest.example",
+        "code c1",
+    ),
+    ("https://app.example/cb?state=s7&code=c1", OTHER_ISSUER),
+    ("https://app.example/cb?state=s7&code=c1&iss=", OTHER_ISSUER),
+    (
+        "https://app.example/cb?state=s7&code=c1&iss=&iss=https://honest.example",
+        "code c1",
+    ),
+    (
+        "https://app.example/cb?state=s7&code=c1&iss=https://honest.example/",
+        OTHER_ISSUER,
+    ),
+    (
+        "https://app.example/cb?state=s7&code=c1&iss=https://HONEST.example",
+        OTHER_ISSUER,
+    ),
+    (
+        "https://app.example/cb?state=s7&code=c1&iss=https://evil.example",
+        OTHER_ISSUER,
+    ),
+    (
+        "https://app.example/cb?state=s7&code=c1&iss=https://honest.example&iss=https://honest.example",
+        OTHER_ISSUER,
+    ),
+    (
+        "https://app.example/cb?state=s7&error=access_denied",
+        OTHER_ISSUER,
+    ),
+    (
+        "https://app.example/cb?state=s7&error=access_denied&iss=https://honest.example",
+        "access_denied",
+    ),
+    (
+        "https://app.example/cb?state=s8&code=c1&iss=https://evil.example",
+        OTHER_STATE,
+    ),
+    (
+        "https://app.example/cb?state=s7&iss=https://honest.example",
+        NO_CODE,
+    ),
+];
+
 #[test]
 fn reads_an_issuer(rt: HostRuntime) -> Result<(), Fail> {
     let alloc = rt.alloc();
-    let other_issuer = "redirect has another issuer";
-    let rows = [
-        (
-            "https://app.example/cb?state=s7&code=c1&iss=https%3A%2F%2Fhonest.example",
-            "code c1",
-        ),
-        (
-            "https://app.example/cb?state=s7&code=c1&iss=https://honest.example",
-            "code c1",
-        ),
-        ("https://app.example/cb?state=s7&code=c1", other_issuer),
-        ("https://app.example/cb?state=s7&code=c1&iss=", other_issuer),
-        (
-            "https://app.example/cb?state=s7&code=c1&iss=&iss=https://honest.example",
-            "code c1",
-        ),
-        (
-            "https://app.example/cb?state=s7&code=c1&iss=https://honest.example/",
-            other_issuer,
-        ),
-        (
-            "https://app.example/cb?state=s7&code=c1&iss=https://HONEST.example",
-            other_issuer,
-        ),
-        (
-            "https://app.example/cb?state=s7&code=c1&iss=https://evil.example",
-            other_issuer,
-        ),
-        (
-            "https://app.example/cb?state=s7&code=c1&iss=https://honest.example&iss=https://honest.example",
-            other_issuer,
-        ),
-        (
-            "https://app.example/cb?state=s7&error=access_denied",
-            other_issuer,
-        ),
-        (
-            "https://app.example/cb?state=s7&error=access_denied&iss=https://honest.example",
-            "access_denied",
-        ),
-        (
-            "https://app.example/cb?state=s8&code=c1&iss=https://evil.example",
-            "redirect has another state",
-        ),
-        (
-            "https://app.example/cb?state=s7&iss=https://honest.example",
-            "redirect has no code",
-        ),
-    ];
-    for (redirect, expected) in rows {
+    for (redirect, expected) in ISSUERS {
         let (by_url, by_query) = told(alloc, redirect, Some(ISSUER))?;
         assert_eq!(rt; by_url.as_str(), expected, "at {redirect}");
         assert_eq!(rt; by_query.as_str(), expected, "at {redirect}");
