@@ -175,13 +175,12 @@ impl<'a> AuthorizationRequest<'a> {
         ensures refusal { IfErr result IsOutOfRoom }
         ensures overflow { result ≡ Err ParseError.Overflow → IsTooLong (asked_url self.entry) }
     {
-        let url = self.extended_url(alloc)?;
+        let url = self.authorization_url(alloc)?;
         Ok((url, self.state))
     }
 
-    // The endpoint's URL, with the request's pairs after its own. Its length is tested first,
-    // since `with_query` leaves open which of its two errors tells what.
-    fn extended_url(&self, alloc: Global) -> Result<Url, ParseError>
+    /// The URL alone. The request stays as it is, so it can be asked again where memory ran out.
+    pub fn authorization_url(&self, alloc: Global) -> Result<Url, ParseError>
         ensures ok { IfOk result (λ url.
             ExtendsQuery self.now.auth_url.url url (query_pairs self.now)) }
         ensures refusal { IfErr result IsOutOfRoom }
@@ -189,6 +188,7 @@ impl<'a> AuthorizationRequest<'a> {
     {
         let url = self.auth_url.url();
         let form = self.extended_query(alloc)?;
+        // Tested first, since `with_query` leaves open which of its two errors tells what.
         if is_too_long(url, form.as_slice()) {
             return Err(ParseError::Overflow);
         }

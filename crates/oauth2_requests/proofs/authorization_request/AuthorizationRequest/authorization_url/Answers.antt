@@ -3,7 +3,7 @@ use Rattle.std.specs.Prelude.{unwrap_or}
 use Rattle.oauth2_form.specs.Query.{ExtendsQuery}
 use Rattle.oauth2_form.proofs.QueryLaws.{ExtendsForm-of_equals}
 use Rattle.oauth2_requests.specs.Authorization.{query_pairs}
-use Rattle.oauth2_requests.proofs.authorization_request.AuthorizationRequest.extended_url.Goals as goal
+use Rattle.oauth2_requests.proofs.authorization_request.AuthorizationRequest.authorization_url.Goals as goal
 
 pub with_query-requires-clause-form : goal.with_query-requires-clause-form
 with_query-requires-clause-form c =
