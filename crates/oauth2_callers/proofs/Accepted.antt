@@ -5,15 +5,16 @@ use Rattle.oauth2.specs.NewRequest.{new_code_request}
 use Rattle.oauth2.specs.Settings.{Settings}
 use Rattle.serde_json.specs.Data.{Data}
 use Rattle.oauth2_json.specs.Reading.{Reading}
-use Rattle.oauth2_requests.specs.Code.{CodeRequest, code_configuration}
-use Rattle.oauth2_requests.specs.Once.{AsksOnce}
+use Rattle.oauth2_requests.specs.Code.{CodeRequest}
 use Rattle.oauth2_urls.specs.Addressed.{Addressed}
 use Rattle.oauth2_wire.specs.Reply.{HttpResponse, Answer, accepted}
 use Rattle.oauth2_wire.specs.OneShot.{HttpRequest, OneShot}
 use Rattle.oauth2_wire.specs.Request.{RequestView, IsRequestOf}
 use Rattle.oauth2_wire.specs.declared.error.RequestTokenError.{RequestTokenError}
 use Rattle.oauth2_wire.specs.Expected.{Configuration}
-use Rattle.oauth2_callers.specs.Login.{IsAnsweredBy, IsExchange}
+use Rattle.oauth2_redirect.specs.End.{IsExchange}
+use Rattle.oauth2_redirect.specs.Login.{Kept}
+use Rattle.oauth2_callers.specs.Login.{IsAnsweredBy}
 
 module _ {D A T E RE C : Type 0} (meaning : D → A) (error_meaning : T → E) (step : C → HttpRequest → Result HttpResponse RE → C → Type 0) (says : HttpResponse → Answer A E) (IsRequest : HttpRequest → Type 0) (NotHttp : Type 0) (before after : C) where
   pub IfOk-from_OneShot : (Wanted : HttpRequest → Type 0) → ((r : HttpRequest) → IsRequest r → Wanted r) → (result : Result D (RequestTokenError RE T)) → OneShot meaning error_meaning step says IsRequest NotHttp before result after
@@ -34,19 +35,11 @@ pub rule-started : (client : Settings) (code : List ℕ) (url : Option Addressed
 rule-started client code (Some u) started there missing = ap (λ (r : CodeRequest). r.base.reply_rule) there
 rule-started client code None started there missing = absurd missing
 
-module _ {D A T E RE C : Type 0} {meaning : D → A} {error_meaning : T → E} (reading : Data → Reading A) (error_reading : Data → Reading E) (step : C → HttpRequest → Result HttpResponse RE → C → Type 0) {before after : C} {result : Result D (RequestTokenError RE T)} where
-  -- exchanges of a code that are equal are asked for alike
-  pub AsksOnce-equal : (a b : CodeRequest) → a ≡ b
-      → AsksOnce meaning error_meaning reading error_reading step a.base.reply_rule (code_configuration a) a.token_url before result after
-      → AsksOnce meaning error_meaning reading error_reading step b.base.reply_rule (code_configuration b) b.token_url before result after
-  AsksOnce-equal a b a_is_b asks =
-      subst (λ r. AsksOnce meaning error_meaning reading error_reading step r.base.reply_rule (code_configuration r) r.token_url before result after) a_is_b asks
-
-module _ {D A T E RE C : Type 0} {meaning : D → A} {error_meaning : T → E} (reading : Data → Reading A) (error_reading : Data → Reading E) (step : C → HttpRequest → Result HttpResponse RE → C → Type 0) (client : Settings) (verifier code : List ℕ) {before after : C} where
-  -- the exchange of a code with its verifier that gave a token was answered with it
+module _ {D A T E RE C : Type 0} {meaning : D → A} {error_meaning : T → E} (reading : Data → Reading A) (error_reading : Data → Reading E) (step : C → HttpRequest → Result HttpResponse RE → C → Type 0) (client : Settings) (login : Kept) (code : List ℕ) {before after : C} where
+  -- the exchange of a login's code that gave a token was answered with it
   pub IsAnsweredBy-from_IsExchange : (result : Result D (RequestTokenError RE T))
-      → IsExchange meaning error_meaning reading error_reading step client verifier code before result after
-      → IfOk result (λ token. IsAnsweredBy reading error_reading step client verifier code before (meaning token) after)
+      → IsExchange meaning error_meaning reading error_reading step client login code before result after
+      → IfOk result (λ token. IsAnsweredBy reading error_reading step client login code before (meaning token) after)
   IsAnsweredBy-from_IsExchange (Ok token) (endpoint, there, inl (request, is, (Ok reply, did, shown))) = (request, (endpoint, there, is), reply, did, shown)
   IsAnsweredBy-from_IsExchange (Ok token) (endpoint, there, inl (request, is, (Err error, did, shown))) = cc
   IsAnsweredBy-from_IsExchange (Ok token) (endpoint, there, inr (inl (refused, _), _)) = absurd refused

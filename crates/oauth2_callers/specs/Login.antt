@@ -1,6 +1,4 @@
--- The pairs of a login;
--- the request that its exchange sent, and the reply that answered it;
--- and the result of that exchange, which is asked for at most once.
+-- The pairs of a login, the request that its exchange sent, and the reply that answered it.
 use Rattle.std.specs.Prelude.{◌≡◌, ℕ, List, [], ◌∷◌, ◌++◌, codes, Option, Some, Result, Ok, option_and_then, option_map}
 use Rattle.serde_json.specs.Data.{Data, Members}
 use Rattle.serde_json.specs.Find.{as_str, get_member}
@@ -14,12 +12,10 @@ use Rattle.oauth2_wire.specs.OneShot.{HttpRequest}
 use Rattle.oauth2_wire.specs.Reply.{HttpResponse, accepted, answer_of, reply_of}
 use Rattle.oauth2_wire.specs.Request.{IsRequestOf, view_of}
 use Rattle.oauth2_wire.specs.Texts.{given_text}
-use Rattle.oauth2_wire.specs.declared.error.RequestTokenError.{RequestTokenError}
-use Rattle.oauth2_requests.specs.Base.{configuration_of}
-use Rattle.oauth2_requests.specs.Code.{code_pairs}
-use Rattle.oauth2_requests.specs.Once.{AsksOnce}
-use Rattle.oauth2.specs.NewRequest.{base_of}
+use Rattle.oauth2_requests.specs.Code.{code_configuration}
 use Rattle.oauth2.specs.Settings.{Settings}
+use Rattle.oauth2_redirect.specs.End.{login_exchange}
+use Rattle.oauth2_redirect.specs.Login.{Kept}
 
 -- what a login sends for a client and a state (RFC 6749, section 4.1.1)
 abbrev pub login_pairs : Settings → List ℕ → List Pair
@@ -51,22 +47,12 @@ abbrev pub id_token_in : Members → Option (List ℕ)
 id_token_in members = option_and_then as_str (get_member (codes "id_token") members)
 
 module _ {A E RE C : Type 0} where
-  -- the HTTP client made one step, with the request for this code and this verifier, and its reply
-  -- reads to this response
-  abbrev pub IsAnsweredBy : (Data → Reading A) → (Data → Reading E) → (C → HttpRequest → Result HttpResponse RE → C → Type 0) → Settings → List ℕ → List ℕ → C → A → C → Type 0
-  IsAnsweredBy reading error_reading step client verifier code before response after =
+  -- the HTTP client made one step, with the request for the token of this login and this code, and
+  -- its reply reads to this response
+  abbrev pub IsAnsweredBy : (Data → Reading A) → (Data → Reading E) → (C → HttpRequest → Result HttpResponse RE → C → Type 0) → Settings → Kept → List ℕ → C → A → C → Type 0
+  IsAnsweredBy reading error_reading step client login code before response after =
       (request : HttpRequest)
       × ((endpoint : Addressed) × (client.token_url ≡ Some endpoint)
-      × IsRequestOf (configuration_of (base_of client) (code_pairs code (Some verifier)) client.redirect_url) (serialize endpoint.url) (view_of request))
+      × IsRequestOf (code_configuration (login_exchange client endpoint login code)) (serialize endpoint.url) (view_of request))
       × (reply : HttpResponse) × step before request (Ok reply) after
       × (answer_of client.reply_rule reading error_reading (reply_of reply) ≡ accepted response)
-
-module _ {D A T E RE C : Type 0} where
-  -- the exchange of this code with this verifier is asked for at most once, and this is its result
-  abbrev pub IsExchange : (D → A) → (T → E) → (Data → Reading A) → (Data → Reading E)
-      → (C → HttpRequest → Result HttpResponse RE → C → Type 0) → Settings → List ℕ → List ℕ
-      → C → Result D (RequestTokenError RE T) → C → Type 0
-  IsExchange meaning error_meaning reading error_reading step client verifier code before result after =
-      (endpoint : Addressed) × (client.token_url ≡ Some endpoint)
-      × AsksOnce meaning error_meaning reading error_reading step client.reply_rule
-      (configuration_of (base_of client) (code_pairs code (Some verifier)) client.redirect_url) endpoint before result after

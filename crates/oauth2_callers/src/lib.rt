@@ -32,3 +32,5 @@ mod revocation;
 mod support;
 #[cfg(test)]
 mod transport;
+#[cfg(test)]
+mod web_login;

@@ -5,13 +5,16 @@ ghost use Rattle.oauth2_types.specs.Pkce.{HasValidLength};
 
 use crate::application::{CannedClient, CannedError};
 use crate::client::CodeClient;
-use crate::openid::{Login, LoginError, OpenIdClient, finish_login, start_login};
+use crate::openid::{IdTokenError, OpenIdClient, finish_login, start_login};
 use crate::support::{is_equal, is_text, text};
+use crate::web_login::{begin, end};
 use oauth2::http::Response;
+use oauth2::url::Url;
 use oauth2::{
     AuthUrl, AuthorizationCode, Client, ClientId, ClientSecret, CodeFlow, CodeFlowError, CsrfToken,
-    HttpResponse, PkceCodeVerifier, TokenUrl, code_flow,
+    HttpResponse, PkceCodeVerifier, TokenResponse, TokenUrl, code_flow,
 };
+use oauth2_redirect::{Login, LoginError, RedirectError};
 use oauth2_refused_memory_values_tests::{Repeated, VERIFIER};
 use std::process::Abort;
 
@@ -141,16 +144,20 @@ fn ends(
     rt: &(impl Abort + AllocGlobal),
     state: &str,
     body: &str,
-) -> Result<String, LoginError<CannedError>> {
+) -> Result<String, IdTokenError<CannedError>> {
     let client = open_id_client(rt);
     let login = started(rt, &client);
+    let redirect = format!(in rt.alloc(); "https://app.example/cb?code=ccc&state={state}").expect(
+        rt, "a text",
+    );
+    let redirect = Url::parse(rt.alloc(), redirect.as_str()).expect(rt, "a URL");
     finish_login(
         rt.alloc(),
         &client,
         &mut CannedClient::new(reply(rt, body)),
         login,
-        CsrfToken::new(text(rt, state)),
-        text(rt, "ccc"),
+        &redirect,
+        None,
     )
 }
 
@@ -161,12 +168,55 @@ fn open_id_login(rt: HostRuntime) {
     let body = r#"{"access_token":"a","token_type":"bearer","id_token":"x.y.z"}"#;
     let id_token = ends(&rt, STATE, body).expect(&rt, "an ID token");
     is_text(&rt, id_token.as_str(), "x.y.z");
-    assert!(rt; matches!(ends(&rt, "B", body), Err(LoginError::OtherState)));
+    let other = ends(&rt, "B", body);
+    let refused = matches!(
+        other,
+        Err(IdTokenError::Login(LoginError::Redirect(RedirectError::OtherState))),
+    );
+    assert!(rt; refused);
 }
 
 #[test]
 fn open_id_login_without_id_token(rt: HostRuntime) {
     let body = r#"{"access_token":"a","token_type":"bearer"}"#;
-    assert!(rt; matches!(ends(&rt, STATE, body), Err(LoginError::NoIdToken)));
-    assert!(rt; matches!(ends(&rt, STATE, "{}"), Err(LoginError::Token(_))));
+    assert!(rt; matches!(ends(&rt, STATE, body), Err(IdTokenError::NoIdToken)));
+    let refused = matches!(
+        ends(&rt, STATE, "{}"),
+        Err(IdTokenError::Login(LoginError::Token(_)))
+    );
+    assert!(rt; refused);
+}
+
+// A login that is kept as a text between its two steps.
+#[test]
+fn web_login(rt: HostRuntime) {
+    let client = client(&rt, AUTH, TOKEN);
+    let (url, session) = begin(rt.alloc(), &client, &mut Repeated(0)).expect(&rt, "a login");
+    is_text(
+        &rt,
+        url.as_str(),
+        "https://example.com/auth?response_type=code&client_id=aaa&state=AAAAAAAAAAAAAAAAAAAAAA\
+         &code_challenge=DwBzhbb51LfusnSGBa_hqYSgo7-j8BTQnip4TOnlzRo&code_challenge_method=S256\
+         &scope=profile",
+    );
+    let body = r#"{"access_token":"a","token_type":"bearer"}"#;
+    let redirect = "https://app.example/cb?code=ccc&state=AAAAAAAAAAAAAAAAAAAAAA";
+    let redirect = Url::parse(rt.alloc(), redirect).expect(&rt, "a URL");
+    let token = end(
+        rt.alloc(),
+        &client,
+        &mut CannedClient::new(reply(&rt, body)),
+        session.as_str(),
+        &redirect,
+        None,
+    );
+    is_text(
+        &rt,
+        token
+            .expect(&rt, "a token")
+            .access_token()
+            .secret()
+            .as_str(),
+        "a",
+    );
 }

@@ -1,11 +1,9 @@
 -- What reading by name gives of a login's URL.
-use Rattle.std.proofs.Common.{◌≡◌, ℕ, List, [], ◌∷◌, ◌++◌, Option, None, Some, Bool, true, false, ◌&&◌, filter, codes, ap, ◌∙◌, sym, refl, bytes_eq, append_assoc}
+use Rattle.std.proofs.Common.{◌≡◌, ℕ, List, [], ◌∷◌, ◌++◌, Option, None, Some, true, filter, codes, ap, ◌∙◌, sym, refl, append_assoc}
 use Rattle.std.specs.Prelude.{option_map}
 use Rattle.std.specs.List.{join_by}
-use Rattle.std.proofs.lemmas.Bool.{cond-false, not-true, false≢true}
 use Rattle.std.proofs.lemmas.List.{append-nil}
 use Rattle.std.proofs.lemmas.List.Elements.{filter-append}
-use Rattle.std.proofs.lemmas.Slice.Eq.{bytes_eq-Decides}
 use Rattle.url.specs.Parts.{Parts}
 use Rattle.oauth2_types.specs.Pkce.{Challenge, sha256_challenge}
 use Rattle.oauth2_form.specs.Pairs.{Pair}
@@ -14,35 +12,9 @@ use Rattle.oauth2_wire.specs.Expected.{optional_pair}
 use Rattle.oauth2_wire.specs.Texts.{given_text}
 use Rattle.oauth2_requests.specs.Authorization.{Authorization, challenge_pairs, scope_pairs, query_pairs}
 use Rattle.oauth2_form.specs.Query.{ExtendsQuery, query_form}
+use Rattle.oauth2.proofs.CodeFlowLaws.{none_of, read-behind}
 use Rattle.oauth2_redirect.specs.Login.{kept}
 use Rattle.oauth2_redirect.specs.Start.{ShowsLogin}
-
--- these stand in `oauth2` too, where they are private
-
-and_left : (a b : Bool) → (a && b) ≡ true → a ≡ true
-and_left true b h = refl
-and_left false b h = h
-
-and_right : (a b : Bool) → (a && b) ≡ true → b ≡ true
-and_right true b h = h
-and_right false b h = absurd (false≢true h)
-
-not_true : (b : Bool) → (b ≡ true → ⊥) → b ≡ false
-not_true true h = absurd (h refl)
-not_true false h = refl
-
-other_name : (own name : List ℕ) → is_own_name own ≡ true → is_own_name name ≡ false → bytes_eq name own ≡ false
-other_name own name is_own avoids =
-    not_true (bytes_eq name own) (λ e. false≢true (sym avoids ∙ ap is_own_name ((bytes_eq-Decides name own).0 e) ∙ is_own))
-
-none_of : (own : List ℕ) (pairs : List Pair) → is_own_name own ≡ true → avoid_own_names pairs ≡ true → filter (bears own) pairs ≡ []
-none_of own [] is_own avoid = refl
-none_of own (pair ∷ pairs) is_own avoid =
-    cond-false _ _ _ (other_name own pair.0 is_own (not-true _ (and_left _ _ avoid))) ∙ none_of own pairs is_own (and_right _ _ avoid)
-
-read-behind : (own : List ℕ) (pairs more : List Pair) → is_own_name own ≡ true → avoid_own_names pairs ≡ true → read_by_name own (pairs ++ more) ≡ read_by_name own more
-read-behind own pairs more is_own avoid =
-    ap sole (filter-append (bears own) pairs more ∙ ap (λ x. x ++ filter (bears own) more) (none_of own pairs is_own avoid))
 
 -- before such pairs an own name is read as if they were not there
 
@@ -78,6 +50,12 @@ method-read kind id state c None (b ∷ bs) = refl
 method-read kind id state c (Some redirect) [] = refl
 method-read kind id state c (Some redirect) (b ∷ bs) = refl
 
+redirect_uri-read : (kind id state : List ℕ) (c : Challenge) (redirect : Option (List ℕ)) (scope : List ℕ) → read_by_name (codes "redirect_uri") (own_front kind id state (Some c) redirect scope) ≡ redirect
+redirect_uri-read kind id state c None [] = refl
+redirect_uri-read kind id state c None (b ∷ bs) = refl
+redirect_uri-read kind id state c (Some redirect) [] = refl
+redirect_uri-read kind id state c (Some redirect) (b ∷ bs) = refl
+
 state-is_own : is_own_name (codes "state") ≡ true
 unfolding is_request_name is_shared_name
 state-is_own = refl
@@ -90,8 +68,12 @@ method-is_own : is_own_name (codes "code_challenge_method") ≡ true
 unfolding is_request_name is_shared_name
 method-is_own = refl
 
+redirect_uri-is_own : is_own_name (codes "redirect_uri") ≡ true
+unfolding is_request_name is_shared_name
+redirect_uri-is_own = refl
+
 pub shows : (old new : Parts) (r : Authorization) (verifier : List ℕ) → ExtendsQuery old new (query_pairs r) → r.pkce_challenge ≡ Some (sha256_challenge verifier)
-    → avoid_own_names (query_form old) ≡ true → avoid_own_names r.extra_params ≡ true → ShowsLogin (kept r.state verifier) (query_form new)
+    → avoid_own_names (query_form old) ≡ true → avoid_own_names r.extra_params ≡ true → ShowsLogin (kept r.state verifier r.redirect_url) (query_form new)
 shows old new r verifier extends is avoid extra =
     let redirect = option_map given_text r.redirect_url in
     let scope = join_by (λ s. s) (codes " ") r.scopes in
@@ -106,4 +88,5 @@ shows old new r verifier extends is avoid extra =
       read _ state-is_own ∙ state-read r.response_type r.client_id r.state c redirect scope,
       read _ challenge-is_own ∙ challenge-read r.response_type r.client_id r.state c redirect scope,
       read _ method-is_own ∙ method-read r.response_type r.client_id r.state c redirect scope,
+      read _ redirect_uri-is_own ∙ redirect_uri-read r.response_type r.client_id r.state c redirect scope,
     )

@@ -1,25 +1,44 @@
 -- The end of a login.
-use Rattle.std.specs.Prelude.{◌≡◌, ℕ, ◌⊎◌, List, Option, Some, Result, Ok, Err}
+use Rattle.std.specs.Prelude.{◌≡◌, ℕ, ◌⊎◌, List, codes, Option, Some, None, Result, Ok, Err}
 use Rattle.serde_json.specs.Data.{Data}
 use Rattle.oauth2_json.specs.Reading.{Reading}
 use Rattle.oauth2_urls.specs.Addressed.{Addressed}
+use Rattle.oauth2_form.specs.Pairs.{Pair}
+use Rattle.oauth2_wire.specs.ByName.{read_by_name}
 use Rattle.oauth2_wire.specs.OneShot.{HttpRequest}
 use Rattle.oauth2_wire.specs.Reply.{HttpResponse}
 use Rattle.oauth2_wire.specs.declared.error.RequestTokenError.{RequestTokenError}
 use Rattle.oauth2_wire.specs.Display.{fault_text}
-use Rattle.oauth2_requests.specs.Code.{code_configuration}
+use Rattle.oauth2_requests.specs.Code.{CodeRequest, code_configuration}
 use Rattle.oauth2_requests.specs.Once.{AsksOnce}
 use Rattle.oauth2.specs.CodeFlow.{flow_exchange}
 use Rattle.oauth2.specs.Settings.{Settings}
 use Rattle.oauth2_redirect.specs.declared.redirect.RedirectError.{RedirectError}
 use Rattle.oauth2_redirect.specs.declared.login_error.LoginError.{LoginError}
 use Rattle.oauth2_redirect.specs.declared.login_error.LoginError.TheVariants.{Redirect, Token}
+use Rattle.oauth2_redirect.specs.Login.{Kept}
 use Rattle.oauth2_redirect.specs.Redirect.{Refusal, TellsRefusal, redirect_error_text}
 
 -- the text of an error
 abbrev pub login_error_text : {RE T : Type 0} → (T → Option (List ℕ)) → LoginError RE T → Option (List ℕ)
 login_error_text text (Redirect error) = redirect_error_text error
 login_error_text text (Token error) = fault_text text error
+
+abbrev pub with_redirect_uri : Option Addressed → CodeRequest → CodeRequest
+with_redirect_uri None r = r
+with_redirect_uri (Some uri) r = record r { redirect_url = Some uri }
+
+-- the exchange of a login's code: with the login's verifier (RFC 7636, 4.5), and with the redirect
+-- URI that the login's URL bears, or else the client's (RFC 6749, 4.1.3)
+abbrev pub login_exchange : Settings → Addressed → Kept → List ℕ → CodeRequest
+login_exchange client endpoint login code =
+    with_redirect_uri login.redirect_uri (flow_exchange client endpoint login.verifier code)
+
+-- a server that reads the query of the login's URL and the body of the request by name finds this
+-- redirect URI in both, each once
+abbrev pub RepeatsRedirectUri : List ℕ → List Pair → List Pair → Type 0
+RepeatsRedirectUri uri query body =
+    (read_by_name (codes "redirect_uri") query ≡ Some uri) × (read_by_name (codes "redirect_uri") body ≡ Some uri)
 
 module _ {D T RE : Type 0} where
   -- the result of a login whose code was exchanged
@@ -28,21 +47,21 @@ module _ {D T RE : Type 0} where
   of_exchange (Err error) = Err (Token error)
 
 module _ {D A T E RE C : Type 0} where
-  -- the exchange of this code with this verifier is asked for at most once, and this is its result
+  -- the exchange of this login's code is asked for at most once, and this is its result
   abbrev pub IsExchange : (D → A) → (T → E) → (Data → Reading A) → (Data → Reading E)
-      → (C → HttpRequest → Result HttpResponse RE → C → Type 0) → Settings → List ℕ → List ℕ
+      → (C → HttpRequest → Result HttpResponse RE → C → Type 0) → Settings → Kept → List ℕ
       → C → Result D (RequestTokenError RE T) → C → Type 0
-  IsExchange meaning error_meaning reading error_reading step client verifier code before result after =
+  IsExchange meaning error_meaning reading error_reading step client login code before result after =
       (endpoint : Addressed) × (client.token_url ≡ Some endpoint)
       × AsksOnce meaning error_meaning reading error_reading step client.reply_rule
-      (code_configuration (flow_exchange client endpoint verifier code)) endpoint before result after
+      (code_configuration (login_exchange client endpoint login code)) endpoint before result after
 
-  -- a redirect that tells a code has that code exchanged with the login's verifier; another tells
+  -- a redirect that tells a code has that code exchanged for the login's token; another tells
   -- why it gives none, and the HTTP client is as it was, as it is where memory ran out
   abbrev pub EndsLogin : (D → A) → (T → E) → (Data → Reading A) → (Data → Reading E)
-      → (C → HttpRequest → Result HttpResponse RE → C → Type 0) → Settings → List ℕ → Result (List ℕ) Refusal
+      → (C → HttpRequest → Result HttpResponse RE → C → Type 0) → Settings → Kept → Result (List ℕ) Refusal
       → C → Result D (LoginError RE T) → C → Type 0
-  EndsLogin meaning error_meaning reading error_reading step client verifier told before result after =
+  EndsLogin meaning error_meaning reading error_reading step client login told before result after =
       ((code : List ℕ) × (told ≡ Ok code) × (outcome : Result D (RequestTokenError RE T)) × (result ≡ of_exchange outcome)
-      × IsExchange meaning error_meaning reading error_reading step client verifier code before outcome after)
+      × IsExchange meaning error_meaning reading error_reading step client login code before outcome after)
       ⊎ ((error : RedirectError) × (result ≡ Err (Redirect error)) × TellsRefusal error told × (after ≡ before))

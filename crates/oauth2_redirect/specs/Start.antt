@@ -1,8 +1,11 @@
 -- The start of a login.
-use Rattle.std.specs.Prelude.{◌≡◌, ℕ, List, codes, Some}
+use Rattle.std.specs.Prelude.{◌≡◌, ℕ, List, codes, Option, Some, option_map}
+use Rattle.url.specs.declared.error.ParseError.{ParseError}
+use Rattle.url.specs.declared.error.ParseError.TheVariants.{Overflow}
 use Rattle.oauth2_types.specs.Pkce.{sha256_challenge}
 use Rattle.oauth2_form.specs.Pairs.{Pair}
 use Rattle.oauth2_wire.specs.ByName.{read_by_name}
+use Rattle.oauth2_wire.specs.Texts.{given_text}
 use Rattle.oauth2_requests.specs.Authorization.{Authorization}
 use Rattle.oauth2_redirect.specs.Login.{Kept}
 
@@ -11,10 +14,16 @@ pub record Starting : Type 0 where
   pub request : Authorization
   pub verifier : List ℕ
 
--- a server that reads these pairs by name finds the login's state, and its verifier's challenge by
--- the method `S256`, each once
+-- a server that reads these pairs by name finds the login's state, its verifier's challenge by the
+-- method `S256`, and its redirect URI if it has one, each once
 abbrev pub ShowsLogin : Kept → List Pair → Type 0
 ShowsLogin login query =
     (read_by_name (codes "state") query ≡ Some login.state)
     × (read_by_name (codes "code_challenge") query ≡ Some (sha256_challenge login.verifier).text)
     × (read_by_name (codes "code_challenge_method") query ≡ Some (codes "S256"))
+    × (read_by_name (codes "redirect_uri") query ≡ option_map given_text login.redirect_uri)
+
+-- the text of the error of a URL
+abbrev pub login_url_error_text : ParseError → Option (List ℕ)
+login_url_error_text Overflow = Some (codes "authorization URL is too long")
+login_url_error_text error = Some (codes "Out of memory")

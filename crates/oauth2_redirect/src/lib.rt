@@ -3,13 +3,18 @@
 
 #![tactic(auto)]
 
+mod laws;
 mod login;
 mod login_error;
+mod login_json;
 mod login_request;
+mod login_url_error;
 mod query;
 mod redirect;
 
-pub use login::{Login, login_passes_check};
+pub use laws::{login_passes_check, login_repeats_redirect_uri};
+pub use login::Login;
 pub use login_error::LoginError;
 pub use login_request::LoginRequest;
+pub use login_url_error::LoginUrlError;
 pub use redirect::{AuthorizationErrorResponse, RedirectError, read_redirect, read_redirect_query};

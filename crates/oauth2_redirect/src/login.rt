@@ -3,43 +3,37 @@
 ghost use Rattle.std.specs.Prelude.{◌≡◌, ℕ, List, Ok, Err, Some, IfOk, false, option_copied};
 ghost use Rattle.std.specs.Prelude.{codes};
 ghost use Rattle.rand_core.specs.Stream.{Stream};
-ghost use Rattle.serde_json.specs.View.{view};
-ghost use Rattle.oauth2_json.specs.Writing.{WritesAs};
 ghost use Rattle.oauth2_types.specs.Pkce.{IsRandomText};
 ghost use Rattle.oauth2_urls.specs.Addressed.{Addressed};
 ghost use Rattle.oauth2_form.specs.Query.{query_form};
-ghost use Rattle.url.specs.Parts.{serialize};
-ghost use Rattle.oauth2_form.specs.Pairs.{Pair, form};
-ghost use Rattle.oauth2_wire.specs.Request.{IsRequestOf, RequestView};
-ghost use Rattle.oauth2_requests.specs.Code.{code_configuration};
-ghost use Rattle.oauth2.specs.CodeFlow.{PassesCheck, flow_authorization, flow_exchange};
-ghost use Rattle.oauth2.specs.Settings.{Settings};
-ghost use Rattle.oauth2_redirect.specs.Start.{ShowsLogin};
+ghost use Rattle.oauth2.specs.CodeFlow.{flow_authorization};
 ghost use Rattle.oauth2_redirect.specs.Query.{sole_text};
 ghost use Rattle.oauth2_redirect.specs.Redirect.{Refusal, answer, is_state};
-ghost use Rattle.oauth2_redirect.specs.End.{EndsLogin, IsExchange};
-ghost use Rattle.oauth2_redirect.specs.Login.{Kept, login_reading, login_writing};
+ghost use Rattle.oauth2_redirect.specs.End.{EndsLogin, IsExchange, login_exchange};
+ghost use Rattle.oauth2_redirect.specs.Login.{kept};
 
 use crate::login_error::LoginError;
 use crate::login_request::LoginRequest;
 use crate::redirect::read_redirect;
 use oauth2::{Client, EndpointSet, EndpointState};
 use oauth2_codes::ErrorResponse;
-use oauth2_json::{FromJson, ReadError, ToJson, WriteError, members};
 use oauth2_replies::TokenResponse;
-use oauth2_types::{AuthorizationCode, CsrfToken, PkceCodeChallenge, PkceCodeVerifier};
-use oauth2_wire::{RequestTokenError, SyncHttpClient};
+use oauth2_requests::CodeTokenRequest;
+use oauth2_types::{AuthorizationCode, CsrfToken, PkceCodeChallenge, PkceCodeVerifier, TryClone};
+use oauth2_urls::RedirectUrl;
+use oauth2_wire::{RedirectRef, SyncHttpClient};
 use rand_core::Rng;
-use serde_json::{Map, Value};
 use std::alloc::{AllocError, Global};
 use std::marker::Model;
 use url::Url;
 
-/// What an application keeps with the session while its user is away: the state and the verifier.
+/// What an application keeps with the session while its user is away: the state, the verifier, and
+/// the redirect URI that the login's URL bears.
 #[derive(Debug, Drop)]
 pub struct Login {
-    state: CsrfToken,
-    verifier: PkceCodeVerifier,
+    pub(crate) state: CsrfToken,
+    pub(crate) verifier: PkceCodeVerifier,
+    pub(crate) redirect_uri: Option<RedirectUrl>,
 }
 
 impl Model for Login {
@@ -47,15 +41,27 @@ impl Model for Login {
 
     ghost Value = { Kept };
 
-    ghost view = { λ l. record { state = l.state; verifier = l.verifier } };
+    ghost view = { λ l. record {
+      state = l.state;
+      verifier = l.verifier;
+      redirect_uri = l.redirect_uri;
+    } };
 }
 
 impl Login {
     // A login of these parts.
-    pub(crate) fn new(state: CsrfToken, verifier: PkceCodeVerifier) -> Login
-        ensures { result ≡ record { state = state; verifier = verifier } }
+    pub(crate) fn new(
+        state: CsrfToken,
+        verifier: PkceCodeVerifier,
+        redirect_uri: Option<RedirectUrl>,
+    ) -> Login
+        ensures { result ≡ kept state verifier redirect_uri }
     {
-        Login { state, verifier }
+        Login {
+            state,
+            verifier,
+            redirect_uri,
+        }
     }
 
     /// Begins a login at this client's authorization endpoint: a state of 16 random bytes, and a
@@ -79,11 +85,12 @@ impl Login {
             ≡ flow_authorization client.now endpoint login.request.state login.verifier)) }
     {
         let state = CsrfToken::new_random(alloc, rng)?;
+        let sent = state.try_clone(alloc)?;
         let (challenge, verifier) = PkceCodeChallenge::new_random_sha256(alloc, rng)?;
         let request = client
-            .authorize_url(alloc, move || state)
+            .authorize_url(alloc, move || sent)
             .set_pkce_challenge(challenge);
-        Ok(LoginRequest::new(request, verifier))
+        Ok(LoginRequest::new(request, state, verifier, client.redirect_uri()))
     }
 
     /// The token for the code that the redirect brings, where its state is the login's and, if an
@@ -105,14 +112,13 @@ impl Login {
         I: EndpointState,
         R: EndpointState,
         requires { C.is_ready http_client.old }
-        ensures end { EndsLogin TR.meaning TE.meaning TR.reading TE.reading C.step client.now
-            self.verifier
+        ensures end { EndsLogin TR.meaning TE.meaning TR.reading TE.reading C.step client.now self
             (answer self.state (option_copied issuer.entry) (query_form redirect.now))
             http_client.old result http_client.new }
         ensures token { IfOk result (λ token. (code : List ℕ)
             × (answer self.state (option_copied issuer.entry) (query_form redirect.now) ≡ Ok code)
-            × IsExchange TR.meaning TE.meaning TR.reading TE.reading C.step client.now
-            self.verifier code http_client.old (Ok token) http_client.new) }
+            × IsExchange TR.meaning TE.meaning TR.reading TE.reading C.step client.now self code
+            http_client.old (Ok token) http_client.new) }
 
         // A redirect that tells no code sends nothing, so none with another state does.
         ensures no_code { (why : Refusal)
@@ -122,87 +128,67 @@ impl Login {
             is_state self.state state ≡ false → http_client.new ≡ http_client.old }
         ensures ready { C.is_ready http_client.new }
     {
-        let code = read_redirect(alloc, redirect, &self.state, issuer)?;
-        let token = exchanged(alloc, client, http_client, self.verifier, code)?;
-        Ok(token)
+        match read_redirect(alloc, redirect, &self.state, issuer) {
+            Ok(code) => self.exchanged(alloc, client, http_client, code),
+            Err(error) => Err(LoginError::Redirect(error)),
+        }
     }
-}
 
-// The token for a code and its verifier.
-fn exchanged<TE, TR, TIR, RT, TRE, A, D, I, R, C: SyncHttpClient>(
-    alloc: Global,
-    client: &Client<TE, TR, TIR, RT, TRE, A, D, I, R, EndpointSet>,
-    http_client: &mut C,
-    verifier: PkceCodeVerifier,
-    code: AuthorizationCode,
-) -> Result<TR, RequestTokenError<C::Error, TE>>
-where
-    TE: ErrorResponse,
-    TR: TokenResponse,
-    A: EndpointState,
-    D: EndpointState,
-    I: EndpointState,
-    R: EndpointState,
-    requires { C.is_ready http_client.old }
-    ensures exchange { IsExchange TR.meaning TE.meaning TR.reading TE.reading C.step client.now
-        verifier code
-        http_client.old result http_client.new }
-    ensures ready { C.is_ready http_client.new }
-{
-    client
-        .exchange_code(alloc, code)
-        .set_pkce_verifier(verifier)
-        .request(alloc, http_client)
-}
-
-impl FromJson for Login {
-    ghost Meaning = { Kept };
-
-    ghost meaning = { λ l. l };
-
-    ghost reading = { login_reading };
-
-    #[tactic(auto, using(oauth2_json::proofs::Objects::member_facts))]
-    fn from_json(alloc: Global, value: Value) -> Result<Login, ReadError> {
-        let mut members = members::of_object(alloc, value)?;
-        let state = members::take(&mut members, "state");
-        let verifier = members::take(&mut members, "verifier");
-        let state = members::needed(alloc, "state", state)?;
-        let verifier = members::needed(alloc, "verifier", verifier)?;
-        Ok(Login { state, verifier })
-    }
-}
-
-// The members of a login.
-fn written(alloc: Global, login: &Login) -> Result<Value, WriteError>
-    ensures { WritesAs result (login_writing login.now) }
-{
-    let state = login.state.to_json(alloc)?;
-    let verifier = login.verifier.to_json(alloc)?;
-    let mut members = Map::new(alloc);
-    members::put_some(&mut members, alloc, "verifier", Some(verifier))?;
-    members::put_some(&mut members, alloc, "state", Some(state))?;
-    Ok(Value::Object(members))
-}
-
-impl ToJson for Login {
-    ghost writing = { login_writing };
-
-    fn to_json(&self, alloc: Global) -> Result<Value, WriteError>
-        ensures written { WritesAs result (login_writing self.now) }
-        ensures reads_back { IfOk result (λ v. login_reading (view v) ≡ Ok self.now) }
+    // The token for this code.
+    fn exchanged<TE, TR, TIR, RT, TRE, A, D, I, R, C: SyncHttpClient>(
+        self,
+        alloc: Global,
+        client: &Client<TE, TR, TIR, RT, TRE, A, D, I, R, EndpointSet>,
+        http_client: &mut C,
+        code: AuthorizationCode,
+    ) -> Result<TR, LoginError<C::Error, TE>>
+    where
+        TE: ErrorResponse,
+        TR: TokenResponse,
+        A: EndpointState,
+        D: EndpointState,
+        I: EndpointState,
+        R: EndpointState,
+        requires { C.is_ready http_client.old }
+        ensures end { EndsLogin TR.meaning TE.meaning TR.reading TE.reading C.step client.now self
+            (Ok code) http_client.old result http_client.new }
+        ensures ready { C.is_ready http_client.new }
     {
-        written(alloc, self)
+        match self
+            .exchange(alloc, client, code)
+            .request(alloc, http_client)
+        {
+            Ok(token) => Ok(token),
+            Err(error) => Err(LoginError::Token(error)),
+        }
+    }
+
+    // The request for the token. It bears the redirect URI that the login's URL bears.
+    fn exchange<TE, TR, TIR, RT, TRE, A, D, I, R>(
+        self,
+        alloc: Global,
+        client: &Client<TE, TR, TIR, RT, TRE, A, D, I, R, EndpointSet>,
+        code: AuthorizationCode,
+    ) -> CodeTokenRequest<'_, TE, TR>
+    where
+        A: EndpointState,
+        D: EndpointState,
+        I: EndpointState,
+        R: EndpointState,
+        ensures url { client.now.token_url ≡ Some result.token_url }
+        ensures new { result ≡ login_exchange client.now result.token_url self code }
+    {
+        let Login {
+            state: _,
+            verifier,
+            redirect_uri,
+        } = self;
+        let request = client
+            .exchange_code(alloc, code)
+            .set_pkce_verifier(verifier);
+        match redirect_uri {
+            Some(redirect_uri) => request.set_redirect_uri(RedirectRef::Owned(redirect_uri)),
+            None => request,
+        }
     }
 }
-
-/// A server that reads the URL of a login and the request for its code by their names finds that
-/// the login's verifier passes the check of the login's challenge (RFC 7636, section 4.6).
-pub fn login_passes_check()
-    ensures { (login : Kept) (query : List Pair) (client : Settings) (endpoint : Addressed)
-        (code : List ℕ) (v : RequestView)
-        → ShowsLogin login query
-        → IsRequestOf (code_configuration (flow_exchange client endpoint login.verifier code))
-        (serialize endpoint.url) v
-        → PassesCheck login.verifier query (form v.body) }
-{}

@@ -1,33 +1,50 @@
 //! The start of a login: the URL that leads the user away, and what to keep meanwhile.
 
 ghost use Rattle.std.specs.Iterator.{Drains, IsFinite};
-ghost use Rattle.std.specs.Prelude.{◌≡◌, ◌++◌, ◌∷◌, [], ℕ, List, IfOk, IfErr, IsTrue, Some};
-ghost use Rattle.rand_core.specs.Stream.{Stream};
+ghost use Rattle.std.specs.Prelude.{
+  ◌≡◌,
+  ◌++◌,
+  ◌∷◌,
+  [],
+  ℕ,
+  List,
+  Err,
+  IfOk,
+  IfErr,
+  IsTrue,
+  Some,
+  option_copied,
+};
 ghost use Rattle.url.specs.Parser.{IsOutOfRoom};
-ghost use Rattle.oauth2_types.specs.Pkce.{IsRandomText, sha256_challenge};
+ghost use Rattle.oauth2_types.specs.Pkce.{sha256_challenge};
 ghost use Rattle.oauth2_wire.specs.ByName.{avoid_own_names};
 ghost use Rattle.oauth2_wire.specs.Texts.{param_bytes};
-ghost use Rattle.oauth2_requests.specs.Authorization.{query_pairs};
+ghost use Rattle.oauth2_requests.specs.Authorization.{IsTooLong, asked_url, query_pairs};
 ghost use Rattle.oauth2_form.specs.Query.{ExtendsQuery, query_form};
 ghost use Rattle.oauth2_redirect.specs.Start.{ShowsLogin};
+ghost use Rattle.oauth2_redirect.specs.Login.{kept};
 
 use crate::login::Login;
+use crate::login_url_error::LoginUrlError;
 use oauth2_requests::AuthorizationRequest;
-use oauth2_types::{PkceCodeVerifier, Scope};
+use oauth2_types::{CsrfToken, PkceCodeVerifier, Scope, TryClone};
+use oauth2_urls::RedirectUrl;
 use oauth2_wire::ParamText;
 use std::alloc::{AllocError, Global};
 use std::marker::Model;
 use url::{ParseError, Url};
 
 /// A login that is being started. Contracts see the request for its URL, and its verifier.
-#[derive(Drop)]
+#[derive(Debug, Drop)]
 pub struct LoginRequest<'a> {
     request: AuthorizationRequest<'a>,
+    state: CsrfToken,
     verifier: PkceCodeVerifier,
+    redirect_uri: Option<&'a RedirectUrl>,
 }
 
 impl<'a> Model for LoginRequest<'a> {
-    ghost use Rattle.std.specs.Prelude.{◌≡◌, Some};
+    ghost use Rattle.std.specs.Prelude.{◌≡◌, Some, option_copied};
     ghost use Rattle.oauth2_types.specs.Pkce.{sha256_challenge};
     ghost use Rattle.oauth2_redirect.specs.Start.{Starting};
 
@@ -35,17 +52,31 @@ impl<'a> Model for LoginRequest<'a> {
 
     ghost view = { λ l. record { request = l.request; verifier = l.verifier } };
 
-    // The request sends the verifier's challenge.
-    ghost invariant = { λ l. l.request.pkce_challenge ≡ Some (sha256_challenge l.verifier) };
+    // The request sends the verifier's challenge, and the state and redirect URI that are kept.
+    ghost invariant = { λ l. (l.request.pkce_challenge ≡ Some (sha256_challenge l.verifier))
+        × (l.request.state ≡ l.state)
+        × (l.request.redirect_url ≡ option_copied l.redirect_uri) };
 }
 
 impl<'a> LoginRequest<'a> {
-    // A login by this request, which sends the verifier's challenge.
-    pub(crate) fn new(request: AuthorizationRequest<'a>, verifier: PkceCodeVerifier) -> Self
-        requires { request.pkce_challenge ≡ Some (sha256_challenge verifier) }
+    // A login by this request, which sends the verifier's challenge, the state and the redirect URI.
+    pub(crate) fn new(
+        request: AuthorizationRequest<'a>,
+        state: CsrfToken,
+        verifier: PkceCodeVerifier,
+        redirect_uri: Option<&'a RedirectUrl>,
+    ) -> Self
+        requires challenge { request.pkce_challenge ≡ Some (sha256_challenge verifier) }
+        requires state { request.state ≡ state }
+        requires redirect_uri { request.redirect_url ≡ option_copied redirect_uri }
         ensures { result ≡ record { request = request.entry; verifier = verifier } }
     {
-        LoginRequest { request, verifier }
+        LoginRequest {
+            request,
+            state,
+            verifier,
+            redirect_uri,
+        }
     }
 
     /// Adds a scope.
@@ -58,7 +89,9 @@ impl<'a> LoginRequest<'a> {
     {
         Ok(LoginRequest {
             request: self.request.add_scope(scope)?,
+            state: self.state,
             verifier: self.verifier,
+            redirect_uri: self.redirect_uri,
         })
     }
 
@@ -76,7 +109,9 @@ impl<'a> LoginRequest<'a> {
     {
         Ok(LoginRequest {
             request: self.request.add_scopes(scopes)?,
+            state: self.state,
             verifier: self.verifier,
+            redirect_uri: self.redirect_uri,
         })
     }
 
@@ -95,24 +130,69 @@ impl<'a> LoginRequest<'a> {
     {
         Ok(LoginRequest {
             request: self.request.add_extra_param(name, value)?,
+            state: self.state,
             verifier: self.verifier,
+            redirect_uri: self.redirect_uri,
         })
     }
 
-    /// The URL to send the user to, and what to keep until the user is back.
-    pub fn url(self, alloc: Global) -> Result<(Url, Login), ParseError>
+    /// Sets the redirect URI, which is the client's unless set. The request for the token bears it
+    /// too (RFC 6749, section 4.1.3).
+    pub fn set_redirect_uri(self, redirect_uri: &'a RedirectUrl) -> Self
+        ensures { result ≡ record self.entry {
+          request = record self.entry.request { redirect_url = Some redirect_uri.now };
+        } }
+    {
+        LoginRequest {
+            request: self.request.set_redirect_uri(redirect_uri.into()),
+            state: self.state,
+            verifier: self.verifier,
+            redirect_uri: Some(redirect_uri),
+        }
+    }
+
+    /// The URL to send the user to, and what to keep until the user is back. Where there is none,
+    /// this request is part of the error, so `url` can be asked again.
+    pub fn url(self, alloc: Global) -> Result<(Url, Login), LoginUrlError<'a>>
         ensures url { IfOk result (λ (url, _).
             ExtendsQuery self.entry.request.auth_url.url url (query_pairs self.entry.request)) }
-        ensures kept { IfOk result (λ (_, login).
-            login ≡ record { state = self.entry.request.state; verifier = self.entry.verifier }) }
+        ensures kept { IfOk result (λ (_, login). let request = self.entry.request in
+            login ≡ kept request.state self.entry.verifier request.redirect_url) }
 
         // What a server reads of the URL by name.
         ensures shows { IsTrue (avoid_own_names (query_form self.entry.request.auth_url.url))
             → IsTrue (avoid_own_names self.entry.request.extra_params)
             → IfOk result (λ (url, login). ShowsLogin login (query_form url)) }
-        ensures refusal { IfErr result IsOutOfRoom }
+        ensures refusal { IfErr result
+            (λ refused. (refused.request ≡ self.entry) × IsOutOfRoom refused.error) }
+        ensures overflow { IfErr result (λ refused. refused.error ≡ ParseError.Overflow
+            → IsTooLong (asked_url self.entry.request)) }
     {
-        let (url, state) = self.request.url(alloc)?;
-        Ok((url, Login::new(state, self.verifier)))
+        match self.url_and_redirect_uri(alloc) {
+            Ok((url, redirect_uri)) => Ok((
+                url,
+                Login::new(self.state, self.verifier, redirect_uri),
+            )),
+            Err(error) => Err(LoginUrlError {
+                error,
+                request: self,
+            }),
+        }
+    }
+
+    // The URL, and a copy of the redirect URI.
+    fn url_and_redirect_uri(&self, alloc: Global) -> Result<(Url, Option<RedirectUrl>), ParseError>
+        ensures url { IfOk result (λ (url, _).
+            ExtendsQuery self.now.request.auth_url.url url (query_pairs self.now.request)) }
+        ensures redirect_uri { IfOk result (λ (_, uri). uri ≡ self.now.request.redirect_url) }
+        ensures refusal { IfErr result IsOutOfRoom }
+        ensures overflow { result ≡ Err ParseError.Overflow
+            → IsTooLong (asked_url self.now.request) }
+    {
+        let redirect_uri = match self.redirect_uri {
+            Some(redirect_uri) => Some(redirect_uri.try_clone(alloc)?),
+            None => None,
+        };
+        Ok((self.request.authorization_url(alloc)?, redirect_uri))
     }
 }

@@ -8,6 +8,7 @@ use crate::polls::{Poll, show_poll};
 use crate::post_rows::{PostRow, show_post_row};
 use crate::replies::ReplyTexts;
 use crate::url_rows::{UrlRow, show_url_row};
+use crate::web_logins::show_web_login;
 use oauth2_refused_memory_values_tests::{Ended, find};
 use std::alloc::Global;
 use std::io::Write;
@@ -81,6 +82,7 @@ pub enum ClientRow {
     Exchange(ReplyTexts<'static>),
     Poll(Poll<'static>),
     Login,
+    WebLogin(ReplyTexts<'static>),
     FirstToken,
     RenewedToken,
 }
@@ -105,7 +107,7 @@ const WAITING: Poll<'static> = Poll {
     replies: 2,
 };
 
-const ROWS: [(&str, ClientRow); 34] = [
+const ROWS: [(&str, ClientRow); 35] = [
     ("basic_credentials", ClientRow::Post(PostRow::Credentials)),
     ("empty_credentials", ClientRow::Post(PostRow::Credentials)),
     ("no_secret", ClientRow::Post(PostRow::Credentials)),
@@ -207,6 +209,7 @@ const ROWS: [(&str, ClientRow); 34] = [
     ("no_target", ClientRow::Exchange(TOKEN)),
     ("user_password", ClientRow::Post(PostRow::Password)),
     ("code_flow", ClientRow::Login),
+    ("web_login", ClientRow::WebLogin(TOKEN)),
     ("first_token", ClientRow::FirstToken),
     ("renewed_token", ClientRow::RenewedToken),
 ];
@@ -229,6 +232,7 @@ pub fn show_client_row<W: Write>(
         ClientRow::Exchange(reply) => show_exchange(alloc, client, reply, out),
         ClientRow::Poll(poll) => show_poll(alloc, client, &poll, out),
         ClientRow::Login => show_login(alloc, client, out),
+        ClientRow::WebLogin(reply) => show_web_login(alloc, client, reply, out),
         ClientRow::FirstToken => show_first_token(alloc, client, out),
         ClientRow::RenewedToken => show_renewed_token(alloc, client, out),
     }

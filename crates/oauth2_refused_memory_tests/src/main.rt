@@ -24,6 +24,7 @@ mod rows;
 mod show;
 mod url_rows;
 mod urls;
+mod web_logins;
 
 use oauth2_refused_memory_values_tests::{Ended, read_names};
 use rows::show_rows;

@@ -22,6 +22,7 @@ pub enum Want {
     CodeFlowError,
     ParseError,
     ReadError,
+    RedirectError,
     RequestFault,
     RequestTokenError { sent: bool },
     ViewError,

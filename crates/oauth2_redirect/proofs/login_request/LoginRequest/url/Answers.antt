@@ -1,15 +1,22 @@
-use Rattle.std.proofs.Common.{◌≡◌, true, ap, ◌∙◌, sym, subst}
-use Rattle.oauth2_wire.specs.ByName.{avoid_own_names}
+use Rattle.std.proofs.Common.{◌≡◌, Some, ap, ◌∙◌, sym, subst}
+use Rattle.oauth2_types.specs.Pkce.{sha256_challenge}
 use Rattle.oauth2_form.specs.Query.{query_form}
 use Rattle.oauth2_redirect.specs.Login.{kept}
 use Rattle.oauth2_redirect.specs.Start.{Starting, ShowsLogin}
 use Rattle.oauth2_redirect.proofs.StartLaws.{shows}
 use Rattle.oauth2_redirect.proofs.login_request.LoginRequest.url.Goals as goal
 
-pub returns-clause-shows : goal.returns-clause-shows
-returns-clause-shows c =
-    let login = c.self.inside in
-    let query = query_form c.in_ok-url.url in
-    let is = c.new.ensures ∙ ap (λ s. kept s login.verifier) c.in_ok-url.ensures.state in
-    subst (λ (l : Starting). avoid_own_names (query_form l.request.auth_url.url) ≡ true → avoid_own_names l.request.extra_params ≡ true → ShowsLogin c.new.result query) c.self.view_is
-    (λ avoid extra. subst (λ l. ShowsLogin l query) (sym is) (shows login.request.auth_url.url c.in_ok-url.url login.request login.verifier c.in_ok-url.ensures.ok c.self.invariant avoid extra))
+pub returns-in-Ok-clause-shows : goal.returns-in-Ok-clause-shows
+returns-in-Ok-clause-shows c = λ avoid extra.
+    let started = c.args.self in
+    let inside = c.self.inside in
+    let is_started = c.self.view_is in
+    let same_state = sym c.self.invariant.1 ∙ ap (λ (l : Starting). l.request.state) is_started in
+    let same_verifier = ap (λ (l : Starting). l.verifier) is_started in
+    let challenge = subst (λ (l : Starting). l.request.pkce_challenge ≡ Some (sha256_challenge l.verifier)) is_started c.self.invariant.0 in
+    let is = c.new.ensures
+    ∙ ap (λ s. kept s inside.verifier c.in-Ok.redirect_uri) same_state
+    ∙ ap (λ v. kept started.request.state v c.in-Ok.redirect_uri) same_verifier
+    ∙ ap (kept started.request.state started.verifier) c.in-Ok.ensures.redirect_uri in
+    subst (λ l. ShowsLogin l (query_form c.in-Ok.url)) (sym is)
+    (shows started.request.auth_url.url c.in-Ok.url started.request started.verifier c.in-Ok.ensures.url challenge avoid extra)

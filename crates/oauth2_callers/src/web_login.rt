@@ -1,0 +1,72 @@
+//! A web login: the URL that leads the user away, and the token when the user is back.
+
+ghost use Rattle.std.specs.Prelude.{◌≡◌, ℕ, List, Ok, IfOk, option_copied};
+ghost use Rattle.oauth2_json.specs.Body.{body_reading};
+ghost use Rattle.oauth2_form.specs.Query.{query_form};
+ghost use Rattle.oauth2_redirect.specs.Login.{Kept, login_reading};
+ghost use Rattle.oauth2_redirect.specs.Redirect.{answer};
+
+use oauth2::basic::{BasicClient, BasicErrorResponse, BasicTokenResponse};
+use oauth2::url::{ParseError, Url};
+use oauth2::{EndpointNotSet, EndpointSet, ReadError, Scope, SyncHttpClient, compact, read_body};
+use oauth2_redirect::{Login, LoginError};
+use rand_core::Rng;
+use std::alloc::Global;
+
+/// A client for logins.
+pub type LoginClient = BasicClient<
+    EndpointSet,
+    EndpointNotSet,
+    EndpointNotSet,
+    EndpointNotSet,
+    EndpointSet,
+>;
+
+/// Why a login gave no token.
+#[derive(Debug, Drop)]
+pub enum WebLoginError<E> {
+    /// What the session holds is no login.
+    Session(ReadError),
+    /// The redirect or the token endpoint gave no token.
+    Login(LoginError<E, BasicErrorResponse>),
+}
+
+/// The URL to send the user to, and the text to keep with the session meanwhile.
+pub fn begin<R: Rng>(
+    alloc: Global,
+    client: &LoginClient,
+    rng: &mut R,
+) -> Result<(Url, String), ParseError> {
+    let scope = Scope::new(String::from_str(alloc, "profile")?);
+    let request = Login::start(alloc, client, rng)?.add_scope(scope)?;
+    let (url, login) = request.url(alloc)?;
+    match compact(alloc, &login) {
+        Ok(text) => Ok((url, text)),
+        Err(_) => Err(ParseError::OutOfMemory),
+    }
+}
+
+/// The token, when the user comes back by this redirect to a session that holds this text. The
+/// server's issuer is expected, if one is given.
+pub fn end<C: SyncHttpClient>(
+    alloc: Global,
+    client: &LoginClient,
+    http_client: &mut C,
+    session: &str,
+    redirect: &Url,
+    issuer: Option<&str>,
+) -> Result<BasicTokenResponse, WebLoginError<C::Error>>
+    requires { C.is_ready http_client.old }
+    ensures { IfOk result (λ _. (login : Kept) × (code : List ℕ)
+        × (body_reading login_reading session.now ≡ Ok login)
+        × (answer login.state (option_copied issuer.entry) (query_form redirect.now) ≡ Ok code)) }
+{
+    let login: Login = match read_body(alloc, session.as_bytes()) {
+        Ok(login) => login,
+        Err(error) => return Err(WebLoginError::Session(error)),
+    };
+    match login.finish(alloc, client, http_client, redirect, issuer) {
+        Ok(token) => Ok(token),
+        Err(error) => Err(WebLoginError::Login(error)),
+    }
+}

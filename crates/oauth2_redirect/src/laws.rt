@@ -1,0 +1,36 @@
+//! What a server finds that compares a login's URL with the request for its token.
+
+ghost use Rattle.std.specs.Prelude.{◌≡◌, ℕ, List, Some};
+ghost use Rattle.url.specs.Parts.{serialize};
+ghost use Rattle.oauth2_urls.specs.Addressed.{Addressed};
+ghost use Rattle.oauth2_form.specs.Pairs.{Pair, form};
+ghost use Rattle.oauth2_wire.specs.Request.{IsRequestOf, RequestView};
+ghost use Rattle.oauth2_requests.specs.Code.{code_configuration};
+ghost use Rattle.oauth2.specs.CodeFlow.{PassesCheck};
+ghost use Rattle.oauth2.specs.Settings.{Settings};
+ghost use Rattle.oauth2_redirect.specs.Start.{ShowsLogin};
+ghost use Rattle.oauth2_redirect.specs.End.{RepeatsRedirectUri, login_exchange};
+ghost use Rattle.oauth2_redirect.specs.Login.{Kept};
+
+/// A server that reads the URL of a login and the request for its code by their names finds that
+/// the login's verifier passes the check of the login's challenge (RFC 7636, section 4.6).
+pub fn login_passes_check()
+    ensures { (login : Kept) (query : List Pair) (client : Settings) (endpoint : Addressed)
+        (code : List ℕ) (v : RequestView)
+        → ShowsLogin login query
+        → IsRequestOf (code_configuration (login_exchange client endpoint login code))
+        (serialize endpoint.url) v
+        → PassesCheck login.verifier query (form v.body) }
+{}
+
+/// Such a server finds the redirect URI of the login's URL in the request too (RFC 6749, section
+/// 4.1.3), whatever redirect URI the client has by then.
+pub fn login_repeats_redirect_uri()
+    ensures { (login : Kept) (uri : Addressed) (query : List Pair) (client : Settings)
+        (endpoint : Addressed) (code : List ℕ) (v : RequestView)
+        → login.redirect_uri ≡ Some uri
+        → ShowsLogin login query
+        → IsRequestOf (code_configuration (login_exchange client endpoint login code))
+        (serialize endpoint.url) v
+        → RepeatsRedirectUri uri.text query (form v.body) }
+{}

@@ -1,0 +1,82 @@
+//! A login in its steps: the URL, the redirect and the token.
+
+use crate::clients::RowClient;
+use crate::counting_client::{CountingClient, NoReply};
+use crate::replies::{ReplyTexts, ready_reply};
+use crate::show::{show_answer, show_bytes};
+use oauth2::basic::{BasicErrorResponse, BasicTokenResponse};
+use oauth2::url::Url;
+use oauth2::{RedirectUrl, Scope};
+use oauth2_redirect::{Login, LoginError, LoginRequest, RedirectError};
+use oauth2_refused_memory_values_tests::{Ended, Repeated, Want, text};
+use std::alloc::Global;
+use std::io::Write;
+
+// Where the user comes back, and by what.
+const REDIRECT: &str = "https://app.example/cb";
+
+const CALLBACK: &str = "https://app.example/cb?code=ccc&state=AAAAAAAAAAAAAAAAAAAAAA";
+
+// What a login ends with.
+type Finished = Result<BasicTokenResponse, LoginError<NoReply, BasicErrorResponse>>;
+
+/// Starts a login with a redirect URI of its own, and finishes it, by a client that has this reply
+/// ready.
+pub fn show_web_login<W: Write>(
+    alloc: Global,
+    client: &RowClient,
+    reply: ReplyTexts<'_>,
+    out: &mut W,
+) -> Result<(), Ended> {
+    let redirect_uri = RedirectUrl::new(alloc, text(alloc, REDIRECT)?)?;
+    let callback = Url::parse(alloc, CALLBACK)?;
+    let http_client = CountingClient::new(ready_reply(alloc, reply)?);
+    let request = started(alloc, client)?.set_redirect_uri(&redirect_uri);
+    let (url, login) = url_of(alloc, request)?;
+    writeln!(out, "url {}", url.as_str())?;
+    show_finished(alloc, client, login, &callback, http_client, out)
+}
+
+fn started(alloc: Global, client: &RowClient) -> Result<LoginRequest<'_>, Ended> {
+    let scope = Scope::new(text(alloc, "read")?);
+    let request = Login::start(alloc, client, &mut Repeated(0))?;
+    Ok(request.add_scope(scope)?)
+}
+
+// The URL of a login. A refused one does not lose the login, so it is asked for again.
+fn url_of(alloc: Global, request: LoginRequest<'_>) -> Result<(Url, Login), Ended> {
+    match request.url(alloc) {
+        Ok(made) => Ok(made),
+        Err(refused) => match refused.request.url(alloc) {
+            Ok(made) => Ok(made),
+            Err(refused) => Err(refused.error.into()),
+        },
+    }
+}
+
+fn show_finished<W: Write>(
+    alloc: Global,
+    client: &RowClient,
+    login: Login,
+    callback: &Url,
+    mut http_client: CountingClient,
+    out: &mut W,
+) -> Result<(), Ended> {
+    let finished = login.finish(alloc, client, &mut http_client, callback, None);
+    writeln!(out, "calls {}", http_client.calls)?;
+    if let Some(request) = &http_client.request {
+        show_bytes(out, "body", request.body())?;
+    }
+    show_end(out, finished)
+}
+
+fn show_end<W: Write>(out: &mut W, finished: Finished) -> Result<(), Ended> {
+    match finished {
+        Ok(token) => show_answer::<W, BasicErrorResponse>(out, Ok(token)),
+        Err(LoginError::Token(error)) => show_answer(out, Err(error)),
+        Err(LoginError::Redirect(RedirectError::Memory)) => {
+            Err(Ended::Starved(Want::RedirectError))
+        }
+        Err(LoginError::Redirect(_)) => Err(Ended::Refused),
+    }
+}
