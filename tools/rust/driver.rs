@@ -5,7 +5,7 @@
 //! `answer panic ".."` and the status 101. A fault of reading shows the path that
 //! `serde_path_to_error` tells, and `?` for the cause, which the crate does not tell.
 //!
-//! The command `keeper` is unknown here, since the crate has none.
+//! The commands `keeper` and `redirect` are unknown here, since the crate has neither.
 
 use base64::prelude::*;
 use chrono::{DateTime, TimeZone, Utc};

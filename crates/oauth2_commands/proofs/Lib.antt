@@ -2,6 +2,7 @@ pub mod NoFloats
 pub mod Results
 pub mod Exchanges
 pub mod Commands
+pub mod Redirects
 pub mod Scopes
 pub mod Polls
 pub mod Kept

@@ -9,6 +9,7 @@ pub mod DevicePoll
 pub mod Introspect
 pub mod Keeper
 pub mod Password
+pub mod Redirect
 pub mod Refresh
 pub mod Revoke
 pub mod Input

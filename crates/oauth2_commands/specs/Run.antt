@@ -10,11 +10,12 @@ use Rattle.oauth2_commands.specs.DevicePoll.{IsDevicePollOutput}
 use Rattle.oauth2_commands.specs.Introspect.{IsIntrospectOutput}
 use Rattle.oauth2_commands.specs.Keeper.{IsKeeperOutput}
 use Rattle.oauth2_commands.specs.Password.{IsPasswordOutput}
+use Rattle.oauth2_commands.specs.Redirect.{IsRedirectOutput}
 use Rattle.oauth2_commands.specs.Refresh.{IsRefreshOutput}
 use Rattle.oauth2_commands.specs.Revoke.{IsRevokeOutput}
 use Rattle.oauth2_world.specs.Lines.{line}
 use Rattle.oauth2_commands.specs.Out.{Output}
-use Rattle.oauth2_script.specs.Command.{Command, code, refresh, password, client_credentials, introspect, revoke, device_authorization, device_poll, keeper, authorize}
+use Rattle.oauth2_script.specs.Command.{Command, code, refresh, password, client_credentials, introspect, revoke, device_authorization, device_poll, keeper, authorize, redirect}
 use Rattle.oauth2_script.specs.Script.{Script, script_in}
 use Rattle.oauth2_commands.specs.Client.{settings_of}
 use Rattle.oauth2_script.specs.Replies.{Reply}
@@ -31,6 +32,7 @@ IsCommandOutput client clock replies (device_authorization p) o = IsDeviceAuthor
 IsCommandOutput client clock replies (device_poll p) o = IsDevicePollOutput client p clock replies o
 IsCommandOutput client clock replies (keeper p) o = IsKeeperOutput client p clock.moments replies o
 IsCommandOutput client clock replies (authorize p) o = IsAuthorizeOutput client p o
+IsCommandOutput client clock replies (redirect p) o = IsRedirectOutput p o
 
 abbrev pub bad_script : Output
 bad_script = record { lines = line (codes "bad script"); status = status.BadScript }

@@ -15,6 +15,7 @@ use crate::device_poll::run_device_poll;
 use crate::introspect::run_introspect;
 use crate::keeper::run_keeper;
 use crate::password::run_password;
+use crate::redirect::run_redirect;
 use crate::refresh::run_refresh;
 use crate::revoke::run_revoke;
 use crate::status::RunStatus;
@@ -63,5 +64,6 @@ pub fn run_command(
             http_client,
         ),
         Command::Authorize(params) => run_authorize(alloc, client, params, &mut http_client.lines),
+        Command::Redirect(params) => run_redirect(alloc, params, &mut http_client.lines),
     }
 }

@@ -15,6 +15,7 @@ mod input;
 mod introspect;
 mod keeper;
 mod password;
+mod redirect;
 mod refresh;
 mod revoke;
 mod run;

@@ -10,6 +10,7 @@ use Rattle.oauth2_script.specs.DevicePollParams.{DevicePollParams, device_poll_p
 use Rattle.oauth2_script.specs.IntrospectParams.{IntrospectParams, introspect_params}
 use Rattle.oauth2_script.specs.KeeperParams.{KeeperParams, keeper_params}
 use Rattle.oauth2_script.specs.PasswordParams.{PasswordParams, password_params}
+use Rattle.oauth2_script.specs.RedirectParams.{RedirectParams, redirect_params}
 use Rattle.oauth2_script.specs.RefreshParams.{RefreshParams, refresh_params}
 use Rattle.oauth2_script.specs.RevokeParams.{RevokeParams, revoke_params}
 
@@ -23,6 +24,7 @@ pub data Command : Type 0 where
   device_authorization : DeviceAuthorizationParams → Command
   device_poll : DevicePollParams → Command
   authorize : AuthorizeParams → Command
+  redirect : RedirectParams → Command
   keeper : KeeperParams → Command
 
 unfoldable pub command_of : List ℕ → Data → Option Command
@@ -36,5 +38,6 @@ command_of name params =
     else (if bytes_eq name (codes "device_authorization") then option_map device_authorization (device_authorization_params params)
     else (if bytes_eq name (codes "device_poll") then option_map device_poll (device_poll_params params)
     else (if bytes_eq name (codes "authorize") then option_map authorize (authorize_params params)
+    else (if bytes_eq name (codes "redirect") then option_map redirect (redirect_params params)
     else (if bytes_eq name (codes "keeper") then option_map keeper (keeper_params params)
-    else None)))))))))
+    else None))))))))))

@@ -10,6 +10,7 @@ pub mod DevicePollParams
 pub mod IntrospectParams
 pub mod KeeperParams
 pub mod PasswordParams
+pub mod RedirectParams
 pub mod RefreshParams
 pub mod RevokeParams
 pub mod Command

@@ -16,6 +16,7 @@ use Rattle.oauth2_script.specs.DevicePollParams as device_poll_spec
 use Rattle.oauth2_script.specs.IntrospectParams as introspect_spec
 use Rattle.oauth2_script.specs.RevokeParams as revoke_spec
 use Rattle.oauth2_script.specs.AuthorizeParams as authorize_spec
+use Rattle.oauth2_script.specs.RedirectParams as redirect_spec
 use Rattle.oauth2_script.specs.KeeperParams as keeper_spec
 use Rattle.oauth2_script.specs.declared.code_params.CodeParams.{CodeParams}
 use Rattle.oauth2_script.specs.declared.refresh_params.RefreshParams.{RefreshParams}
@@ -26,11 +27,12 @@ use Rattle.oauth2_script.specs.declared.device_poll_params.DevicePollParams.{Dev
 use Rattle.oauth2_script.specs.declared.introspect_params.IntrospectParams.{IntrospectParams}
 use Rattle.oauth2_script.specs.declared.revoke_params.RevokeParams.{RevokeParams}
 use Rattle.oauth2_script.specs.declared.authorize_params.AuthorizeParams.{AuthorizeParams}
+use Rattle.oauth2_script.specs.declared.redirect_params.RedirectParams.{RedirectParams}
 use Rattle.oauth2_script.specs.declared.keeper_params.KeeperParams.{KeeperParams}
 use Rattle.oauth2_script.specs.declared.client_part.ClientPart.{ClientPart}
 use Rattle.oauth2_script.specs.declared.client_part.Endpoints.{Endpoints}
 use Rattle.oauth2_script.specs.declared.command.Command.{Command}
-use Rattle.oauth2_script.specs.declared.command.Command.TheVariants.{Code, Refresh, Password, ClientCredentials, Introspect, Revoke, DeviceAuthorization, DevicePoll, Authorize, Keeper}
+use Rattle.oauth2_script.specs.declared.command.Command.TheVariants.{Code, Refresh, Password, ClientCredentials, Introspect, Revoke, DeviceAuthorization, DevicePoll, Authorize, Redirect, Keeper}
 use Rattle.oauth2_script.specs.declared.reply.HttpReply.{HttpReply}
 use Rattle.oauth2_script.specs.declared.reply.Reply.{Reply}
 use Rattle.oauth2_script.specs.declared.reply.Reply.TheVariants.{Replied, Failed}
@@ -104,6 +106,13 @@ authorize_view p = record {
   extra = map (λ e. (string_bytes e.0, string_bytes e.1)) p.extra.items;
 }
 
+abbrev pub redirect_view : RedirectParams → redirect_spec.RedirectParams
+redirect_view p = record {
+  state = p.state;
+  redirect = p.redirect;
+  issuer = option_map string_bytes p.issuer;
+}
+
 abbrev pub keeper_view : KeeperParams → keeper_spec.KeeperParams
 keeper_view p = record {
   margin = as_nanos p.margin;
@@ -145,6 +154,7 @@ command_view (Revoke p) = command_spec.revoke (revoke_view p)
 command_view (DeviceAuthorization p) = command_spec.device_authorization (device_authorization_view p)
 command_view (DevicePoll p) = command_spec.device_poll (device_poll_view p)
 command_view (Authorize p) = command_spec.authorize (authorize_view p)
+command_view (Redirect p) = command_spec.redirect (redirect_view p)
 command_view (Keeper p) = command_spec.keeper (keeper_view p)
 
 abbrev pub script_view : Script → script_spec.Script

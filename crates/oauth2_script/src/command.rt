@@ -14,6 +14,7 @@ use crate::introspect_params::IntrospectParams;
 use crate::keeper_params::KeeperParams;
 use crate::part::Part;
 use crate::password_params::PasswordParams;
+use crate::redirect_params::RedirectParams;
 use crate::refresh_params::RefreshParams;
 use crate::revoke_params::RevokeParams;
 use crate::script_error::ScriptError;
@@ -32,6 +33,7 @@ pub enum Command {
     DeviceAuthorization(DeviceAuthorizationParams),
     DevicePoll(DevicePollParams),
     Authorize(AuthorizeParams),
+    Redirect(RedirectParams),
     Keeper(KeeperParams),
 }
 
@@ -51,6 +53,7 @@ pub fn command_of(alloc: Global, name: &str, params: &Value) -> Result<Command, 
         )),
         "device_poll" => Ok(Command::DevicePoll(DevicePollParams::from_value(alloc, params)?)),
         "authorize" => Ok(Command::Authorize(AuthorizeParams::from_value(alloc, params)?)),
+        "redirect" => Ok(Command::Redirect(RedirectParams::from_value(alloc, params)?)),
         "client_credentials" => Ok(Command::ClientCredentials(ClientCredentialsParams::from_value(
             alloc, params,
         )?)),

@@ -1,0 +1,70 @@
+//! The command `redirect`: what the redirect says by which a user comes back.
+
+ghost use Rattle.std.specs.Prelude.{ℕ, List, Result, string_bytes, IfOk};
+ghost use Rattle.oauth2_commands.specs.Out.{answered};
+ghost use Rattle.oauth2_commands.specs.Redirect as spec;
+ghost use Rattle.oauth2_commands.specs.private.Added.{Adds, Prints};
+ghost use Rattle.oauth2_redirect.specs.Redirect.{Refusal, Tells, TellsRefusal};
+ghost use Rattle.oauth2_script.specs.Views.{redirect_view};
+ghost use Rattle.oauth2_world.specs.Lines.{quoted};
+
+use crate::status::RunStatus;
+use oauth2::AuthorizationCode;
+use oauth2_redirect::{RedirectError, read_redirect};
+use oauth2_script::RedirectParams;
+use oauth2_world::{print_answer, print_fault, quoted};
+use std::alloc::{AllocError, Global};
+
+fn read(alloc: Global, params: &RedirectParams) -> Result<AuthorizationCode, RedirectError>
+    ensures { Tells result (spec.redirect_answer (redirect_view params.now)) }
+{
+    let issuer = params.issuer.as_deref();
+    read_redirect(alloc, params.redirect.url(), &params.state, issuer)
+}
+
+fn show_code(
+    alloc: Global,
+    lines: &mut String,
+    code: &AuthorizationCode,
+) -> Result<RunStatus, AllocError>
+    ensures { IfOk result (λ status. Prints (string_bytes lines.old) (string_bytes lines.new)
+        status (answered (quoted code.now))) }
+{
+    let json = quoted(alloc, code.secret().as_str())?;
+    print_answer(lines, json.as_str())?;
+    Ok(RunStatus::Answered)
+}
+
+// Why there is no code.
+fn show_refusal(
+    alloc: Global,
+    lines: &mut String,
+    error: &RedirectError,
+) -> Result<RunStatus, AllocError>
+    ensures { IfOk result (λ status. (told : Result (List ℕ) Refusal)
+        → TellsRefusal error.now told
+        → Prints (string_bytes lines.old) (string_bytes lines.new) status
+        (spec.shown_answer told)) }
+{
+    if let RedirectError::Memory = error {
+        return Err(AllocError);
+    }
+    let text = error.to_string(alloc)?;
+    print_fault(alloc, lines, text.as_str())?;
+    Ok(RunStatus::Fault)
+}
+
+/// Shows the code that a redirect brings, or why it brings none.
+pub fn run_redirect(
+    alloc: Global,
+    params: RedirectParams,
+    lines: &mut String,
+) -> Result<RunStatus, AllocError>
+    ensures { IfOk result (λ status. Adds (string_bytes lines.old) (string_bytes lines.new) status
+        (spec.IsRedirectOutput (redirect_view params))) }
+{
+    match read(alloc, &params) {
+        Ok(code) => show_code(alloc, lines, &code),
+        Err(error) => show_refusal(alloc, lines, &error),
+    }
+}
