@@ -126,8 +126,9 @@ fn a_login_sends_its_redirect_uri_again(rt: HostRuntime) {
     let redirect = "https://app.example/cb?a=1&code=c1&state=s7";
     let ended = stored_ends(&rt, &mut http_client, STORED_WITH_A_REDIRECT, redirect);
     assert!(rt; ended.is_ok());
-    let sent =
-        "grant_type=authorization_code&code=c1&code_verifier=dBjftJeZ4CVP-mB92K27uhbUJU1p1r_wW1gFWFOEjXk&client_id=aaa&redirect_uri=https%3A%2F%2Fapp.example%2Fcb%3Fa%3D1";
+    let sent = "grant_type=authorization_code&code=c1\
+         &code_verifier=dBjftJeZ4CVP-mB92K27uhbUJU1p1r_wW1gFWFOEjXk&client_id=aaa\
+         &redirect_uri=https%3A%2F%2Fapp.example%2Fcb%3Fa%3D1";
     assert_eq!(rt; http_client.bodies.as_slice(), sent.as_bytes());
 }
 
