@@ -1,5 +1,5 @@
 -- The bytes of a request for a configuration carry it.
-use Rattle.std.proofs.Common.{◌≡◌, ℕ, List, [], ◌∷◌, map, Option, Some, None, sym, refl, ap, ◌∙◌}
+use Rattle.std.proofs.Common.{◌≡◌, ℕ, List, [], ◌∷◌, ◌++◌, length, map, Option, Some, None, sym, refl, ap, ◌∙◌}
 use Rattle.std.specs.Prelude.{codes, option_to_list, option_and_then}
 use Rattle.http_header.specs.FieldValue.{FieldValue}
 use Rattle.http_header.specs.HeaderMap.{Entries, get}
@@ -12,11 +12,17 @@ use Rattle.oauth2_form.specs.Basic.{basic}
 use Rattle.oauth2_wire.specs.Expected.{Configuration, expected_basic, headers_before, authorization_header}
 use Rattle.oauth2_wire.specs.Request.{IsRequestOf, view_of}
 use Rattle.oauth2_http1.specs.Origin.{Place, host_text, origin_form}
-use Rattle.oauth2_http1.specs.Message.{IsWire, seen_of, sized, sent_fields}
+use Rattle.http1.specs.Conn.{length_header}
+use Rattle.oauth2_http1.specs.Message.{IsWire, seen_of, length_fields, sized, sent_fields}
 use Rattle.oauth2_http1.specs.Law.{AreReadAs}
 
 abbrev all_fields : Place → Option Pair → List ℕ → List Header
-all_fields place credentials body = sized (sent_fields place (headers_before (authorization_header credentials))) body
+all_fields place credentials body =
+    sent_fields place (headers_before (authorization_header credentials)) ++ length_header (length body) ∷ []
+
+posted : (body : List ℕ) → length_fields (codes "POST") body ≡ length_header (length body) ∷ []
+posted [] = refl
+posted (b ∷ bs) = refl
 
 hosts : (place : Place) (credentials : Option Pair) (body : List ℕ) → values_named (codes "host") (all_fields place credentials body) ≡ host_text place ∷ []
 unfolding eq_ignore_case
@@ -49,7 +55,9 @@ authorizations place (Some pair) body read = ap (λ x. x ∷ []) read
 
 pub carried : (c : Configuration) (text : List ℕ) (r : HttpRequest) (place : Place) (bytes : List ℕ) → IsRequestOf c text (view_of r) → IsWire place r bytes → AreReadAs c place r bytes
 carried c text r place bytes is wire = λ limits rest takes.
-    let headers = ap (λ h. sized (sent_fields place h) (body_of r).items) is.headers in
+    let body = (body_of r).items in
+    let headers : sized (head_of r).method (sent_fields place (head_of r).headers) body ≡ all_fields place (expected_basic c) body =
+    (λ i. sent_fields place (is.headers i) ++ (ap (λ m. length_fields m body) is.method ∙ posted body) i) in
     let given = expected_basic c in (
       seen_of (head_of r).method (origin_form (head_of r).uri) (sent_fields place (head_of r).headers) (body_of r).items,
       wire.read limits rest takes,

@@ -4,7 +4,6 @@ use Rattle.http_uri.specs.declared.uri.Uri.{Uri}
 use Rattle.http.specs.Request.{head_of, body_of}
 use Rattle.http1.specs.declared.conn.Limits.{Limits}
 use Rattle.http1.specs.Fields.{values_named}
-use Rattle.http1.specs.Head.{request_text}
 use Rattle.http1.specs.ServerTrace.{SeenRequest}
 use Rattle.oauth2_wire.specs.OneShot.{HttpRequest}
 use Rattle.oauth2_form.specs.Pairs.{form}
@@ -12,7 +11,7 @@ use Rattle.oauth2_form.specs.Basic.{basic}
 use Rattle.oauth2_wire.specs.ByName.{ReadsByName}
 use Rattle.oauth2_wire.specs.Expected.{Configuration, expected_basic, expected_pairs}
 use Rattle.oauth2_http1.specs.Origin.{Place, host_text, origin_form}
-use Rattle.oauth2_http1.specs.Message.{ReadsOnly, Takes, sized, sent_fields}
+use Rattle.oauth2_http1.specs.Message.{ReadsOnly, Takes, head_text, sent_fields}
 
 -- the values of every field with this name, in any case
 abbrev pub values : SeenRequest → List ℕ → List (List ℕ)
@@ -34,10 +33,10 @@ pub record Carries (c : Configuration) (place : Place) (uri : Uri) (seen : SeenR
 
 -- the head of a request to a place
 abbrev pub wire_head : Place → HttpRequest → List ℕ
-wire_head place r =
-    request_text (head_of r).method (origin_form (head_of r).uri) 1 (sized (sent_fields place (head_of r).headers) (body_of r).items)
+wire_head place r = head_text (head_of r).method (origin_form (head_of r).uri) (sent_fields place (head_of r).headers) (body_of r).items
 
 -- every server that takes the head reads the bytes, whatever follows, as one request, in no other way, and it is the configuration's
 abbrev pub AreReadAs : Configuration → Place → HttpRequest → List ℕ → Type 0
 AreReadAs c place r bytes =
-    (limits : Limits) (rest : List ℕ) → Takes limits (wire_head place r) → (seen : SeenRequest) × ReadsOnly limits (bytes ++ rest) seen rest × Carries c place (head_of r).uri seen
+    (limits : Limits) (rest : List ℕ) → Takes limits (wire_head place r)
+    → (seen : SeenRequest) × ReadsOnly limits (bytes ++ rest) seen rest × Carries c place (head_of r).uri seen

@@ -1,0 +1,38 @@
+-- Why no bytes are made of a request.
+use Rattle.std.specs.Prelude.{◌≡◌, ℕ, List, Vec, Option, Some, IsTrue, ⊤}
+use Rattle.http.specs.declared.request.Request.{Request}
+use Rattle.http.specs.Request.{head_of, body_of}
+use Rattle.http1.specs.declared.error.WriteError.{WriteError}
+use Rattle.http1.specs.declared.error.WriteError.TheVariants.{OutOfMemory}
+use Rattle.http1.specs.Fields.{Header, known_fields}
+use Rattle.http1.specs.Framing.{method_kind}
+use Rattle.http1.specs.Head.{is_request_line}
+use Rattle.http1.specs.Conn.{is_connect, states_framing, plan_refusal}
+use Rattle.http1.specs.Client.{plan_fields}
+use Rattle.oauth2_http1.specs.declared.fault.RequestFault.{RequestFault}
+use Rattle.oauth2_http1.specs.declared.fault.RequestFault.TheVariants as Fault
+use Rattle.oauth2_http1.specs.Origin.{Place, origin_form}
+use Rattle.oauth2_http1.specs.Message.{body_size, sent_fields}
+
+-- a refusal of the kit's client as a fault
+abbrev pub fault_of : WriteError → RequestFault
+fault_of OutOfMemory = Fault.Memory
+fault_of e = Fault.Refused e
+
+-- why the kit's client writes no head with these parts: two `Host` fields, no request line, or no field (RFC 9112, 3, 3.2 and 5)
+abbrev pub refusal : List ℕ → List ℕ → List Header → List ℕ → Option WriteError
+refusal method target fields body =
+    plan_refusal (plan_fields (method_kind method) (body_size method body) fields) (is_request_line method target 1) fields
+
+-- why no bytes were made of a request with these parts
+abbrev pub Unsent : RequestFault → List ℕ → List ℕ → List Header → List ℕ → Type 0
+Unsent Fault.NoOrigin method target fields body = ⊥
+Unsent Fault.OwnFraming method target fields body = IsTrue (states_framing (known_fields fields))
+Unsent Fault.Connect method target fields body = IsTrue (is_connect (method_kind method))
+Unsent (Fault.Refused e) method target fields body = refusal method target fields body ≡ Some e
+Unsent Fault.Memory method target fields body = ⊤
+
+-- why no bytes were made of a request to a place
+abbrev pub UnsentTo : {Z : Type 0} → Place → Request (Vec ℕ Z) → RequestFault → Type 0
+UnsentTo place r e =
+    Unsent e (head_of r).method (origin_form (head_of r).uri) (sent_fields place (head_of r).headers) (body_of r).items
