@@ -91,7 +91,16 @@ AreCalls before (now ∷ moments) o kept =
     × IsCall before now first middle × AreCalls middle moments rest kept × (o ≡ joined first rest)
 
 abbrev pub new_keeper : Settings → KeeperParams → Keeper
-new_keeper client p = record { client = client; margin = p.margin; life = p.life; token = None; refresh_token = p.refresh }
+new_keeper client p = record {
+  client = client;
+  margin = p.margin;
+  life = p.life;
+  scope = None;
+  refresh_scope = None;
+  extra_params = [];
+  token = None;
+  refresh_token = p.refresh;
+}
 
 abbrev pub IsKeeperOutput : Settings → KeeperParams → List ℤ → List Reply → Output → Type 0
 IsKeeperOutput client p moments replies o =

@@ -1,2 +1,4 @@
+pub mod Patience
 pub mod Renewals
 pub mod RunLaws
+pub mod SentFaults

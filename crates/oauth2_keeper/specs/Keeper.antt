@@ -1,5 +1,5 @@
 -- What a keeper of an access token keeps, and what a call of it does.
-use Rattle.std.specs.Prelude.{◌≡◌, ◌⊎◌, ℕ, ℤ, pos, ◌+ℤ◌, int_le, Bool, true, false, IsTrue, List, Option, Some, None, unwrap_or, IsSomeAnd, Result, Ok, Err}
+use Rattle.std.specs.Prelude.{◌≡◌, ◌⊎◌, ℕ, ℤ, pos, ◌+ℤ◌, ◌-ℤ◌, int_le, Bool, true, false, IsTrue, List, Option, Some, None, unwrap_or, IsSomeAnd, Result, Ok, Err}
 use Rattle.std.specs.Option.{option_or}
 use Rattle.oauth2_urls.specs.Addressed.{Addressed}
 use Rattle.oauth2_wire.specs.declared.content_type.ReplyRule.{ReplyRule}
@@ -7,7 +7,7 @@ use Rattle.oauth2_wire.specs.declared.error.RequestTokenError.{RequestTokenError
 use Rattle.oauth2_wire.specs.declared.error.RequestTokenError.TheVariants.{Memory}
 use Rattle.oauth2_form.specs.Pairs.{Pair}
 use Rattle.oauth2_wire.specs.Expected.{Configuration}
-use Rattle.oauth2_requests.specs.Base.{configuration_of}
+use Rattle.oauth2_requests.specs.Base.{Base, configuration_of}
 use Rattle.oauth2_requests.specs.ClientCredentials.{client_credentials_pairs}
 use Rattle.oauth2_requests.specs.Refresh.{refresh_pairs}
 use Rattle.oauth2.specs.NewRequest.{base_of}
@@ -26,11 +26,15 @@ abbrev pub is_good_at : ℕ → ℤ → AcceptedToken → Bool
 is_good_at margin now token = int_le (now +ℤ pos margin) (token.accepted_at +ℤ pos token.lifetime)
 
 -- what a keeper keeps: its client, the margin and the lifetime where a reply tells none, in
--- nanoseconds, the token and the refresh token
+-- nanoseconds, the scopes that it asks for by the client's own credentials and those by a refresh
+-- token, each as one text, the parameters that it sends with both, the token and the refresh token
 pub record Keeper : Type 0 where
   pub client : Settings
   pub margin : ℕ
   pub life : ℕ
+  pub scope : Option (List ℕ)
+  pub refresh_scope : Option (List ℕ)
+  pub extra_params : List Pair
   pub token : Option AcceptedToken
   pub refresh_token : Option (List ℕ)
 
@@ -41,6 +45,14 @@ is_good_if_any margin now (Some token) = is_good_at margin now token
 
 abbrev pub is_good : Keeper → ℤ → Bool
 is_good keeper now = is_good_if_any keeper.margin now keeper.token
+
+-- the last moment at which a token is good, in nanoseconds since 1970
+abbrev pub good_until_of : ℕ → AcceptedToken → ℤ
+good_until_of margin token = (token.accepted_at +ℤ pos token.lifetime) -ℤ pos margin
+
+-- a keeper with a token that was stored, and with the refresh token that was stored with it
+abbrev pub starting_from : Keeper → AcceptedToken → Option (List ℕ) → Keeper
+starting_from keeper token refresh_token = record keeper { token = Some token; refresh_token = refresh_token }
 
 -- what a reply tells: the token, its lifetime in nanoseconds and a refresh token, where it tells
 -- them (RFC 6749, section 5.1)
@@ -68,8 +80,19 @@ abbrev pub grant_pairs : Option (List ℕ) → List Pair
 grant_pairs (Some refresh_token) = refresh_pairs refresh_token
 grant_pairs None = client_credentials_pairs
 
+-- the scopes that go with that grant (sections 4.4.2 and 6)
+abbrev pub grant_scope : Keeper → Option (List ℕ) → Option (List ℕ)
+grant_scope keeper (Some refresh_token) = keeper.refresh_scope
+grant_scope keeper None = keeper.scope
+
+abbrev pub renewal_base : Keeper → Base
+renewal_base keeper = record (base_of keeper.client) {
+  scope = grant_scope keeper keeper.refresh_token;
+  extra_params = keeper.extra_params;
+}
+
 abbrev pub renewal : Keeper → Configuration
-renewal keeper = configuration_of (base_of keeper.client) (grant_pairs keeper.refresh_token) None
+renewal keeper = configuration_of (renewal_base keeper) (grant_pairs keeper.refresh_token) None
 
 -- what comes of a call: the kept token is good and nothing is sent; or a request is made, whose
 -- reply is accepted, or which fails

@@ -1,3 +1,4 @@
 pub mod Keeper
+pub mod Patience
 pub mod Runs
 pub mod private

@@ -1,8 +1,9 @@
 //! A token that was accepted, and how long it is good.
 
-ghost use Rattle.std.specs.Prelude.{◌≡◌, ◌+ℤ◌, pos};
+ghost use Rattle.std.specs.Prelude.{◌≡◌, ◌↔◌, ◌+ℤ◌, pos, IsSome, IfSome};
 ghost use Rattle.std.specs.Duration.{as_nanos};
-ghost use Rattle.oauth2_keeper.specs.Keeper.{is_good_at};
+ghost use Rattle.jiff_core.specs.Timestamp.{IsTimestampNanos};
+ghost use Rattle.oauth2_keeper.specs.Keeper.{is_good_at, good_until_of};
 
 use jiff::Timestamp;
 use oauth2_types::AccessToken;
@@ -37,11 +38,22 @@ impl KeptToken {
     {
         nanosecond_after(now, margin) <= nanosecond_after(self.accepted_at, self.lifetime)
     }
+
+    // The last moment at which the token is good, where it is one of `jiff`.
+    pub(crate) fn good_until(&self, margin: Duration) -> Option<Timestamp>
+        ensures variant { IsSome result
+            ↔ IsTimestampNanos (good_until_of (as_nanos margin) self.now) }
+        ensures some { IfSome result
+            (λ end. end.nanosecond ≡ good_until_of (as_nanos margin) self.now) }
+    {
+        let end = nanosecond_after(self.accepted_at, self.lifetime) - margin.as_nanos() as i128;
+        Timestamp::from_nanosecond(end).ok()
+    }
 }
 
 // So long after a moment, in nanoseconds since 1970. The sum is always there: a moment has less
 // than 2^69 nanoseconds, a duration less than 2^94.
-fn nanosecond_after(moment: Timestamp, duration: Duration) -> i128
+pub(crate) fn nanosecond_after(moment: Timestamp, duration: Duration) -> i128
     ensures { result ≡ moment.nanosecond +ℤ pos (as_nanos duration) }
 {
     moment.as_nanosecond() + duration.as_nanos() as i128

@@ -2,6 +2,7 @@
 
 ghost use Rattle.oauth2_requests.specs.Once.{AsksOnce};
 ghost use Rattle.oauth2_keeper.specs.Keeper.{given_by};
+ghost use Rattle.oauth2_keeper.specs.Patience.{EachPatientRunIsARun, EachFailureIsWaitedFor, EachSentFaultCounts};
 ghost use Rattle.oauth2_keeper.specs.Runs.{EachRunKeepsTheLast, EachRunFollowsFromItsReplies};
 
 use oauth2::{ErrorResponse, SyncHttpClient, TokenResponse};
@@ -21,4 +22,24 @@ pub fn each_run_follows_from_its_replies<C: SyncHttpClient, TE: ErrorResponse, T
     ensures { EachRunFollowsFromItsReplies
         (AsksOnce TR.meaning TE.meaning TR.reading TE.reading C.step)
         (given_by TR.access_token TR.expires_in TR.refresh_token) }
+{}
+
+/// The calls of a patient keeper that are not held back are calls of its keeper, in order, so its
+/// laws hold for them.
+#[tactic(auto, using(crate::proofs::Patience::is_a_run))]
+pub fn each_patient_run_is_a_run<C: SyncHttpClient, TE: ErrorResponse, TR: TokenResponse>()
+    ensures { EachPatientRunIsARun (AsksOnce TR.meaning TE.meaning TR.reading TE.reading C.step)
+        (given_by TR.access_token TR.expires_in TR.refresh_token) }
+{}
+
+/// After a request of a patient keeper that failed, no call sends one before the wait has passed.
+pub fn each_failure_is_waited_for<C: SyncHttpClient, TE: ErrorResponse, TR: TokenResponse>()
+    ensures { EachFailureIsWaitedFor (AsksOnce TR.meaning TE.meaning TR.reading TE.reading C.step)
+        (given_by TR.access_token TR.expires_in TR.refresh_token) }
+{}
+
+/// A fault begins a wait exactly if its request reached the client.
+pub fn each_sent_fault_counts<C: SyncHttpClient, TE: ErrorResponse, TR: TokenResponse>()
+    ensures { EachSentFaultCounts
+        (AsksOnce TR.meaning TE.meaning TR.reading TE.reading C.step) C.step }
 {}

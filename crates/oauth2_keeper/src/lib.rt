@@ -6,7 +6,14 @@
 mod given;
 mod kept_token;
 mod laws;
+mod params;
+mod patient_keeper;
+mod scopes;
 mod token_keeper;
 
-pub use laws::{each_run_follows_from_its_replies, each_run_keeps_the_last};
+pub use laws::{
+    each_failure_is_waited_for, each_patient_run_is_a_run, each_run_follows_from_its_replies,
+    each_run_keeps_the_last, each_sent_fault_counts,
+};
+pub use patient_keeper::{BasicPatientKeeper, PatientError, PatientKeeper};
 pub use token_keeper::{BasicTokenKeeper, TokenKeeper};

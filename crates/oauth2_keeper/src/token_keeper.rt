@@ -2,9 +2,18 @@
 
 ghost use Rattle.std.specs.Prelude.{
   ◌≡◌,
+  ◌++◌,
+  ◌∷◌,
+  [],
+  ℕ,
+  ℤ,
+  int_le,
+  List,
   Some,
   None,
   IsSome,
+  IfSome,
+  IfNone,
   OnOk,
   OnErr,
   option_copied,
@@ -12,11 +21,18 @@ ghost use Rattle.std.specs.Prelude.{
 };
 ghost use Rattle.std.specs.Duration.{as_nanos};
 ghost use Rattle.std.specs.Fn.{FnOnceReturnsAt};
+ghost use Rattle.std.specs.Iterator.{Drains, IsFinite};
+ghost use Rattle.jiff_core.specs.Timestamp.{IsTimestampNanos};
+ghost use Rattle.oauth2_form.specs.Params.{with_scope, with_scopes};
+ghost use Rattle.oauth2_wire.specs.Texts.{param_bytes};
 ghost use Rattle.oauth2_requests.specs.Once.{AsksOnce};
 ghost use Rattle.oauth2_keeper.specs.Keeper.{
   Keeper,
   given_by,
   is_good,
+  is_good_if_any,
+  good_until_of,
+  starting_from,
   accept,
   Renews,
   Calls,
@@ -26,14 +42,17 @@ ghost use Rattle.oauth2_keeper.specs.private.Settled.{Settles, RenewsAndSettles}
 
 use crate::given::Given;
 use crate::kept_token::KeptToken;
+use crate::params::{Params, with_client_params, with_refresh_params};
+use crate::scopes::{joined_scope, joined_scopes};
 use jiff::Timestamp;
 use oauth2::basic::{
     BasicErrorResponse, BasicRevocationErrorResponse, BasicTokenIntrospectionResponse,
     BasicTokenResponse,
 };
 use oauth2::{
-    AccessToken, Client, EndpointNotSet, EndpointSet, EndpointState, ErrorResponse, RefreshToken,
-    RequestTokenError, StandardRevocableToken, SyncHttpClient, TokenResponse,
+    AccessToken, Client, EndpointNotSet, EndpointSet, EndpointState, ErrorResponse, ParamText,
+    RefreshToken, RequestTokenError, Scope, StandardRevocableToken, SyncHttpClient, TokenResponse,
+    TryClone,
 };
 use std::alloc::{AllocError, Global};
 use std::marker::Model;
@@ -54,6 +73,9 @@ where
     client: &'a Client<TE, TR, TIR, RT, TRE, A, D, I, R, EndpointSet>,
     margin: Duration,
     life: Duration,
+    scope: Option<Scope>,
+    refresh_scope: Option<Scope>,
+    extra_params: Params<'a>,
     token: Option<KeptToken>,
     refresh_token: Option<RefreshToken>,
 }
@@ -96,6 +118,9 @@ where
       client = k.client.now;
       margin = as_nanos k.margin;
       life = as_nanos k.life;
+      scope = k.scope;
+      refresh_scope = k.refresh_scope;
+      extra_params = k.extra_params;
       token = k.token;
       refresh_token = k.refresh_token;
     } };
@@ -120,6 +145,9 @@ where
           client = client.now;
           margin = as_nanos margin;
           life = as_nanos life;
+          scope = None;
+          refresh_scope = None;
+          extra_params = [];
           token = None;
           refresh_token = refresh_token;
         } }
@@ -128,8 +156,137 @@ where
             client,
             margin,
             life,
+            scope: None,
+            refresh_scope: None,
+            extra_params: Params::new(),
             token: None,
             refresh_token,
+        }
+    }
+
+    /// Adds a scope to those that a request by the client's own credentials asks for (RFC 6749,
+    /// section 4.4.2).
+    pub fn add_scope(&mut self, alloc: Global, scope: Scope) -> Result<(), AllocError>
+        ensures ok { OnOk result (self.new
+            ≡ record self.old { scope = Some (with_scope self.old.scope scope) }) }
+        ensures err { OnErr result (self.new ≡ self.old) }
+    {
+        let kept = self.scope.try_clone(alloc)?;
+        self.scope = Some(joined_scope(kept, scope)?);
+        Ok(())
+    }
+
+    /// Adds scopes to these, in order, from an iterator that ends: all of them, or none.
+    pub fn add_scopes<S: IntoIterator<Item = Scope>>(
+        &mut self,
+        alloc: Global,
+        scopes: S,
+    ) -> Result<(), AllocError>
+        requires { (it : S.IntoIter) → S.into_iter_gives scopes it
+            → S.IntoIter.can_next it × IsFinite (S.IntoIter.remaining it) }
+        ensures ok { OnOk result ((it : S.IntoIter) × (added : List (List ℕ))
+            × S.into_iter_gives scopes it × Drains S.IntoIter.next_gives it added
+            × (self.new ≡ record self.old { scope = with_scopes self.old.scope added })) }
+        ensures err { OnErr result (self.new ≡ self.old) }
+    {
+        self.scope = joined_scopes(alloc, &self.scope, scopes)?;
+        Ok(())
+    }
+
+    /// Adds a scope to those that a request by a refresh token asks for. While none is added, the
+    /// request has no `scope`, and the server keeps to the scopes that it granted (RFC 6749,
+    /// section 6).
+    pub fn add_refresh_scope(&mut self, alloc: Global, scope: Scope) -> Result<(), AllocError>
+        ensures ok { let joined = with_scope self.old.refresh_scope scope in
+            OnOk result (self.new ≡ record self.old { refresh_scope = Some joined }) }
+        ensures err { OnErr result (self.new ≡ self.old) }
+    {
+        let kept = self.refresh_scope.try_clone(alloc)?;
+        self.refresh_scope = Some(joined_scope(kept, scope)?);
+        Ok(())
+    }
+
+    /// Adds a parameter to each request. If the request itself sends a parameter of that name,
+    /// both are sent.
+    pub fn add_extra_param(
+        &mut self,
+        alloc: Global,
+        name: ParamText<'a>,
+        value: ParamText<'a>,
+    ) -> Result<(), AllocError>
+        ensures ok { let added = (param_bytes name.entry, param_bytes value.entry) ∷ [] in
+            OnOk result (self.new ≡ record self.old {
+              extra_params = self.old.extra_params ++ added;
+            }) }
+        ensures err { OnErr result (self.new ≡ self.old) }
+    {
+        self.extra_params.push(alloc, name, value)
+    }
+
+    /// Goes on from a token that was stored: the one that a call at `accepted_at` got, with its
+    /// lifetime and the refresh token that was kept with it.
+    pub fn starting_from(
+        mut self,
+        access_token: AccessToken,
+        accepted_at: Timestamp,
+        lifetime: Duration,
+        refresh_token: Option<RefreshToken>,
+    ) -> Self
+        ensures { result ≡ starting_from self.entry (record {
+          access_token = access_token;
+          accepted_at = accepted_at.nanosecond;
+          lifetime = as_nanos lifetime;
+        }) refresh_token }
+    {
+        self.token = Some(KeptToken {
+            access_token,
+            accepted_at,
+            lifetime,
+        });
+        self.refresh_token = refresh_token;
+        self
+    }
+
+    /// The moment of the call that got the kept token.
+    pub fn accepted_at(&self) -> Option<Timestamp>
+        ensures { option_map (λ moment. moment.nanosecond) result
+            ≡ option_map (λ token. token.accepted_at) self.now.token }
+    {
+        match &self.token {
+            Some(token) => Some(token.accepted_at),
+            None => None,
+        }
+    }
+
+    /// The lifetime of the kept token.
+    pub fn lifetime(&self) -> Option<Duration>
+        ensures { option_map as_nanos result
+            ≡ option_map (λ token. token.lifetime) self.now.token }
+    {
+        match &self.token {
+            Some(token) => Some(token.lifetime),
+            None => None,
+        }
+    }
+
+    /// The kept refresh token: that of the last reply that had one, at first the one given.
+    pub fn refresh_token(&self) -> Option<&RefreshToken>
+        ensures { option_copied result ≡ self.now.refresh_token }
+    {
+        self.refresh_token.as_ref()
+    }
+
+    /// The last moment at which the kept token is good. `None` if there is no token, or if that
+    /// moment is out of the range of `Timestamp`.
+    pub fn good_until(&self) -> Option<Timestamp>
+        ensures some { IfSome result
+            (λ end. (now : ℤ) → is_good self.now now ≡ int_le now end.nanosecond) }
+        ensures none { IfNone result (IfSome self.now.token
+            (λ token. IsTimestampNanos (good_until_of self.now.margin token) → ⊥)) }
+    {
+        match &self.token {
+            Some(token) => token.good_until(self.margin),
+            None => None,
         }
     }
 
@@ -144,11 +301,21 @@ where
     }
 
     // Whether the kept token is good.
-    fn is_good(&self, now: Timestamp) -> bool
+    pub(crate) fn is_good(&self, now: Timestamp) -> bool
         ensures { result ≡ is_good self.now now.nanosecond }
     {
         match &self.token {
             Some(token) => token.is_good(self.margin, now),
+            None => false,
+        }
+    }
+
+    // Whether the lifetime of the kept token has not ended.
+    pub(crate) fn lasts(&self, now: Timestamp) -> bool
+        ensures { result ≡ is_good_if_any 0 now.nanosecond self.now.token }
+    {
+        match &self.token {
+            Some(token) => token.is_good(Duration::from_secs(0), now),
             None => false,
         }
     }
@@ -283,14 +450,22 @@ where
         ensures ready { C.is_ready http_client.new }
     {
         match &self.refresh_token {
-            Some(refresh_token) => self
-                .client
-                .exchange_refresh_token(alloc, refresh_token)
-                .request(alloc, http_client),
-            None => self
-                .client
-                .exchange_client_credentials(alloc)
-                .request(alloc, http_client),
+            Some(refresh_token) => {
+                let request = self.client.exchange_refresh_token(alloc, refresh_token);
+                let scope = self.refresh_scope.as_ref();
+                match with_refresh_params(alloc, request, scope, &self.extra_params) {
+                    Ok(request) => request.request(alloc, http_client),
+                    Err(AllocError) => Err(RequestTokenError::Memory { sent: false }),
+                }
+            }
+            None => {
+                let request = self.client.exchange_client_credentials(alloc);
+                let scope = self.scope.as_ref();
+                match with_client_params(alloc, request, scope, &self.extra_params) {
+                    Ok(request) => request.request(alloc, http_client),
+                    Err(AllocError) => Err(RequestTokenError::Memory { sent: false }),
+                }
+            }
         }
     }
 

@@ -1,0 +1,25 @@
+-- The scopes and the extra parameters of a keeper's requests.
+use Rattle.std.specs.Prelude.{ℕ, List, [], ◌++◌, map, Option, Some, None, Vec}
+use Rattle.std.specs.declared.alloc.Global.{Global}
+use Rattle.oauth2_form.specs.Pairs.{Pair}
+use Rattle.oauth2_form.specs.Params.{with_scope}
+use Rattle.oauth2_wire.specs.declared.texts.ParamText.{ParamText}
+use Rattle.oauth2_wire.specs.Texts.{param_pair}
+use Rattle.oauth2_requests.specs.Base.{Base}
+
+-- the parameters, of which there are none at first
+abbrev pub pairs_of : Option (Vec (ParamText × ParamText) Global) → List Pair
+pairs_of None = []
+pairs_of (Some params) = map param_pair params.items
+
+-- the scopes of a request, with more where there are more
+abbrev pub with_more : Option (List ℕ) → Option (List ℕ) → Option (List ℕ)
+with_more scope None = scope
+with_more scope (Some more) = Some (with_scope scope more)
+
+-- a request with more scopes and parameters
+abbrev pub with_params : Base → Option (List ℕ) → List Pair → Base
+with_params base scope params = record base {
+  scope = with_more base.scope scope;
+  extra_params = base.extra_params ++ params;
+}

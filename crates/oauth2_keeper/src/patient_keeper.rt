@@ -1,0 +1,328 @@
+//! A keeper that does not ask at every call a server that fails.
+
+ghost use Rattle.std.specs.Prelude.{
+  ◌≡◌,
+  ◌+ℤ◌,
+  ◌&&◌,
+  not,
+  pos,
+  true,
+  false,
+  Some,
+  None,
+  IsSome,
+  OnOk,
+  OnErr,
+  if◌then◌else◌,
+};
+ghost use Rattle.std.specs.Duration.{as_nanos};
+ghost use Rattle.std.specs.Fn.{FnOnceReturnsAt};
+ghost use Rattle.oauth2_requests.specs.Once.{AsksOnce};
+ghost use Rattle.oauth2_keeper.specs.Keeper.{given_by};
+ghost use Rattle.oauth2_keeper.specs.Patience.{
+  Patient,
+  is_held_back,
+  lasts,
+  IsUntil,
+  counts,
+  PatientCalls,
+  PatientAnswers,
+};
+
+use crate::kept_token::nanosecond_after;
+use crate::token_keeper::TokenKeeper;
+use jiff::Timestamp;
+use oauth2::basic::{
+    BasicErrorResponse, BasicRevocationErrorResponse, BasicTokenIntrospectionResponse,
+    BasicTokenResponse,
+};
+use oauth2::{
+    AccessToken, EndpointNotSet, EndpointState, ErrorResponse, RequestTokenError,
+    StandardRevocableToken, SyncHttpClient, TokenResponse,
+};
+use std::alloc::Global;
+use std::marker::Model;
+use std::time::Duration;
+
+/// Why a patient keeper has no good token.
+#[derive(Drop)]
+pub enum PatientError<RE, TE> {
+    /// The error of the request for another.
+    Request(RequestTokenError<RE, TE>),
+    /// No request goes out before this moment, which is `None` if it is out of the range of
+    /// `Timestamp`.
+    Waits(Option<Timestamp>),
+}
+
+/// A keeper that makes no request for some time after one that failed.
+///
+/// Contracts see it as a `Patient`.
+#[derive(Drop)]
+pub struct PatientKeeper<'a, TE, TR, TIR, RT, TRE, A, D, I, R>
+where
+    A: EndpointState,
+    D: EndpointState,
+    I: EndpointState,
+    R: EndpointState,
+{
+    keeper: TokenKeeper<'a, TE, TR, TIR, RT, TRE, A, D, I, R>,
+    wait: Duration,
+    until_end: bool,
+    failed_at: Option<Timestamp>,
+}
+
+/// A patient keeper for a server that uses no extension, for a `BasicClient` whose other endpoints
+/// are in these states.
+pub type BasicPatientKeeper<
+    'a,
+    A = EndpointNotSet,
+    D = EndpointNotSet,
+    I = EndpointNotSet,
+    R = EndpointNotSet,
+> = PatientKeeper<
+    'a,
+    BasicErrorResponse,
+    BasicTokenResponse,
+    BasicTokenIntrospectionResponse,
+    StandardRevocableToken,
+    BasicRevocationErrorResponse,
+    A,
+    D,
+    I,
+    R,
+>;
+
+impl<'a, TE, TR, TIR, RT, TRE, A, D, I, R> Model
+    for PatientKeeper<'a, TE, TR, TIR, RT, TRE, A, D, I, R>
+where
+    A: EndpointState,
+    D: EndpointState,
+    I: EndpointState,
+    R: EndpointState,
+{
+    ghost use Rattle.std.specs.Prelude.{option_map};
+    ghost use Rattle.std.specs.Duration.{as_nanos};
+    ghost use Rattle.oauth2_keeper.specs.Patience.{Patient};
+
+    ghost Value = { Patient };
+
+    ghost view = { λ k. record {
+      keeper = k.keeper;
+      wait = as_nanos k.wait;
+      until_end = k.until_end;
+      failed_at = option_map (λ moment. moment.nanosecond) k.failed_at;
+    } };
+}
+
+impl<'a, TE, TR, TIR, RT, TRE, A, D, I, R> TokenKeeper<'a, TE, TR, TIR, RT, TRE, A, D, I, R>
+where
+    A: EndpointState,
+    D: EndpointState,
+    I: EndpointState,
+    R: EndpointState,
+{
+    /// Makes no request until so much time has passed since the moment of one that failed.
+    pub fn set_retry_after(
+        self,
+        wait: Duration,
+    ) -> PatientKeeper<'a, TE, TR, TIR, RT, TRE, A, D, I, R>
+        ensures { result ≡ record {
+          keeper = self.entry;
+          wait = as_nanos wait;
+          until_end = false;
+          failed_at = None;
+        } }
+    {
+        PatientKeeper {
+            keeper: self,
+            wait,
+            until_end: false,
+            failed_at: None,
+        }
+    }
+}
+
+impl<'a, TE, TR, TIR, RT, TRE, A, D, I, R> PatientKeeper<'a, TE, TR, TIR, RT, TRE, A, D, I, R>
+where
+    A: EndpointState,
+    D: EndpointState,
+    I: EndpointState,
+    R: EndpointState,
+{
+    /// Hands out the kept token to the end of its lifetime while no request may be made, as if the
+    /// margin were 0. Unless this is set, such a call returns `Waits`.
+    pub fn use_token_until_end(mut self) -> Self
+        ensures { result ≡ record self.entry { until_end = true } }
+    {
+        self.until_end = true;
+        self
+    }
+
+    /// What it keeps.
+    pub fn keeper(&self) -> &TokenKeeper<'a, TE, TR, TIR, RT, TRE, A, D, I, R>
+        ensures { result.now ≡ self.now.keeper }
+    {
+        &self.keeper
+    }
+
+    // Notes that a request was accepted, unless the kept token was good and none was made.
+    fn note_success(&mut self, was_good: bool)
+        ensures { self.new ≡ record self.old {
+          failed_at = if was_good then self.old.failed_at else None;
+        } }
+    {
+        if !was_good {
+            self.failed_at = None;
+        }
+    }
+
+    // Notes the moment of a request that failed.
+    fn note_fault(&mut self, now: Timestamp, counts: bool)
+        ensures { self.new ≡ record self.old {
+          failed_at = if counts then Some now.nanosecond else self.old.failed_at;
+        } }
+    {
+        if counts {
+            self.failed_at = Some(now);
+        }
+    }
+
+    // Whether a request is needed, and none may go out.
+    fn is_held_back(&self, now: Timestamp) -> bool
+        ensures { result ≡ is_held_back self.now now.nanosecond }
+    {
+        match self.failed_at {
+            Some(failed_at) => {
+                !self.keeper.is_good(now)
+                    && now.as_nanosecond() < nanosecond_after(failed_at, self.wait)
+            }
+            None => false,
+        }
+    }
+
+    // Whether the kept token may be handed out in place of a new one.
+    fn lasts(&self, now: Timestamp) -> bool
+        ensures { result ≡ lasts self.now now.nanosecond }
+    {
+        self.until_end && self.keeper.lasts(now)
+    }
+}
+
+// The end of a wait.
+fn end_of_wait(failed_at: Timestamp, wait: Duration) -> Option<Timestamp>
+    ensures { IsUntil (failed_at.nanosecond +ℤ pos (as_nanos wait)) result }
+{
+    Timestamp::from_nanosecond(nanosecond_after(failed_at, wait)).ok()
+}
+
+// What the error of a request says of an endpoint that is no HTTP target.
+const NOT_HTTP: &str = "failed to prepare request: endpoint URL is not an HTTP target";
+
+// Whether a fault is that of a request that reached the client.
+fn counts<RE, TE>(error: &RequestTokenError<RE, TE>) -> bool
+    ensures { result ≡ counts error.now }
+{
+    match error {
+        RequestTokenError::Memory { sent } => *sent,
+        RequestTokenError::Other(text) => text.as_str() != NOT_HTTP,
+        RequestTokenError::ServerResponse(_)
+        | RequestTokenError::Request(_)
+        | RequestTokenError::Parse(_, _) => true,
+    }
+}
+
+impl<'a, TE, TR, TIR, RT, TRE, A, D, I, R> PatientKeeper<'a, TE, TR, TIR, RT, TRE, A, D, I, R>
+where
+    TE: ErrorResponse,
+    TR: TokenResponse + Drop,
+    A: EndpointState,
+    D: EndpointState,
+    I: EndpointState,
+    R: EndpointState,
+{
+    /// Makes sure that a good token is kept, as `keep_good` of the keeper. If a request is needed
+    /// and the last one failed less than the wait ago, nothing is sent and nothing changes: the
+    /// call returns `Waits`, or `Ok` if the kept token may be used to the end of its lifetime.
+    pub fn keep_good<C: SyncHttpClient>(
+        &mut self,
+        alloc: Global,
+        now: Timestamp,
+        http_client: &mut C,
+    ) -> Result<(), PatientError<C::Error, TE>>
+        requires { C.is_ready http_client.old }
+        ensures call { PatientCalls (AsksOnce TR.meaning TE.meaning TR.reading TE.reading C.step)
+            (given_by TR.access_token TR.expires_in TR.refresh_token)
+            self.old now.nanosecond http_client.old result http_client.new self.new }
+        ensures token { OnOk result (IsSome self.new.keeper.token) }
+        ensures fault { OnErr result (self.new.keeper ≡ self.old.keeper) }
+        ensures ready { C.is_ready http_client.new }
+    {
+        if self.is_held_back(now) {
+            if self.lasts(now) {
+                return Ok(());
+            }
+            return Err(PatientError::Waits(match self.failed_at {
+                Some(failed_at) => end_of_wait(failed_at, self.wait),
+                None => None,
+            }));
+        }
+        let was_good = self.keeper.is_good(now);
+        match self.keeper.keep_good(alloc, now, http_client) {
+            Ok(()) => {
+                self.note_success(was_good);
+                Ok(())
+            }
+            Err(error) => {
+                self.note_fault(now, counts(&error));
+                Err(PatientError::Request(error))
+            }
+        }
+    }
+
+    /// Calls `keep_good` and returns the kept token, or the error of that call. This contract does
+    /// not say what the keeper keeps afterwards; use `with_token`, or `keep_good` and `keeper`, to
+    /// know it too.
+    pub fn token<C: SyncHttpClient>(
+        &mut self,
+        alloc: Global,
+        now: Timestamp,
+        http_client: &mut C,
+    ) -> Result<&AccessToken, PatientError<C::Error, TE>>
+        requires { C.is_ready http_client.old }
+        ensures call { (kept : Patient)
+            × PatientAnswers (AsksOnce TR.meaning TE.meaning TR.reading TE.reading C.step)
+            (given_by TR.access_token TR.expires_in TR.refresh_token)
+            (λ text token. token.now ≡ text)
+            self.old now.nanosecond http_client.old result http_client.new kept }
+        ensures ready { C.is_ready http_client.new }
+    {
+        match self.keep_good(alloc, now, http_client) {
+            Ok(()) => Ok(self.keeper.get().unwrap()),
+            Err(error) => Err(error),
+        }
+    }
+
+    /// What `read` makes of the kept token after `keep_good`, or that call's fault.
+    pub fn with_token<C: SyncHttpClient, F: FnOnce(&AccessToken) -> V, V>(
+        &mut self,
+        alloc: Global,
+        now: Timestamp,
+        http_client: &mut C,
+        read: F,
+    ) -> Result<V, PatientError<C::Error, TE>>
+    where
+        F: Drop,
+        requires ready { C.is_ready http_client.old }
+        requires read { F.IsAlwaysCallable read }
+        ensures call { PatientAnswers (AsksOnce TR.meaning TE.meaning TR.reading TE.reading C.step)
+            (given_by TR.access_token TR.expires_in TR.refresh_token)
+            (λ text value. FnOnceReturnsAt F.FnOnce read text value)
+            self.old now.nanosecond http_client.old result http_client.new self.new }
+        ensures ready { C.is_ready http_client.new }
+    {
+        match self.keep_good(alloc, now, http_client) {
+            Ok(()) => Ok(read(self.keeper.get().unwrap())),
+            Err(error) => Err(error),
+        }
+    }
+}
