@@ -1,0 +1,81 @@
+-- What a keeper keeps, as a value and as the members of an object.
+use Rattle.std.specs.Prelude.{ℕ, ℤ, pos, ◌+ℤ◌, ◌+◌, ◌*◌, ◌/◌, ◌%◌, ◌^◌, nat_lt, unsigned_abs, List, [], ◌∷◌, Option, Some, option_map, Ok, Err, codes, if◌then◌else◌}
+use Rattle.std.specs.Int.{int_rem_euclid}
+use Rattle.serde_json.specs.Data.{Data, Members, number, unsigned, string, object, no_members}
+use Rattle.serde_json.specs.Find.{get_member}
+use Rattle.oauth2_json.specs.Reading.{Reading, read_then, ◌⊛◌}
+use Rattle.oauth2_json.specs.Writing.{Writing}
+use Rattle.oauth2_json.specs.Members.{members_of_object, needed, optional}
+use Rattle.oauth2_json.specs.Puts.{Row, put_all}
+use Rattle.oauth2_json.specs.Values.{text, whole_number}
+use Rattle.oauth2_json.specs.declared.read.ParseCause.TheVariants as cause
+use Rattle.oauth2_introspection.specs.Instants.{instant, is_instant, second_data}
+use Rattle.oauth2_keeper.specs.Keeper.{AcceptedToken, Keeper}
+
+-- a token and the refresh token that is kept with it
+pub record Stored : Type 0 where
+  pub token : AcceptedToken
+  pub refresh_token : Option (List ℕ)
+
+abbrev pub stored : List ℕ → ℤ → ℕ → Option (List ℕ) → Stored
+stored access_token accepted_at lifetime refresh_token = record {
+  token = record { access_token = access_token; accepted_at = accepted_at; lifetime = lifetime };
+  refresh_token = refresh_token;
+}
+
+-- what a keeper keeps, where there is a token
+abbrev pub stored_of : Keeper → Option Stored
+stored_of keeper = option_map (λ token. record { token = token; refresh_token = keeper.refresh_token }) keeper.token
+
+-- a moment: whole seconds since 1970, and nanoseconds to add
+abbrev pub moment_from : ℤ → ℕ → Reading ℤ
+moment_from second nanos =
+    if is_instant (second +ℤ pos nanos) then Ok (second +ℤ pos nanos) else Err (record { member = codes "accepted_at"; cause = cause.OutOfRange })
+
+abbrev pub moment_reading : Option Data → Option Data → Reading ℤ
+moment_reading seconds nanoseconds =
+    read_then (needed instant (codes "accepted_at") seconds) (λ second.
+    read_then (needed whole_number (codes "accepted_at_nanoseconds") nanoseconds) (λ nanos. moment_from second nanos))
+
+-- a lifetime: whole seconds, and nanoseconds to add
+abbrev pub lifetime_from : ℕ → ℕ → Reading ℕ
+lifetime_from seconds nanos =
+    if nat_lt (seconds * 1_000_000_000 + nanos) (2 ^ 64 * 1_000_000_000) then Ok (seconds * 1_000_000_000 + nanos)
+    else Err (record { member = codes "lifetime"; cause = cause.OutOfRange })
+
+abbrev pub lifetime_reading : Option Data → Option Data → Reading ℕ
+lifetime_reading seconds nanoseconds =
+    read_then (needed whole_number (codes "lifetime") seconds) (λ whole.
+    read_then (needed whole_number (codes "lifetime_nanoseconds") nanoseconds) (λ nanos. lifetime_from whole nanos))
+
+-- other members are ignored
+abbrev pub stored_row : Members → Reading Stored
+stored_row ms =
+    Ok stored
+    ⊛ needed text (codes "access_token") (get_member (codes "access_token") ms)
+    ⊛ moment_reading (get_member (codes "accepted_at") ms) (get_member (codes "accepted_at_nanoseconds") ms)
+    ⊛ lifetime_reading (get_member (codes "lifetime") ms) (get_member (codes "lifetime_nanoseconds") ms)
+    ⊛ optional text (codes "refresh_token") (get_member (codes "refresh_token") ms)
+
+abbrev pub stored_reading : Data → Reading Stored
+stored_reading d = read_then (members_of_object d) stored_row
+
+-- the nanoseconds after the whole seconds of a moment, which are rounded down
+abbrev pub nanoseconds_of : ℤ → ℕ
+nanoseconds_of n = unsigned_abs (int_rem_euclid n (pos 1_000_000_000))
+
+abbrev pub whole_data : ℕ → Data
+whole_data n = number (unsigned n)
+
+abbrev pub stored_rows : Stored → List Row
+stored_rows s =
+    (codes "access_token", Some (string s.token.access_token))
+    ∷ (codes "accepted_at", Some (second_data s.token.accepted_at))
+    ∷ (codes "accepted_at_nanoseconds", Some (whole_data (nanoseconds_of s.token.accepted_at)))
+    ∷ (codes "lifetime", Some (whole_data (s.token.lifetime / 1_000_000_000)))
+    ∷ (codes "lifetime_nanoseconds", Some (whole_data (s.token.lifetime % 1_000_000_000)))
+    ∷ (codes "refresh_token", option_map string s.refresh_token)
+    ∷ []
+
+abbrev pub stored_writing : Stored → Writing
+stored_writing s = Ok (object (put_all (stored_rows s) no_members))

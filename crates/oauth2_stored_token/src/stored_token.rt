@@ -1,0 +1,48 @@
+//! A token that was accepted, to be stored.
+
+ghost use Rattle.std.specs.Prelude.{codes, Some};
+ghost use Rattle.std.specs.Fmt.{DisplaysOnOk, WritesStyledOnOk};
+
+use jiff::Timestamp;
+use oauth2_types::{AccessToken, RefreshToken};
+use std::fmt;
+use std::marker::Model;
+use std::time::Duration;
+
+/// A token that was accepted, the moment of the call that got it, its lifetime, and the refresh
+/// token that is kept with it. Contracts see it as a `Stored`.
+///
+/// As JSON it is an object with the members `access_token`, `accepted_at` in seconds since 1970 and
+/// `lifetime` in seconds, `accepted_at_nanoseconds` and `lifetime_nanoseconds` to add to them, and
+/// `refresh_token`, which may be absent.
+#[derive(Drop)]
+pub struct StoredToken {
+    pub(crate) access_token: AccessToken,
+    pub(crate) accepted_at: Timestamp,
+    pub(crate) lifetime: Duration,
+    pub(crate) refresh_token: Option<RefreshToken>,
+}
+
+impl Model for StoredToken {
+    ghost use Rattle.std.specs.Duration.{as_nanos};
+    ghost use Rattle.oauth2_stored_token.specs.Stored.{Stored, stored};
+
+    ghost Value = { Stored };
+
+    ghost view = { λ s. stored s.access_token s.accepted_at.nanosecond (as_nanos s.lifetime)
+        s.refresh_token };
+}
+
+impl fmt::Debug for StoredToken {
+    ghost debug_output = { λ _. Some (codes "StoredToken([redacted])") };
+
+    fn fmt<W: fmt::Write>(&self, f: &mut fmt::Formatter<W>) -> fmt::Result
+        ensures writes { DisplaysOnOk W.write_str_gives f.old result
+            (Some (codes "StoredToken([redacted])")) f.new }
+        // Whatever options the formatter has, as under `{:#?}`.
+        ensures styled { WritesStyledOnOk W.write_str_gives f.old result
+            (codes "StoredToken([redacted])") f.new }
+    {
+        f.write_str("StoredToken([redacted])")
+    }
+}
