@@ -1,10 +1,10 @@
 -- The bytes of a request for a configuration carry it.
-use Rattle.std.proofs.Common.{◌≡◌, ℕ, List, [], ◌∷◌, ◌++◌, length, map, Option, Some, None, sym, refl, ap, ◌∙◌}
+use Rattle.std.proofs.Common.{◌≡◌, ℕ, List, [], ◌∷◌, ◌++◌, length, map, Option, Some, None, false, sym, refl, ap, ◌∙◌}
 use Rattle.std.specs.Prelude.{codes, option_to_list, option_and_then}
 use Rattle.http_header.specs.FieldValue.{FieldValue}
 use Rattle.http_header.specs.HeaderMap.{Entries, get}
 use Rattle.http1.specs.Text.{eq_ignore_case}
-use Rattle.http1.specs.Fields.{Header, values_named}
+use Rattle.http1.specs.Fields.{Header, known_fields, values_named}
 use Rattle.http.specs.Request.{head_of, body_of}
 use Rattle.oauth2_wire.specs.OneShot.{HttpRequest}
 use Rattle.oauth2_form.specs.Pairs.{Pair}
@@ -12,7 +12,7 @@ use Rattle.oauth2_form.specs.Basic.{basic}
 use Rattle.oauth2_wire.specs.Expected.{Configuration, expected_basic, headers_before, authorization_header}
 use Rattle.oauth2_wire.specs.Request.{IsRequestOf, view_of}
 use Rattle.oauth2_http1.specs.Origin.{Place, host_text, origin_form}
-use Rattle.http1.specs.Conn.{length_header}
+use Rattle.http1.specs.Conn.{length_header, states_framing}
 use Rattle.oauth2_http1.specs.Message.{IsWire, seen_of, length_fields, sized, sent_fields}
 use Rattle.oauth2_http1.specs.Law.{AreReadAs}
 
@@ -43,6 +43,12 @@ accepts : (place : Place) (credentials : Option Pair) (body : List ℕ) → valu
 unfolding eq_ignore_case
 accepts place None body = refl
 accepts place (Some pair) body = refl
+
+-- such a request leaves its framing to the client
+pub unframed : (place : Place) (credentials : Option Pair) → states_framing (known_fields (sent_fields place (headers_before (authorization_header credentials)))) ≡ false
+unfolding known_fields eq_ignore_case
+unframed place None = refl
+unframed place (Some pair) = refl
 
 read_basic : Entries FieldValue → Option Pair
 read_basic headers = option_and_then (λ value. basic value.bytes) (get headers (codes "authorization"))
