@@ -1,0 +1,30 @@
+//! An introspection over a connection.
+
+ghost use Rattle.url.specs.Parts.{serialize};
+ghost use Rattle.oauth2_wire.specs.Reply.{answer_of};
+ghost use Rattle.oauth2_requests.specs.TokenIntrospection.{introspection_configuration};
+ghost use Rattle.oauth2_http1.specs.FromBytes.{FromBytes};
+
+use oauth2_codes::ErrorResponse;
+use oauth2_http1::{Connect, Http1Client, Http1Error};
+use oauth2_json::FromJson;
+use oauth2_requests::IntrospectionRequest;
+use oauth2_wire::RequestTokenError;
+use std::alloc::Global;
+
+/// What a token is worth (RFC 7662, section 2).
+#[tactic(auto, using(oauth2_http1::proofs::FromBytes::from_bytes))]
+pub fn worth_of_token<C: Connect, TE: ErrorResponse, TIR: FromJson>(
+    alloc: Global,
+    request: IntrospectionRequest<'_, TE, TIR>,
+    http_client: &mut Http1Client<C>,
+) -> Result<TIR, RequestTokenError<Http1Error<C::Error>, TE>>
+    ensures { FromBytes C.opens C.Stream.contents C.Stream.remaining
+        (introspection_configuration request.entry)
+        (serialize request.entry.introspection_url.url)
+        TIR.meaning TE.meaning
+        (answer_of request.entry.base.reply_rule TIR.reading TE.reading)
+        http_client.old result http_client.new }
+{
+    request.request(alloc, http_client)
+}

@@ -1,0 +1,30 @@
+//! A refresh over a connection.
+
+ghost use Rattle.url.specs.Parts.{serialize};
+ghost use Rattle.oauth2_wire.specs.Reply.{answer_of};
+ghost use Rattle.oauth2_requests.specs.Refresh.{refresh_configuration};
+ghost use Rattle.oauth2_http1.specs.FromBytes.{FromBytes};
+
+use oauth2_codes::ErrorResponse;
+use oauth2_http1::{Connect, Http1Client, Http1Error};
+use oauth2_replies::TokenResponse;
+use oauth2_requests::RefreshTokenRequest;
+use oauth2_wire::RequestTokenError;
+use std::alloc::Global;
+
+/// The token for a refresh token (RFC 6749, section 6).
+#[tactic(auto, using(oauth2_http1::proofs::FromBytes::from_bytes))]
+pub fn refreshed_token<C: Connect, TE: ErrorResponse, TR: TokenResponse>(
+    alloc: Global,
+    request: RefreshTokenRequest<'_, TE, TR>,
+    http_client: &mut Http1Client<C>,
+) -> Result<TR, RequestTokenError<Http1Error<C::Error>, TE>>
+    ensures { FromBytes C.opens C.Stream.contents C.Stream.remaining
+        (refresh_configuration request.entry)
+        (serialize request.entry.token_url.url)
+        TR.meaning TE.meaning
+        (answer_of request.entry.base.reply_rule TR.reading TE.reading)
+        http_client.old result http_client.new }
+{
+    request.request(alloc, http_client)
+}
