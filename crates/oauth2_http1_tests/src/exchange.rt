@@ -1,0 +1,84 @@
+//! One exchange over a connection in memory, and what comes of it as a text.
+
+use crate::wire::Wire;
+use http::request::Parts;
+use http::{Method, Request};
+use http_header::{HeaderMap, HeaderName, HeaderValue};
+use http_uri::Uri;
+use oauth2_http1::{Bounds, Http1Client, Http1Error, NoConnection, Over};
+use oauth2_wire::{HttpRequest, HttpResponse, SyncHttpClient};
+use std::alloc::Global;
+use std::io::{self, Write};
+
+/// What one call returns.
+pub type Answer = Result<HttpResponse, Http1Error<NoConnection>>;
+
+/// The texts of a request.
+#[derive(Clone, Copy)]
+pub struct RequestTexts<'a> {
+    pub method: &'a str,
+    pub target: &'a str,
+    pub fields: &'a [(&'a str, &'a str)],
+    pub body: &'a str,
+}
+
+fn fields_of(alloc: Global, fields: &[(&str, &str)]) -> Option<HeaderMap> {
+    let mut map = HeaderMap::new(alloc);
+    for (name, value) in fields {
+        let name = HeaderName::from_bytes(alloc, name.as_bytes()).ok()?;
+        let value = HeaderValue::from_bytes(alloc, value.as_bytes()).ok()?;
+        map.append(name, value).ok()?;
+    }
+    Some(map)
+}
+
+/// The request of these texts. There is none where memory runs out, or where one of them is no part
+/// of a request.
+pub fn request_of(alloc: Global, texts: RequestTexts<'_>) -> Option<HttpRequest> {
+    let mut head = Parts::new(alloc);
+    head.method = Method::from_bytes(alloc, texts.method.as_bytes()).ok()?;
+    head.uri = Uri::from_str(alloc, texts.target).ok()?;
+    head.headers = fields_of(alloc, texts.fields)?;
+    let body = texts.body.as_bytes().to_vec(alloc).ok()?;
+    Some(Request::from_parts(head, body))
+}
+
+/// A client whose connection is in memory.
+pub type MemoryClient<'a, 'b> = Http1Client<Over<&'a mut Wire<'b>>>;
+
+/// Calls a client.
+pub fn call(client: &mut MemoryClient<'_, '_>, request: HttpRequest) -> Answer {
+    client.call(request)
+}
+
+/// Calls a client once, whose connection is this one. Returns also whether it was handed out.
+pub fn call_once(
+    alloc: Global,
+    wire: &mut Wire<'_>,
+    bounds: Bounds,
+    request: HttpRequest,
+) -> (bool, Answer) {
+    let mut client = Http1Client::new(alloc, Over::new(wire)).set_bounds(bounds);
+    let answer = call(&mut client, request);
+    (client.into_connect().into_stream().is_none(), answer)
+}
+
+fn show_reply<W: Write>(out: &mut W, reply: &HttpResponse) -> io::Result<()> {
+    writeln!(out, "{:?} {}", reply.version(), reply.status().as_u16())?;
+    for (name, value) in reply.headers() {
+        write!(out, "{name}: ")?;
+        out.write_all(value.as_bytes())?;
+        out.write_all(b"\n")?;
+    }
+    out.write_all(b"\n")?;
+    out.write_all(reply.body())
+}
+
+/// Writes a reply as version and status, its fields each on a line, an empty line and the body, and
+/// an error by its name.
+pub fn show<W: Write>(out: &mut W, answer: &Answer) -> io::Result<()> {
+    match answer {
+        Ok(reply) => show_reply(out, reply),
+        Err(error) => write!(out, "{error:?}"),
+    }
+}

@@ -1,0 +1,160 @@
+//! How much is read, and how often.
+
+use crate::support::{GET, GET_BYTES, is_so, is_text, outcome_of};
+use crate::wire::Wire;
+use oauth2_http1::Bounds;
+use std::process::Abort;
+
+// One read asks for so many bytes.
+const CHUNK: usize = 4096;
+
+// A reply of these bytes and then of a text again and again; what a call returns that takes heads,
+// extensions and trailers of 500 bytes and bodies of 64; and how many bytes show it.
+const ENDLESS: &[(&str, &str, &str, usize)] = &[
+    ("", "\r\n", "Reply(Response(TooLarge))", 500),
+    (
+        "HTTP/1.1 200 OK\r\nx: ",
+        "a",
+        "Reply(Response(TooLarge))",
+        500,
+    ),
+    (
+        "HTTP/1.1 200 OK\r\ntransfer-encoding: chunked\r\n\r\n0\r\nx: ",
+        "a",
+        "Reply(Response(TooLarge))",
+        50 + 500,
+    ),
+    (
+        "HTTP/1.1 200 OK\r\ntransfer-encoding: chunked\r\n\r\n1;",
+        "a",
+        "Reply(Response(Chunk(ExtensionsTooLong)))",
+        49 + 501,
+    ),
+    (
+        "HTTP/1.1 200 OK\r\ntransfer-encoding: chunked\r\n\r\n",
+        "1\r\na\r\n",
+        "Reply(TooLong)",
+        47 + 64 * 6 + 4,
+    ),
+    (
+        "HTTP/1.1 200 OK\r\ncontent-length: 18446744073709551615\r\n\r\n",
+        "a",
+        "Reply(TooLong)",
+        57 + 65,
+    ),
+    ("HTTP/1.1 200 OK\r\n\r\n", "a", "Reply(TooLong)", 19 + 65),
+];
+
+fn endless<'a>(came: &'a str, again: &'a str) -> Wire<'a> {
+    let mut wire = Wire::new(came.as_bytes(), GET_BYTES.as_bytes());
+    wire.again = again.as_bytes();
+    wire
+}
+
+// How many bytes a call reads of this connection, within these bounds.
+fn taken(
+    rt: &(impl Abort + AllocGlobal),
+    mut wire: Wire<'_>,
+    bounds: Bounds,
+    wanted: &str,
+) -> usize {
+    let outcome = outcome_of(rt, &mut wire, bounds, GET);
+    is_text(rt, outcome.text.as_str(), wanted, wanted);
+    wire.given
+}
+
+// The last read begins before the error shows, and takes what one read asks for.
+fn ends(rt: &(impl Abort + AllocGlobal), came: &str, text: &str, wanted: &str, shows: usize) {
+    let bounds = Bounds::default()
+        .set_max_head(500)
+        .set_max_extensions(500)
+        .set_max_trailers(500)
+        .set_max_body(64);
+    let again = text.repeat(rt.alloc(), CHUNK).expect(rt, "a text");
+    let bytes = taken(
+        rt,
+        endless(came, again.as_str()).in_pieces(1, 1),
+        bounds,
+        wanted,
+    );
+    let whole = taken(rt, endless(came, again.as_str()), bounds, wanted);
+    is_so(
+        rt,
+        bytes == shows && whole < shows.saturating_add(CHUNK),
+        wanted,
+    );
+}
+
+#[test]
+fn replies_without_an_end(rt: HostRuntime) {
+    for (came, text, wanted, shows) in ENDLESS {
+        ends(&rt, came, text, wanted, *shows);
+    }
+}
+
+const REPLY: &str = "HTTP/1.1 200 OK\r\ncontent-length: 2\r\n\r\n{}";
+
+const READ: &str = "HTTP/1.1 200\ncontent-length: 2\n\n{}";
+
+const TOO_MANY: &str = "Reply(TooManyReads)";
+
+// A reply as in the table above, how often it may be read, and what the call returns.
+const READS: &[(&str, &str, u32, &str)] = &[
+    (REPLY, "", 40, READ),
+    (REPLY, "", 39, TOO_MANY),
+    (REPLY, "", 1, TOO_MANY),
+    (REPLY, "", 0, TOO_MANY),
+    ("HTTP/1.1 200 OK\r\n\r\n", "", 20, "HTTP/1.1 200\n\n"),
+    ("HTTP/1.1 200 OK\r\n\r\n", "", 19, TOO_MANY),
+    ("HTTP/1.1 200 OK\r\n\r\n", "a", 200, TOO_MANY),
+    ("", "HTTP/1.1 100 Continue\r\n\r\n", 200, TOO_MANY),
+    (
+        "HTTP/1.1 200 OK\r\ntransfer-encoding: chunked\r\n\r\n",
+        "0",
+        200,
+        TOO_MANY,
+    ),
+];
+
+// How often a call reads this connection, byte by byte.
+fn read_count(
+    rt: &(impl Abort + AllocGlobal),
+    wire: Wire<'_>,
+    max_reads: u32,
+    wanted: &str,
+) -> usize {
+    let mut wire = wire.in_pieces(1, 1);
+    let bounds = Bounds::default().set_max_reads(max_reads);
+    let outcome = outcome_of(rt, &mut wire, bounds, GET);
+    is_text(rt, outcome.text.as_str(), wanted, wanted);
+    wire.reads
+}
+
+#[test]
+fn reads_are_counted(rt: HostRuntime) {
+    for (came, again, max_reads, wanted) in READS {
+        let reads = read_count(&rt, endless(came, again), *max_reads, wanted);
+        is_so(&rt, reads == *max_reads as usize, came);
+    }
+}
+
+// So often each read is interrupted, what the call returns, and how often it reads.
+const INTERRUPTED: &[(usize, &str, usize)] = &[
+    (0, READ, 40),
+    (1, READ, 2 * 40),
+    (63, READ, 64 * 40),
+    (64, "Reply(Read(Kind(Interrupted)))", 64),
+];
+
+// The interrupted reads do not count.
+#[test]
+fn reads_that_are_interrupted(rt: HostRuntime) {
+    for (interrupts, wanted, reads) in INTERRUPTED {
+        let wire = Wire {
+            interrupts: *interrupts,
+            interrupts_left: *interrupts,
+            ..endless(REPLY, "")
+        };
+        is_so(&rt, read_count(&rt, wire, 40, wanted) == *reads, wanted);
+    }
+}

@@ -1,0 +1,65 @@
+//! What the tests of several subjects share.
+
+use crate::exchange::{Answer, RequestTexts, call_once, request_of, show};
+use crate::wire::Wire;
+use oauth2_http1::Bounds;
+use std::fmt::Display;
+use std::process::Abort;
+
+/// A request without a body.
+pub const GET: RequestTexts<'static> = RequestTexts {
+    method: "GET",
+    target: "http://as.example/jwks",
+    fields: &[],
+    body: "",
+};
+
+/// Its bytes, by RFC 9112, 3 and 3.2, with the one field that the client adds.
+pub const GET_BYTES: &str = "GET /jwks HTTP/1.1\r\nhost: as.example\r\nconnection: close\r\n\r\n";
+
+/// What one call showed.
+#[derive(Drop)]
+pub struct Outcome {
+    /// Whether the connection was handed out.
+    pub is_open: bool,
+    /// The reply or the error.
+    pub text: String,
+}
+
+/// The reply or the error as a text.
+pub fn text_of(rt: &(impl Abort + AllocGlobal), answer: &Answer) -> String {
+    let mut text = Vec::new(rt.alloc());
+    show(&mut text, answer).expect(rt, "a text");
+    String::from_utf8(text).expect(rt, "a text")
+}
+
+/// Calls a client once over this connection.
+pub fn outcome_of(
+    rt: &(impl Abort + AllocGlobal),
+    wire: &mut Wire<'_>,
+    bounds: Bounds,
+    request: RequestTexts<'_>,
+) -> Outcome {
+    let request = request_of(rt.alloc(), request).expect(rt, "a request");
+    let (is_open, answer) = call_once(rt.alloc(), wire, bounds, request);
+    Outcome {
+        is_open,
+        text: text_of(rt, &answer),
+    }
+}
+
+/// Checks a condition for one row of a table. (A call is much cheaper to prove than the assertion.)
+pub fn is_so(rt: &impl Abort, is_so: bool, row: &str) {
+    assert!(rt; is_so, "at {row}");
+}
+
+/// Checks a text for one row of a table.
+pub fn is_text(rt: &impl Abort, found: &str, wanted: &str, row: &str) {
+    assert!(rt; found == wanted, "at {row}: {found}");
+}
+
+/// Checks the text that a value displays.
+pub fn displays<T: Display>(rt: &(impl Abort + AllocGlobal), value: &T, wanted: &str) {
+    let text = format!(in rt.alloc(); "{value}").expect(rt, "a text");
+    is_text(rt, text.as_str(), wanted, wanted);
+}

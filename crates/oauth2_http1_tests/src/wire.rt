@@ -1,0 +1,142 @@
+//! A connection in memory.
+
+ghost use Rattle.std.specs.Prelude.{◌≤◌, length};
+
+use std::io::{self, ErrorKind, Read, Write};
+
+/// A connection that has a reply to give, and that is to be written one request.
+#[derive(Drop)]
+pub struct Wire<'a> {
+    /// The bytes that are still to come.
+    pub left: &'a [u8],
+    /// What comes after them, again and again. Where it is empty, the connection has ended.
+    pub again: &'a [u8],
+    /// What is still to be written.
+    pub awaited: &'a [u8],
+    /// The first read gives at most so many bytes.
+    pub first: usize,
+    /// The other reads give at most so many bytes, and each write takes at most so many.
+    pub piece: usize,
+    /// Which call fails, counted from 1. None is the call 0.
+    pub fails_at: usize,
+    /// So often each read is interrupted.
+    pub interrupts: usize,
+    /// So often the next read is still interrupted.
+    pub interrupts_left: usize,
+    /// How often it was called: read, written or flushed.
+    pub calls: usize,
+    /// How often it was read.
+    pub reads: usize,
+    /// How often it was read when no byte was left.
+    pub reads_past: usize,
+    /// How many bytes it gave.
+    pub given: usize,
+    /// Whether something else was written.
+    pub is_other: bool,
+}
+
+impl<'a> Wire<'a> {
+    /// A connection that gives this reply whole, and takes this request whole.
+    pub fn new(reply: &'a [u8], request: &'a [u8]) -> Wire<'a> {
+        Wire {
+            left: reply,
+            again: b"",
+            awaited: request,
+            first: usize::MAX,
+            piece: usize::MAX,
+            fails_at: 0,
+            interrupts: 0,
+            interrupts_left: 0,
+            calls: 0,
+            reads: 0,
+            reads_past: 0,
+            given: 0,
+            is_other: false,
+        }
+    }
+
+    /// The same connection, which gives and takes pieces of these lengths.
+    pub fn in_pieces(self, first: usize, piece: usize) -> Wire<'a> {
+        Wire {
+            first,
+            piece,
+            ..self
+        }
+    }
+
+    /// Whether the request was written, whole and once.
+    pub fn is_written(&self) -> bool {
+        self.awaited.is_empty() && !self.is_other
+    }
+
+    // One call, which may be the one that fails.
+    fn count(&mut self) -> io::Result<()> {
+        self.calls = self.calls.saturating_add(1);
+        if self.calls == self.fails_at {
+            return Err(io::Error::from(ErrorKind::ConnectionReset));
+        }
+        Ok(())
+    }
+
+    // A read, which may be interrupted.
+    fn interrupt(&mut self) -> io::Result<()> {
+        if self.interrupts_left > 0 {
+            self.interrupts_left -= 1;
+            return Err(io::Error::from(ErrorKind::Interrupted));
+        }
+        self.interrupts_left = self.interrupts;
+        Ok(())
+    }
+
+    // What a read gives, where no byte may be left.
+    fn refill(&mut self) {
+        if self.left.is_empty() {
+            self.reads_past = self.reads_past.saturating_add(1);
+            self.left = self.again;
+        }
+    }
+
+    // Gives the next piece.
+    fn give(&mut self, buf: &mut [u8]) -> usize
+        ensures { result ≤ length buf.new }
+    {
+        let len = self.left.len().min(self.first).min(buf.len());
+        let (piece, left) = self.left.split_at(len);
+        buf[..len].copy_from_slice(piece);
+        self.left = left;
+        self.first = self.piece;
+        self.given = self.given.saturating_add(len);
+        len
+    }
+
+    // Takes a piece of what is written.
+    fn take(&mut self, written: &[u8]) {
+        match self.awaited.strip_prefix(written) {
+            Some(awaited) => self.awaited = awaited,
+            None => self.is_other = true,
+        }
+    }
+}
+
+impl Read for Wire<'_> {
+    fn read(&mut self, buf: &mut [u8]) -> io::Result<usize> {
+        self.reads = self.reads.saturating_add(1);
+        self.count()?;
+        self.interrupt()?;
+        self.refill();
+        Ok(self.give(buf))
+    }
+}
+
+impl Write for Wire<'_> {
+    fn write(&mut self, buf: &[u8]) -> io::Result<usize> {
+        self.count()?;
+        let len = buf.len().min(self.piece);
+        self.take(&buf[..len]);
+        Ok(len)
+    }
+
+    fn flush(&mut self) -> io::Result<()> {
+        self.count()
+    }
+}
