@@ -65,6 +65,16 @@ def binder(words, at):
     return set()
 
 
+def equals(words):
+    """Where the sign between the two sides of an equation stands: not within the braces of a named argument, as `f {A = B} x = y`."""
+    depth = 0
+    for at, word in enumerate(words):
+        depth += (word in '({[') - (word in ')}]')
+        if word == '=' and not depth:
+            return at
+    raise Unknown('a clause without `=`')
+
+
 def citations(words, given, is_constructor):
     """The names that an expression cites, each as the parts between its dots, and not those that it gives itself."""
     found, scopes, binders, pending, at = [], [set(given)], [], set(), 0
@@ -482,7 +492,7 @@ class Repository:
         own = [part for part in it.name.split('◌') if part]
         for piece in pieces[1:]:
             words = tokens(piece)
-            at = words.index('=')
+            at = equals(words)
             cited, names = pattern([w for w in words[:at] if w not in own and w not in '(){}'], is_constructor)
             chains += cited + citations(words[at + 1:], given | names, is_constructor)
         return chains

@@ -1,11 +1,14 @@
 -- What a keeper of an access token keeps, and what a call of it does.
-use Rattle.std.specs.Prelude.{◌≡◌, ◌⊎◌, ℕ, ℤ, pos, ◌+ℤ◌, ◌-ℤ◌, int_le, Bool, true, false, IsTrue, List, Option, Some, None, unwrap_or, IsSomeAnd, Result, Ok, Err}
+use Rattle.std.specs.Prelude.{◌≡◌, ◌⊎◌, ℕ, ℤ, pos, ◌+ℤ◌, ◌-ℤ◌, int_le, Bool, true, false, IsTrue, List, [], map, Option, Some, None, unwrap_or, Vec, IsSomeAnd, Result, Ok, Err}
 use Rattle.std.specs.Option.{option_or}
+use Rattle.std.specs.declared.alloc.Global.{Global}
 use Rattle.oauth2_urls.specs.Addressed.{Addressed}
 use Rattle.oauth2_wire.specs.declared.content_type.ReplyRule.{ReplyRule}
 use Rattle.oauth2_wire.specs.declared.error.RequestTokenError.{RequestTokenError}
 use Rattle.oauth2_wire.specs.declared.error.RequestTokenError.TheVariants.{Memory}
 use Rattle.oauth2_form.specs.Pairs.{Pair}
+use Rattle.oauth2_wire.specs.declared.texts.ParamText.{ParamText}
+use Rattle.oauth2_wire.specs.Texts.{param_pair}
 use Rattle.oauth2_wire.specs.Expected.{Configuration}
 use Rattle.oauth2_requests.specs.Base.{Base, configuration_of}
 use Rattle.oauth2_requests.specs.ClientCredentials.{client_credentials_pairs}
@@ -24,6 +27,11 @@ pub record AcceptedToken : Type 0 where
 -- nanoseconds without limit
 abbrev pub is_good_at : ℕ → ℤ → AcceptedToken → Bool
 is_good_at margin now token = int_le (now +ℤ pos margin) (token.accepted_at +ℤ pos token.lifetime)
+
+-- the parameters that were added, in order; at first there are none
+abbrev pub pairs_of : Option (Vec (ParamText × ParamText) Global) → List Pair
+pairs_of None = []
+pairs_of (Some params) = map param_pair params.items
 
 -- what a keeper keeps: its client, the margin and the lifetime where a reply tells none, in
 -- nanoseconds, the scopes that it asks for by the client's own credentials and those by a refresh

@@ -17,7 +17,7 @@ pub(crate) struct Params<'a> {
 impl<'a> Model for Params<'a> {
     ghost use Rattle.std.specs.Prelude.{List};
     ghost use Rattle.oauth2_form.specs.Pairs.{Pair};
-    ghost use Rattle.oauth2_keeper.specs.private.Params.{pairs_of};
+    ghost use Rattle.oauth2_keeper.specs.Keeper.{pairs_of};
 
     ghost Value = { List Pair };
 

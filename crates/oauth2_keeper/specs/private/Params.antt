@@ -1,16 +1,8 @@
 -- The scopes and the extra parameters of a keeper's requests.
-use Rattle.std.specs.Prelude.{ℕ, List, [], ◌++◌, map, Option, Some, None, Vec}
-use Rattle.std.specs.declared.alloc.Global.{Global}
+use Rattle.std.specs.Prelude.{ℕ, List, ◌++◌, Option, Some, None}
 use Rattle.oauth2_form.specs.Pairs.{Pair}
 use Rattle.oauth2_form.specs.Params.{with_scope}
-use Rattle.oauth2_wire.specs.declared.texts.ParamText.{ParamText}
-use Rattle.oauth2_wire.specs.Texts.{param_pair}
 use Rattle.oauth2_requests.specs.Base.{Base}
-
--- the parameters, of which there are none at first
-abbrev pub pairs_of : Option (Vec (ParamText × ParamText) Global) → List Pair
-pairs_of None = []
-pairs_of (Some params) = map param_pair params.items
 
 -- the scopes of a request, with more where there are more
 abbrev pub with_more : Option (List ℕ) → Option (List ℕ) → Option (List ℕ)
