@@ -1,12 +1,20 @@
 -- What the calls of a keeper add to the lines of a run.
-use Rattle.std.proofs.Common.{◌≡◌, ℕ, ℤ, List, [], ◌∷◌, ◌++◌, true, false, Option, Some, None, Result, Ok, Err, string_bytes, inl, inr, refl, ap, sym, subst, ◌∙◌, append_assoc, append-nil, ◌+◌, ◌<◌, length, take, get_or, map}
-use Rattle.std.specs.Prelude.{IsSomeAnd, IsTrue, option_map}
+use Rattle.std.proofs.Common.{◌≡◌, ℕ, ℤ, List, [], ◌∷◌, ◌++◌, true, false, Option, Some, None, Result, Ok, Err, string_bytes, inl, inr, refl, ap, sym, subst, ◌∙◌, append_assoc, append-nil, ◌+◌, ◌<◌, length, take, get_or, map, arith}
+use Rattle.std.specs.Prelude.{◌≢◌, IsSomeAnd, IsTrue, Bool, not, ◌&&◌, pos, neg_ℤ, ◌+ℤ◌, int_lt, int_div, option_map, codes, if◌then◌else◌}
+use Rattle.std.specs.Fmt.{signed_decimal}
+use Rattle.jiff_core.specs.Timestamp.{IsTimestampNanos}
+use Rattle.jiff.proofs.SpanFacts.{signed_arith}
+use Rattle.oauth2_introspection.specs.Instants.{is_instant}
+use Rattle.oauth2_introspection.proofs.Seconds.{within}
 use Rattle.http_uri.specs.Uri.{SpellsNone, uri_text}
 use Rattle.std.proofs.lemmas.List.{map_more}
 use Rattle.jiff.specs.Types.{Timestamp}
 use Rattle.url.specs.Parts.{serialize}
-use Rattle.oauth2_codes.specs.ErrorCodes.{error_code}
-use Rattle.oauth2_codes.specs.ErrorResponse.{parts_of}
+use Rattle.oauth2_codes.specs.Codes.{token_code_reading}
+use Rattle.oauth2_codes.specs.ErrorCodes.{ErrorCode, error_code, error_code_reading}
+use Rattle.oauth2_codes.specs.ErrorResponse.{ErrorParts, parts_of, error_reading}
+use Rattle.oauth2_replies.specs.Kept.{any_object}
+use Rattle.oauth2_replies.specs.Token.{token_reading}
 use Rattle.oauth2_urls.specs.Addressed.{Addressed}
 use Rattle.oauth2_wire.specs.OneShot.{HttpRequest, not_http_text, AnswersUnsent}
 use Rattle.oauth2_wire.specs.Reply.{HttpResponse, reply_of, ShowsAnswer}
@@ -14,19 +22,23 @@ use Rattle.oauth2_wire.specs.Request.{IsRequestOf, view_of}
 use Rattle.oauth2_wire.specs.declared.error.RequestTokenError.TheVariants.{ServerResponse, Request, Parse, Other, Memory}
 use Rattle.oauth2_wire.specs.declared.request.RequestFault.TheVariants as fault
 use Rattle.oauth2_keeper.specs.Keeper.{Keeper, AcceptedToken, quiet, accepted, failed, is_good, accept, renewal, Calls}
+use Rattle.oauth2_keeper.specs.Patience.{Patient, counts, is_waiting_for, is_held_back, lasts, called, failed_call, IsUntil, PatientCalls}
+use Rattle.oauth2_keeper.specs.declared.patient_keeper.PatientError.{PatientError}
+use Rattle.oauth2_keeper.specs.declared.patient_keeper.PatientError.TheVariants as patient_error
+use Rattle.oauth2_keeper.proofs.SentFaults.{of_reply, shown as shown_counts, unsent as unsent_counts}
 use Rattle.oauth2.specs.Settings.{Settings}
 use Rattle.oauth2_script.specs.KeeperParams.{KeeperParams}
 use Rattle.oauth2_script.specs.Replies.{Reply}
 use Rattle.oauth2_commands.specs.Client.{WithEndpoint, WithToken, missing}
-use Rattle.oauth2_commands.specs.Exchange.{other_text, token_answer}
-use Rattle.oauth2_commands.specs.Keeper.{Standing, IsCall, IsRenewal, IsSentAt, AreCalls, IsKeeperOutput, kept_after_reply, renewal_output, both, joined, nothing}
+use Rattle.oauth2_commands.specs.Exchange.{BasicToken, other_text, token_answer}
+use Rattle.oauth2_commands.specs.Keeper.{Standing, is_early, end_text, waiting, IsCall, IsRenewal, IsSentAt, AreCalls, IsKeeperOutput, after_failure, kept_after_reply, renewal_output, both, joined, nothing}
 use Rattle.oauth2_world.specs.Lines.{expected_lines, quoted}
 use Rattle.oauth2_commands.specs.Out.{Output, after, answered, failed as shown_fault, starved}
 use Rattle.oauth2_commands.specs.private.Added.{Adds, Prints}
 use Rattle.oauth2_commands.specs.private.Asked.{AsksForToken}
-use Rattle.oauth2_commands.specs.private.Kept.{standing, told_by, AreKept, ShowsCall}
+use Rattle.oauth2_commands.specs.private.Kept.{standing, end_of_wait, patient_standing, wait_after, told_by, AreKept, ShowsCall, ShowsError}
 use Rattle.oauth2_world.specs.Replay.{Replays, replies_of}
-use Rattle.oauth2_commands.specs.private.Results.{Fault, TokenSeen, token_meaning, error_seen, fault_output}
+use Rattle.oauth2_commands.specs.private.Results.{Fault, ErrorResponse, TokenSeen, token_meaning, error_seen, fault_output}
 use Rattle.oauth2_world.specs.Replies.{next_reply, later_replies}
 use Rattle.oauth2_world.specs.declared.replay.NoReply.{NoReply}
 use Rattle.oauth2_world.specs.declared.replay.ScriptedClient.{ScriptedClient}
@@ -34,18 +46,27 @@ use Rattle.oauth2_commands.specs.declared.status.RunStatus.{RunStatus}
 use Rattle.oauth2_commands.specs.declared.status.RunStatus.TheVariants as status
 use Rattle.oauth2_commands.proofs.Exchanges.{request_lines-expected}
 
-standing_is : (kept keeper : Keeper) (client : ScriptedClient) (replies : List _) → kept ≡ keeper → replies_of client ≡ replies → standing kept client ≡ record { keeper = keeper; replies = replies }
-standing_is kept keeper client replies same left = rw (same, left) refl
+if-true : {A : Type 0} (b : Bool) (x y : A) → b ≡ true → (if b then x else y) ≡ x
+if-true true x y e = refl
+if-true false x y e = cc
 
-module _ (keeper kept : Keeper) (now : ℤ) (before mid : ScriptedClient) (lines : List ℕ) (s : RunStatus) where
+if-false : {A : Type 0} (b : Bool) (x y : A) → b ≡ false → (if b then x else y) ≡ y
+if-false true x y e = cc
+if-false false x y e = refl
+
+-- the end of a wait that a request that failed begins
+abbrev pub wait_from : Option ℕ → ℤ → Option ℤ
+wait_from retry_after now = option_map (λ wait. now +ℤ pos wait) retry_after
+
+module _ (retry_after : Option ℕ) (keeper kept : Keeper) (until later : Option ℤ) (now : ℤ) (before mid : ScriptedClient) (lines : List ℕ) (s : RunStatus) where
   -- what is told of one call
   abbrev Told : Type 0
-  Told = (before.is_starved ≡ false) × ((o : Output) × IsCall (standing keeper before) now o (standing kept mid) × Prints (string_bytes before.lines) lines s o)
+  Told = (before.is_starved ≡ false) × ((o : Output) × IsCall retry_after (standing keeper until before) now o (standing kept later mid) × Prints (string_bytes before.lines) lines s o)
 
   -- the kept token is shown
-  pub shown : IsTrue (is_good keeper now) → mid ≡ before → kept ≡ keeper → mid.is_starved ≡ false
+  pub shown : IsTrue (is_good keeper now) → mid ≡ before → kept ≡ keeper → later ≡ until → mid.is_starved ≡ false
       → IsSomeAnd kept.token (λ token. Prints (string_bytes mid.lines) lines s (answered (quoted token.access_token))) → Told
-  shown good same is fed prints = go kept.token refl
+  shown good same is waits fed prints = go kept.token refl
     where
       go : (t : Option AcceptedToken) → kept.token ≡ t → Told
       go None e = let none : IsSomeAnd None (λ (token : AcceptedToken). Prints (string_bytes mid.lines) lines s (answered (quoted token.access_token))) = rw e at prints in absurd none
@@ -54,141 +75,284 @@ module _ (keeper kept : Keeper) (now : ℤ) (before mid : ScriptedClient) (lines
           let there : keeper.token ≡ Some token = ap (λ (k : Keeper). k.token) (sym is) ∙ e in
           let all : lines ≡ string_bytes before.lines ++ (answered (quoted token.access_token)).lines =
           p.0 ∙ ap (λ (c : ScriptedClient). string_bytes c.lines ++ (answered (quoted token.access_token)).lines) same in
-          (ap (λ (c : ScriptedClient). c.is_starved) (sym same) ∙ fed, (answered (quoted token.access_token), inl (good, rw there refl, rw (is, same) refl), (all, p.1)))
+          (ap (λ (c : ScriptedClient). c.is_starved) (sym same) ∙ fed, (answered (quoted token.access_token), inl (good, rw there refl, rw (is, waits, same) refl), (all, p.1)))
 
-  module _ (stale : is_good keeper now ≡ false) (endpoint : Addressed) (there : keeper.client.token_url ≡ Some endpoint) (fed : mid.is_starved ≡ false) where
-    -- no request is made
-    unsent : (o : Output) → mid ≡ before → kept ≡ keeper → IsRenewal (standing keeper before) now o (standing keeper before) → Prints (string_bytes mid.lines) lines s o → Told
-    unsent o same is renewed p =
-        let all : lines ≡ string_bytes before.lines ++ o.lines = p.0 ∙ ap (λ (c : ScriptedClient). string_bytes c.lines ++ o.lines) same in
-        (ap (λ (c : ScriptedClient). c.is_starved) (sym same) ∙ fed, (o, inr (stale, rw (is, same) renewed), (all, p.1)))
+  module _ (stale : is_good keeper now ≡ false) where
+    -- it waits
+    pub waited : (end : ℤ) → until ≡ Some end → is_early now until ≡ true → mid ≡ before → kept ≡ keeper → later ≡ until → mid.is_starved ≡ false
+        → Prints (string_bytes mid.lines) lines s (waiting end) → Told
+    waited end is_until early same is waits fed p =
+        let all : lines ≡ string_bytes before.lines ++ (waiting end).lines = p.0 ∙ ap (λ (c : ScriptedClient). string_bytes c.lines ++ (waiting end).lines) same in
+        (ap (λ (c : ScriptedClient). c.is_starved) (sym same) ∙ fed, (waiting end, inr (inl (stale, early, rw is_until refl, rw (is, waits, same) refl)), (all, p.1)))
 
-    pub starved_before : mid ≡ before → kept ≡ keeper → Prints (string_bytes mid.lines) lines s starved → Told
-    starved_before same is p = unsent starved same is (inl (refl, refl)) p
+    module _ (free : is_early now until ≡ false) (endpoint : Addressed) (there : keeper.client.token_url ≡ Some endpoint) (fed : mid.is_starved ≡ false) where
+      -- no request is made
+      unsent : (o : Output) → mid ≡ before → kept ≡ keeper → later ≡ until → IsRenewal retry_after (standing keeper until before) now o (standing keeper until before)
+          → Prints (string_bytes mid.lines) lines s o → Told
+      unsent o same is waits renewed p =
+          let all : lines ≡ string_bytes before.lines ++ o.lines = p.0 ∙ ap (λ (c : ScriptedClient). string_bytes c.lines ++ o.lines) same in
+          (ap (λ (c : ScriptedClient). c.is_starved) (sym same) ∙ fed, (o, inr (inr (stale, free, rw (is, waits, same) renewed)), (all, p.1)))
 
-    pub no_target : SpellsNone (serialize endpoint.url) → mid ≡ before → kept ≡ keeper → Prints (string_bytes mid.lines) lines s (shown_fault (other_text not_http_text)) → Told
-    no_target none same is p = unsent (shown_fault (other_text not_http_text)) same is (inr (endpoint, there, (None, none, (refl, refl)))) p
+      pub starved_before : mid ≡ before → kept ≡ keeper → later ≡ until → Prints (string_bytes mid.lines) lines s starved → Told
+      starved_before same is waits p = unsent starved same is waits (inl (refl, refl)) p
 
-    module _ (request : HttpRequest) (is : IsRequestOf (renewal keeper) (serialize endpoint.url) (view_of request)) (answer : Result HttpResponse NoReply) (replays : Replays before request answer mid) where
-      abbrev target : List ℕ
-      target = uri_text (view_of request).target
+      pub no_target : SpellsNone (serialize endpoint.url) → mid ≡ before → kept ≡ keeper → later ≡ until
+          → Prints (string_bytes mid.lines) lines s (shown_fault (other_text not_http_text)) → Told
+      no_target none same is waits p = unsent (shown_fault (other_text not_http_text)) same is waits (inr (endpoint, there, (None, none, (refl, refl)))) p
 
-      -- the lines of the request to that target
-      abbrev request_lines : List ℕ
-      request_lines = expected_lines (renewal keeper) target
+      module _ (request : HttpRequest) (is : IsRequestOf (renewal keeper) (serialize endpoint.url) (view_of request)) (answer : Result HttpResponse NoReply) (replays : Replays before request answer mid) where
+        abbrev target : List ℕ
+        target = uri_text (view_of request).target
 
-      -- a request is made, and this is shown behind it
-      sent_with : (end : Output) (k : Keeper) → kept ≡ k → IsSentAt (standing keeper before) now (Some target) (after request_lines end) (record { keeper = k; replies = later_replies (replies_of before) })
-          → Prints (string_bytes mid.lines) lines s end → Told
-      sent_with end k same at p =
-          let sends : string_bytes mid.lines ≡ string_bytes before.lines ++ request_lines =
-          replays.prints ∙ ap (λ (t : List ℕ). string_bytes before.lines ++ t) (request_lines-expected (renewal keeper) (serialize endpoint.url) (view_of request) is) in
-          let all : lines ≡ string_bytes before.lines ++ (request_lines ++ end.lines) =
-          p.0 ∙ ap (λ (t : List ℕ). t ++ end.lines) sends ∙ append_assoc (string_bytes before.lines) request_lines end.lines in
-          let stands : standing kept mid ≡ record { keeper = k; replies = later_replies (replies_of before) } = standing_is kept k mid (later_replies (replies_of before)) same replays.goes_on in
-          let kept_at : IsSentAt (standing keeper before) now (Some target) (after request_lines end) (standing kept mid) =
-          subst (λ (w : Standing). IsSentAt (standing keeper before) now (Some target) (after request_lines end) w) (sym stands) at in (
-            sym replays.is_fed ∙ fed,
-            (after request_lines end, inr (stale, inr (endpoint, there, (Some target, ((view_of request).target, is.target, refl), kept_at))), (all, p.1)),
-          )
+        -- the lines of the request to that target
+        abbrev request_lines : List ℕ
+        request_lines = expected_lines (renewal keeper) target
 
-      -- the reply is shown, and what it gives is kept
-      pub replied_to : (end : Output) → renewal_output keeper.client.reply_rule (replies_of before) ≡ end → kept ≡ kept_after_reply keeper now (next_reply (replies_of before)) → Prints (string_bytes mid.lines) lines s end → Told
-      replied_to end shows same p =
-          sent_with end (kept_after_reply keeper now (next_reply (replies_of before))) same (inl (ap (after request_lines) (sym shows), refl)) p
+        -- a request is made, and this is shown behind it
+        sent_with : (end : Output) (k : Keeper) (u : Option ℤ) → kept ≡ k → later ≡ u
+            → IsSentAt retry_after (standing keeper until before) now (Some target) (after request_lines end) (record { keeper = k; waits_until = u; replies = later_replies (replies_of before) })
+            → Prints (string_bytes mid.lines) lines s end → Told
+        sent_with end k u same waits at p =
+            let sends : string_bytes mid.lines ≡ string_bytes before.lines ++ request_lines =
+            replays.prints ∙ ap (λ (t : List ℕ). string_bytes before.lines ++ t) (request_lines-expected (renewal keeper) (serialize endpoint.url) (view_of request) is) in
+            let all : lines ≡ string_bytes before.lines ++ (request_lines ++ end.lines) =
+            p.0 ∙ ap (λ (t : List ℕ). t ++ end.lines) sends ∙ append_assoc (string_bytes before.lines) request_lines end.lines in
+            let stands : standing kept later mid ≡ record { keeper = k; waits_until = u; replies = later_replies (replies_of before) } = rw (same, waits, replays.goes_on) refl in
+            let kept_at : IsSentAt retry_after (standing keeper until before) now (Some target) (after request_lines end) (standing kept later mid) =
+            subst (λ (w : Standing). IsSentAt retry_after (standing keeper until before) now (Some target) (after request_lines end) w) (sym stands) at in (
+              sym replays.is_fed ∙ fed,
+              (after request_lines end, inr (inr (stale, free, inr (endpoint, there, (Some target, ((view_of request).target, is.target, refl), kept_at)))), (all, p.1)),
+            )
 
-      -- memory ran out behind the request
-      pub starved_behind : kept ≡ keeper → Prints (string_bytes mid.lines) lines s starved → Told
-      starved_behind same p = sent_with starved keeper same (inr (refl, refl)) p
+        -- the reply is shown, and what it gives is kept
+        pub replied_to : (end : Output) → renewal_output keeper.client.reply_rule (replies_of before) ≡ end
+            → (k : Keeper) (u : Option ℤ) → record (kept_after_reply retry_after (standing keeper until before) now (next_reply (replies_of before))) { replies = later_replies (replies_of before) }
+            ≡ record { keeper = k; waits_until = u; replies = later_replies (replies_of before) }
+            → kept ≡ k → later ≡ u → Prints (string_bytes mid.lines) lines s end → Told
+        replied_to end shows k u gives same waits p = sent_with end k u same waits (inl (ap (after request_lines) (sym shows), sym gives)) p
+
+        -- memory ran out behind the request
+        pub starved_behind : kept ≡ keeper → later ≡ wait_from retry_after now → Prints (string_bytes mid.lines) lines s starved → Told
+        starved_behind same waits p = sent_with starved keeper (wait_from retry_after now) same waits (inr (refl, refl)) p
 
 -- ---- one call
 
-module _ (keeper kept : Keeper) (now : ℤ) (before mid : ScriptedClient) (lines : List ℕ) (s : RunStatus) (fed : mid.is_starved ≡ false) where
-  module _ (stale : is_good keeper now ≡ false) (endpoint : Addressed) (there : keeper.client.token_url ≡ Some endpoint) where
+module _ (retry_after : Option ℕ) (keeper kept : Keeper) (until later : Option ℤ) (now : ℤ) (before mid : ScriptedClient) (lines : List ℕ) (s : RunStatus) (fed : mid.is_starved ≡ false) where
+  abbrev IsTold : Type 0
+  IsTold = Told retry_after keeper kept until later now before mid lines s
+
+  -- the wait after a fault
+  abbrev IsWaitAfter : Fault → Type 0
+  IsWaitAfter error = later ≡ wait_after retry_after until now false (Err error)
+
+  begins : (error : Fault) → counts error ≡ true → IsWaitAfter error → later ≡ wait_from retry_after now
+  begins error is waits = waits ∙ if-true (counts error) (wait_from retry_after now) until is
+
+  goes_on : (error : Fault) → counts error ≡ false → IsWaitAfter error → later ≡ until
+  goes_on error is waits = waits ∙ if-false (counts error) (wait_from retry_after now) until is
+
+  module _ (stale : is_good keeper now ≡ false) (free : is_early now until ≡ false) (endpoint : Addressed) (there : keeper.client.token_url ≡ Some endpoint) where
     -- the request's reply is accepted
-    accepted_told : (reply : TokenSeen) → AsksForToken keeper.client.reply_rule (renewal keeper) endpoint before (Ok reply) mid → kept ≡ accept keeper now (told_by reply)
-        → Prints (string_bytes mid.lines) lines s (answered (quoted reply.access_token)) → Told keeper kept now before mid lines s
-    accepted_told reply (inl (request, is, (answer, inl out, answers))) same p = cc
-    accepted_told reply (inl (request, is, (Ok response, inr replays, answers))) same p =
+    accepted_told : (reply : TokenSeen) → AsksForToken keeper.client.reply_rule (renewal keeper) endpoint before (Ok reply) mid → kept ≡ accept keeper now (told_by reply) → later ≡ None
+        → Prints (string_bytes mid.lines) lines s (answered (quoted reply.access_token)) → IsTold
+    accepted_told reply (inl (request, is, (answer, inl out, answers))) same waits p = cc
+    accepted_told reply (inl (request, is, (Ok response, inr replays, answers))) same waits p =
         let next : next_reply (replies_of before) ≡ Some (reply_of response) = sym replays.answers in
-        replied_to keeper kept now before mid lines s stale endpoint there fed request is (Ok response) replays (answered (quoted reply.access_token))
-        (rw (next, answers) refl) (rw (next, answers) same) p
-    accepted_told reply (inl (request, is, (Err error, inr replays, answers))) same p = cc
-    accepted_told reply (inr (inl (unsent, none), stays)) same p = absurd unsent
-    accepted_told reply (inr (inr unsent, stays)) same p = absurd unsent
+        replied_to retry_after keeper kept until later now before mid lines s stale free endpoint there fed request is (Ok response) replays (answered (quoted reply.access_token))
+        (rw (next, answers) refl) (accept keeper now (told_by reply)) None (rw (next, answers) refl) same waits p
+    accepted_told reply (inl (request, is, (Err error, inr replays, answers))) same waits p = cc
+    accepted_told reply (inr (inl (unsent, none), stays)) same waits p = absurd unsent
+    accepted_told reply (inr (inr unsent, stays)) same waits p = absurd unsent
 
     -- what is told of a reply that is no token
     refused_by : (request : HttpRequest) → IsRequestOf (renewal keeper) (serialize endpoint.url) (view_of request) → (response : HttpResponse) → Replays before request (Ok response) mid
         → (error : Fault) → ShowsAnswer {D = TokenSeen} token_meaning (parts_of error_code) (token_answer keeper.client.reply_rule (reply_of response)) (Err error) → kept ≡ keeper
-        → Prints (string_bytes mid.lines) lines s (fault_output error_seen error) → Told keeper kept now before mid lines s
-    refused_by request is response replays (ServerResponse e) shows same p =
+        → later ≡ wait_from retry_after now → Prints (string_bytes mid.lines) lines s (fault_output error_seen error) → IsTold
+    refused_by request is response replays (ServerResponse e) shows same waits p =
         let next : next_reply (replies_of before) ≡ Some (reply_of response) = sym replays.answers in
-        replied_to keeper kept now before mid lines s stale endpoint there fed request is (Ok response) replays (fault_output error_seen (ServerResponse e)) (rw (next, shows) refl) (rw (next, shows) same) p
-    refused_by request is response replays (Request e) shows same p = absurd shows
-    refused_by request is response replays (Parse f body) shows same p =
+        replied_to retry_after keeper kept until later now before mid lines s stale free endpoint there fed request is (Ok response) replays (fault_output error_seen (ServerResponse e))
+        (rw (next, shows) refl) keeper (wait_from retry_after now) (rw (next, shows) refl) same waits p
+    refused_by request is response replays (Request e) shows same waits p = absurd shows
+    refused_by request is response replays (Parse f body) shows same waits p =
         let next : next_reply (replies_of before) ≡ Some (reply_of response) = sym replays.answers in
-        replied_to keeper kept now before mid lines s stale endpoint there fed request is (Ok response) replays (fault_output error_seen (Parse f body)) (rw (next, shows) refl) (rw (next, shows) same) p
-    refused_by request is response replays (Other given) shows same p =
+        replied_to retry_after keeper kept until later now before mid lines s stale free endpoint there fed request is (Ok response) replays (fault_output error_seen (Parse f body))
+        (rw (next, shows) refl) keeper (wait_from retry_after now) (rw (next, shows) refl) same waits p
+    refused_by request is response replays (Other given) shows same waits p =
         let next : next_reply (replies_of before) ≡ Some (reply_of response) = sym replays.answers in
-        replied_to keeper kept now before mid lines s stale endpoint there fed request is (Ok response) replays (fault_output error_seen (Other given)) (rw (next, shows) refl) (rw (next, shows) same) p
-    refused_by request is response replays (Memory sent) shows same p =
-        starved_behind keeper kept now before mid lines s stale endpoint there fed request is (Ok response) replays same p
+        replied_to retry_after keeper kept until later now before mid lines s stale free endpoint there fed request is (Ok response) replays (fault_output error_seen (Other given))
+        (rw (next, shows) refl) keeper (wait_from retry_after now) (rw (next, shows) refl) same waits p
+    refused_by request is response replays (Memory sent) shows same waits p =
+        starved_behind retry_after keeper kept until later now before mid lines s stale free endpoint there fed request is (Ok response) replays same waits p
 
-    not_http_told : (error : Fault) → AnswersUnsent {D = TokenSeen} fault.NotHttp (Err error) → SpellsNone (serialize endpoint.url) → mid ≡ before → kept ≡ keeper
-        → Prints (string_bytes mid.lines) lines s (fault_output error_seen error) → Told keeper kept now before mid lines s
-    not_http_told (ServerResponse e) h none stays same p = absurd h
-    not_http_told (Request e) h none stays same p = absurd h
-    not_http_told (Parse f body) h none stays same p = absurd h
-    not_http_told (Other given) h none stays same p =
-        no_target keeper kept now before mid lines s stale endpoint there fed none stays same (rw h at p)
-    not_http_told (Memory sent) h none stays same p = starved_before keeper kept now before mid lines s stale endpoint there fed stays same p
+    not_http_told : (error : Fault) → AnswersUnsent {D = TokenSeen} fault.NotHttp (Err error) → SpellsNone (serialize endpoint.url) → mid ≡ before → kept ≡ keeper → later ≡ until
+        → Prints (string_bytes mid.lines) lines s (fault_output error_seen error) → IsTold
+    not_http_told (ServerResponse e) h none stays same waits p = absurd h
+    not_http_told (Request e) h none stays same waits p = absurd h
+    not_http_told (Parse f body) h none stays same waits p = absurd h
+    not_http_told (Other given) h none stays same waits p =
+        no_target retry_after keeper kept until later now before mid lines s stale free endpoint there fed none stays same waits (rw h at p)
+    not_http_told (Memory sent) h none stays same waits p = starved_before retry_after keeper kept until later now before mid lines s stale free endpoint there fed stays same waits p
 
-    unfed_told : (error : Fault) → AnswersUnsent {D = TokenSeen} fault.Memory (Err error) → mid ≡ before → kept ≡ keeper
-        → Prints (string_bytes mid.lines) lines s (fault_output error_seen error) → Told keeper kept now before mid lines s
-    unfed_told (ServerResponse e) h stays same p = absurd h
-    unfed_told (Request e) h stays same p = absurd h
-    unfed_told (Parse f body) h stays same p = absurd h
-    unfed_told (Other given) h stays same p = absurd h
-    unfed_told (Memory sent) h stays same p = starved_before keeper kept now before mid lines s stale endpoint there fed stays same p
+    unfed_told : (error : Fault) → AnswersUnsent {D = TokenSeen} fault.Memory (Err error) → mid ≡ before → kept ≡ keeper → later ≡ until
+        → Prints (string_bytes mid.lines) lines s (fault_output error_seen error) → IsTold
+    unfed_told (ServerResponse e) h stays same waits p = absurd h
+    unfed_told (Request e) h stays same waits p = absurd h
+    unfed_told (Parse f body) h stays same waits p = absurd h
+    unfed_told (Other given) h stays same waits p = absurd h
+    unfed_told (Memory sent) h stays same waits p = starved_before retry_after keeper kept until later now before mid lines s stale free endpoint there fed stays same waits p
 
     -- the request failed
-    failed_told : (error : Fault) → AsksForToken keeper.client.reply_rule (renewal keeper) endpoint before (Err error) mid → kept ≡ keeper
-        → Prints (string_bytes mid.lines) lines s (fault_output error_seen error) → Told keeper kept now before mid lines s
-    failed_told error (inl (request, is, (answer, inl out, answers))) same p = cc
-    failed_told error (inl (request, is, (Ok response, inr replays, answers))) same p = refused_by request is response replays error answers same p
-    failed_told error (inl (request, is, (Err e, inr replays, answers))) same p =
+    failed_told : (error : Fault) → AsksForToken keeper.client.reply_rule (renewal keeper) endpoint before (Err error) mid → kept ≡ keeper → IsWaitAfter error
+        → Prints (string_bytes mid.lines) lines s (fault_output error_seen error) → IsTold
+    failed_told error (inl (request, is, (answer, inl out, answers))) same waits p = cc
+    failed_told error (inl (request, is, (Ok response, inr replays, answers))) same waits p =
+        let is_counted : counts error ≡ true =
+        shown_counts (parts_of error_code) (token_answer keeper.client.reply_rule (reply_of response))
+        (of_reply BasicToken (ErrorParts ErrorCode) keeper.client.reply_rule (token_reading any_object token_code_reading) (error_reading error_code_reading) (reply_of response)) error answers in
+        refused_by request is response replays error answers same (begins error is_counted waits) p
+    failed_told error (inl (request, is, (Err e, inr replays, answers))) same waits p =
         let next : next_reply (replies_of before) ≡ None = sym replays.answers in
         let h : error ≡ Request e = cc in
         let q : Prints (string_bytes mid.lines) lines s (fault_output error_seen (Request e)) = rw h at p in
-        replied_to keeper kept now before mid lines s stale endpoint there fed request is (Err e) replays (fault_output error_seen (Request e)) (rw next refl) (rw next same) q
-    failed_told error (inr (inl (h, none), stays)) same p = not_http_told error h none stays same p
-    failed_told error (inr (inr h, stays)) same p = unfed_told error h stays same p
+        let later_waits : later ≡ wait_from retry_after now = rw h at waits in
+        replied_to retry_after keeper kept until later now before mid lines s stale free endpoint there fed request is (Err e) replays (fault_output error_seen (Request e))
+        (rw next refl) keeper (wait_from retry_after now) (rw next refl) same later_waits q
+    failed_told error (inr (inl (h, none), stays)) same waits p = not_http_told error h none stays same (goes_on error (unsent_counts fault.NotHttp error h) waits) p
+    failed_told error (inr (inr h, stays)) same waits p = unfed_told error h stays same (goes_on error (unsent_counts fault.Memory error h) waits) p
 
     -- memory ran out while the reply was copied
-    copy_refused_told : (reply : TokenSeen) → AsksForToken keeper.client.reply_rule (renewal keeper) endpoint before (Ok reply) mid → kept ≡ keeper
-        → Prints (string_bytes mid.lines) lines s starved → Told keeper kept now before mid lines s
-    copy_refused_told reply (inl (request, is, (answer, inl out, answers))) same p = cc
-    copy_refused_told reply (inl (request, is, (answer, inr replays, answers))) same p = starved_behind keeper kept now before mid lines s stale endpoint there fed request is answer replays same p
-    copy_refused_told reply (inr (inl (unsent, none), stays)) same p = absurd unsent
-    copy_refused_told reply (inr (inr unsent, stays)) same p = absurd unsent
+    copy_refused_told : (reply : TokenSeen) → AsksForToken keeper.client.reply_rule (renewal keeper) endpoint before (Ok reply) mid → kept ≡ keeper → later ≡ wait_from retry_after now
+        → Prints (string_bytes mid.lines) lines s starved → IsTold
+    copy_refused_told reply (inl (request, is, (answer, inl out, answers))) same waits p = cc
+    copy_refused_told reply (inl (request, is, (answer, inr replays, answers))) same waits p =
+        starved_behind retry_after keeper kept until later now before mid lines s stale free endpoint there fed request is answer replays same waits p
+    copy_refused_told reply (inr (inl (unsent, none), stays)) same waits p = absurd unsent
+    copy_refused_told reply (inr (inr unsent, stays)) same waits p = absurd unsent
 
-  pub call_told : (result : Result Unit Fault) → Calls AsksForToken told_by keeper now before result mid kept → ShowsCall (string_bytes mid.lines) lines s kept result
-      → Told keeper kept now before mid lines s
-  call_told (Ok done) (quiet, (good, same, stays), is) p = shown keeper kept now before mid lines s good stays is fed p
-  call_told (Err error) (quiet, (good, same, stays), is) p = cc
-  call_told (Ok done) (accepted given, (stale, same, (reply, told, (endpoint, there, asked))), is) p =
+  -- a call that nothing holds back
+  pub call_told : (result : Result Unit Fault) → Calls AsksForToken told_by keeper now before result mid kept → later ≡ wait_after retry_after until now (is_good keeper now) result
+      → (is_good keeper now ≡ false → is_early now until ≡ false) → ShowsCall (string_bytes mid.lines) lines s kept result → IsTold
+  call_told (Ok done) (quiet, (good, same, stays), is) waits free p =
+      shown retry_after keeper kept until later now before mid lines s good stays is (waits ∙ if-true (is_good keeper now) until None good) fed p
+  call_told (Err error) (quiet, (good, same, stays), is) waits free p = cc
+  call_told (Ok done) (accepted given, (stale, same, (reply, told, (endpoint, there, asked))), is) waits free p =
       let e : kept ≡ accept keeper now (told_by reply) = is ∙ ap (accept keeper now) told in
       let q : Prints (string_bytes mid.lines) lines s (answered (quoted reply.access_token)) = rw e at p in
-      accepted_told stale endpoint there reply asked e q
-  call_told (Err error) (accepted given, (stale, same, rest), is) p = cc
-  call_told (Ok done) (failed, (stale, (error, same, fails)), is) p = cc
-  call_told (Err error) (failed, (stale, (e, same, inl (endpoint, there, asked))), is) p =
+      accepted_told stale (free stale) endpoint there reply asked e (waits ∙ if-false (is_good keeper now) until None stale) q
+  call_told (Err error) (accepted given, (stale, same, rest), is) waits free p = cc
+  call_told (Ok done) (failed, (stale, (error, same, fails)), is) waits free p = cc
+  call_told (Err error) (failed, (stale, (e, same, inl (endpoint, there, asked))), is) waits free p =
       let h : error ≡ e = cc in
-      failed_told stale endpoint there error (rw h asked) is p
-  call_told (Err error) (failed, (stale, (e, same, inr (memory, (reply, (endpoint, there, asked))))), is) p =
+      failed_told stale (free stale) endpoint there error (rw h asked) is waits p
+  call_told (Err error) (failed, (stale, (e, same, inr (memory, (reply, (endpoint, there, asked))))), is) waits free p =
       let h : error ≡ Memory true = cc in
       let q : Prints (string_bytes mid.lines) lines s starved = rw h at p in
-      copy_refused_told stale endpoint there reply asked is q
+      let later_waits : later ≡ wait_from retry_after now = rw h at waits in
+      copy_refused_told stale (free stale) endpoint there reply asked is later_waits q
+
+-- a keeper that never waits
+no_wait : (b : Bool) (wait : Option ℤ) → wait ≡ (if b then wait else wait)
+no_wait true wait = refl
+no_wait false wait = refl
+
+pub never_waits : (now : ℤ) (good : Bool) (result : Result Unit Fault) → None ≡ wait_after None None now good result
+never_waits now good (Ok done) = no_wait good None
+never_waits now good (Err error) = no_wait (counts error) None
+
+-- ---- a keeper that waits
+
+free_to_ask : (good waits : Bool) → (not good && waits) ≡ false → good ≡ false → waits ≡ false
+free_to_ask true waits h e = cc
+free_to_ask false waits h e = h
+
+both-true : (a b : Bool) → (a && b) ≡ true → (a ≡ true) × (b ≡ true)
+both-true true b h = (refl, h)
+both-true false b h = cc
+
+none-lasts : (a b c : Bool) → b ≡ false → (a && (b && c)) ≡ true → ⊥
+none-lasts true true c e h = cc
+none-lasts true false c e h = cc
+none-lasts false b c e h = cc
+
+not-true : (b : Bool) → not b ≡ true → b ≡ false
+not-true true h = cc
+not-true false h = refl
+
+no : (b : Bool) → b ≢ true → b ≡ false
+no true f = absurd (f refl)
+no false f = refl
+
+-- a moment that `jiff` has is in its range
+inside : (n : ℤ) → is_instant n ≡ true → IsTimestampNanos n
+inside n h =
+    let parts = both-true (not (int_lt n (neg_ℤ (pos 377_705_023_201_000_000_000)))) (not (int_lt (pos 253_402_207_200_999_999_999) n)) h in
+    let low = not-true (int_lt n (neg_ℤ (pos 377_705_023_201_000_000_000))) parts.0 in
+    let high = not-true (int_lt (pos 253_402_207_200_999_999_999) n) parts.1 in
+    (omega (arith, signed_arith, low), omega (arith, signed_arith, high))
+
+-- the end of a wait, as it is shown
+pub ends_at : (end : ℤ) → IsTimestampNanos end → end_text end ≡ signed_decimal (int_div end (pos 1_000_000_000))
+ends_at end h = if-true (is_instant end) (signed_decimal (int_div end (pos 1_000_000_000))) (codes "null") (within end h)
+
+pub never_ends : (end : ℤ) → (IsTimestampNanos end → ⊥) → end_text end ≡ codes "null"
+never_ends end out = if-false (is_instant end) (signed_decimal (int_div end (pos 1_000_000_000))) (codes "null") (no (is_instant end) (λ e. out (inside end e)))
+
+early_is : (wait : ℕ) (now : ℤ) (failed_at : Option ℤ) → is_early now (end_of_wait wait failed_at) ≡ is_waiting_for wait now failed_at
+early_is wait now None = refl
+early_is wait now (Some moment) = refl
+
+end_of_if : (wait : ℕ) (b : Bool) (x y : Option ℤ) → end_of_wait wait (if b then x else y) ≡ (if b then end_of_wait wait x else end_of_wait wait y)
+end_of_if wait true x y = refl
+end_of_if wait false x y = refl
+
+module _ (patient : Patient) (now : ℤ) (before mid : ScriptedClient) (lines : List ℕ) (s : RunStatus) (fed : mid.is_starved ≡ false) (hands_out_none : patient.until_end ≡ false) where
+  abbrev until : Option ℤ
+  until = end_of_wait patient.wait patient.failed_at
+
+  -- what is told of one call that leaves it so
+  abbrev IsPatientTold : Patient → Type 0
+  IsPatientTold kept =
+      (before.is_starved ≡ false)
+      × ((o : Output) × IsCall (Some patient.wait) (patient_standing patient before) now o (patient_standing kept mid) × Prints (string_bytes before.lines) lines s o)
+
+  free_if : is_held_back patient now ≡ false → is_good patient.keeper now ≡ false → is_early now until ≡ false
+  free_if free stale = early_is patient.wait now patient.failed_at ∙ free_to_ask (is_good patient.keeper now) (is_waiting_for patient.wait now patient.failed_at) free stale
+
+  pub got_told : (kept : Patient) → PatientCalls AsksForToken told_by patient now before (Ok tt) mid kept
+      → IsSomeAnd kept.keeper.token (λ token. Prints (string_bytes mid.lines) lines s (answered (quoted token.access_token))) → IsPatientTold kept
+  got_told kept (inl (free, calls, is)) p =
+      let told =
+      call_told (Some patient.wait) patient.keeper kept.keeper until (end_of_wait patient.wait (called patient now kept.keeper).failed_at) now before mid lines s fed (Ok tt) calls
+      (end_of_if patient.wait (is_good patient.keeper now) patient.failed_at None) (free_if free) p in
+      subst IsPatientTold (sym is) told
+  got_told kept (inr (held, same, is)) p = absurd (none-lasts (is_held_back patient now) patient.until_end _ hands_out_none held)
+
+  fault_told : (kept : Patient) (error : Fault) → PatientCalls AsksForToken told_by patient now before (Err (patient_error.Request error)) mid kept
+      → Prints (string_bytes mid.lines) lines s (fault_output error_seen error) → IsPatientTold kept
+  fault_told kept error (free, calls, is) p =
+      let told =
+      call_told (Some patient.wait) patient.keeper patient.keeper until (end_of_wait patient.wait (failed_call patient now error).failed_at) now before mid lines s fed (Err error) calls
+      (end_of_if patient.wait (counts error) (Some now) patient.failed_at) (free_if free) p in
+      subst IsPatientTold (sym is) told
+
+  waited_told : (failed_at : Option ℤ) → patient.failed_at ≡ failed_at → IsTrue (is_held_back patient now) → (ends : Option Timestamp)
+      → IsSomeAnd failed_at (λ moment. IsUntil (moment +ℤ pos patient.wait) ends) → mid ≡ before
+      → ((end : ℤ) → IsUntil end ends → Prints (string_bytes mid.lines) lines s (waiting end)) → IsPatientTold patient
+  waited_told None e held ends is same p = absurd is
+  waited_told (Some moment) e held ends is same p =
+      let parts = both-true (not (is_good patient.keeper now)) (is_waiting_for patient.wait now patient.failed_at) held in
+      waited (Some patient.wait) patient.keeper patient.keeper until until now before mid lines s (not-true (is_good patient.keeper now) parts.0) (moment +ℤ pos patient.wait)
+      (ap (end_of_wait patient.wait) e) (early_is patient.wait now patient.failed_at ∙ parts.1) same refl refl fed (p (moment +ℤ pos patient.wait) is)
+
+  wait_told : (kept : Patient) (ends : Option Timestamp) → PatientCalls AsksForToken told_by patient now before (Err (patient_error.Waits ends)) mid kept
+      → ((end : ℤ) → IsUntil end ends → Prints (string_bytes mid.lines) lines s (waiting end)) → IsPatientTold kept
+  wait_told kept ends (held, is_until, same, is) p =
+      subst IsPatientTold (sym is) (waited_told patient.failed_at refl (both-true (is_held_back patient now) (not (lasts patient now)) held).0 ends is_until same p)
+
+  pub no_token_told : (kept : Patient) (error : PatientError NoReply ErrorResponse) → PatientCalls AsksForToken told_by patient now before (Err error) mid kept
+      → ShowsError (string_bytes mid.lines) lines s error → IsPatientTold kept
+  no_token_told kept (patient_error.Request error) calls p = fault_told kept error calls p
+  no_token_told kept (patient_error.Waits ends) calls p = wait_told kept ends calls p
 
 -- ---- one call after another
 
@@ -209,12 +373,12 @@ joined-nothing : (a : Output) → joined a nothing ≡ a
 joined-nothing a = rw (append-nil a.lines, both-answered a.status) refl
 
 -- one more call
-pub one_more : (before middle kept : Standing) (moments : List ℤ) (now : ℤ) (o last : Output) → AreCalls before moments o middle → IsCall middle now last kept
-    → AreCalls before (moments ++ now ∷ []) (joined o last) kept
-one_more before middle kept [] now o last (is, same) call =
+pub one_more : (retry_after : Option ℕ) (before middle kept : Standing) (moments : List ℤ) (now : ℤ) (o last : Output) → AreCalls retry_after before moments o middle
+    → IsCall retry_after middle now last kept → AreCalls retry_after before (moments ++ now ∷ []) (joined o last) kept
+one_more retry_after before middle kept [] now o last (is, same) call =
     (last, kept, nothing, rw (← same) call, (refl, refl), rw is (sym (joined-nothing last)))
-one_more before middle kept (m ∷ moments) now o last (first, next, rest, call', calls, is) call =
-    (first, next, joined rest last, call', one_more next middle kept moments now rest last calls call, rw is (joined-assoc first rest last))
+one_more retry_after before middle kept (m ∷ moments) now o last (first, next, rest, call', calls, is) call =
+    (first, next, joined rest last, call', one_more retry_after next middle kept moments now rest last calls call, rw is (joined-assoc first rest last))
 
 -- the token that was got is the kept one
 pub kept_shown : (kept : Option AcceptedToken) (text old new : List ℕ) (s : RunStatus) → option_map (λ token. token.access_token) kept ≡ Some text → Prints old new s (answered (quoted text))
@@ -223,20 +387,20 @@ kept_shown None text old new s is p = cc
 kept_shown (Some token) text old new s is p = let e : token.access_token ≡ text = cc in rw e p
 
 -- one more of a list of moments
-pub calls_more : (before middle kept : Standing) (readings : List Timestamp) (i : ℕ) (item : Timestamp) → i < length readings → item ≡ get_or readings i item
+pub calls_more : (retry_after : Option ℕ) (before middle kept : Standing) (readings : List Timestamp) (i : ℕ) (item : Timestamp) → i < length readings → item ≡ get_or readings i item
     → (old mid new : List ℕ) (s later : RunStatus)
-    → ((o : Output) × AreCalls before (map (λ t. t.nanosecond) (take i readings)) o middle × Prints old mid s o)
-    → ((o : Output) × IsCall middle item.nanosecond o kept × Prints mid new later o)
-    → (o : Output) × AreCalls before (map (λ t. t.nanosecond) (take (i + 1) readings)) o kept × Prints old new (both s later) o
-calls_more before middle kept readings i item lt is old mid new s later so_far call =
+    → ((o : Output) × AreCalls retry_after before (map (λ t. t.nanosecond) (take i readings)) o middle × Prints old mid s o)
+    → ((o : Output) × IsCall retry_after middle item.nanosecond o kept × Prints mid new later o)
+    → (o : Output) × AreCalls retry_after before (map (λ t. t.nanosecond) (take (i + 1) readings)) o kept × Prints old new (both s later) o
+calls_more retry_after before middle kept readings i item lt is old mid new s later so_far call =
     let more : map (λ (t : Timestamp). t.nanosecond) (take (i + 1) readings) ≡ map (λ (t : Timestamp). t.nanosecond) (take i readings) ++ item.nanosecond ∷ [] =
     map_more (λ (t : Timestamp). t.nanosecond) readings i item lt ∙ ap (λ (t : Timestamp). map (λ (t : Timestamp). t.nanosecond) (take i readings) ++ t.nanosecond ∷ []) (sym is) in
     let o = joined so_far.0 call.0 in
-    let calls : AreCalls before (map (λ (t : Timestamp). t.nanosecond) (take i readings) ++ item.nanosecond ∷ []) o kept =
-    one_more before middle kept (map (λ (t : Timestamp). t.nanosecond) (take i readings)) item.nanosecond so_far.0 call.0 so_far.1 call.1 in
+    let calls : AreCalls retry_after before (map (λ (t : Timestamp). t.nanosecond) (take i readings) ++ item.nanosecond ∷ []) o kept =
+    one_more retry_after before middle kept (map (λ (t : Timestamp). t.nanosecond) (take i readings)) item.nanosecond so_far.0 call.0 so_far.1 call.1 in
     let lines : new ≡ old ++ (so_far.0.lines ++ call.0.lines) = call.2.0 ∙ ap (λ (t : List ℕ). t ++ call.0.lines) so_far.2.0 ∙ append_assoc old so_far.0.lines call.0.lines in
     let ended : both s later ≡ both so_far.0.status call.0.status = rw (so_far.2.1, call.2.1) refl in
-    (o, subst (λ (ms : List ℤ). AreCalls before ms o kept) (sym more) calls, (lines, ended))
+    (o, subst (λ (ms : List ℤ). AreCalls retry_after before ms o kept) (sym more) calls, (lines, ended))
 
 -- ---- the command
 

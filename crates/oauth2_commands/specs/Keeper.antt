@@ -1,8 +1,11 @@
 -- The command `keeper`: a keeper of the client's token, called at each reading in turn.
-use Rattle.std.specs.Prelude.{◌≡◌, ◌⊎◌, ℕ, ℤ, ◌*◌, ◌++◌, false, IsTrue, IsSomeAnd, List, [], ◌∷◌, Option, Some, None, option_map}
+use Rattle.std.specs.Prelude.{◌≡◌, ◌⊎◌, ℕ, ℤ, pos, ◌+ℤ◌, int_lt, int_div, ◌*◌, ◌++◌, Bool, false, IsTrue, IsSomeAnd, List, [], ◌∷◌, Option, Some, None, option_map, codes, if◌then◌else◌}
+use Rattle.std.specs.Fmt.{signed_decimal}
 use Rattle.url.specs.Parts.{serialize}
 use Rattle.oauth2_codes.specs.ErrorCodes.{ErrorCode, error_code_text}
 use Rattle.oauth2_codes.specs.ErrorResponse.{ErrorParts}
+use Rattle.oauth2_form.specs.Params.{with_scopes}
+use Rattle.oauth2_introspection.specs.Instants.{is_instant}
 use Rattle.oauth2_urls.specs.Addressed.{Addressed}
 use Rattle.oauth2_wire.specs.declared.content_type.ReplyRule.{ReplyRule}
 use Rattle.oauth2_wire.specs.OneShot.{not_http_text}
@@ -11,7 +14,7 @@ use Rattle.oauth2.specs.Settings.{Settings}
 use Rattle.oauth2_keeper.specs.Keeper.{Keeper, Given, is_good, accept, renewal}
 use Rattle.oauth2_commands.specs.Client.{WithToken}
 use Rattle.oauth2_commands.specs.Exchange.{BasicToken, IsTarget, error_display, other_text, reply_output, token_answer}
-use Rattle.oauth2_world.specs.Lines.{expected_lines, quoted}
+use Rattle.oauth2_world.specs.Lines.{line, expected_lines, quoted}
 use Rattle.oauth2_commands.specs.Out.{Output, after, answered, failed, starved}
 use Rattle.oauth2_world.specs.Replies.{next_reply, later_replies}
 use Rattle.oauth2_commands.specs.declared.status.RunStatus.{RunStatus}
@@ -27,49 +30,80 @@ given_in token = record {
   refresh_token = token.refresh_token;
 }
 
--- what is kept, and the replies to come
+-- what is kept, the moment before which no request is made, where there is one, and the replies
+-- to come
 pub record Standing : Type 0 where
   pub keeper : Keeper
+  pub waits_until : Option ℤ
   pub replies : List Reply
 
--- what is kept after a reply; one that gives no token changes nothing
-abbrev pub kept_by : Keeper → ℤ → Answer BasicToken (ErrorParts ErrorCode) → Keeper
-kept_by keeper now (accepted token) = accept keeper now (given_in token)
-kept_by keeper now (refused error) = keeper
-kept_by keeper now (unread fault body) = keeper
-kept_by keeper now (other text) = keeper
+-- ---- a wait
 
-abbrev pub kept_after_reply : Keeper → ℤ → Option ReplyView → Keeper
-kept_after_reply keeper now None = keeper
-kept_after_reply keeper now (Some reply) = kept_by keeper now (token_answer keeper.client.reply_rule reply)
+-- a moment comes before the end of a wait
+abbrev pub is_early : ℤ → Option ℤ → Bool
+is_early now None = false
+is_early now (Some until) = int_lt now until
+
+-- the first second at which a request may be made again; no reading comes later than `jiff` counts
+abbrev pub end_text : ℤ → List ℕ
+end_text until = if is_instant until then signed_decimal (int_div until (pos 1_000_000_000)) else codes "null"
+
+unfoldable pub wait_line : List ℕ → List ℕ
+wait_line end = line (codes "answer waits " ++ end)
+
+abbrev pub waiting : ℤ → Output
+waiting until = record { lines = wait_line (end_text until); status = status.Fault }
+
+-- ---- a request
 
 -- what the next reply says; of a token its text is shown
 abbrev pub renewal_output : ReplyRule → List Reply → Output
 renewal_output rule replies =
     reply_output (λ token. quoted token.access_token) (error_display error_code_text) (token_answer rule) (next_reply replies)
 
--- of a request to this target: its lines, and what the reply says or that memory ran out behind the
--- request, when nothing of the reply is kept; none is made where the URL has no target
-abbrev pub IsSentAt : Standing → ℤ → Option (List ℕ) → Output → Standing → Type 0
-IsSentAt before now None o kept = (o ≡ failed (other_text not_http_text)) × (kept ≡ before)
-IsSentAt before now (Some target) o kept =
-    ((o ≡ after (expected_lines (renewal before.keeper) target) (renewal_output before.keeper.client.reply_rule before.replies))
-    × (kept ≡ record { keeper = kept_after_reply before.keeper now (next_reply before.replies); replies = later_replies before.replies }))
-    ⊎ ((o ≡ after (expected_lines (renewal before.keeper) target) starved)
-    × (kept ≡ record { keeper = before.keeper; replies = later_replies before.replies }))
+-- with `retry_after`, a request that failed is followed by a wait
+module _ (retry_after : Option ℕ) where
+  abbrev pub after_failure : Standing → ℤ → Standing
+  after_failure before now = record before { waits_until = option_map (λ wait. now +ℤ pos wait) retry_after }
 
--- another token is asked for, unless memory ran out before the request was made
-abbrev pub IsRenewal : Standing → ℤ → Output → Standing → Type 0
-IsRenewal before now o kept =
-    ((o ≡ starved) × (kept ≡ before))
-    ⊎ ((endpoint : Addressed) × (before.keeper.client.token_url ≡ Some endpoint)
-    × ((target : Option (List ℕ)) × IsTarget (serialize endpoint.url) target × IsSentAt before now target o kept))
+  -- what is kept after a reply: a token, which ends the wait; one that gives no token is a failure
+  abbrev pub kept_by : Standing → ℤ → Answer BasicToken (ErrorParts ErrorCode) → Standing
+  kept_by before now (accepted token) = record before { keeper = accept before.keeper now (given_in token); waits_until = None }
+  kept_by before now (refused error) = after_failure before now
+  kept_by before now (unread fault body) = after_failure before now
+  kept_by before now (other text) = after_failure before now
 
--- one call: the kept token is good and is shown, or another is asked for
-abbrev pub IsCall : Standing → ℤ → Output → Standing → Type 0
-IsCall before now o kept =
-    (IsTrue (is_good before.keeper now) × IsSomeAnd before.keeper.token (λ token. o ≡ answered (quoted token.access_token)) × (kept ≡ before))
-    ⊎ ((is_good before.keeper now ≡ false) × IsRenewal before now o kept)
+  abbrev pub kept_after_reply : Standing → ℤ → Option ReplyView → Standing
+  kept_after_reply before now None = after_failure before now
+  kept_after_reply before now (Some reply) = kept_by before now (token_answer before.keeper.client.reply_rule reply)
+
+  -- of a request to this target: its lines, and what the reply says or that memory ran out behind
+  -- the request, when nothing of the reply is kept; none is made where the URL has no target
+  abbrev pub IsSentAt : Standing → ℤ → Option (List ℕ) → Output → Standing → Type 0
+  IsSentAt before now None o kept = (o ≡ failed (other_text not_http_text)) × (kept ≡ before)
+  IsSentAt before now (Some target) o kept =
+      ((o ≡ after (expected_lines (renewal before.keeper) target) (renewal_output before.keeper.client.reply_rule before.replies))
+      × (kept ≡ record (kept_after_reply before now (next_reply before.replies)) { replies = later_replies before.replies }))
+      ⊎ ((o ≡ after (expected_lines (renewal before.keeper) target) starved)
+      × (kept ≡ record (after_failure before now) { replies = later_replies before.replies }))
+
+  -- another token is asked for, unless memory ran out before the request was made
+  abbrev pub IsRenewal : Standing → ℤ → Output → Standing → Type 0
+  IsRenewal before now o kept =
+      ((o ≡ starved) × (kept ≡ before))
+      ⊎ ((endpoint : Addressed) × (before.keeper.client.token_url ≡ Some endpoint)
+      × ((target : Option (List ℕ)) × IsTarget (serialize endpoint.url) target × IsSentAt before now target o kept))
+
+  -- one call: the kept token is good and is shown, or it waits, or another token is asked for
+  abbrev pub IsCall : Standing → ℤ → Output → Standing → Type 0
+  IsCall before now o kept =
+      (IsTrue (is_good before.keeper now)
+      × IsSomeAnd before.keeper.token (λ token. o ≡ answered (quoted token.access_token)) × (kept ≡ before))
+      ⊎ ((is_good before.keeper now ≡ false) × IsTrue (is_early now before.waits_until)
+      × IsSomeAnd before.waits_until (λ until. o ≡ waiting until) × (kept ≡ before))
+      ⊎ ((is_good before.keeper now ≡ false) × (is_early now before.waits_until ≡ false) × IsRenewal before now o kept)
+
+-- ---- calls
 
 -- the first fault is one of all
 abbrev pub both : RunStatus → RunStatus → RunStatus
@@ -84,24 +118,28 @@ abbrev pub joined : Output → Output → Output
 joined first rest = record { lines = first.lines ++ rest.lines; status = both first.status rest.status }
 
 -- a call at each of these moments, in turn
-abbrev pub AreCalls : Standing → List ℤ → Output → Standing → Type 0
-AreCalls before [] o kept = (o ≡ nothing) × (kept ≡ before)
-AreCalls before (now ∷ moments) o kept =
+abbrev pub AreCalls : Option ℕ → Standing → List ℤ → Output → Standing → Type 0
+AreCalls retry_after before [] o kept = (o ≡ nothing) × (kept ≡ before)
+AreCalls retry_after before (now ∷ moments) o kept =
     (first : Output) × (middle : Standing) × (rest : Output)
-    × IsCall before now first middle × AreCalls middle moments rest kept × (o ≡ joined first rest)
+    × IsCall retry_after before now first middle × AreCalls retry_after middle moments rest kept × (o ≡ joined first rest)
 
+-- the scopes are those of the client's own credentials; a refresh token is sent with none
 abbrev pub new_keeper : Settings → KeeperParams → Keeper
 new_keeper client p = record {
   client = client;
   margin = p.margin;
   life = p.life;
-  scope = None;
+  scope = with_scopes None p.scopes;
   refresh_scope = None;
-  extra_params = [];
+  extra_params = p.extra;
   token = None;
   refresh_token = p.refresh;
 }
 
+abbrev pub new_standing : Settings → KeeperParams → List Reply → Standing
+new_standing client p replies = record { keeper = new_keeper client p; waits_until = None; replies = replies }
+
 abbrev pub IsKeeperOutput : Settings → KeeperParams → List ℤ → List Reply → Output → Type 0
 IsKeeperOutput client p moments replies o =
-    WithToken (λ url o. (kept : Standing) × AreCalls (record { keeper = new_keeper client p; replies = replies }) moments o kept) client.token_url o
+    WithToken (λ url o. (kept : Standing) × AreCalls p.retry_after (new_standing client p replies) moments o kept) client.token_url o

@@ -1,24 +1,26 @@
 //! The command `keeper`: a keeper of the client's token, called at each reading in turn.
 
-ghost use Rattle.std.specs.Prelude.{◌≡◌, Some, false, string_bytes, codes, IfOk, map};
+ghost use Rattle.std.specs.Prelude.{◌≡◌, ◌++◌, ℕ, Option, Some, false, string_bytes, codes};
+ghost use Rattle.std.specs.Prelude.{IfOk, map};
 ghost use Rattle.oauth2_commands.specs.Keeper as spec;
 ghost use Rattle.oauth2_commands.specs.Client.{missing};
-ghost use Rattle.oauth2_world.specs.Lines.{quoted};
-ghost use Rattle.oauth2_commands.specs.Out.{Output, answered};
+ghost use Rattle.oauth2_commands.specs.Out.{Output};
 ghost use Rattle.oauth2_commands.specs.private.Added.{Adds, Prints};
-ghost use Rattle.oauth2_commands.specs.private.Kept.{standing, AreKept};
+ghost use Rattle.oauth2_commands.specs.private.Kept.{standing_of, WaitsFor, AreKept};
+ghost use Rattle.oauth2_wire.specs.ServerView.{pair_texts};
 ghost use Rattle.oauth2_world.specs.Replay.{replies_of};
 ghost use Rattle.oauth2_script.specs.Views.{keeper_view};
 
-use crate::answer::{show_configuration_error, show_fault};
+use crate::answer::show_configuration_error;
 use crate::client::ScriptClient;
+use crate::script_keeper::{PlainKeeper, ScriptKeeper, show_call};
 use crate::status::RunStatus;
 use jiff::Timestamp;
 use oauth2::basic::BasicClient;
-use oauth2::{AccessToken, ConfigurationError, EndpointMaybeSet, EndpointSet, TokenUrl, TryClone};
-use oauth2_keeper::{BasicTokenKeeper, TokenKeeper};
+use oauth2::{ConfigurationError, EndpointMaybeSet, EndpointSet, ParamText, TokenUrl, TryClone};
+use oauth2_keeper::TokenKeeper;
 use oauth2_script::KeeperParams;
-use oauth2_world::{ScriptedClient, print_answer, quoted};
+use oauth2_world::ScriptedClient;
 use std::alloc::{AllocError, Global};
 
 // A client of a script that has a token endpoint.
@@ -28,15 +30,6 @@ type KeptClient = BasicClient<
     EndpointMaybeSet,
     EndpointMaybeSet,
     EndpointSet,
->;
-
-// A keeper for such a client.
-type ScriptKeeper<'a> = BasicTokenKeeper<
-    'a,
-    EndpointMaybeSet,
-    EndpointMaybeSet,
-    EndpointMaybeSet,
-    EndpointMaybeSet,
 >;
 
 // The first fault is one of all.
@@ -50,39 +43,6 @@ fn both(first: RunStatus, later: RunStatus) -> RunStatus
     }
 }
 
-fn show_kept(
-    alloc: Global,
-    lines: &mut String,
-    token: &AccessToken,
-) -> Result<RunStatus, AllocError>
-    ensures { IfOk result (λ status. Prints (string_bytes lines.old) (string_bytes lines.new)
-        status (answered (quoted token.now))) }
-{
-    let json = quoted(alloc, token.secret().as_str())?;
-    print_answer(lines, json.as_str())?;
-    Ok(RunStatus::Answered)
-}
-
-// One call, and what came of it.
-fn show_call(
-    alloc: Global,
-    keeper: &mut ScriptKeeper<'_>,
-    now: Timestamp,
-    http_client: &mut ScriptedClient,
-) -> Result<RunStatus, AllocError>
-    ensures { IfOk result (λ status. http_client.new.is_starved ≡ false
-        → (http_client.old.is_starved ≡ false)
-        × ((o : Output) × spec.IsCall (standing keeper.old http_client.old) now.nanosecond o
-        (standing keeper.new http_client.new)
-        × Prints (string_bytes http_client.old.lines) (string_bytes http_client.new.lines)
-        status o)) }
-{
-    match keeper.keep_good(alloc, now, http_client) {
-        Ok(()) => show_kept(alloc, &mut http_client.lines, keeper.get().unwrap()),
-        Err(fault) => show_fault(alloc, &mut http_client.lines, &fault),
-    }
-}
-
 // The calls at these moments.
 fn show_calls(
     alloc: Global,
@@ -90,9 +50,10 @@ fn show_calls(
     readings: &[jiff_core::Timestamp],
     http_client: &mut ScriptedClient,
 ) -> Result<RunStatus, AllocError>
-    ensures { IfOk result (λ status. http_client.new.is_starved ≡ false
-        → (o : Output) × spec.AreCalls (standing keeper.old http_client.old)
-        (map (λ t. t.nanosecond) readings.now) o (standing keeper.new http_client.new)
+    ensures { IfOk result (λ status. (wait : Option ℕ) → WaitsFor keeper.old wait
+        → http_client.new.is_starved ≡ false
+        → (o : Output) × spec.AreCalls wait (standing_of keeper.old http_client.old)
+        (map (λ t. t.nanosecond) readings.now) o (standing_of keeper.new http_client.new)
         × Prints (string_bytes http_client.old.lines) (string_bytes http_client.new.lines)
         status o) }
 {
@@ -116,6 +77,26 @@ fn with_token_endpoint(
     Ok(client.try_clone(alloc)?.set_token_uri(token_url))
 }
 
+// Adds each of these parameters.
+fn add_extra<'a>(
+    alloc: Global,
+    keeper: &mut PlainKeeper<'a>,
+    extra: &'a [(String, String)],
+) -> Result<(), AllocError>
+    ensures { IfOk result (λ done. keeper.new ≡ record keeper.old {
+      extra_params = keeper.old.extra_params ++ map pair_texts extra.now;
+    }) }
+{
+    for (name, value) in extra {
+        keeper.add_extra_param(
+            alloc,
+            ParamText::Borrowed(name.as_str()),
+            ParamText::Borrowed(value.as_str()),
+        )?;
+    }
+    Ok(())
+}
+
 // The calls of a new keeper.
 fn show_new_keeper(
     alloc: Global,
@@ -133,8 +114,14 @@ fn show_new_keeper(
         margin,
         life,
         refresh,
+        scopes,
+        extra,
+        retry_after,
     } = params;
     let mut keeper = TokenKeeper::new(client, refresh, margin, life);
+    keeper.add_scopes(alloc, scopes)?;
+    add_extra(alloc, &mut keeper, extra.as_slice())?;
+    let mut keeper = ScriptKeeper::new(keeper, retry_after);
     show_calls(alloc, &mut keeper, readings, http_client)
 }
 

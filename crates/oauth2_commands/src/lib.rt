@@ -19,6 +19,7 @@ mod redirect;
 mod refresh;
 mod revoke;
 mod run;
+mod script_keeper;
 mod status;
 mod token_request;
 

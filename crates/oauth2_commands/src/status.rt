@@ -10,7 +10,7 @@ use std::alloc::AllocError;
 pub enum RunStatus {
     /// The command has an answer; a keeper's has one for each reading.
     Answered,
-    /// The last line, or of a keeper one of the lines, names a fault.
+    /// The last line, or of a keeper one of the lines, names a fault or a wait.
     Fault,
     /// The input is no script.
     BadScript,

@@ -118,6 +118,9 @@ keeper_view p = record {
   margin = as_nanos p.margin;
   life = as_nanos p.life;
   refresh = p.refresh;
+  scopes = p.scopes.items;
+  extra = map (λ e. (string_bytes e.0, string_bytes e.1)) p.extra.items;
+  retry_after = option_map as_nanos p.retry_after;
 }
 
 abbrev pub endpoints_view : Endpoints → client_spec.Endpoints

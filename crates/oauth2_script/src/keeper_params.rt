@@ -2,9 +2,9 @@
 
 ghost use Rattle.oauth2_script.specs.KeeperParams as spec;
 
-use crate::part::{Part, needed, optional};
+use crate::part::{Part, listed, needed, optional};
 use crate::script_error::ScriptError;
-use oauth2_types::RefreshToken;
+use oauth2_types::{RefreshToken, Scope};
 use serde_json::Value;
 use std::alloc::Global;
 use std::time::Duration;
@@ -17,6 +17,11 @@ pub struct KeeperParams {
     /// The lifetime where a reply tells none.
     pub life: Duration,
     pub refresh: Option<RefreshToken>,
+    /// What it asks for by the client's own credentials.
+    pub scopes: Vec<Scope>,
+    pub extra: Vec<(String, String)>,
+    /// For how long it makes no request after one that failed.
+    pub retry_after: Option<Duration>,
 }
 
 impl Part for KeeperParams {
@@ -33,10 +38,16 @@ impl Part for KeeperParams {
         let margin = needed(alloc, value, "margin")?;
         let life = needed(alloc, value, "life")?;
         let refresh = optional(alloc, value, "refresh")?;
+        let scopes = listed(alloc, value, "scopes")?;
+        let extra = listed(alloc, value, "extra")?;
+        let retry_after = optional(alloc, value, "retry_after")?;
         Ok(KeeperParams {
             margin,
             life,
             refresh,
+            scopes,
+            extra,
+            retry_after,
         })
     }
 }

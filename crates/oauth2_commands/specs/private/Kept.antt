@@ -1,20 +1,47 @@
--- One call of a script's keeper.
-use Rattle.std.specs.Prelude.{ℕ, ℤ, List, IsSomeAnd, Result, Ok, Err}
+-- The keeper of a script, and one call of it.
+use Rattle.std.specs.Prelude.{◌≡◌, ℕ, ℤ, pos, ◌+ℤ◌, Bool, false, List, Option, Some, None, option_map, IsSomeAnd, Result, Ok, Err, if◌then◌else◌}
 use Rattle.oauth2.specs.Settings.{Settings}
 use Rattle.oauth2_keeper.specs.Keeper.{Keeper, Given}
+use Rattle.oauth2_keeper.specs.Patience.{Patient, IsUntil, counts}
+use Rattle.oauth2_keeper.specs.declared.patient_keeper.PatientError.{PatientError}
+use Rattle.oauth2_keeper.specs.declared.patient_keeper.PatientError.TheVariants.{Request, Waits}
 use Rattle.oauth2_script.specs.KeeperParams.{KeeperParams}
 use Rattle.oauth2_script.specs.Replies.{Reply}
-use Rattle.oauth2_commands.specs.Keeper.{Standing, AreCalls, given_in, new_keeper}
+use Rattle.oauth2_commands.specs.Keeper.{Standing, AreCalls, given_in, new_standing, waiting}
 use Rattle.oauth2_world.specs.Lines.{quoted}
 use Rattle.oauth2_commands.specs.Out.{Output, answered}
 use Rattle.oauth2_commands.specs.private.Added.{Prints}
 use Rattle.oauth2_world.specs.Replay.{replies_of}
-use Rattle.oauth2_commands.specs.private.Results.{Fault, TokenSeen, token_meaning, error_seen, fault_output}
+use Rattle.oauth2_commands.specs.private.Results.{Fault, ErrorResponse, TokenSeen, token_meaning, error_seen, fault_output}
+use Rattle.oauth2_world.specs.declared.replay.NoReply.{NoReply}
 use Rattle.oauth2_world.specs.declared.replay.ScriptedClient.{ScriptedClient}
+use Rattle.oauth2_commands.specs.declared.script_keeper.ScriptKeeper.{ScriptKeeper}
+use Rattle.oauth2_commands.specs.declared.script_keeper.ScriptKeeper.TheVariants.{Plain, Waiting}
 use Rattle.oauth2_commands.specs.declared.status.RunStatus.{RunStatus}
 
-abbrev pub standing : Keeper → ScriptedClient → Standing
-standing keeper client = record { keeper = keeper; replies = replies_of client }
+abbrev pub standing : Keeper → Option ℤ → ScriptedClient → Standing
+standing keeper waits_until client = record { keeper = keeper; waits_until = waits_until; replies = replies_of client }
+
+-- the end of a wait after a request that failed at a moment
+abbrev pub end_of_wait : ℕ → Option ℤ → Option ℤ
+end_of_wait wait failed_at = option_map (λ moment. moment +ℤ pos wait) failed_at
+
+abbrev pub patient_standing : Patient → ScriptedClient → Standing
+patient_standing patient client = standing patient.keeper (end_of_wait patient.wait patient.failed_at) client
+
+abbrev pub standing_of : ScriptKeeper → ScriptedClient → Standing
+standing_of (Plain keeper) client = standing keeper None client
+standing_of (Waiting patient) client = patient_standing patient client
+
+-- it waits so long after a request that failed, if at all, and hands out no token meanwhile
+abbrev pub WaitsFor : ScriptKeeper → Option ℕ → Type 0
+WaitsFor (Plain keeper) wait = wait ≡ None
+WaitsFor (Waiting patient) wait = (wait ≡ Some patient.wait) × (patient.until_end ≡ false)
+
+-- the end of the wait after a call with this result
+abbrev pub wait_after : Option ℕ → Option ℤ → ℤ → Bool → Result Unit Fault → Option ℤ
+wait_after retry_after until now was_good (Ok done) = if was_good then until else None
+wait_after retry_after until now was_good (Err error) = if counts error then option_map (λ wait. now +ℤ pos wait) retry_after else until
 
 abbrev pub told_by : TokenSeen → Given
 told_by reply = given_in (token_meaning reply)
@@ -24,6 +51,11 @@ abbrev pub ShowsCall : List ℕ → List ℕ → RunStatus → Keeper → Result
 ShowsCall old new s kept (Ok done) = IsSomeAnd kept.token (λ token. Prints old new s (answered (quoted token.access_token)))
 ShowsCall old new s kept (Err fault) = Prints old new s (fault_output error_seen fault)
 
+-- what is shown of a keeper that has no good token: the fault of a request, or the end of a wait
+abbrev pub ShowsError : List ℕ → List ℕ → RunStatus → PatientError NoReply ErrorResponse → Type 0
+ShowsError old new s (Request fault) = Prints old new s (fault_output error_seen fault)
+ShowsError old new s (Waits until) = (end : ℤ) → IsUntil end until → Prints old new s (waiting end)
+
 -- the calls at these moments of a new keeper
 abbrev pub AreKept : Settings → KeeperParams → List ℤ → List Reply → Output → Type 0
-AreKept client p moments replies o = (kept : Standing) × AreCalls (record { keeper = new_keeper client p; replies = replies }) moments o kept
+AreKept client p moments replies o = (kept : Standing) × AreCalls p.retry_after (new_standing client p replies) moments o kept

@@ -1,12 +1,14 @@
-use Rattle.std.proofs.Common.{◌≡◌, false, map, take, string_bytes}
+use Rattle.std.proofs.Common.{◌≡◌, ℕ, Option, false, map, take, string_bytes}
 use Rattle.oauth2_commands.specs.Keeper.{AreCalls}
 use Rattle.oauth2_commands.specs.Out.{Output}
 use Rattle.oauth2_commands.specs.private.Added.{Prints}
-use Rattle.oauth2_commands.specs.private.Kept.{standing}
+use Rattle.oauth2_commands.specs.private.Kept.{standing_of, WaitsFor}
 use Rattle.oauth2_commands.proofs.keeper.show_calls.Given as goal
 
 abbrev pub invariant-loop-now : goal.invariant-loop-now
 invariant-loop-now l =
-    l.http_client.is_starved ≡ false
-    → (o : Output) × AreCalls (standing l.initial.keeper l.initial.http_client) (map (λ t. t.nanosecond) (take l.now-index l.readings)) o (standing l.keeper l.http_client)
-    × Prints (string_bytes l.initial.http_client.lines) (string_bytes l.http_client.lines) l.status o
+    (wait : Option ℕ) → WaitsFor l.initial.keeper wait
+    → WaitsFor l.keeper wait
+    × (l.http_client.is_starved ≡ false
+    → (o : Output) × AreCalls wait (standing_of l.initial.keeper l.initial.http_client) (map (λ t. t.nanosecond) (take l.now-index l.readings)) o (standing_of l.keeper l.http_client)
+    × Prints (string_bytes l.initial.http_client.lines) (string_bytes l.http_client.lines) l.status o)

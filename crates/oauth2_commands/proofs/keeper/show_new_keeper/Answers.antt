@@ -1,14 +1,33 @@
-use Rattle.std.proofs.Common.{subst, map}
+use Rattle.std.proofs.Common.{◌≡◌, length, map, refl, rules, subst, ap, ◌∙◌}
+use Rattle.std.specs.Vec.Iter.{into_iter_len}
 use Rattle.std.proofs.lemmas.Result.{IfOk-weaker}
-use Rattle.oauth2_keeper.specs.Keeper.{Keeper}
-use Rattle.oauth2_commands.specs.Keeper.{AreCalls}
-use Rattle.oauth2_commands.specs.private.Kept.{standing}
+use Rattle.oauth2_form.specs.Params.{with_scopes}
+use Rattle.oauth2_script.specs.Views.{keeper_view}
+use Rattle.oauth2_world.specs.Replay.{replies_of}
+use Rattle.oauth2_commands.specs.Keeper.{Standing, AreCalls, new_standing}
+use Rattle.oauth2_commands.specs.private.Kept.{standing_of}
+use Rattle.oauth2_commands.proofs.Scopes.{every_item}
 use Rattle.oauth2_commands.proofs.keeper.show_new_keeper.Goals as goal
 
 pub returns : goal.returns
 returns c =
+    let p = keeper_view c.args.params in
+    let client = c.args.http_client.now in
+    let h = c.in_ok-add_scopes.ensures.ok in
+    let count : into_iter_len h.0 ≡ length c.args.params.scopes.items = h.2.1 ∙ search rules in
+    let scoped : c.add_scopes.new.self ≡ record c.new-keeper.result { scope = with_scopes c.new-keeper.result.scope c.args.params.scopes.items } =
+    h.4 ∙ ap (λ added. record c.new-keeper.result { scope = with_scopes c.new-keeper.result.scope added }) (every_item h.0 c.args.params.scopes.items h.1 h.2.0 count h.3) in
+    let made : standing_of c.new-keeper-2.result client ≡ new_standing c.args.client.now p (replies_of client) =
+    c.new-keeper-2.ensures.stands client ∙ rw (c.in_ok-add_extra.ensures, scoped, c.new-keeper.ensures, c.as_slice.ensures.value) refl in
     IfOk-weaker c.show_calls.result _ _
     (λ status shown. λ fed.
-    (let all = shown fed in
-    (all.0, (standing c.show_calls.new.keeper c.show_calls.new.http_client, subst (λ (k : Keeper). AreCalls (standing k c.args.http_client.now) (map (λ t. t.nanosecond) c.args.readings.now) all.0 (standing c.show_calls.new.keeper c.show_calls.new.http_client)) c.new-keeper.ensures all.1), all.2.0, all.2.1)))
+    (let all = shown p.retry_after c.new-keeper-2.ensures.waits fed in (
+      all.0,
+      (
+        standing_of c.show_calls.new.keeper c.show_calls.new.http_client,
+        subst (λ (w : Standing). AreCalls p.retry_after w (map (λ t. t.nanosecond) c.args.readings.now) all.0 (standing_of c.show_calls.new.keeper c.show_calls.new.http_client)) made all.1,
+      ),
+      all.2.0,
+      all.2.1,
+    )))
     c.show_calls.ensures

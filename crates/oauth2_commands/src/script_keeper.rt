@@ -1,0 +1,197 @@
+//! The keeper of a script, and what one call of it shows.
+
+ghost use Rattle.std.specs.Prelude.{◌≡◌, ℕ, ℤ, Option, Some, None, false, option_map};
+ghost use Rattle.std.specs.Prelude.{◌++◌, string_bytes, IfOk, OnOk};
+ghost use Rattle.std.specs.Duration.{as_nanos};
+ghost use Rattle.oauth2_keeper.specs.Patience.{IsUntil, Patient};
+ghost use Rattle.oauth2_commands.specs.Keeper.{IsCall, end_text, wait_line, waiting};
+ghost use Rattle.oauth2_commands.specs.Out.{Output, answered};
+ghost use Rattle.oauth2_commands.specs.private.Added.{Prints};
+ghost use Rattle.oauth2_commands.specs.private.Kept as spec;
+ghost use Rattle.oauth2_world.specs.Lines.{quoted};
+ghost use Rattle.oauth2_world.specs.declared.replay.ScriptedClient.{ScriptedClient};
+
+use crate::answer::show_fault;
+use crate::status::RunStatus;
+use jiff::Timestamp;
+use oauth2::basic::{
+    BasicErrorResponse, BasicRevocationErrorResponse, BasicTokenIntrospectionResponse,
+    BasicTokenResponse,
+};
+use oauth2::{AccessToken, EndpointMaybeSet, StandardRevocableToken};
+use oauth2_keeper::{BasicTokenKeeper, PatientError, PatientKeeper};
+use oauth2_world::{NoReply, ScriptedClient, print_answer, quoted};
+use std::alloc::{AllocError, Global};
+use std::time::Duration;
+
+/// A keeper for a client of a script.
+pub type PlainKeeper<'a> = BasicTokenKeeper<
+    'a,
+    EndpointMaybeSet,
+    EndpointMaybeSet,
+    EndpointMaybeSet,
+    EndpointMaybeSet,
+>;
+
+/// The same, which makes no request for some time after one that failed.
+pub type WaitingKeeper<'a> = PatientKeeper<
+    'a,
+    BasicErrorResponse,
+    BasicTokenResponse,
+    BasicTokenIntrospectionResponse,
+    StandardRevocableToken,
+    BasicRevocationErrorResponse,
+    EndpointMaybeSet,
+    EndpointMaybeSet,
+    EndpointMaybeSet,
+    EndpointMaybeSet,
+>;
+
+/// A keeper, by whether its script has `retry_after`.
+#[derive(Drop)]
+pub enum ScriptKeeper<'a> {
+    Plain(PlainKeeper<'a>),
+    Waiting(WaitingKeeper<'a>),
+}
+
+impl<'a> ScriptKeeper<'a> {
+    /// A keeper that waits so long after a request that failed, if at all.
+    pub fn new(keeper: PlainKeeper<'a>, retry_after: Option<Duration>) -> ScriptKeeper<'a>
+        ensures waits { spec.WaitsFor result (option_map as_nanos retry_after) }
+        ensures stands { (client : ScriptedClient)
+            → spec.standing_of result client ≡ spec.standing keeper.entry None client }
+    {
+        match retry_after {
+            Some(wait) => ScriptKeeper::Waiting(keeper.set_retry_after(wait)),
+            None => ScriptKeeper::Plain(keeper),
+        }
+    }
+}
+
+fn show_kept(
+    alloc: Global,
+    lines: &mut String,
+    token: &AccessToken,
+) -> Result<RunStatus, AllocError>
+    ensures { IfOk result (λ status. Prints (string_bytes lines.old) (string_bytes lines.new)
+        status (answered (quoted token.now))) }
+{
+    let json = quoted(alloc, token.secret().as_str())?;
+    print_answer(lines, json.as_str())?;
+    Ok(RunStatus::Answered)
+}
+
+// The end of a wait, as it is shown.
+fn end_text(alloc: Global, until: Option<Timestamp>) -> Result<String, AllocError>
+    ensures { IfOk result (λ text. (end : ℤ) → IsUntil end until
+        → string_bytes text ≡ end_text end) }
+{
+    match until {
+        Some(until) => until.as_second().to_string(alloc),
+        None => String::from_str(alloc, "null"),
+    }
+}
+
+#[tactic(auto, unfolding(crate::specs::Keeper::wait_line))]
+fn print_wait(lines: &mut String, end: &str) -> Result<(), AllocError>
+    ensures { OnOk result (string_bytes lines.new ≡ string_bytes lines.old ++ wait_line end.now) }
+{
+    writeln!(lines, "answer waits {end}")
+}
+
+// No request is made before this moment.
+fn show_wait(
+    alloc: Global,
+    lines: &mut String,
+    until: Option<Timestamp>,
+) -> Result<RunStatus, AllocError>
+    ensures { IfOk result (λ status. (end : ℤ) → IsUntil end until
+        → Prints (string_bytes lines.old) (string_bytes lines.new) status (waiting end)) }
+{
+    let end = end_text(alloc, until)?;
+    print_wait(lines, end.as_str())?;
+    Ok(RunStatus::Fault)
+}
+
+// Why a keeper has no good token.
+fn show_error(
+    alloc: Global,
+    lines: &mut String,
+    error: &PatientError<NoReply, BasicErrorResponse>,
+) -> Result<RunStatus, AllocError>
+    ensures { IfOk result (λ status.
+        spec.ShowsError (string_bytes lines.old) (string_bytes lines.new) status error.now) }
+{
+    match error {
+        PatientError::Request(fault) => show_fault(alloc, lines, fault),
+        PatientError::Waits(until) => show_wait(alloc, lines, *until),
+    }
+}
+
+// A call of a keeper that never waits.
+fn show_plain_call(
+    alloc: Global,
+    keeper: &mut PlainKeeper<'_>,
+    now: Timestamp,
+    http_client: &mut ScriptedClient,
+) -> Result<RunStatus, AllocError>
+    ensures { IfOk result (λ status. http_client.new.is_starved ≡ false
+        → (http_client.old.is_starved ≡ false)
+        × ((o : Output) × IsCall None (spec.standing keeper.old None http_client.old)
+        now.nanosecond o (spec.standing keeper.new None http_client.new)
+        × Prints (string_bytes http_client.old.lines) (string_bytes http_client.new.lines)
+        status o)) }
+{
+    match keeper.keep_good(alloc, now, http_client) {
+        Ok(()) => show_kept(alloc, &mut http_client.lines, keeper.get().unwrap()),
+        Err(fault) => show_fault(alloc, &mut http_client.lines, &fault),
+    }
+}
+
+// A call of a keeper that waits after a request that failed.
+fn show_waiting_call(
+    alloc: Global,
+    keeper: &mut WaitingKeeper<'_>,
+    now: Timestamp,
+    http_client: &mut ScriptedClient,
+) -> Result<RunStatus, AllocError>
+    ensures stays { (keeper.new.wait ≡ keeper.old.wait)
+        × (keeper.new.until_end ≡ keeper.old.until_end) }
+    ensures shown { IfOk result (λ status. keeper.old.until_end ≡ false
+        → http_client.new.is_starved ≡ false → (http_client.old.is_starved ≡ false)
+        × ((o : Output) × IsCall (Some keeper.old.wait)
+        (spec.patient_standing keeper.old http_client.old) now.nanosecond o
+        (spec.patient_standing keeper.new http_client.new)
+        × Prints (string_bytes http_client.old.lines) (string_bytes http_client.new.lines)
+        status o)) }
+{
+    match keeper.keep_good(alloc, now, http_client) {
+        Ok(()) => {
+            let token = keeper.keeper().get().unwrap();
+            show_kept(alloc, &mut http_client.lines, token)
+        }
+        Err(error) => show_error(alloc, &mut http_client.lines, &error),
+    }
+}
+
+/// One call, and what came of it.
+pub fn show_call(
+    alloc: Global,
+    keeper: &mut ScriptKeeper<'_>,
+    now: Timestamp,
+    http_client: &mut ScriptedClient,
+) -> Result<RunStatus, AllocError>
+    ensures waits { (wait : Option ℕ) → spec.WaitsFor keeper.old wait
+        → spec.WaitsFor keeper.new wait }
+    ensures shown { IfOk result (λ status. (wait : Option ℕ) → spec.WaitsFor keeper.old wait
+        → http_client.new.is_starved ≡ false → (http_client.old.is_starved ≡ false)
+        × ((o : Output) × IsCall wait (spec.standing_of keeper.old http_client.old)
+        now.nanosecond o (spec.standing_of keeper.new http_client.new)
+        × Prints (string_bytes http_client.old.lines) (string_bytes http_client.new.lines)
+        status o)) }
+{
+    match keeper {
+        ScriptKeeper::Plain(keeper) => show_plain_call(alloc, keeper, now, http_client),
+        ScriptKeeper::Waiting(keeper) => show_waiting_call(alloc, keeper, now, http_client),
+    }
+}
