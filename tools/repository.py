@@ -101,13 +101,17 @@ def copy(crate, keeps, root=ROOT, built=True):
     return room
 
 
+def has_kit():
+    """Whether the kit's command `rt` can be run."""
+    try:
+        return subprocess.run(['rt', 'version'], stdin=subprocess.DEVNULL, capture_output=True).returncode == 0
+    except OSError:
+        return False
+
+
 def need_kit(tool):
     """Ends a tool with a sentence and the status 125 where the kit's command `rt` can't be run."""
-    try:
-        is_there = subprocess.run(['rt', 'version'], stdin=subprocess.DEVNULL, capture_output=True).returncode == 0
-    except OSError:
-        is_there = False
-    if not is_there:
+    if not has_kit():
         print('tools/%s: the command rt of the Rattle kit does not run here; README.md names the kit' % tool, file=sys.stderr)
         sys.exit(125)
 

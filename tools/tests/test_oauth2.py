@@ -66,14 +66,21 @@ class Login(unittest.TestCase):
         self.assertIn('unrecognized arguments: --issuer', run.stderr)
 
     def test_a_fault_of_the_redirect_ends_the_login(self):
-        for text, said in (('redirect has another state', 'has not the state of this login: do not use it'),
-                           ('redirect has another issuer', 'does not name the issuer'),
-                           ('redirect has no code', 'has no code, or several: paste the whole address'),
-                           ('access_denied: no (see u)', 'the server answers: access_denied: no (see u)')):
+        for text, status, said in (('redirect has another state', 1, 'has not the state of this login: do not use it'),
+                                   ('redirect has another issuer', 1, 'does not name the issuer'),
+                                   ('redirect has no code', 1, 'has no code, or several: paste the whole address'),
+                                   ('access_denied: no (see u)', 16, 'the server answers: access_denied: no (see u)'),
+                                   ('odd', 1, 'the server answers: odd')):
             run, scripts = self.login('answer fault %s' % json.dumps(text), 1)
-            self.assertEqual((run.returncode, run.stdout), (1, ''))
+            self.assertEqual((run.returncode, run.stdout), (status, ''))
             self.assertIn(said, run.stderr)
             self.assertEqual([it['command'] for it in scripts], ['authorize', 'redirect'])
+
+    def test_a_redirect_without_its_state_is_told_as_that(self):
+        for redirect in ('https://app.example/cb?code=c', 'https://app.example/cb?code=c#state=s'):
+            run, _ = self.login('answer fault "redirect has another state"', 1, redirect=redirect)
+            self.assertEqual(run.returncode, 1)
+            self.assertIn('has no state, so it is not the whole address', run.stderr)
 
     def test_no_url_is_told_from_a_setting_that_the_program_refuses(self):
         run, _ = self.login('answer ok "c"', 0, redirect='code=c')

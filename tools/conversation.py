@@ -1,0 +1,118 @@
+"""How tools/oauth2 runs the program until its answer stands: it does what the program says and tells it what came of that."""
+import collections
+import json
+import os
+import subprocess
+import time
+
+import program
+import repository
+from endings import FAULT, NO_ANSWER, NO_MEMORY, Stop, say
+from http_post import reply_to
+
+Event = collections.namedtuple('Event', 'kind value authorization body')
+# What came of a command: the program's status, its answer, the last reply as the script has it (none where there was none), and when the
+# request for that was sent.
+Outcome = collections.namedtuple('Outcome', 'status answer reply asked_at')
+
+
+def program_path():
+    """The program: the one that OAUTH2_PROGRAM names, else the proved one, else one that is not proved, which is said."""
+    path = os.environ.get('OAUTH2_PROGRAM')
+    if path and not os.access(path, os.X_OK):
+        raise Stop('OAUTH2_PROGRAM names %s, which is no program' % path)
+    if path or program.is_proved():
+        return os.path.abspath(path or program.PROGRAM)
+    noted = []
+
+    def note():
+        if not repository.has_kit():
+            raise Stop('there is no program here, and no kit to compile it: README.md names the kit; or OAUTH2_PROGRAM names a program')
+        noted.append(True)
+        say('tools/oauth2: the program is compiled now, once for this checkout, in about a minute; it is not proved, tools/prove does that')
+    try:
+        path = program.unproved(note)
+    except (OSError, RuntimeError) as error:
+        raise Stop('the program can not be compiled: %s' % error)
+    if not noted:
+        say('tools/oauth2: the program that runs here is not proved; tools/prove makes one that is')
+    return path
+
+
+def ran(path, script):
+    """The status of a run, and its events in order."""
+    try:
+        run = subprocess.run([path], input=json.dumps(script).encode(), stdout=subprocess.PIPE, env={})
+        return run.returncode, list(events_in(run.stdout.decode('utf-8').split('\n')[:-1]))
+    except (OSError, ValueError, IndexError) as error:
+        raise Stop('%s is not the program of docs/SCRIPT.md, it seems: %s' % (path, error))
+
+
+def events_in(lines):
+    """The requests, with the lines that make them, the sleeps, the URL and the answer."""
+    rows = [line.partition(' ')[::2] for line in lines]
+    for at, (kind, value) in enumerate(rows):
+        if kind == 'request':
+            authorization, body = rows[at + 1][1], json.loads(rows[at + 2][1])
+            yield Event(kind, value.partition(' ')[2], None if authorization == 'none' else authorization, body)
+        elif kind in ('sleep', 'url', 'answer'):
+            yield Event(kind, value, None, None)
+
+
+def next_of(events, replies, sleeps):
+    """The first event that has to be done, where so many requests have replies and so many sleeps are over; None if there is none."""
+    for event in events:
+        if event.kind == 'request':
+            if not replies:
+                return event
+            replies -= 1
+        elif event.kind == 'sleep':
+            if not sleeps:
+                return event
+            sleeps -= 1
+        elif event.kind == 'answer':
+            return event
+    return None
+
+
+def answered(path, script, limit):
+    """Does what the program says until its answer stands: what came of it."""
+    script, sleeps, asked_at = dict(script, replies=[]), 0, int(time.time())
+    if script['command'] == 'device_poll':
+        script['readings'] = [asked_at] * 2  # as the poll begins, and in its first round
+    most = script['params'].get('max_polls')
+    while True:
+        if most:  # the next request and what follows it: the program makes no more of them than that
+            script['params'] = dict(script['params'], max_polls=min(most, len(script['replies']) + 2))
+        status, events = ran(path, script)
+        event = next_of(events, len(script['replies']), sleeps)
+        if not event:
+            if status != 2:
+                raise Stop('%s ended with %d and no answer' % (path, status), status if status == NO_MEMORY else NO_ANSWER)
+            raise Stop(refused_setting(path, script), status)
+        if event.kind == 'answer':
+            return Outcome(status, event.value, (script['replies'] or [None])[-1], asked_at)
+        if event.kind == 'request':
+            asked_at = int(time.time())
+            script['replies'].append(reply_to(event, limit))
+        else:
+            sleep(float(event.value))
+            sleeps += 1
+            script['readings'].append(int(time.time()))
+
+
+def refused_setting(path, script):
+    """Which setting makes a script bad, as far as leaving it out shows."""
+    for member in ('client', 'params'):
+        for name in script[member]:
+            kept = {it: value for it, value in script[member].items() if it != name}
+            if ran(path, dict(script, **{member: kept}))[0] in (0, FAULT):
+                return 'the program does not take the "%s" of the %s: docs/SCRIPT.md says what it may be' % (name, member)
+    return 'the program does not take this script of the command "%s": docs/SCRIPT.md says what it may be' % script['command']
+
+
+def sleep(seconds):
+    say('waiting %g seconds' % seconds)
+    end = time.monotonic() + seconds
+    while time.monotonic() < end:
+        time.sleep(min(end - time.monotonic(), 3600))

@@ -1,0 +1,33 @@
+"""What tools/oauth2 says on standard error, and with which status it ends; for the modules beside it."""
+import re
+import sys
+
+NO_ANSWER, FAULT, BAD_SETTING, NO_MEMORY = 125, 1, 2, 3
+# The status of each error code that a standard names: RFC 6749, 5.2 and 4.1.2.1; RFC 8628, 3.5; RFC 7009, 2.2.1.
+OF_CODE = {'invalid_request': 10, 'invalid_client': 11, 'invalid_grant': 12, 'unauthorized_client': 13, 'unsupported_grant_type': 14,
+           'invalid_scope': 15, 'access_denied': 16, 'unsupported_response_type': 17, 'server_error': 18, 'temporarily_unavailable': 19,
+           'expired_token': 20, 'unsupported_token_type': 21, 'authorization_pending': 22, 'slow_down': 23}
+ERROR_RESPONSE = 'Server returned error response: '
+
+
+class Stop(Exception):
+    """Why there is no answer of the program; with another status than 125 where one says more."""
+
+    def __init__(self, why, status=NO_ANSWER):
+        super().__init__(why)
+        self.status = status
+
+
+def say(text):
+    """Writes a line to standard error. What a server wrote can't steer the terminal."""
+    print(''.join(it if it.isprintable() else '?' for it in text), file=sys.stderr, flush=True)
+
+
+def status_of(error):
+    """The status of an error, which begins with its code: 'CODE', 'CODE: DESCRIPTION' or 'CODE (see URI)'."""
+    return OF_CODE.get(re.split(r': | \(see ', error, maxsplit=1)[0], FAULT)
+
+
+def status_of_fault(text):
+    """The status of a fault of the program."""
+    return status_of(text[len(ERROR_RESPONSE):]) if text.startswith(ERROR_RESPONSE) else FAULT

@@ -1,0 +1,93 @@
+"""How tools/oauth2 sends a request that the program shows, and what of the reply it hands to the program; for that tool."""
+import base64
+import http.client
+import signal
+import ssl
+import urllib.parse
+import urllib.request
+
+from endings import say
+from settings import LOOPBACK
+
+MOST_BYTES = 1 << 20  # of a reply's body
+
+
+class Unanswered(Exception):
+    """Why a request has no reply that a script can hold."""
+
+
+def reply_to(request, limit):
+    """What the script says of a request that is sent now: its reply, or that it failed. limit is how many seconds it may take."""
+    try:
+        return sent(request, limit)
+    except TimeoutError:
+        why = out_of_time(limit)
+    except ssl.SSLCertVerificationError as error:
+        why = "the server's certificate is not one that this machine trusts (SSL_CERT_FILE names others): %s" % error.verify_message
+    except (OSError, ValueError, http.client.HTTPException, Unanswered) as error:
+        why = error or type(error).__name__
+    say('POST %s: %s' % (request.value, why))
+    return {'fail': True}
+
+
+def out_of_time(limit):
+    return 'no whole reply within %g seconds (--timeout)' % limit
+
+
+def connection_to(target, limit):
+    """A connection to the server of a URL, or to the proxy that the environment names for it, as the standard library reads that."""
+    if target.scheme == 'http' and target.hostname in LOOPBACK:
+        return http.client.HTTPConnection(target.hostname, target.port, timeout=limit)
+    if target.scheme != 'https':
+        raise Unanswered('not sent, since it would not be encrypted: give an https URL')
+    context, host = ssl.create_default_context(), target.netloc.rpartition('@')[2]
+    proxy = urllib.request.getproxies().get('https')
+    if not proxy or urllib.request.proxy_bypass(host):
+        return http.client.HTTPSConnection(target.hostname, target.port, timeout=limit, context=context)
+    by = urllib.parse.urlsplit(proxy if '://' in proxy else 'http://' + proxy)
+    if by.scheme != 'http' or not by.hostname:
+        raise Unanswered('HTTPS_PROXY is no URL of a proxy that this tool can use: it has to be http://HOST:PORT')
+    connection, headers = http.client.HTTPSConnection(by.hostname, by.port or 80, timeout=limit, context=context), {}
+    if by.username is not None:
+        login = urllib.parse.unquote_to_bytes(by.username) + b':' + urllib.parse.unquote_to_bytes(by.password or '')
+        headers['Proxy-Authorization'] = 'Basic ' + base64.b64encode(login).decode()
+    connection.set_tunnel(target.hostname, target.port, headers)
+    return connection
+
+
+def sent(request, limit):
+    target = urllib.parse.urlsplit(request.value)
+    connection = connection_to(target, limit)
+    headers = {'Accept': 'application/json', 'Content-Type': 'application/x-www-form-urlencoded', 'Connection': 'close'}
+    if request.authorization:
+        headers['Authorization'] = request.authorization
+
+    def stop(*_):
+        raise Unanswered(out_of_time(limit))
+    signal.signal(signal.SIGALRM, stop)
+    signal.setitimer(signal.ITIMER_REAL, limit)
+    try:
+        where = '/' + ''.join(request.value.partition('#')[0].split('/', 3)[3:])
+        connection.request('POST', where, request.body.encode(), headers)
+        reply = connection.getresponse()
+        return in_script(reply.status, reply.headers, reply.read(MOST_BYTES + 1))
+    finally:
+        signal.setitimer(signal.ITIMER_REAL, 0)
+        connection.close()
+
+
+def in_script(status, headers, body):
+    """A reply as a script holds it."""
+    content_type, location = headers.get('Content-Type'), headers.get('Location')
+    if len(body) > MOST_BYTES:
+        raise Unanswered('the reply has more than %d bytes' % MOST_BYTES)
+    if content_type and any(it < ' ' and it != '\t' or it == '\x7f' for it in content_type):
+        raise Unanswered('the reply has a Content-Type with control characters')
+    if 300 <= status < 400:
+        to = ' to ' + location.partition('?')[0] if location else ''
+        say('the server sends elsewhere%s (HTTP status %d), which is not followed: give the URL of the endpoint itself' % (to, status))
+    try:
+        reply = {'status': status, 'body': body.decode('utf-8')}
+    except ValueError:
+        raise Unanswered('the reply has HTTP status %d and a body that is not UTF-8' % status)
+    return reply if content_type is None else dict(reply, content_type=content_type)

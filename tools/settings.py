@@ -1,0 +1,102 @@
+"""The settings of tools/oauth2, from flags, environment and file, and its secrets; for that tool."""
+import getpass
+import json
+import os
+import stat
+import sys
+import urllib.parse
+
+from endings import BAD_SETTING, Stop, say
+
+LOOPBACK = ('localhost', '127.0.0.1', '::1')
+URLS = {'auth_url': 'the authorization endpoint', 'token_url': 'the token endpoint', 'device_url': 'the device authorization endpoint',
+        'introspection_url': 'the introspection endpoint', 'revocation_url': 'the revocation endpoint',
+        'redirect': 'where the server sends the user back'}
+# The settings that are texts, each with what it is.
+TEXTS = {'client_id': "the client's identifier", 'auth': 'where the secret goes: basic (a header, as unless said) or body',
+         'issuer': 'the issuer that has to be named where the server sends the user back (RFC 9207)', 'username': "the user's name", **URLS}
+NEEDED = {'login': ('auth_url', 'token_url', 'redirect'), 'token': ('token_url',), 'password': ('token_url', 'username'),
+          'refresh': ('token_url',), 'device': ('device_url', 'token_url'), 'introspect': ('introspection_url',),
+          'revoke': ('revocation_url',)}
+# Those that only some commands take, each with the commands that take it and can do without it.
+OPTIONAL = {'issuer': ('login',), 'username': (), **dict.fromkeys(URLS, ())}
+
+
+def takes(command, name):
+    """Whether a command takes a setting."""
+    return name not in OPTIONAL or command in OPTIONAL[name] or name in NEEDED[command]
+
+
+def flag_of(name):
+    return '--' + name.replace('_', '-')
+
+
+def settings_of(given):
+    """The settings by name, from flags, environment and file."""
+    path, found = given.config or os.environ.get('OAUTH2_CONFIG'), {}
+    if path:
+        found = read_file(path)
+    for name in (*TEXTS, 'client_secret'):
+        found[name] = getattr(given, name, None) or os.environ.get('OAUTH2_' + name.upper()) or found.get(name)
+        if not isinstance(found[name], (str, type(None))):
+            raise Stop('%s: "%s" is no text' % (path, name))
+    found['scopes'] = getattr(given, 'scope', None) or os.environ.get('OAUTH2_SCOPES', '').split() or found.get('scopes') or []
+    if not isinstance(found['scopes'], list) or not all(isinstance(it, str) for it in found['scopes']):
+        raise Stop('%s: "scopes" is no list of texts' % path)
+    check(given.command, found)
+    return found
+
+
+def check(command, found):
+    """Stops where a setting that a command needs is missing, or is one that can't be used."""
+    for name in ('client_id', *NEEDED[command]):
+        if not found[name]:
+            raise Stop('%s is not set: give %s, OAUTH2_%s, or "%s" in the file that --config names'
+                       % (TEXTS[name], flag_of(name), name.upper(), name))
+    for name in NEEDED[command]:
+        if name in URLS:
+            check_url(name, found[name])
+
+
+def check_url(name, text):
+    """Stops at a text that is no URL, or one of an endpoint to which a secret would go unencrypted."""
+    try:
+        url = urllib.parse.urlsplit(text)
+        is_url = url.scheme and (name == 'redirect' or url.hostname and url.port != 0)
+    except ValueError:
+        is_url = False
+    if not is_url or name != 'redirect' and url.scheme not in ('https', 'http'):
+        raise Stop('%s is "%s", which is no URL: it has to be whole, as https://server.example/path' % (flag_of(name), text), BAD_SETTING)
+    if url.scheme == 'http' and url.hostname not in LOOPBACK and name not in ('redirect', 'auth_url'):
+        raise Stop('%s is %s, where secrets would go unencrypted: give an https URL (http is taken for this machine alone)'
+                   % (flag_of(name), text), BAD_SETTING)
+
+
+def read_file(path):
+    """The members of the file of settings."""
+    try:
+        with open(path, encoding='utf-8') as f:
+            found, mode = json.load(f), os.fstat(f.fileno()).st_mode
+    except (OSError, ValueError) as error:
+        raise Stop('%s can not be read as JSON: %s' % (path, error))
+    if not isinstance(found, dict):
+        raise Stop('%s has to hold one JSON object, as {"client_id": "..", "token_url": ".."}' % path)
+    unknown = found.keys() - TEXTS.keys() - {'client_secret', 'scopes'}
+    if unknown:
+        raise Stop('%s: "%s" is no setting: there are client_secret, scopes, %s' % (path, sorted(unknown)[0], ', '.join(TEXTS)))
+    if 'client_secret' in found and mode & (stat.S_IRGRP | stat.S_IROTH):
+        say('%s holds a secret, and others can read it: chmod 600 %s' % (path, path))
+    return found
+
+
+def asked(variable, what):
+    """A secret from the environment, or a line that is read: from a terminal without showing it."""
+    if variable and os.environ.get(variable):
+        return os.environ[variable]
+    if sys.stdin.isatty():
+        text = getpass.getpass(what + ': ', stream=sys.stderr)
+    else:
+        text = sys.stdin.readline().rstrip('\r\n')
+    if not text:
+        raise Stop('%s is missing: %sgive it as a line of standard input' % (what, variable + ' has it, or ' if variable else ''))
+    return text

@@ -1,0 +1,161 @@
+"""A stand-in of the program, a server on this machine and runs of tools/oauth2 with both; for the tests of that tool."""
+import http.server
+import json
+import os
+import shutil
+import subprocess
+import sys
+import tempfile
+import threading
+import unittest
+
+import tool
+
+# Does what docs/SCRIPT.md says, as far as the tests need it, and notes each script.
+PROGRAM = '''#!%s -IS
+import base64, json, sys, urllib.parse
+script = json.load(sys.stdin)
+with open(%r, 'a') as f:
+    f.write(json.dumps(script) + '\\n')
+client, params, command = script['client'], script.get('params', {}), script['command']
+replies = iter(script.get('replies', []))
+KNOWN = ('access_token', 'token_type', 'expires_in', 'refresh_token', 'scope', 'active', 'device_code', 'user_code', 'verification_uri',
+         'interval')
+GRANTS = {'code': 'authorization_code', 'client_credentials': 'client_credentials', 'device_poll': 'device', 'refresh': 'refresh_token',
+          'password': 'password'}
+
+def end(status, *line):
+    print('answer', *line)
+    sys.exit(status)
+
+def reply_of(url, pairs):
+    """Shows a request, and answers the next reply."""
+    login = '%%s:%%s' %% (client['id'], client['secret']) if 'secret' in client else None
+    print('request POST ' + url)
+    print('authorization ' + ('Basic ' + base64.b64encode(login.encode()).decode() if login else 'none'))
+    print('body ' + json.dumps(urllib.parse.urlencode(pairs)))
+    return next(replies, {'fail': True})
+
+def read(reply):
+    """The answer of a reply."""
+    if reply.get('fail'):
+        end(1, 'fault "Request failed"')
+    kind = reply.get('content_type', 'application/json')
+    if reply['status'] == 200 and not kind.startswith('application/json'):
+        end(1, 'fault', json.dumps('Other error: unexpected response Content-Type: "%%s", should be `application/json`' %% kind))
+    if not reply['body']:
+        end(1, 'fault "Other error: server returned empty %%s"' %% ('response body' if reply['status'] == 200 else 'error response'))
+    try:
+        found = json.loads(reply['body'])
+    except ValueError:
+        end(1, 'fault "Failed to parse server response" "" NotJson')
+    if reply['status'] == 200:
+        kept = {it: found[it] for it in KNOWN if it in found}
+        end(0, 'ok', json.dumps(kept, separators=(',', ':')))
+    end(1, 'fault', json.dumps('Server returned error response: ' + found['error']))
+
+def poll():
+    found = params['device']
+    for _ in range(params['max_polls']):
+        reply = reply_of(client['token_url'], [('grant_type', 'device'), ('device_code', found['device_code'])])
+        if not reply.get('fail') and 'pending' not in reply['body']:
+            read(reply)
+        print('sleep %%d.000000000' %% found['interval'])
+    end(1, 'fault "Other error: polling limit reached"')
+
+if client.get('id') == 'bad':
+    print('bad script')
+    sys.exit(2)
+elif command == 'authorize':
+    query = [('client_id', client['id']), ('state', params['state']), ('redirect_uri', client['redirect'])]
+    print('url', json.dumps(client['auth_url'] + '?' + urllib.parse.urlencode(query)))
+    end(0, 'ok', json.dumps(params['state']))
+elif command == 'redirect':
+    found = dict(urllib.parse.parse_qsl(urllib.parse.urlsplit(params['redirect']).query))
+    if found.get('state') != params['state']:
+        end(1, 'fault "redirect has another state"')
+    end(*(1, 'fault', json.dumps(found['error'])) if 'error' in found else (0, 'ok', json.dumps(found['code'])))
+elif command == 'device_authorization':
+    read(reply_of(client['device_url'], [('client_id', client['id'])]))
+elif command == 'device_poll':
+    poll()
+elif command in GRANTS:
+    pairs = [(it, params[it]) for it in ('code', 'verifier', 'refresh_token', 'username', 'password') if it in params]
+    if 'scopes' in params:
+        pairs += [('scope', ' '.join(params['scopes']))]
+    pairs += params.get('extra', [])
+    read(reply_of(client['token_url'], [('grant_type', GRANTS[command])] + pairs))
+elif command == 'introspect':
+    read(reply_of(client['introspection_url'], [('token', params['token'])]))
+elif reply_of(client['revocation_url'], [('token', params['token'])]).get('status') == 200:
+    end(0, 'ok null')
+end(1, 'fault "Request failed"')
+'''
+OK = {'access_token': 't1', 'token_type': 'Bearer', 'expires_in': 3600}
+
+
+class Handler(http.server.BaseHTTPRequestHandler):
+    def do_POST(self):
+        asked = dict(it.partition('=')[::2] for it in self.rfile.read(int(self.headers['Content-Length'])).decode().split('&'))
+        self.server.asked.append((self.path, asked, dict(self.headers)))
+        reply = self.server.reply(asked) if callable(self.server.reply) else self.server.reply
+        status, headers, body = reply if isinstance(reply, tuple) else (200, {}, reply)
+        self.send_response(status)
+        for name, value in {'Content-Type': 'application/json', **headers}.items():
+            self.send_header(name, value)
+        self.end_headers()
+        self.wfile.write((json.dumps(body) if isinstance(body, dict) else body).encode())
+
+    def log_message(self, *_):
+        """Says nothing."""
+
+
+class Server(http.server.ThreadingHTTPServer):
+    """Answers each POST by .reply, an object, a text, a triple with status and headers, or a function of the form; notes it in .asked."""
+    block_on_close = False
+
+    def __init__(self):
+        super().__init__(('127.0.0.1', 0), Handler)
+        self.asked, self.reply, self.url = [], OK, 'http://127.0.0.1:%d' % self.server_port
+        threading.Thread(target=self.serve_forever, kwargs={'poll_interval': 0.02}, daemon=True).start()
+
+    def handle_error(self, *_):
+        """Says nothing: a run may end a connection before it has the whole reply."""
+
+
+class Case(unittest.TestCase):
+    """A test with a server, and runs of tools/oauth2 with the stand-in."""
+
+    def setUp(self):
+        self.room = tempfile.mkdtemp()
+        self.addCleanup(shutil.rmtree, self.room)
+        self.program, self.notes = (os.path.join(self.room, it) for it in ('program', 'scripts'))
+        with open(self.program, 'w', encoding='utf-8') as f:
+            f.write(PROGRAM % (sys.executable, self.notes))
+        os.chmod(self.program, 0o700)
+        self.server = Server()
+        self.addCleanup(self.server.server_close)
+        self.addCleanup(self.server.shutdown)
+        self.env = {'PATH': os.environ['PATH'], 'OAUTH2_PROGRAM': self.program, 'OAUTH2_CLIENT_ID': 'aaa'}
+        for name in ('token', 'auth', 'device', 'introspection', 'revocation'):
+            self.env['OAUTH2_%s_URL' % name.upper()] = '%s/%s' % (self.server.url, name)
+
+    def start(self, *words, **env):
+        """A run of tools/oauth2 that has begun."""
+        pipes = dict.fromkeys(('stdin', 'stdout', 'stderr'), subprocess.PIPE)
+        run = subprocess.Popen([sys.executable, os.path.join(tool.TOOLS, 'oauth2'), *words], env={**self.env, **env}, text=True, **pipes)
+        self.addCleanup(lambda: [it.close() for it in (run.stdin, run.stdout, run.stderr)])
+        self.addCleanup(run.wait)
+        self.addCleanup(run.kill)
+        return run
+
+    def run_tool(self, *words, given='', **env):
+        """The status, standard output and standard error of a run."""
+        run = self.start(*words, **env)
+        out, err = run.communicate(given, timeout=60)
+        return run.returncode, out, err
+
+    def scripts(self):
+        """The scripts that the stand-in was given."""
+        with open(self.notes, encoding='utf-8') as f:
+            return [json.loads(it) for it in f]
