@@ -1,0 +1,85 @@
+"""How tools/oauth2 writes an answer of the program: every member of the reply, or the token alone; for that tool."""
+import json
+import re
+import sys
+
+from endings import Stop, say
+
+OUTPUTS = {'json': 'the whole reply as one line of JSON', 'token': 'the access token alone',
+           'header': 'the header of a request that has the token (RFC 6750, 2.1)'}
+
+
+def members_in(text):
+    """The members of a JSON object in order, each name with its value as the text writes it. ValueError if it is no object."""
+    decoder, space, found = json.JSONDecoder(parse_constant=no_number), re.compile(r'[ \t\r\n]*'), []
+
+    def past(at, sign=''):
+        at = space.match(text, at).end()
+        if not text.startswith(sign, at):
+            raise ValueError('"%s" is missing at %d' % (sign, at))
+        return space.match(text, at + len(sign)).end()
+    at = past(0, '{')
+    while not text.startswith('}', at):
+        name, begin = decoder.raw_decode(text, past(at, ',') if found else at)
+        begin = past(begin, ':')
+        end = decoder.raw_decode(text, begin)[1]
+        if not isinstance(name, str):
+            raise ValueError('a name is no text')
+        found.append((name, text[begin:end]))
+        at = past(end)
+    if past(at, '}') != len(text):
+        raise ValueError('there is more behind the object')
+    return found
+
+
+def no_number(name):
+    raise ValueError('%s is no number of JSON' % name)
+
+
+def on_a_line(value):
+    """A JSON value's text without the space between its parts, and with what can't be shown as escapes."""
+    text = re.sub(r'("(?:[^"\\]|\\.)*")|[ \t\r\n]+', r'\1', value)
+    return ''.join(it if it.isprintable() else json.dumps(it)[1:-1] for it in text)
+
+
+def with_others(answer, body):
+    """The program's answer, and behind it the members of the reply that it does not name, as the server sent them."""
+    try:
+        known, sent = members_in(answer), members_in(body)
+    except (ValueError, RecursionError):
+        return on_a_line(answer)
+    names = {name for name, _ in known}
+    return object_of(known + [it for it in sent if it[0] not in names])
+
+
+def object_of(members):
+    """The JSON object with these members, on one line."""
+    return on_a_line('{%s}' % ','.join('%s:%s' % (json.dumps(name), value) for name, value in members))
+
+
+def whole(outcome):
+    """The text of an answer that is no fault: what follows 'ok' on the program's line, with the reply's other members."""
+    text = outcome.answer.partition(' ')[2]
+    return with_others(text, (outcome.reply or {}).get('body', ''))
+
+
+def in_form(text, output):
+    """The answer in one of the forms of --output."""
+    if output == 'json':
+        return text
+    found = json.loads(text)
+    token, kind = found['access_token'], found.get('token_type')
+    if not all('!' <= it <= '~' for it in token):
+        raise Stop('the access token has a character that no header may have: take it from --output json')
+    if output == 'header' and str(kind).lower() != 'bearer':
+        raise Stop('the token is of the type "%s", and only for "bearer" this tool knows the header: take it from --output json' % kind)
+    return token if output == 'token' else 'Authorization: Bearer ' + token
+
+
+def write(text, output, is_secret):
+    """Writes an answer to standard output, where a terminal gets a warning before a secret."""
+    line = in_form(text, output)
+    if is_secret and sys.stdout.isatty():
+        say('what follows is secret: whoever has it can use it; clear the terminal after use (--show writes it without this line)')
+    sys.stdout.buffer.write(line.encode() + b'\n')
+    sys.stdout.buffer.flush()
