@@ -43,6 +43,8 @@ def settings_of(given):
     found['scopes'] = getattr(given, 'scope', None) or os.environ.get('OAUTH2_SCOPES', '').split() or found.get('scopes') or []
     if not isinstance(found['scopes'], list) or not all(isinstance(it, str) for it in found['scopes']):
         raise Stop('%s: "scopes" is no list of texts' % path)
+    if getattr(given, 'listen', None) is not None:
+        found['redirect'] = found['redirect'] or 'http://127.0.0.1/'
     check(given.command, found)
     return found
 

@@ -1,0 +1,103 @@
+"""How `tools/oauth2 login --listen` receives the redirect: a server on this machine for one request (RFC 8252, 7.3); for that tool."""
+import http.server
+import os
+import queue
+import socket
+import socketserver
+import subprocess
+import sys
+import threading
+import urllib.parse
+
+from endings import BAD_SETTING, Stop
+from settings import LOOPBACK
+
+ADDRESSES = {'localhost': ('127.0.0.1', '::1'), '127.0.0.1': ('127.0.0.1',), '::1': ('::1',)}
+PAGE = b'''<!doctype html><meta charset="utf-8"><title>Back to the terminal</title>
+<p>The answer of the sign-in has arrived. The terminal says whether it was taken. This page can be closed.
+'''
+HEADERS = {'Content-Type': 'text/html; charset=utf-8', 'Cache-Control': 'no-store', 'Referrer-Policy': 'no-referrer',
+           'Content-Security-Policy': "default-src 'none'", 'Connection': 'close'}
+
+
+class Handler(http.server.BaseHTTPRequestHandler):
+    """Answers the path of the redirect by a page, and any other by 404."""
+    timeout = 30
+    server_version, sys_version = 'oauth2', ''
+
+    def do_GET(self):
+        is_it = self.path.partition('?')[0] == self.server.path
+        try:
+            self.send_response(200 if is_it else 404)
+            for name, value in {**HEADERS, 'Content-Length': str(len(PAGE) if is_it else 0)}.items():
+                self.send_header(name, value)
+            self.end_headers()
+            self.wfile.write(PAGE if is_it else b'')
+            self.wfile.flush()
+        finally:
+            if is_it:
+                self.server.found.put(self.path)
+
+    def log_message(self, *_):
+        """Says nothing: the request has the code."""
+
+
+class Server(http.server.ThreadingHTTPServer):
+    block_on_close = False
+
+    def __init__(self, address, port, path, found):
+        self.address_family = socket.AF_INET6 if ':' in address else socket.AF_INET
+        self.path, self.found = path, found
+        super().__init__((address, port), Handler)
+
+    def server_bind(self):
+        socketserver.TCPServer.server_bind(self)  # without asking for the name of this machine
+
+    def handle_error(self, *_):
+        """Says nothing: a browser may end a connection as it likes."""
+
+
+class Listener:
+    """Waits on this machine for a redirect; .redirect is the URL that the authorization server is given."""
+
+    def __init__(self, redirect, port):
+        url = urllib.parse.urlsplit(redirect)
+        if url.scheme != 'http' or url.hostname not in LOOPBACK or url.fragment or '@' in url.netloc:
+            raise Stop('--listen waits on this machine, so the redirect has to be as http://127.0.0.1/path, and not %s' % redirect,
+                       BAD_SETTING)
+        self.found, self.servers, path = queue.Queue(), [], url.path or '/'
+        for address in ADDRESSES[url.hostname]:
+            try:
+                self.servers.append(Server(address, port, path, self.found))
+            except OSError as error:
+                if not self.servers:
+                    raise Stop('%s can not be listened at, port %d: %s; --listen 0 takes a free one' % (address, port, error.strerror))
+            port = self.servers[0].server_address[1]
+        host = '[::1]' if url.hostname == '::1' else url.hostname
+        self.base = 'http://%s:%d' % (host, port)
+        self.redirect = self.base + path + ('?' + url.query if url.query else '')
+        for it in self.servers:
+            threading.Thread(target=it.serve_forever, kwargs={'poll_interval': 0.05}, daemon=True).start()
+
+    def received(self, seconds):
+        """The whole URL to which the browser was sent, once it comes."""
+        try:
+            path = self.found.get(timeout=seconds)
+        except queue.Empty:
+            raise Stop('no browser was sent to %s within %g seconds (--wait)' % (self.redirect, seconds))
+        finally:
+            self.close()
+        # the request's line is read byte by byte, so that each letter past ASCII is a byte of the URL
+        return self.base + urllib.parse.quote(path, safe=''.join(map(chr, range(0x21, 0x7f))), encoding='latin-1')
+
+    def close(self):
+        for it in self.servers:
+            it.shutdown()
+            it.server_close()
+
+
+def open_browser(url):
+    """Opens a URL in a browser, where the environment has one. What that writes is not shown."""
+    if url.startswith(('https://', 'http://')) and any(os.environ.get(it) for it in ('BROWSER', 'DISPLAY', 'WAYLAND_DISPLAY')):
+        streams = dict.fromkeys(('stdin', 'stdout', 'stderr'), subprocess.DEVNULL)
+        subprocess.Popen([sys.executable, '-m', 'webbrowser', url], start_new_session=True, **streams)
