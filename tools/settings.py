@@ -31,8 +31,8 @@ def flag_of(name):
     return '--' + name.replace('_', '-')
 
 
-def settings_of(given):
-    """The settings by name, from flags, environment and file."""
+def settings_of(given, kept=None):
+    """The settings by name, from flags, environment and file; where those lack one, as the cache has kept it."""
     path, found = given.config or os.environ.get('OAUTH2_CONFIG'), {}
     if path:
         found = read_file(path)
@@ -40,6 +40,7 @@ def settings_of(given):
         found[name] = getattr(given, name, None) or os.environ.get('OAUTH2_' + name.upper()) or found.get(name)
         if not isinstance(found[name], (str, type(None))):
             raise Stop('%s: "%s" is no text' % (path, name))
+        found[name] = found[name] or (kept or {}).get(name)
     found['scopes'] = getattr(given, 'scope', None) or os.environ.get('OAUTH2_SCOPES', '').split() or found.get('scopes') or []
     if not isinstance(found['scopes'], list) or not all(isinstance(it, str) for it in found['scopes']):
         raise Stop('%s: "scopes" is no list of texts' % path)
