@@ -1,0 +1,139 @@
+"""What tools/try-servers tries of tools/oauth2 itself: the listener, the cache, a proxy, and endpoints that answer what they should not."""
+import http.server
+import json
+import os
+import re
+import socket
+import threading
+import time
+import urllib.request
+
+LISTENED = 'http://127.0.0.1/back'  # the redirect that is received on this machine, where a server takes any port
+
+
+def at_server(tries):
+    """All that needs a server: a login that listens, a token in a cache, a proxy."""
+    listener(tries)
+    cache(tries)
+    proxy(tries)
+
+
+def listener(tries):
+    """A login whose redirect is received by --listen; a client follows it there, as a browser does."""
+    run = tries.start('login', '--listen', str(tries.server.listen_port), OAUTH2_REDIRECT=LISTENED)
+    for line in run.stderr:
+        if line.startswith('https://'):
+            visit(tries.server.agreed(line.strip()))
+            break
+    tries.end('redirect received by --listen', run, '', 'access_token')
+
+
+def visit(url):
+    with urllib.request.build_opener(urllib.request.ProxyHandler({})).open(url, timeout=60) as page:
+        return page.read()
+
+
+def cache(tries):
+    """A login's token in a cache: used by a later run, renewed, and renewed once by several runs at once."""
+    path = os.path.join(tries.server.folder, 'cache')
+    run, url = tries.login_begun('--cache', path)
+    first = tries.end('login into a cache', run, tries.server.agreed(url) + '\n', 'access_token').get('access_token', 'none')
+
+    def start(*words):
+        return tries.start('token', '--cache', path, *words, OAUTH2_CLIENT_ID='')  # so that the client is the one of the login
+    tries.end('cache: a later run has the same token', start(), '', '"access_token":"%s"' % re.escape(first))
+    second = tries.end('cache: renewed at the margin', start('--margin', '1000000'), '', 'access_token')
+    tries.end('cache: the renewed token at the server', tries.start('introspect', OAUTH2_TOKEN=second.get('access_token', 'none')), '',
+              '"active":true')
+    with open(path, 'r+', encoding='utf-8') as f:
+        kept = dict(json.load(f), expires_at=int(time.time()) + 10)
+        f.seek(0)
+        json.dump(kept, f)
+        f.truncate()
+    runs = [start('--output', 'token') for _ in range(5)]
+    found = {it.communicate()[0].strip() for it in runs}
+    tries.note('cache: five runs at once', len(found) == 1 and second.get('access_token') not in found and '' not in found,
+               '%d new token%s for all' % (len(found), 's' * (len(found) > 1)))
+    tries.end('cache: renewed once more', start('--margin', '1000000'), '', 'access_token')
+
+
+class Proxy:
+    """Lends one connection to the server that it is asked for; .asked has the first line that it got."""
+
+    def __init__(self):
+        self.socket, self.asked = socket.create_server(('127.0.0.1', 0)), None
+        threading.Thread(target=self.serve, daemon=True).start()
+
+    def serve(self):
+        one, _ = self.socket.accept()
+        self.asked = one.recv(10000).decode().partition('\r\n')[0]
+        host, _, port = self.asked.split()[1].rpartition(':')
+        other = socket.create_connection((host, int(port)))
+        one.sendall(b'HTTP/1.1 200 ok\r\n\r\n')
+        threading.Thread(target=copy, args=(other, one), daemon=True).start()
+        copy(one, other)
+
+
+def copy(source, target):
+    """Passes on what one side sends, until either ends."""
+    try:
+        for got in iter(lambda: source.recv(10000), b''):
+            target.sendall(got)
+        target.shutdown(socket.SHUT_WR)
+    except OSError:
+        pass
+
+
+def proxy(tries):
+    it = Proxy()
+    run = tries.start('token', HTTPS_PROXY='http://127.0.0.1:%d' % it.socket.getsockname()[1])
+    tries.end('client credentials through a proxy', run, '', 'access_token')
+    tries.note('the proxy got', it.asked and it.asked.startswith('CONNECT localhost:%d ' % tries.server.port), str(it.asked))
+
+
+# Endpoints that answer what they should not. Each has the path under which it is, the status and headers of its reply, its body, and what
+# the tool has to say of it.
+BROKEN = [('500 with HTML', 500, {'Content-Type': 'text/html'}, b'<p>oops', r'HTTP status 500.*text/html and not a JSON object'),
+          ('302', 302, {'Location': 'https://localhost/elsewhere'}, b'', r'HTTP status 302'),
+          ('200 with an empty body', 200, {'Content-Type': 'application/json'}, b'', r'empty response body \(HTTP status 200\)'),
+          ('200 with HTML', 200, {'Content-Type': 'text/html'}, b'<p>hello', r'Content-Type.*HTTP status 200'),
+          ('a reply that never ends', 200, {'Content-Type': 'application/json'}, None, r'Request failed')]
+
+
+class BrokenHandler(http.server.BaseHTTPRequestHandler):
+    def do_POST(self):
+        _, status, headers, body, _ = BROKEN[int(self.path.strip('/'))]
+        self.rfile.read(int(self.headers['Content-Length']))
+        self.send_response(status)
+        for name, value in headers.items():
+            self.send_header(name, value)
+        self.end_headers()
+        try:
+            while body is None:
+                self.wfile.write(b' ')
+                time.sleep(0.1)
+            self.wfile.write(body)
+        except OSError:
+            pass  # the tool has ended the connection
+
+    def log_message(self, *_):
+        """Says nothing."""
+
+
+class Broken:
+    """A server of such endpoints, for a plain run of tools/oauth2 each."""
+    package, clients, scope, secret, urls = 'broken endpoints', {}, 'read', 'secret', {}
+
+    def __init__(self, folder):
+        self.folder = folder
+        self.server = http.server.ThreadingHTTPServer(('127.0.0.1', 0), BrokenHandler)
+        self.base = 'http://127.0.0.1:%d' % self.server.server_port
+        threading.Thread(target=self.server.serve_forever, daemon=True).start()
+
+
+def at_broken(tries):
+    """The results of a run at each broken endpoint; tries is of a Broken server."""
+    for at, (name, _, _, _, wanted) in enumerate(BROKEN):
+        run = tries.start('token', '--timeout', '2', OAUTH2_TOKEN_URL='%s/%d' % (tries.server.base, at))
+        tries.end(name, run, '', '!' + wanted)
+    return tries.results
