@@ -2,6 +2,7 @@
 import base64
 import http.client
 import signal
+import socket
 import ssl
 import urllib.parse
 import urllib.request
@@ -20,7 +21,7 @@ def reply_to(request, limit):
     """What the script says of a request that is sent now: its reply, or that it failed. limit is how many seconds it may take."""
     try:
         return sent(request, limit)
-    except TimeoutError:
+    except (TimeoutError, socket.timeout):
         why = out_of_time(limit)
     except ssl.SSLCertVerificationError as error:
         why = "the server's certificate is not one that this machine trusts (SSL_CERT_FILE names others): %s" % error.verify_message

@@ -105,6 +105,35 @@ class Cache(stand_in.Case):
         self.assertEqual(self.token('--username', 'ann', command='password', OAUTH2_PASSWORD='p'), (0, 't2'))
         self.assertEqual(self.grants(), ['password', 'refresh_token', 'password'])
 
+    def test_a_login_that_has_a_good_token_uses_it(self):
+        self.sign_in()
+        self.assertEqual(self.token(command='password', OAUTH2_USERNAME='ann'), (0, 't1'))
+        self.assertIn('--anew signs in anew', self.err)
+        self.assertEqual(self.token('--anew', command='password', OAUTH2_USERNAME='ann', OAUTH2_PASSWORD='p'), (0, 't2'))
+        self.assertEqual(self.token(command='password', OAUTH2_USERNAME='bob'), (125, ''))
+        self.assertIn('another username ("ann")', self.err)
+
+    def test_what_another_run_has_put_there_meanwhile_stays(self):
+        for content, said in ('text', 'is no cache of this tool'), (None, 'keeps the token of another'):
+            self.server.reply = self.next_token
+            if os.path.exists(self.path):
+                os.unlink(self.path)
+            self.token('--scope', 'other')
+            content = content or json.dumps(self.kept())
+            os.unlink(self.path)
+            self.server.reply = lambda asked: self.put(content) or OK
+            status, token = self.token('--username', 'ann', command='password', OAUTH2_PASSWORD='p')
+            self.assertEqual((status, token), (4, 't1'))
+            self.assertIn(said, self.err)
+            with open(self.path, encoding='utf-8') as f:
+                self.assertEqual(f.read(), content)
+
+    def put(self, content):
+        """Writes the file, as another run does."""
+        with open(self.path, 'w', encoding='utf-8') as f:
+            os.chmod(self.path, 0o600)
+            f.write(content)
+
     def test_within_the_margin_a_failed_renewal_leaves_the_old_token(self):
         self.sign_in()
         before = self.kept()
