@@ -143,7 +143,8 @@ class Case(unittest.TestCase):
     def start(self, *words, **env):
         """A run of tools/oauth2 that has begun."""
         pipes = dict.fromkeys(('stdin', 'stdout', 'stderr'), subprocess.PIPE)
-        run = subprocess.Popen([sys.executable, '-S', os.path.join(tool.TOOLS, 'oauth2'), *words], env={**self.env, **env}, text=True, **pipes)
+        command = [sys.executable, '-S', os.path.join(tool.TOOLS, 'oauth2'), *words]
+        run = subprocess.Popen(command, env={**self.env, **env}, text=True, **pipes)
         self.addCleanup(lambda: [it.close() for it in (run.stdin, run.stdout, run.stderr)])
         self.addCleanup(run.wait)
         self.addCleanup(run.kill)

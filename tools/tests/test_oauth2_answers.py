@@ -28,7 +28,8 @@ class Answers(stand_in.Case):
         self.assertEqual((status, json.loads(out)), (0, {'active': True, 'tenant': 'x'}))
 
     def test_forms_of_output(self):
-        for form, line in ('token', 't1\n'), ('header', 'Authorization: Bearer t1\n'), ('json', json.dumps(OK, separators=(',', ':')) + '\n'):
+        whole = json.dumps(OK, separators=(',', ':')) + '\n'
+        for form, line in ('token', 't1\n'), ('header', 'Authorization: Bearer t1\n'), ('json', whole):
             with self.subTest(form):
                 self.assertEqual(self.run_tool('token', '--output', form)[:2], (0, line))
 
@@ -73,7 +74,8 @@ class Members(unittest.TestCase):
         self.assertEqual(answers.members_in('{ }'), [])
 
     def test_the_program_counts_where_both_have_a_member(self):
-        self.assertEqual(answers.with_others('{"token_type":"bearer"}', '{"token_type":"BEARER","x":null}'), '{"token_type":"bearer","x":null}')
+        sent = '{"token_type":"BEARER","x":null}'
+        self.assertEqual(answers.with_others('{"token_type":"bearer"}', sent), '{"token_type":"bearer","x":null}')
         self.assertEqual(answers.with_others('null', '{"x":1}'), 'null')
 
 

@@ -19,9 +19,15 @@ SECRETS = {'OAUTH2_CLIENT_SECRET': 'bbb'}
 class Statuses(stand_in.Case):
     def test_each_code_has_its_status(self):
         self.assertEqual(len(set(endings.OF_CODE.values())), len(endings.OF_CODE))
-        page = tool.load('oauth2').__doc__
+        oauth2 = tool.load('oauth2')
+        with open(os.path.join(os.path.dirname(tool.TOOLS), 'docs', 'TOOL.md'), encoding='utf-8') as f:
+            page = f.read()
         for code, status in endings.OF_CODE.items():
-            self.assertRegex(page, r'(?m)\b%d  %s( |$)' % (status, code))
+            self.assertRegex(oauth2.__doc__, r'(?m)\b%d  %s( |$)' % (status, code))
+            self.assertIn('\n| %d | `%s` |\n' % (status, code), page)
+        for command in oauth2.COMMANDS:
+            self.assertIn('\n| `%s` | ' % command, page)
+            self.assertRegex(page, r'(?m)^    .*tools/oauth2 %s ' % command)
 
     def test_faults(self):
         for reply, status, said in (
@@ -39,7 +45,8 @@ class Statuses(stand_in.Case):
                 self.assertIn(said, found[2])
 
     def test_texts_of_errors(self):
-        for text, status in ('access_denied', 16), ('access_denied: no: x', 16), ('access_denied (see u)', 16), ('Access_denied', 1), ('', 1):
+        for text, status in [('access_denied', 16), ('access_denied: no: x', 16), ('access_denied (see u)', 16), ('Access_denied', 1),
+                             ('', 1)]:
             self.assertEqual(endings.status_of(text), status)
 
     def test_nothing_of_a_server_steers_the_terminal(self):
