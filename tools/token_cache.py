@@ -1,4 +1,5 @@
 """The file in which tools/oauth2 keeps a token and how it is renewed; for that tool."""
+import contextlib
 import fcntl
 import json
 import os
@@ -88,6 +89,12 @@ class Cache:
             os.unlink(new)
             raise
         self.entry = entry
+        with contextlib.suppress(OSError):  # so that the new file is the one that a sudden end of the machine leaves, where that can be
+            at = os.open(folder, os.O_RDONLY)
+            try:
+                os.fsync(at)
+            finally:
+                os.close(at)
 
 
 def lock(file, path):

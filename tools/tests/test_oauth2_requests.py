@@ -5,13 +5,17 @@ import socket
 import sys
 import threading
 import unittest
+from unittest import mock
 
 import stand_in
 import tool
 from stand_in import OK
 
 sys.path.insert(0, tool.TOOLS)
+import conversation
 import endings
+import program
+import repository
 
 SECRETS = {'OAUTH2_CLIENT_SECRET': 'bbb'}
 
@@ -52,6 +56,37 @@ class Statuses(stand_in.Case):
     def test_nothing_of_a_server_steers_the_terminal(self):
         self.server.reply = (302, {'Location': 'x\x1b[2J'}, '')
         self.assertNotIn('\x1b', self.run_tool('token')[2])
+
+
+class Program(unittest.TestCase):
+    """Which program runs, and what is said of it."""
+
+    def found(self, is_proved, unproved, has_kit=True, **env):
+        """The program, and what was said."""
+        with mock.patch.object(program, 'is_proved', lambda: is_proved), mock.patch.object(program, 'unproved', unproved), \
+                mock.patch.object(repository, 'has_kit', lambda: has_kit), mock.patch.object(conversation, 'say') as say, \
+                mock.patch.dict(os.environ, env):
+            if not env:
+                os.environ.pop('OAUTH2_PROGRAM', None)
+            return conversation.program_path(), [it.args[0] for it in say.call_args_list]
+
+    def test_the_named_one_and_the_proved_one_need_no_word(self):
+        self.assertEqual(self.found(True, None, OAUTH2_PROGRAM=sys.executable), (sys.executable, []))
+        self.assertEqual(self.found(True, None), (program.PROGRAM, []))
+
+    def test_one_that_is_not_proved_is_told_once(self):
+        for unproved in (lambda note: note() or '/p'), (lambda note: '/p'):
+            path, said = self.found(False, unproved)
+            self.assertEqual((path, len(said)), ('/p', 1))
+            self.assertIn('not proved', said[0])
+            self.assertIn('tools/prove', said[0])
+
+    def test_why_there_is_none(self):
+        def broken(_):
+            raise RuntimeError('src/main.rt: no')
+        for unproved, has_kit, said in (lambda note: note(), False, 'no kit to compile it'), (broken, True, 'src/main.rt: no'):
+            with self.assertRaisesRegex(endings.Stop, said):
+                self.found(False, unproved, has_kit)
 
 
 class Settings(stand_in.Case):
