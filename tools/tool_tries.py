@@ -6,16 +6,25 @@ import re
 import socket
 import threading
 import time
+import urllib.parse
 import urllib.request
 
 LISTENED = 'http://127.0.0.1/back'  # the redirect that is received on this machine, where a server takes any port
 
 
 def at_server(tries):
-    """All that needs a server: a login that listens, a token in a cache, a proxy."""
+    """All that needs a server: a login that listens or that names its issuer, a token in a cache, a proxy."""
+    issuer(tries)
     listener(tries)
     cache(tries)
     proxy(tries)
+
+
+def issuer(tries):
+    """A login with --issuer, whose redirect names that issuer; the server leaves it out, so it is added on the way."""
+    run, url = tries.login_begun('--issuer', tries.server.base)
+    named = urllib.parse.urlencode({'iss': tries.server.base})
+    tries.end('redirect that names the issuer', run, '%s&%s\n' % (tries.server.agreed(url), named), 'access_token')
 
 
 def listener(tries):
