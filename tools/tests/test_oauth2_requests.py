@@ -1,4 +1,5 @@
 """Tests of what tools/oauth2 takes and sends, and how it ends, over a stand-in of the program and a server on this machine."""
+import contextlib
 import json
 import os
 import socket
@@ -169,12 +170,15 @@ class Requests(stand_in.Case):
             found = []
 
             def serve():
-                with proxy.accept()[0] as it:
+                with contextlib.suppress(OSError), proxy.accept()[0] as it:  # no connection where the test has ended
                     found.append(it.recv(10000).decode())
                     it.sendall(b'HTTP/1.1 403 no\r\n\r\n')
-            threading.Thread(target=serve, daemon=True).start()
+            server = threading.Thread(target=serve)
+            server.start()
             env = {name: value % proxy.getsockname()[1] if '%' in value else value for name, value in env.items()}
             status, _, err = self.run_tool('token', '--token-url', 'https://as.invalid/token', **env)
+            proxy.shutdown(socket.SHUT_RDWR)
+            server.join()
             self.assertEqual(status, 1)
             return err, found[0] if found else None
 
