@@ -1,5 +1,6 @@
 """How tools/oauth2 writes an answer of the program: every member of the reply, or the token alone; for that tool."""
 import json
+import os
 import re
 import sys
 
@@ -11,7 +12,8 @@ OUTPUTS = {'json': 'the whole reply as one line of JSON', 'token': 'the access t
 
 def members_in(text):
     """The members of a JSON object in order, each name with its value as the text writes it. ValueError if it is no object."""
-    decoder, space, found = json.JSONDecoder(parse_constant=no_number), re.compile(r'[ \t\r\n]*'), []
+    decoder = json.JSONDecoder(parse_int=len, parse_float=len, parse_constant=no_number)  # what a number is worth is not needed
+    space, found = re.compile(r'[ \t\r\n]*'), []
 
     def past(at, sign=''):
         at = space.match(text, at).end()
@@ -30,6 +32,12 @@ def members_in(text):
     if past(at, '}') != len(text):
         raise ValueError('there is more behind the object')
     return found
+
+
+def member(text, name):
+    """The value of a member of a JSON object; None where there is none."""
+    found = dict(members_in(text))
+    return json.loads(found[name]) if name in found else None
 
 
 def no_number(name):
@@ -67,8 +75,7 @@ def in_form(text, output):
     """The answer in one of the forms of --output."""
     if output == 'json':
         return text
-    found = json.loads(text)
-    token, kind = found['access_token'], found.get('token_type')
+    token, kind = member(text, 'access_token'), member(text, 'token_type')
     if not all('!' <= it <= '~' for it in token):
         raise Stop('the access token has a character that no header may have: take it from --output json')
     if output == 'header' and str(kind).lower() != 'bearer':
@@ -78,8 +85,11 @@ def in_form(text, output):
 
 def write(text, output, is_secret):
     """Writes an answer to standard output, where a terminal gets a warning before a secret."""
-    line = in_form(text, output)
+    line = in_form(text, output).encode() + b'\n'
     if is_secret and sys.stdout.isatty():
         say('what follows is secret: whoever has it can use it; clear the terminal after use (--show writes it without this line)')
-    sys.stdout.buffer.write(line.encode() + b'\n')
-    sys.stdout.buffer.flush()
+    try:
+        while line:
+            line = line[os.write(sys.stdout.fileno(), line):]
+    except OSError as error:
+        raise Stop('the answer can not be written to standard output: %s' % error.strerror)

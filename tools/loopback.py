@@ -100,4 +100,5 @@ def open_browser(url):
     """Opens a URL in a browser, where the environment has one. What that writes is not shown."""
     if url.startswith(('https://', 'http://')) and any(os.environ.get(it) for it in ('BROWSER', 'DISPLAY', 'WAYLAND_DISPLAY')):
         streams = dict.fromkeys(('stdin', 'stdout', 'stderr'), subprocess.DEVNULL)
-        subprocess.Popen([sys.executable, '-m', 'webbrowser', url], start_new_session=True, **streams)
+        env = {name: value for name, value in os.environ.items() if not name.startswith('OAUTH2_')}  # no secret goes to the browser
+        subprocess.Popen([sys.executable, '-m', 'webbrowser', url], env=env, start_new_session=True, **streams)

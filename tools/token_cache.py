@@ -22,7 +22,7 @@ def entry_in(text, path):
     try:
         found = json.loads(text)
         is_ours = found.pop('format') == FORMAT and found.keys() == TYPES.keys() and all(isinstance(found[it], TYPES[it]) for it in TYPES)
-        is_ours = is_ours and isinstance(json.loads(found['answer'])['access_token'], str)
+        is_ours = is_ours and isinstance(answers.member(found['answer'], 'access_token'), str)
     except (ValueError, KeyError, TypeError, AttributeError, RecursionError):
         is_ours = False
     if not is_ours:
@@ -122,8 +122,7 @@ def entry_of(outcome, life, before, **how):
     """What is kept of a reply: it ends life seconds after its request, where it doesn't say. A refresh token of before stays, if it has
     no other."""
     text = answers.whole(outcome)
-    found = json.loads(text)
-    seconds, refresh = found.get('expires_in'), found.get('refresh_token') or (before or {}).get('refresh_token')
+    seconds, refresh = answers.member(text, 'expires_in'), answers.member(text, 'refresh_token') or (before or {}).get('refresh_token')
     ends = outcome.asked_at + (seconds if isinstance(seconds, int) else life)
     return dict(how, obtained_at=outcome.asked_at, expires_at=ends, answer=text, refresh_token=refresh)
 

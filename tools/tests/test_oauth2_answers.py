@@ -41,6 +41,13 @@ class Answers(stand_in.Case):
             self.assertEqual((status, out), (125, ''))
             self.assertIn(said, err)
 
+    def test_an_output_that_can_not_be_written(self):
+        with open('/dev/full', 'wb') as full:
+            run = subprocess.run([sys.executable, os.path.join(tool.TOOLS, 'oauth2'), 'token'], env=self.env, stdin=subprocess.DEVNULL,
+                                 stdout=full, stderr=subprocess.PIPE, text=True, timeout=60)
+        self.assertEqual(run.returncode, 125)
+        self.assertIn('can not be written to standard output', run.stderr)
+
     def on_terminal(self, *words):
         """What a run writes to a terminal, and what to standard error."""
         main, other = pty.openpty()
@@ -72,6 +79,11 @@ class Members(unittest.TestCase):
     def test_members(self):
         self.assertEqual(answers.members_in(' {"a" : "x" , "b":[ 1 ] } '), [('a', '"x"'), ('b', '[ 1 ]')])
         self.assertEqual(answers.members_in('{ }'), [])
+
+    def test_a_large_number_stays(self):
+        text = '{"access_token":"t","token_type":"bearer","n":%s}' % ('1' * 5000)
+        self.assertEqual(answers.with_others('{"access_token":"t","token_type":"bearer"}', text), text)
+        self.assertEqual(answers.in_form(text, 'token'), 't')
 
     def test_the_program_counts_where_both_have_a_member(self):
         sent = '{"token_type":"BEARER","x":null}'

@@ -107,9 +107,10 @@ class Listener(stand_in.Case):
         with open(browser, 'w', encoding='utf-8') as f:
             f.write('#!%s -IS\nimport sys, urllib.parse as u, urllib.request as r\nprint("noise")\nurl = sys.argv[1]\n'
                     'q = dict(u.parse_qsl(u.urlsplit(url).query))\nopen(%r, "w").write(url)\n'
+                    'import os\nassert not [it for it in os.environ if it.startswith("OAUTH2_")]\n'
                     'r.urlopen(q["redirect_uri"] + "?code=c&state=" + q["state"]).read()\n' % (sys.executable, seen))
         os.chmod(browser, 0o700)
-        run, _ = self.begun(BROWSER=browser)
+        run, _ = self.begun(BROWSER=browser, OAUTH2_CLIENT_SECRET='bbb')
         out = run.communicate(timeout=60)[0]
         self.assertEqual((run.returncode, json.loads(out)), (0, stand_in.OK))
         os.unlink(seen)
