@@ -61,8 +61,8 @@ def cache(tries):
         f.truncate()
     runs = [start('--output', 'token') for _ in range(5)]
     found = {it.communicate()[0].strip() for it in runs}
-    tries.note('cache: five runs at once', len(found) == 1 and second.get('access_token') not in found and '' not in found,
-               '%d new token%s for all' % (len(found), 's' * (len(found) > 1)))
+    tries.row('cache: five runs at once', '%d new token%s for all' % (len(found), 's' * (len(found) > 1)),
+              len(found) == 1 and second.get('access_token') not in found and '' not in found)
     tries.end('cache: renewed once more', start('--margin', '1000000'), '', 'access_token')
 
 
@@ -97,7 +97,7 @@ def proxy(tries):
     it = Proxy()
     run = tries.start('token', HTTPS_PROXY='http://127.0.0.1:%d' % it.socket.getsockname()[1])
     tries.end('client credentials through a proxy', run, '', 'access_token')
-    tries.note('the proxy got', it.asked and it.asked.startswith('CONNECT localhost:%d ' % tries.server.port), str(it.asked))
+    tries.row('the proxy got', str(it.asked), it.asked and it.asked.startswith('CONNECT localhost:%d ' % tries.server.port))
 
 
 # Endpoints that answer what they should not. Each has the path under which it is, the status and headers of its reply, its body, and what
