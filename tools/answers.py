@@ -53,11 +53,18 @@ def on_a_line(value):
 def with_others(answer, body):
     """The program's answer, and behind it the members of the reply that it does not name, as the server sent them."""
     try:
-        known, sent = members_in(answer), members_in(body)
-    except (ValueError, RecursionError):
+        known = members_in(answer)
+    except ValueError:
         return on_a_line(answer)
-    names = {name for name, _ in known}
-    return object_of(known + [it for it in sent if it[0] not in names])
+    return object_of(known + others(body, {name for name, _ in known}))
+
+
+def others(body, names):
+    """The members of a reply without those of these names; none where it is no JSON object."""
+    try:
+        return [it for it in members_in(body) if it[0] not in names]
+    except (ValueError, RecursionError):
+        return []
 
 
 def object_of(members):

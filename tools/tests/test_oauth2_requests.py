@@ -38,6 +38,8 @@ class Statuses(stand_in.Case):
         for reply, status, said in (
                 ((401, {}, {'error': 'invalid_client'}), 11, 'Server returned error response: invalid_client (HTTP status 401)'),
                 ((400, {}, {'error': 'odd: invalid_client'}), 1, 'odd'),
+                ((400, {}, {'error': 'invalid_grant', 'error_uri': 'u', 'trace': [1]}), 12,
+                 'invalid_grant (HTTP status 400); the reply also has {"trace":[1]}\n'),
                 ((500, {'Content-Type': 'text/html'}, '<p>'), 1, 'NotJson (HTTP status 500): the reply is text/html and not a JSON object'),
                 ((200, {'Content-Type': 'text/html'}, '<p>'), 1, '(HTTP status 200): the reply is text/html and not'),
                 ((200, {}, ''), 1, 'empty response body (HTTP status 200)'),
