@@ -22,7 +22,8 @@ def entry_in(text, path):
     try:
         found = json.loads(text)
         is_ours = found.pop('format') == FORMAT and found.keys() == TYPES.keys() and all(isinstance(found[it], TYPES[it]) for it in TYPES)
-        is_ours = is_ours and isinstance(answers.member(found['answer'], 'access_token'), str)
+        texts = [*found['scopes'], *(it for pair in found['extra'] for it in pair), answers.member(found['answer'], 'access_token')]
+        is_ours = is_ours and all(isinstance(it, str) for it in texts)
     except (ValueError, KeyError, TypeError, AttributeError, RecursionError):
         is_ours = False
     if not is_ours:

@@ -203,6 +203,15 @@ class Cache(stand_in.Case):
                 self.assertEqual(f.read(), content)
         self.assertEqual(self.server.asked, [])
 
+    def test_a_member_of_another_kind_is_refused(self):
+        self.token('--scope', 'a')
+        before = self.kept()
+        for member in ({'scopes': [1]}, {'scopes': 'a'}, {'extra': [1]}, {'extra': [['a', 1]]}, {'answer': '{}'}, {'answer': '['},
+                       {'expires_at': '1'}, {'refresh_token': 1}, {'format': 'cache of tools/oauth2, 2'}, {'more': 1}):
+            self.put(json.dumps({**before, **member}))
+            self.assertEqual(self.token(), (125, ''), member)
+            self.assertIn('is no cache of this tool', self.err)
+
     def test_a_file_that_others_can_read_is_refused(self):
         self.token()
         os.chmod(self.path, 0o640)
