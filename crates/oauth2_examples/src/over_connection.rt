@@ -1,0 +1,63 @@
+//! One request over a connection that is open already: standard input is what the server sends, and
+//! standard output is what it is sent. `socat` or a program like it opens the connection, with TLS:
+//!
+//!     socat OPENSSL:as.example:443 EXEC:'oauth2_examples over_connection settings.json'
+//!
+//! The answer is one line of JSON on standard error. The exit status is 0 if there is an answer, 1
+//! if the request got none, and 2 if a setting is wrong; then nothing is written to the connection.
+
+mod fault;
+mod get;
+mod requests;
+mod settings;
+
+use fault::Fault;
+use oauth2::ParseCause;
+use oauth2_http1::{Duplex, Http1Client, Over};
+use serde_json::Value;
+use settings::Settings;
+use std::io::{Stdin, Stdout};
+use std::process::ExitCode;
+
+/// The client of a run: its one connection is standard input and output.
+pub type HttpClient = Http1Client<Over<Duplex<Stdin, Stdout>>>;
+
+/// Makes the request that a file of settings names, and prints what came of it.
+pub fn over_connection(rt: &HostRuntime, path: &str) -> ExitCode {
+    let (line, status) = match run(rt, path) {
+        Ok(answer) => (answer.to_string(rt.alloc()), 0),
+        Err(fault) => (fault.line(rt.alloc()), fault.status()),
+    };
+    // If standard error cannot be written, the status is all that is left.
+    let _ = match line {
+        Ok(line) => rt.eprintln(line),
+        Err(_) => rt.eprintln("{\"error\":\"Out of memory\"}"),
+    };
+    ExitCode::from(status)
+}
+
+fn run(rt: &HostRuntime, path: &str) -> Result<Value, Fault> {
+    let mut settings = Settings::read(rt, path)?;
+    let connection = Over::new(Duplex {
+        reader: rt.stdin(),
+        writer: rt.stdout(),
+    });
+    let bounds = settings.bounds()?;
+    let mut http_client = Http1Client::new(rt.alloc(), connection).set_bounds(bounds);
+    ask(&mut settings, &mut http_client)
+}
+
+// Makes the request of the command that the settings name.
+fn ask(settings: &mut Settings<'_>, http_client: &mut HttpClient) -> Result<Value, Fault> {
+    let command: String = settings.needed("command")?;
+    match command.as_str() {
+        "client_credentials" => requests::client_credentials(settings, http_client),
+        "password" => requests::password(settings, http_client),
+        "code" => requests::code(settings, http_client),
+        "refresh" => requests::refresh(settings, http_client),
+        "introspect" => requests::introspect(settings, http_client),
+        "revoke" => requests::revoke(settings, http_client),
+        "get" => get::get(settings, http_client),
+        _ => Err(Fault::setting(settings.alloc(), "command", ParseCause::Refused)),
+    }
+}

@@ -1,0 +1,132 @@
+//! Why a run has no answer, and what it tells of that.
+
+ghost use Rattle.std.specs.Prelude.{◌≡◌};
+ghost use Rattle.oauth2_examples.specs.Fault.{status_of};
+
+use oauth2::{ParseCause, ReadError, RequestTokenError, ToJson};
+use serde_json::{Value, json};
+use std::alloc::{AllocError, AllocFailed, Global};
+use std::fmt::Display;
+
+/// Why a run has no answer.
+#[derive(Drop)]
+pub enum Fault {
+    /// A setting is wrong.
+    Setting(ReadError),
+    /// The file or the variable with this name, or the file that this setting names, cannot be
+    /// read.
+    Unreadable(String),
+    /// The request got no answer. The members of this object tell why.
+    Unanswered(Value),
+    /// Memory ran out.
+    Memory,
+}
+
+impl From<AllocError> for Fault {
+    fn from(_: AllocError) -> Fault {
+        Fault::Memory
+    }
+}
+
+impl<T: Drop> From<AllocFailed<T>> for Fault {
+    fn from(_: AllocFailed<T>) -> Fault {
+        Fault::Memory
+    }
+}
+
+impl From<ReadError> for Fault {
+    fn from(error: ReadError) -> Fault {
+        match error {
+            ReadError::Memory => Fault::Memory,
+            error => Fault::Setting(error),
+        }
+    }
+}
+
+impl Fault {
+    /// The setting with this name is wrong.
+    pub fn setting(alloc: Global, name: &str, cause: ParseCause) -> Fault {
+        Fault::from(ReadError::at(alloc, name, cause))
+    }
+
+    /// What this name stands for cannot be read.
+    pub fn unreadable(alloc: Global, name: &str) -> Fault {
+        match String::from_str(alloc, name) {
+            Ok(name) => Fault::Unreadable(name),
+            Err(AllocError) => Fault::Memory,
+        }
+    }
+
+    /// The request got no answer, for a reason that its text tells.
+    pub fn unanswered<E: Display>(alloc: Global, error: &E) -> Fault {
+        Fault::told(error_value(alloc, error))
+    }
+
+    /// The request got no answer, for one of the reasons that each request has.
+    pub fn of_request<E: Display, R: Display + ToJson>(
+        alloc: Global,
+        error: &RequestTokenError<E, R>,
+    ) -> Fault {
+        Fault::told(request_value(alloc, error))
+    }
+
+    fn told(value: Result<Value, AllocError>) -> Fault {
+        match value {
+            Ok(value) => Fault::Unanswered(value),
+            Err(AllocError) => Fault::Memory,
+        }
+    }
+
+    /// The exit status: 2 if nothing was asked, and else 1.
+    pub fn status(&self) -> u8
+        ensures { result ≡ status_of self.now }
+    {
+        match self {
+            Fault::Setting(_) | Fault::Unreadable(_) => 2,
+            Fault::Unanswered(_) | Fault::Memory => 1,
+        }
+    }
+
+    /// The line that tells of the fault.
+    pub fn line(&self, alloc: Global) -> Result<String, AllocError> {
+        match self {
+            Fault::Setting(error) => error_value(alloc, error)?.to_string(alloc),
+            Fault::Unreadable(name) => {
+                let error = format!(in alloc; "{name}: cannot be read")?;
+                json!(in alloc; {"error": error})?.to_string(alloc)
+            }
+            Fault::Unanswered(value) => value.to_string(alloc),
+            Fault::Memory => Err(AllocError),
+        }
+    }
+}
+
+// The text of an error as an object.
+fn error_value<E: Display>(alloc: Global, error: &E) -> Result<Value, AllocError> {
+    let text = error.to_string(alloc)?;
+    json!(in alloc; {"error": text})
+}
+
+// The text of an error; where it leaves out the cause, also the cause, and what the server said.
+fn request_value<E: Display, R: Display + ToJson>(
+    alloc: Global,
+    error: &RequestTokenError<E, R>,
+) -> Result<Value, AllocError> {
+    let text = error.to_string(alloc)?;
+    match error {
+        RequestTokenError::Request(cause) => {
+            let cause = cause.to_string(alloc)?;
+            json!(in alloc; {"error": text, "cause": cause})
+        }
+        RequestTokenError::Parse(cause, body) => {
+            let cause = cause.to_string(alloc)?;
+            let reply = String::from_utf8_lossy(alloc, body)?;
+            json!(in alloc; {"error": text, "cause": cause, "reply": reply})
+        }
+        RequestTokenError::ServerResponse(response) => match response.to_json(alloc) {
+            Ok(reply) => json!(in alloc; {"error": text, "reply": reply}),
+            Err(_) => Err(AllocError),
+        },
+        _ => json!(in alloc; {"error": text}),
+    }
+}
