@@ -75,7 +75,8 @@ class Classes(unittest.TestCase):
 
     def test_none(self):
         reply = OK + b'Content-Length: 5\r\n\r\nhello'
-        for ours in READ._replace(body=b'hell'), refused('a chunk of its body does not parse'), refused('its head or its trailers do not parse'):
+        for ours in (READ._replace(body=b'hell'), refused('a chunk of its body does not parse'),
+                     refused('its head or its trailers do not parse')):
             with self.subTest(ours):
                 self.assertIsNone(replies.class_of(reply, ours, READ))
 
