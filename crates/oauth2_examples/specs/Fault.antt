@@ -1,7 +1,6 @@
 -- The exit status of a run without an answer.
 use Rattle.std.specs.Prelude.{ℕ}
 use Rattle.oauth2_examples.specs.declared.over_connection.fault.Fault.{Fault}
-use Rattle.oauth2_examples.specs.declared.over_connection.fault.Fault.TheVariants as Fault
 
 -- 2 where the settings are wrong, so that nothing was asked, and else 1
 abbrev pub status_of : Fault → ℕ
