@@ -82,8 +82,8 @@ fn each_bound(rt: HostRuntime) {
     }
 }
 
-// How a reply begins, a text that repeats so often then, how it ends, the bound on its head, and the
-// front of what the call returns. The first three are at the default bound, and the last two on both
+// How a reply begins, a text that then repeats so often, how it ends, the bound on its head, and
+// the front of what the call returns. 16,384 is the default bound. The last two rows are on both
 // sides of the longest name that a map of headers holds.
 type LongRow = (
     &'static str,

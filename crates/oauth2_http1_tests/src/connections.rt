@@ -1,24 +1,31 @@
 //! Connections that are handed out once, and a client's own bounds.
 
-use crate::exchange::{Answer, call, request_of};
+use crate::exchange::{MemoryClient, call, request_of};
 use crate::support::{GET, GET_BYTES, is_so, is_text, text_of};
 use crate::wire::Wire;
 use oauth2_http1::{Duplex, Http1Client, Over, send};
 use std::io::{self, Read};
 use std::process::Abort;
 
-// What two calls return of one client, which has these bounds on a body and on the reads.
-fn called_twice(
+// One call of a client.
+fn gives(rt: &(impl Abort + AllocGlobal), client: &mut MemoryClient<'_, '_>, wanted: &str) {
+    let request = request_of(rt.alloc(), GET).expect(rt, "a request");
+    let text = text_of(rt, &call(client, request));
+    is_text(rt, text.as_str(), wanted, wanted);
+}
+
+// Two calls of a client that has these bounds on a body and on the reads.
+fn calls_twice(
     rt: &(impl Abort + AllocGlobal),
     wire: &mut Wire<'_>,
     bounds: (usize, u32),
-) -> (Answer, Answer) {
-    let request = request_of(rt.alloc(), GET).expect(rt, "a request");
-    let again = request_of(rt.alloc(), GET).expect(rt, "a request");
+    wanted: &str,
+) {
     let mut client = Http1Client::new(rt.alloc(), Over::new(wire))
         .set_max_body(bounds.0)
         .set_max_reads(bounds.1);
-    (call(&mut client, request), call(&mut client, again))
+    gives(rt, &mut client, wanted);
+    gives(rt, &mut client, "Connect(NoConnection)");
 }
 
 // The bounds on a body and on the reads, and what the first call returns.
@@ -28,24 +35,13 @@ const FIRST: &[((usize, u32), &str)] = &[
     ((2, 0), "Reply(TooManyReads)"),
 ];
 
-fn calls_twice(rt: &(impl Abort + AllocGlobal), bounds: (usize, u32), wanted: &str) {
-    let came = b"HTTP/1.1 200 OK\r\ncontent-length: 2\r\n\r\n{}";
-    let mut wire = Wire::new(came, GET_BYTES.as_bytes());
-    let (first, second) = called_twice(rt, &mut wire, bounds);
-    is_text(rt, text_of(rt, &first).as_str(), wanted, "first");
-    is_text(
-        rt,
-        text_of(rt, &second).as_str(),
-        "Connect(NoConnection)",
-        "second",
-    );
-    is_so(rt, wire.is_written(), wanted);
-}
-
 #[test]
 fn a_second_call(rt: HostRuntime) {
     for (bounds, wanted) in FIRST {
-        calls_twice(&rt, *bounds, wanted);
+        let came = b"HTTP/1.1 200 OK\r\ncontent-length: 2\r\n\r\n{}";
+        let mut wire = Wire::new(came, GET_BYTES.as_bytes());
+        calls_twice(&rt, &mut wire, *bounds, wanted);
+        is_so(&rt, wire.is_written(), wanted);
     }
 }
 

@@ -2,7 +2,7 @@
 
 use crate::wire::Wire;
 use http::request::Parts;
-use http::{Method, Request};
+use http::{Method, Request, Version};
 use http_header::{HeaderMap, HeaderName, HeaderValue};
 use http_uri::Uri;
 use oauth2_http1::{Bounds, Http1Client, Http1Error, NoConnection, Over};
@@ -32,15 +32,31 @@ fn fields_of(alloc: Global, fields: &[(&str, &str)]) -> Option<HeaderMap> {
     Some(map)
 }
 
+fn method_of(alloc: Global, text: &str) -> Option<Method> {
+    Method::from_bytes(alloc, text.as_bytes()).ok()
+}
+
+fn target_of(alloc: Global, text: &str) -> Option<Uri> {
+    Uri::from_str(alloc, text).ok()
+}
+
+fn head_of(alloc: Global, texts: RequestTexts<'_>) -> Option<Parts> {
+    let method = method_of(alloc, texts.method)?;
+    let uri = target_of(alloc, texts.target)?;
+    let headers = fields_of(alloc, texts.fields)?;
+    Some(Parts {
+        method,
+        uri,
+        version: Version::HTTP_11,
+        headers,
+    })
+}
+
 /// The request of these texts. There is none where memory runs out, or where one of them is no part
 /// of a request.
 pub fn request_of(alloc: Global, texts: RequestTexts<'_>) -> Option<HttpRequest> {
-    let mut head = Parts::new(alloc);
-    head.method = Method::from_bytes(alloc, texts.method.as_bytes()).ok()?;
-    head.uri = Uri::from_str(alloc, texts.target).ok()?;
-    head.headers = fields_of(alloc, texts.fields)?;
     let body = texts.body.as_bytes().to_vec(alloc).ok()?;
-    Some(Request::from_parts(head, body))
+    Some(Request::from_parts(head_of(alloc, texts)?, body))
 }
 
 /// A client whose connection is in memory.
@@ -63,12 +79,16 @@ pub fn call_once(
     (client.into_connect().into_stream().is_none(), answer)
 }
 
+fn show_field<W: Write>(out: &mut W, name: &HeaderName, value: &HeaderValue) -> io::Result<()> {
+    write!(out, "{name}: ")?;
+    out.write_all(value.as_bytes())?;
+    out.write_all(b"\n")
+}
+
 fn show_reply<W: Write>(out: &mut W, reply: &HttpResponse) -> io::Result<()> {
     writeln!(out, "{:?} {}", reply.version(), reply.status().as_u16())?;
     for (name, value) in reply.headers() {
-        write!(out, "{name}: ")?;
-        out.write_all(value.as_bytes())?;
-        out.write_all(b"\n")?;
+        show_field(out, name, value)?;
     }
     out.write_all(b"\n")?;
     out.write_all(reply.body())
@@ -81,4 +101,17 @@ pub fn show<W: Write>(out: &mut W, answer: &Answer) -> io::Result<()> {
         Ok(reply) => show_reply(out, reply),
         Err(error) => write!(out, "{error:?}"),
     }
+}
+
+/// Calls a client once, as `call_once` does, and shows what it returns. Returns whether the
+/// connection was handed out.
+pub fn show_once<W: Write>(
+    alloc: Global,
+    wire: &mut Wire<'_>,
+    request: HttpRequest,
+    out: &mut W,
+) -> io::Result<bool> {
+    let (is_open, answer) = call_once(alloc, wire, Bounds::default(), request);
+    show(out, &answer)?;
+    Ok(is_open)
 }

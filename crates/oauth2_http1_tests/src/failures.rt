@@ -1,9 +1,11 @@
 //! Reads and writes that fail.
 
-use crate::exchange::{RequestTexts, request_of};
+use crate::exchange::{Answer, RequestTexts, request_of};
 use crate::support::{is_so, is_text, outcome_of, text_of};
 use crate::wire::Wire;
 use oauth2_http1::{Bounds, exchange};
+use oauth2_wire::HttpRequest;
+use std::alloc::Global;
 use std::process::Abort;
 
 const POST: RequestTexts<'static> = RequestTexts {
@@ -83,6 +85,15 @@ const HALVES: &[(usize, usize, &str)] = &[
     (0, 90, UNREAD),
 ];
 
+fn exchange_over(
+    alloc: Global,
+    request: &HttpRequest,
+    reader: &mut Wire<'_>,
+    writer: &mut Wire<'_>,
+) -> Answer {
+    exchange(alloc, &Bounds::default(), request, reader, writer)
+}
+
 // One exchange over a reader and a writer: how often each is called.
 fn exchanged(
     rt: &(impl Abort + AllocGlobal),
@@ -92,8 +103,7 @@ fn exchanged(
 ) -> (usize, usize) {
     let request = request_of(rt.alloc(), POST).expect(rt, "a request");
     let (mut reader, mut writer) = (byte_by_byte(read), byte_by_byte(write));
-    let bounds = Bounds::default();
-    let answer = exchange(rt.alloc(), &bounds, &request, &mut reader, &mut writer);
+    let answer = exchange_over(rt.alloc(), &request, &mut reader, &mut writer);
     is_text(rt, text_of(rt, &answer).as_str(), wanted, wanted);
     is_so(
         rt,

@@ -22,8 +22,8 @@ mod support;
 mod texts;
 mod wire;
 
-use exchange::{RequestTexts, call_once, request_of, show};
-use oauth2_http1::Bounds;
+use exchange::{RequestTexts, request_of, show_once};
+use oauth2_wire::HttpRequest;
 use std::alloc::Global;
 use std::io::{self, Write};
 use wire::Wire;
@@ -68,16 +68,8 @@ const ROWS: [Row; 2] = [
 // Each read gives so many bytes, and each write takes so many.
 const PIECE: usize = 7;
 
-// One exchange: the request, whether the connection was handed out, how much of the request was
-// written, and the reply or the error. What is written here takes no memory.
-fn show_exchange<W: Write>(alloc: Global, row: Row, out: &mut W) -> io::Result<()> {
-    let (texts, sent, came) = row;
-    writeln!(out, "request {} {}", texts.method, texts.target)?;
-    let Some(request) = request_of(alloc, texts) else {
-        return writeln!(out, "not made");
-    };
-    let mut wire = Wire::new(came.as_bytes(), sent.as_bytes()).in_pieces(PIECE, PIECE);
-    let (is_open, answer) = call_once(alloc, &mut wire, Bounds::default(), request);
+// Whether the connection was handed out, and how much of its request was not written.
+fn show_wire<W: Write>(out: &mut W, is_open: bool, wire: &Wire<'_>, sent: &str) -> io::Result<()> {
     let unwritten = wire.awaited.len();
     writeln!(
         out,
@@ -87,8 +79,30 @@ fn show_exchange<W: Write>(alloc: Global, row: Row, out: &mut W) -> io::Result<(
     if wire.is_other {
         writeln!(out, "something else written")?;
     }
-    show(out, &answer)?;
-    writeln!(out)
+    Ok(())
+}
+
+fn show_call<W: Write>(
+    alloc: Global,
+    request: HttpRequest,
+    (sent, came): (&str, &str),
+    out: &mut W,
+) -> io::Result<()> {
+    let mut wire = Wire::new(came.as_bytes(), sent.as_bytes()).in_pieces(PIECE, PIECE);
+    let is_open = show_once(alloc, &mut wire, request, out)?;
+    writeln!(out)?;
+    show_wire(out, is_open, &wire, sent)
+}
+
+// One exchange: the request, the reply or the error, and what became of the connection. What is
+// written here takes no memory.
+fn show_exchange<W: Write>(alloc: Global, row: Row, out: &mut W) -> io::Result<()> {
+    let (texts, sent, came) = row;
+    writeln!(out, "request {} {}", texts.method, texts.target)?;
+    match request_of(alloc, texts) {
+        Some(request) => show_call(alloc, request, (sent, came), out),
+        None => writeln!(out, "not made"),
+    }
 }
 
 fn main(rt: HostRuntime) -> io::Result<()> {

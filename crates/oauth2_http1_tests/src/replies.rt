@@ -29,8 +29,9 @@ fn reads_in_pieces(rt: &(impl Abort + AllocGlobal), came: &str, past: usize, wan
     }
 }
 
-// A reply, how often the connection is read when it has given all of it, and what is read. RFC 9112:
-// 4 (the first line), 5 (fields), 6.3 (how long a body is), 7.1 (chunks); RFC 9110: 15.2 (1xx).
+// A reply, how often the connection is read when it has given all of it, and what is read.
+// RFC 9112: 4 (the first line), 5 (fields), 6.3 (how long a body is), 7.1 (chunks); RFC 9110: 15.2
+// (responses of 1xx).
 const REPLIES: &[(&str, usize, &str)] = &[
     (
         "HTTP/1.1 200 OK\r\ncontent-length: 2\r\n\r\n{}",
@@ -171,8 +172,8 @@ fn replies_that_are_cut(rt: HostRuntime) {
     }
 }
 
-// What is no reply within the bounds, and why. RFC 9112: 2.2 (line ends), 2.3 (versions), 4, 5.1 and
-// 5.2 (fields), 6.1 to 6.3 (two lengths, or none that can be read), 7.1.
+// What is no reply within the bounds, and why. RFC 9112: 2.2 (line ends), 2.3 (versions), 4, 5.1
+// and 5.2 (fields), 6.1 to 6.3 (two lengths, or none that can be read), 7.1.
 const REFUSED: &[(&str, &str)] = &[
     (
         "HTTP/1.1 200 OK\r\ntransfer-encoding: chunked\r\ncontent-length: 2\r\n\r\n\
