@@ -1,0 +1,68 @@
+-- Issuers (RFC 8414, section 2), and where their metadata is (section 3.1; OpenID Connect Discovery
+-- 1.0, section 4.1).
+use Rattle.std.specs.Prelude.{◌≡◌, ◌⊎◌, ℕ, ◌==◌, not, ◌&&◌, ◌||◌, Bool, false, List, [], ◌∷◌, ◌++◌, codes, bytes_eq, slice_index, Option, Some, None, is_some, Result, Ok, Err, if◌then◌else◌}
+use Rattle.std.specs.Net.Addr.{ipv4_octets, ipv6_segments}
+use Rattle.url.specs.Ascii.{slash}
+use Rattle.url.specs.declared.host.Host.{Host}
+use Rattle.url.specs.declared.host.Host.TheVariants.{Domain, Ipv4, Ipv6}
+use Rattle.url.specs.Parts.{Parts, nonempty_host}
+use Rattle.url.specs.Parser.{with_path}
+use Rattle.oauth2_metadata.specs.declared.issuer.IssuerError.{IssuerError}
+use Rattle.oauth2_metadata.specs.declared.issuer.IssuerError.TheVariants.{NotUrl, NotHttps, HasQuery, HasFragment, TooLong, Memory}
+
+-- ---- what an issuer may be
+
+-- the host is this machine itself: `localhost`, 127.0.0.0/8 or `[::1]`
+abbrev pub is_loopback : Option (Host (List ℕ)) → Bool
+is_loopback None = false
+is_loopback (Some (Domain name)) = bytes_eq name (codes "localhost")
+is_loopback (Some (Ipv4 address)) = slice_index (ipv4_octets address) 0 == 127
+is_loopback (Some (Ipv6 address)) = bytes_eq (ipv6_segments address) (0 ∷ 0 ∷ 0 ∷ 0 ∷ 0 ∷ 0 ∷ 0 ∷ 1 ∷ [])
+
+-- `https`, or `http` to this machine itself
+abbrev pub is_secure : Parts → Bool
+is_secure url =
+    bytes_eq url.scheme (codes "https") || (bytes_eq url.scheme (codes "http") && is_loopback (nonempty_host url))
+
+-- why a URL is no issuer: of several causes the first
+abbrev pub refusal : Parts → Option IssuerError
+refusal url =
+    if not (is_secure url) then Some NotHttps
+    else (if is_some url.query then Some HasQuery
+    else (if is_some url.fragment then Some HasFragment
+    else None))
+
+-- ---- where its metadata is
+
+-- the path without a slash at its end
+abbrev pub trimmed : List ℕ → List ℕ
+trimmed [] = []
+trimmed (b ∷ []) = if b == slash then [] else b ∷ []
+trimmed (b ∷ c ∷ bytes) = b ∷ trimmed (c ∷ bytes)
+
+-- RFC 8414: the well-known path is put between the host and the issuer's path
+abbrev pub metadata_place : Parts → Parts
+metadata_place issuer =
+    with_path issuer (codes "/.well-known/oauth-authorization-server" ++ trimmed issuer.path)
+
+-- OpenID Connect: the well-known path follows the issuer's path
+abbrev pub openid_place : Parts → Parts
+openid_place issuer = with_path issuer (trimmed issuer.path ++ codes "/.well-known/openid-configuration")
+
+-- no memory, or a URL longer than a `Url` can be
+abbrev pub IsOutOfRoom : IssuerError → Type 0
+IsOutOfRoom error = (error ≡ Memory) ⊎ (error ≡ TooLong)
+
+-- an issuer has its metadata at that place, and a URL that is none is refused
+abbrev pub IsPlaced : (Parts → Parts) → Parts → Result Parts IssuerError → Type 0
+IsPlaced place issuer (Ok url) = (refusal issuer ≡ None) × (url ≡ place issuer)
+IsPlaced place issuer (Err error) = (refusal issuer ≡ Some error) ⊎ ((refusal issuer ≡ None) × IsOutOfRoom error)
+
+-- the text of an error
+abbrev pub issuer_error_text : IssuerError → List ℕ
+issuer_error_text NotUrl = codes "issuer is not a URL"
+issuer_error_text NotHttps = codes "issuer is not an https URL"
+issuer_error_text HasQuery = codes "issuer has a query"
+issuer_error_text HasFragment = codes "issuer has a fragment"
+issuer_error_text TooLong = codes "metadata URL is too long"
+issuer_error_text Memory = codes "Out of memory"

@@ -1,0 +1,8 @@
+//! The metadata of an authorization server, by which a client finds its endpoints (RFC 8414; OpenID
+//! Connect Discovery 1.0, section 4).
+
+#![tactic(auto)]
+
+mod issuer;
+
+pub use issuer::{IssuerError, metadata_url, openid_metadata_url};
