@@ -1,1 +1,4 @@
 pub mod PlaceLaws
+pub mod Addresses
+pub mod TextLists
+pub mod Grouped

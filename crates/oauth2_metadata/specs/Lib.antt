@@ -1,1 +1,4 @@
 pub mod Issuer
+pub mod Kinds
+pub mod Metadata
+pub mod private

@@ -3,6 +3,12 @@
 
 #![tactic(auto)]
 
+mod groups;
+mod groups_read;
 mod issuer;
+mod kinds;
+mod metadata;
+mod metadata_json;
 
 pub use issuer::{IssuerError, metadata_url, openid_metadata_url};
+pub use metadata::ServerMetadata;

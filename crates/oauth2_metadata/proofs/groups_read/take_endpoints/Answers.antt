@@ -1,0 +1,61 @@
+use Rattle.std.proofs.Common.{◌≡◌, ℕ, List, [], ◌∷◌, Option, Ok, Err, option_map, codes}
+use Rattle.std.proofs.lemmas.Result.{err_from_is_err_and}
+use Rattle.serde_json.specs.Data.{Members}
+use Rattle.oauth2_urls.specs.Addressed.{Addressed}
+use Rattle.oauth2_json.specs.Reading.{Reading, ErrsAs, ◌⊛◌}
+use Rattle.oauth2_json.specs.declared.read.ReadError.{ReadError}
+use Rattle.oauth2_json.specs.declared.read.ReadError.TheVariants as errors
+use Rattle.oauth2_json.specs.Members.{without}
+use Rattle.oauth2_json.specs.Values.{url}
+use Rattle.oauth2_body_members.specs.Object.{object_members}
+use Rattle.oauth2_metadata.specs.Kinds.{told}
+use Rattle.oauth2_metadata.specs.private.InTurn.{endpoints_in_turn}
+use Rattle.oauth2_metadata.proofs.Addresses.{told_address}
+use Rattle.oauth2_metadata.proofs.groups_read.take_endpoints.Goals as goal
+
+errs_last : {A B : Type 0} (e : ReadError) (g : A → B) (r : Reading A) → ErrsAs e r → ErrsAs e (Ok g ⊛ r)
+errs_last errors.Memory g r h = tt
+errs_last (errors.Fault f) g (Ok a) h = cc
+errs_last (errors.Fault f) g (Err x) h = cc
+
+-- a fault of the fifth endpoint
+errs_fifth : (e : ReadError) (a b c d f : Members) (o p q r : Option Addressed)
+    → told url (codes "authorization_endpoint") a ≡ Ok o → b ≡ without (codes "authorization_endpoint") a
+    → told url (codes "token_endpoint") b ≡ Ok p → c ≡ without (codes "token_endpoint") b
+    → told url (codes "device_authorization_endpoint") c ≡ Ok q → d ≡ without (codes "device_authorization_endpoint") c
+    → told url (codes "introspection_endpoint") d ≡ Ok r → f ≡ without (codes "introspection_endpoint") d
+    → ErrsAs e (told url (codes "revocation_endpoint") f) → ErrsAs e (endpoints_in_turn a)
+unfolding endpoints_in_turn
+errs_fifth e a b c d f o p q r first after_first second after_second third after_third fourth after_fourth fifth =
+    let second_of = rw after_first at second in
+    let c_is = rw after_first at after_second in
+    let third_of = rw c_is at third in
+    let d_is = rw c_is at after_third in
+    let fourth_of = rw d_is at fourth in
+    let f_is = rw d_is at after_fourth in
+    let fifth_of = rw f_is at fifth in
+    rw (first, second_of, third_of, fourth_of) (errs_last e _ _ fifth_of)
+
+pub returns-in_err-revocation_endpoint-clause-read : goal.returns-in_err-revocation_endpoint-clause-read
+returns-in_err-revocation_endpoint-clause-read c =
+    let r = c.from_residual-in_err-revocation_endpoint in
+    let p = err_from_is_err_and r.result r.ensures.1 in
+    rw (p.1, p.2)
+    (errs_fifth c.in_err-revocation_endpoint.field-0.0
+    (object_members c.args.object.now) (object_members c.take_optional.new.object) (object_members c.take_optional-2.new.object)
+    (object_members c.take_optional-3.new.object) (object_members c.take_optional-4.new.object)
+    _ _ _ _
+    c.in_ok-authorization_endpoint.ensures.read c.in_ok-authorization_endpoint.ensures.rest
+    c.in_ok-token_endpoint.ensures.read c.in_ok-token_endpoint.ensures.rest
+    (c.in_ok-device_authorization_endpoint).ensures.read (c.in_ok-device_authorization_endpoint).ensures.rest
+    c.in_ok-introspection_endpoint.ensures.read c.in_ok-introspection_endpoint.ensures.rest
+    c.in_err-revocation_endpoint.ensures.read)
+
+pub invariant_of-result : goal.invariant_of-result
+invariant_of-result c = (
+  told_address (codes "authorization_endpoint") (object_members c.args.object.now) c.in_ok-authorization_endpoint.authorization_endpoint c.in_ok-authorization_endpoint.ensures.read,
+  told_address (codes "token_endpoint") (object_members c.take_optional.new.object) c.in_ok-token_endpoint.token_endpoint c.in_ok-token_endpoint.ensures.read,
+  told_address (codes "device_authorization_endpoint") (object_members c.take_optional-2.new.object) (c.in_ok-device_authorization_endpoint).device_authorization_endpoint (c.in_ok-device_authorization_endpoint).ensures.read,
+  told_address (codes "introspection_endpoint") (object_members c.take_optional-3.new.object) c.in_ok-introspection_endpoint.introspection_endpoint c.in_ok-introspection_endpoint.ensures.read,
+  told_address (codes "revocation_endpoint") (object_members c.take_optional-4.new.object) c.in_ok-revocation_endpoint.revocation_endpoint c.in_ok-revocation_endpoint.ensures.read,
+)

@@ -1,0 +1,2 @@
+-- What only private clauses and lemmas cite.
+pub mod InTurn

@@ -1,0 +1,175 @@
+//! The groups of members, read from an object.
+
+ghost use Rattle.std.specs.Prelude.{◌≡◌, IfOk};
+ghost use Rattle.oauth2_json.specs.Reading.{ReadsAs};
+ghost use Rattle.oauth2_body_members.specs.Object.{object_members};
+ghost use Rattle.oauth2_metadata.specs.private.InTurn.{
+  without_endpoints,
+  without_supported,
+  without_auth_methods,
+  without_signing_algorithms,
+  without_pages,
+  without_services,
+  endpoints_in_turn,
+  supported_in_turn,
+  auth_methods_in_turn,
+  signing_algorithms_in_turn,
+  pages_in_turn,
+  services_in_turn,
+};
+
+use crate::groups::{AuthMethods, Endpoints, Pages, Services, SigningAlgorithms, Supported};
+use crate::kinds::{take_flag, take_optional, take_text, take_text_list};
+use oauth2_body_members::Object;
+use oauth2_json::ReadError;
+use std::alloc::Global;
+
+#[tactic(auto, using(std::proofs::lemmas::Iterator::Adapters::option_map_id), unfolding(crate::specs::private::InTurn::endpoints_in_turn, crate::specs::private::InTurn::without_endpoints))]
+pub(crate) fn take_endpoints(alloc: Global, object: &mut Object<'_>) -> Result<Endpoints, ReadError>
+    ensures read { ReadsAs (λ m. m) result (endpoints_in_turn (object_members object.old)) }
+    ensures rest { IfOk result (λ _. object_members object.new
+        ≡ without_endpoints (object_members object.old)) }
+{
+    let authorization_endpoint = take_optional(alloc, object, "authorization_endpoint")?;
+    let token_endpoint = take_optional(alloc, object, "token_endpoint")?;
+    let device_authorization_endpoint = take_optional(
+        alloc,
+        object,
+        "device_authorization_endpoint",
+    )?;
+    let introspection_endpoint = take_optional(alloc, object, "introspection_endpoint")?;
+    let revocation_endpoint = take_optional(alloc, object, "revocation_endpoint")?;
+    Ok(Endpoints {
+        authorization_endpoint,
+        token_endpoint,
+        device_authorization_endpoint,
+        introspection_endpoint,
+        revocation_endpoint,
+    })
+}
+
+#[tactic(auto, unfolding(crate::specs::private::InTurn::supported_in_turn, crate::specs::private::InTurn::without_supported))]
+pub(crate) fn take_supported(alloc: Global, object: &mut Object<'_>) -> Result<Supported, ReadError>
+    ensures read { ReadsAs (λ m. m) result (supported_in_turn (object_members object.old)) }
+    ensures rest { IfOk result (λ _. object_members object.new
+        ≡ without_supported (object_members object.old)) }
+{
+    let scopes_supported = take_text_list(alloc, object, "scopes_supported")?;
+    let response_types_supported = take_text_list(alloc, object, "response_types_supported")?;
+    let response_modes_supported = take_text_list(alloc, object, "response_modes_supported")?;
+    let grant_types_supported = take_text_list(alloc, object, "grant_types_supported")?;
+    let code_challenge_methods_supported = take_text_list(
+        alloc,
+        object,
+        "code_challenge_methods_supported",
+    )?;
+    Ok(Supported {
+        scopes_supported,
+        response_types_supported,
+        response_modes_supported,
+        grant_types_supported,
+        code_challenge_methods_supported,
+    })
+}
+
+#[tactic(auto, unfolding(crate::specs::private::InTurn::auth_methods_in_turn, crate::specs::private::InTurn::without_auth_methods))]
+pub(crate) fn take_auth_methods(
+    alloc: Global,
+    object: &mut Object<'_>,
+) -> Result<AuthMethods, ReadError>
+    ensures read { ReadsAs (λ m. m) result (auth_methods_in_turn (object_members object.old)) }
+    ensures rest { IfOk result (λ _. object_members object.new
+        ≡ without_auth_methods (object_members object.old)) }
+{
+    let token_endpoint_auth_methods_supported = take_text_list(
+        alloc,
+        object,
+        "token_endpoint_auth_methods_supported",
+    )?;
+    let introspection_endpoint_auth_methods_supported = take_text_list(
+        alloc,
+        object,
+        "introspection_endpoint_auth_methods_supported",
+    )?;
+    let revocation_endpoint_auth_methods_supported = take_text_list(
+        alloc,
+        object,
+        "revocation_endpoint_auth_methods_supported",
+    )?;
+    Ok(AuthMethods {
+        token_endpoint_auth_methods_supported,
+        introspection_endpoint_auth_methods_supported,
+        revocation_endpoint_auth_methods_supported,
+    })
+}
+
+#[tactic(auto, unfolding(crate::specs::private::InTurn::signing_algorithms_in_turn, crate::specs::private::InTurn::without_signing_algorithms))]
+pub(crate) fn take_signing_algorithms(
+    alloc: Global,
+    object: &mut Object<'_>,
+) -> Result<SigningAlgorithms, ReadError>
+    ensures read { ReadsAs (λ m. m) result (signing_algorithms_in_turn (object_members object.old)) }
+    ensures rest { IfOk result (λ _. object_members object.new
+        ≡ without_signing_algorithms (object_members object.old)) }
+{
+    let token_endpoint_auth_signing_alg_values_supported = take_text_list(
+        alloc,
+        object,
+        "token_endpoint_auth_signing_alg_values_supported",
+    )?;
+    let introspection_endpoint_auth_signing_alg_values_supported = take_text_list(
+        alloc,
+        object,
+        "introspection_endpoint_auth_signing_alg_values_supported",
+    )?;
+    let revocation_endpoint_auth_signing_alg_values_supported = take_text_list(
+        alloc,
+        object,
+        "revocation_endpoint_auth_signing_alg_values_supported",
+    )?;
+    Ok(SigningAlgorithms {
+        token_endpoint_auth_signing_alg_values_supported,
+        introspection_endpoint_auth_signing_alg_values_supported,
+        revocation_endpoint_auth_signing_alg_values_supported,
+    })
+}
+
+#[tactic(auto, unfolding(crate::specs::private::InTurn::pages_in_turn, crate::specs::private::InTurn::without_pages))]
+pub(crate) fn take_pages(alloc: Global, object: &mut Object<'_>) -> Result<Pages, ReadError>
+    ensures read { ReadsAs (λ m. m) result (pages_in_turn (object_members object.old)) }
+    ensures rest { IfOk result (λ _. object_members object.new
+        ≡ without_pages (object_members object.old)) }
+{
+    let service_documentation = take_text(alloc, object, "service_documentation")?;
+    let ui_locales_supported = take_text_list(alloc, object, "ui_locales_supported")?;
+    let op_policy_uri = take_text(alloc, object, "op_policy_uri")?;
+    let op_tos_uri = take_text(alloc, object, "op_tos_uri")?;
+    Ok(Pages {
+        service_documentation,
+        op_policy_uri,
+        op_tos_uri,
+        ui_locales_supported,
+    })
+}
+
+#[tactic(auto, unfolding(crate::specs::private::InTurn::services_in_turn, crate::specs::private::InTurn::without_services))]
+pub(crate) fn take_services(alloc: Global, object: &mut Object<'_>) -> Result<Services, ReadError>
+    ensures read { ReadsAs (λ m. m) result (services_in_turn (object_members object.old)) }
+    ensures rest { IfOk result (λ _. object_members object.new
+        ≡ without_services (object_members object.old)) }
+{
+    let registration_endpoint = take_text(alloc, object, "registration_endpoint")?;
+    let jwks_uri = take_text(alloc, object, "jwks_uri")?;
+    let signed_metadata = take_text(alloc, object, "signed_metadata")?;
+    let authorization_response_iss_parameter_supported = take_flag(
+        alloc,
+        object,
+        "authorization_response_iss_parameter_supported",
+    )?;
+    Ok(Services {
+        registration_endpoint,
+        jwks_uri,
+        signed_metadata,
+        authorization_response_iss_parameter_supported,
+    })
+}

@@ -1,0 +1,267 @@
+//! The metadata of an authorization server (RFC 8414, section 2).
+
+ghost use Rattle.std.specs.Prelude.{
+  ◌≡◌,
+  false,
+  map,
+  option_copied,
+  option_map,
+  string_bytes,
+  unwrap_or,
+};
+ghost use Rattle.oauth2_metadata.specs.Metadata.{Metadata};
+
+use crate::groups::{AuthMethods, Endpoints, Pages, Services, SigningAlgorithms, Supported};
+use oauth2_replies::ExtraFields;
+use oauth2_urls::{AuthUrl, DeviceAuthorizationUrl, IntrospectionUrl, RevocationUrl, TokenUrl};
+use std::marker::Model;
+
+/// The metadata of an authorization server, with extra fields `EF` (RFC 8414, section 2; RFC 8628,
+/// section 4; RFC 9207, section 3). It is made by reading it.
+///
+/// Each member but the issuer may be absent. Where a standard has a default, the getter says so,
+/// and returns what the server told.
+#[derive(Debug, Drop)]
+pub struct ServerMetadata<EF = ExtraFields> {
+    pub(crate) issuer: String,
+    pub(crate) endpoints: Endpoints,
+    pub(crate) supported: Supported,
+    pub(crate) auth_methods: AuthMethods,
+    pub(crate) signing_algorithms: SigningAlgorithms,
+    pub(crate) pages: Pages,
+    pub(crate) services: Services,
+    pub(crate) extra_fields: EF,
+}
+
+impl<EF> Model for ServerMetadata<EF> {
+    ghost use Rattle.std.specs.Prelude.{string_bytes};
+    ghost use Rattle.oauth2_metadata.specs.Metadata.{Metadata, metadata};
+
+    ghost Value = { Metadata EF };
+
+    ghost view = { λ m. metadata (string_bytes m.issuer) m.endpoints m.supported m.auth_methods
+        m.signing_algorithms m.pages m.services m.extra_fields };
+}
+
+impl<EF> ServerMetadata<EF> {
+    /// The issuer, as the server wrote it.
+    pub fn issuer(&self) -> &str
+        ensures { result.now ≡ self.now.issuer }
+    {
+        self.issuer.as_str()
+    }
+
+    /// The authorization endpoint.
+    pub fn authorization_endpoint(&self) -> Option<&AuthUrl>
+        ensures { option_copied result ≡ self.now.endpoints.authorization_endpoint }
+    {
+        self.endpoints.authorization_endpoint.as_ref()
+    }
+
+    /// The token endpoint.
+    pub fn token_endpoint(&self) -> Option<&TokenUrl>
+        ensures { option_copied result ≡ self.now.endpoints.token_endpoint }
+    {
+        self.endpoints.token_endpoint.as_ref()
+    }
+
+    /// The device authorization endpoint (RFC 8628, section 4).
+    pub fn device_authorization_endpoint(&self) -> Option<&DeviceAuthorizationUrl>
+        ensures { option_copied result ≡ self.now.endpoints.device_authorization_endpoint }
+    {
+        self.endpoints.device_authorization_endpoint.as_ref()
+    }
+
+    /// The introspection endpoint.
+    pub fn introspection_endpoint(&self) -> Option<&IntrospectionUrl>
+        ensures { option_copied result ≡ self.now.endpoints.introspection_endpoint }
+    {
+        self.endpoints.introspection_endpoint.as_ref()
+    }
+
+    /// The revocation endpoint.
+    pub fn revocation_endpoint(&self) -> Option<&RevocationUrl>
+        ensures { option_copied result ≡ self.now.endpoints.revocation_endpoint }
+    {
+        self.endpoints.revocation_endpoint.as_ref()
+    }
+
+    /// The scopes that the server knows, some or all of them.
+    pub fn scopes_supported(&self) -> Option<&Vec<String>>
+        ensures { option_map (λ list. map string_bytes list.now.items) result
+            ≡ self.now.supported.scopes_supported }
+    {
+        self.supported.scopes_supported.as_ref()
+    }
+
+    /// The response types. The standard wants them to be there.
+    pub fn response_types_supported(&self) -> Option<&Vec<String>>
+        ensures { option_map (λ list. map string_bytes list.now.items) result
+            ≡ self.now.supported.response_types_supported }
+    {
+        self.supported.response_types_supported.as_ref()
+    }
+
+    /// The response modes: `query` and `fragment` where none are told.
+    pub fn response_modes_supported(&self) -> Option<&Vec<String>>
+        ensures { option_map (λ list. map string_bytes list.now.items) result
+            ≡ self.now.supported.response_modes_supported }
+    {
+        self.supported.response_modes_supported.as_ref()
+    }
+
+    /// The grant types: `authorization_code` and `implicit` where none are told.
+    pub fn grant_types_supported(&self) -> Option<&Vec<String>>
+        ensures { option_map (λ list. map string_bytes list.now.items) result
+            ≡ self.now.supported.grant_types_supported }
+    {
+        self.supported.grant_types_supported.as_ref()
+    }
+
+    /// The methods of a code challenge. Where none are told, the server knows no challenges.
+    pub fn code_challenge_methods_supported(&self) -> Option<&Vec<String>>
+        ensures { option_map (λ list. map string_bytes list.now.items) result
+            ≡ self.now.supported.code_challenge_methods_supported }
+    {
+        self.supported.code_challenge_methods_supported.as_ref()
+    }
+
+    /// How a client may show who it is at the token endpoint: by `client_secret_basic` where nothing
+    /// is told.
+    pub fn token_endpoint_auth_methods_supported(&self) -> Option<&Vec<String>>
+        ensures { option_map (λ list. map string_bytes list.now.items) result
+            ≡ self.now.auth_methods.token_endpoint_auth_methods_supported }
+    {
+        self.auth_methods
+            .token_endpoint_auth_methods_supported
+            .as_ref()
+    }
+
+    /// How a client may show who it is at the introspection endpoint.
+    pub fn introspection_endpoint_auth_methods_supported(&self) -> Option<&Vec<String>>
+        ensures { option_map (λ list. map string_bytes list.now.items) result
+            ≡ self.now.auth_methods.introspection_endpoint_auth_methods_supported }
+    {
+        self.auth_methods
+            .introspection_endpoint_auth_methods_supported
+            .as_ref()
+    }
+
+    /// How a client may show who it is at the revocation endpoint: by `client_secret_basic` where
+    /// nothing is told.
+    pub fn revocation_endpoint_auth_methods_supported(&self) -> Option<&Vec<String>>
+        ensures { option_map (λ list. map string_bytes list.now.items) result
+            ≡ self.now.auth_methods.revocation_endpoint_auth_methods_supported }
+    {
+        self.auth_methods
+            .revocation_endpoint_auth_methods_supported
+            .as_ref()
+    }
+
+    /// The algorithms of a JWT by which a client shows who it is at the token endpoint.
+    pub fn token_endpoint_auth_signing_alg_values_supported(&self) -> Option<&Vec<String>>
+        ensures { option_map (λ list. map string_bytes list.now.items) result
+            ≡ self.now.signing_algorithms.token_endpoint_auth_signing_alg_values_supported }
+    {
+        self.signing_algorithms
+            .token_endpoint_auth_signing_alg_values_supported
+            .as_ref()
+    }
+
+    /// The algorithms of such a JWT at the introspection endpoint.
+    pub fn introspection_endpoint_auth_signing_alg_values_supported(&self) -> Option<&Vec<String>>
+        ensures { option_map (λ list. map string_bytes list.now.items) result
+            ≡ self.now.signing_algorithms.introspection_endpoint_auth_signing_alg_values_supported }
+    {
+        self.signing_algorithms
+            .introspection_endpoint_auth_signing_alg_values_supported
+            .as_ref()
+    }
+
+    /// The algorithms of such a JWT at the revocation endpoint.
+    pub fn revocation_endpoint_auth_signing_alg_values_supported(&self) -> Option<&Vec<String>>
+        ensures { option_map (λ list. map string_bytes list.now.items) result
+            ≡ self.now.signing_algorithms.revocation_endpoint_auth_signing_alg_values_supported }
+    {
+        self.signing_algorithms
+            .revocation_endpoint_auth_signing_alg_values_supported
+            .as_ref()
+    }
+
+    /// The URL of a page for developers.
+    pub fn service_documentation(&self) -> Option<&str>
+        ensures { option_copied result ≡ self.now.pages.service_documentation }
+    {
+        text_of(&self.pages.service_documentation)
+    }
+
+    /// The languages of the server's pages, as tags of RFC 5646.
+    pub fn ui_locales_supported(&self) -> Option<&Vec<String>>
+        ensures { option_map (λ list. map string_bytes list.now.items) result
+            ≡ self.now.pages.ui_locales_supported }
+    {
+        self.pages.ui_locales_supported.as_ref()
+    }
+
+    /// The URL of a page on what a client may do with what it is told.
+    pub fn op_policy_uri(&self) -> Option<&str>
+        ensures { option_copied result ≡ self.now.pages.op_policy_uri }
+    {
+        text_of(&self.pages.op_policy_uri)
+    }
+
+    /// The URL of the terms of service.
+    pub fn op_tos_uri(&self) -> Option<&str>
+        ensures { option_copied result ≡ self.now.pages.op_tos_uri }
+    {
+        text_of(&self.pages.op_tos_uri)
+    }
+
+    /// The URL where clients are registered (RFC 7591).
+    pub fn registration_endpoint(&self) -> Option<&str>
+        ensures { option_copied result ≡ self.now.services.registration_endpoint }
+    {
+        text_of(&self.services.registration_endpoint)
+    }
+
+    /// The URL of the server's keys, a JWK Set (RFC 7517).
+    pub fn jwks_uri(&self) -> Option<&str>
+        ensures { option_copied result ≡ self.now.services.jwks_uri }
+    {
+        text_of(&self.services.jwks_uri)
+    }
+
+    /// The metadata as a signed JWT (RFC 8414, section 2.1). Nothing of it is read here.
+    pub fn signed_metadata(&self) -> Option<&str>
+        ensures { option_copied result ≡ self.now.services.signed_metadata }
+    {
+        text_of(&self.services.signed_metadata)
+    }
+
+    /// Whether the server tells its issuer in the redirect: not where it does not say so (RFC 9207,
+    /// section 3).
+    pub fn authorization_response_iss_parameter_supported(&self) -> bool
+        ensures { result
+            ≡ unwrap_or self.now.services.authorization_response_iss_parameter_supported false }
+    {
+        self.services
+            .authorization_response_iss_parameter_supported
+            .unwrap_or(false)
+    }
+
+    /// The members that the standards do not name.
+    pub fn extra_fields(&self) -> &EF
+        ensures { result.now ≡ self.now.extra_fields }
+    {
+        &self.extra_fields
+    }
+}
+
+fn text_of(text: &Option<String>) -> Option<&str>
+    ensures { option_copied result ≡ option_map string_bytes text.now }
+{
+    match text {
+        Some(text) => Some(text.as_str()),
+        None => None,
+    }
+}

@@ -1,0 +1,104 @@
+//! Metadata, read from a JSON object.
+
+ghost use Rattle.std.specs.Prelude.{◌≡◌, map, string_bytes};
+ghost use Rattle.oauth2_json.specs.Reading.{ReadsAs};
+ghost use Rattle.oauth2_body_members.specs.Object.{object_members};
+ghost use Rattle.oauth2_metadata.specs.Metadata.{
+  Metadata,
+  metadata_reading,
+  metadata_seen,
+  own_names,
+};
+ghost use Rattle.oauth2_metadata.specs.private.InTurn.{in_turn};
+
+use crate::groups_read::{
+    take_auth_methods, take_endpoints, take_pages, take_services, take_signing_algorithms,
+    take_supported,
+};
+use crate::metadata::ServerMetadata;
+use oauth2_body_members::Object;
+use oauth2_json::{FromJson, ReadError, members};
+use oauth2_replies::ExtraTokenFields;
+use serde_json::Value;
+use std::alloc::Global;
+
+impl<EF: ExtraTokenFields + Drop> FromJson for ServerMetadata<EF> {
+    ghost Meaning = { Metadata EF.Meaning };
+
+    ghost meaning = { metadata_seen EF.meaning };
+
+    ghost reading = { metadata_reading EF.reading };
+
+    fn from_json(alloc: Global, value: Value) -> Result<ServerMetadata<EF>, ReadError> {
+        let object = Object::of_value(alloc, value)?;
+        from_members(alloc, object)
+    }
+
+    fn from_body(alloc: Global, bytes: &[u8]) -> Result<ServerMetadata<EF>, ReadError> {
+        let object = Object::of_body(alloc, bytes, &own_names(), EF::reads_members())?;
+        from_members(alloc, object)
+    }
+}
+
+// The names of the type's own members.
+#[tactic(auto, unfolding(crate::specs::Metadata::own_names))]
+pub(crate) fn own_names() -> [&'static str; 25]
+    ensures { map (λ name. name.now) result ≡ own_names }
+{
+    [
+        "issuer",
+        "authorization_endpoint",
+        "token_endpoint",
+        "device_authorization_endpoint",
+        "introspection_endpoint",
+        "revocation_endpoint",
+        "scopes_supported",
+        "response_types_supported",
+        "response_modes_supported",
+        "grant_types_supported",
+        "code_challenge_methods_supported",
+        "token_endpoint_auth_methods_supported",
+        "introspection_endpoint_auth_methods_supported",
+        "revocation_endpoint_auth_methods_supported",
+        "token_endpoint_auth_signing_alg_values_supported",
+        "introspection_endpoint_auth_signing_alg_values_supported",
+        "revocation_endpoint_auth_signing_alg_values_supported",
+        "service_documentation",
+        "ui_locales_supported",
+        "op_policy_uri",
+        "op_tos_uri",
+        "registration_endpoint",
+        "jwks_uri",
+        "signed_metadata",
+        "authorization_response_iss_parameter_supported",
+    ]
+}
+
+// The own members, group by group, and what is left of the others.
+fn from_members<EF: ExtraTokenFields + Drop>(
+    alloc: Global,
+    mut object: Object<'_>,
+) -> Result<ServerMetadata<EF>, ReadError>
+    ensures { ReadsAs (metadata_seen EF.meaning) result
+        (in_turn EF.reading (object_members object.entry)) }
+{
+    let issuer = object.take("issuer");
+    let issuer = members::needed(alloc, "issuer", issuer)?;
+    let endpoints = take_endpoints(alloc, &mut object)?;
+    let supported = take_supported(alloc, &mut object)?;
+    let auth_methods = take_auth_methods(alloc, &mut object)?;
+    let signing_algorithms = take_signing_algorithms(alloc, &mut object)?;
+    let pages = take_pages(alloc, &mut object)?;
+    let services = take_services(alloc, &mut object)?;
+    let extra_fields = EF::from_json(alloc, object.into_value(alloc)?)?;
+    Ok(ServerMetadata {
+        issuer,
+        endpoints,
+        supported,
+        auth_methods,
+        signing_algorithms,
+        pages,
+        services,
+        extra_fields,
+    })
+}
