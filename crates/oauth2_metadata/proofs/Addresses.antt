@@ -8,7 +8,7 @@ use Rattle.url.specs.Parts.{Parts}
 use Rattle.oauth2_urls.specs.Addressed.{Addressed}
 use Rattle.oauth2_json.specs.Reading.{Reading, whole, at_member}
 use Rattle.oauth2_json.specs.declared.read.ParseCause.TheVariants as cause
-use Rattle.oauth2_json.specs.Members.{optional, some_of}
+use Rattle.oauth2_json.specs.Members.{optional, some_of, optional_writing}
 use Rattle.oauth2_json.specs.Values.{url}
 use Rattle.oauth2_metadata.specs.Kinds.{address_data, told}
 use Rattle.oauth2_replies.specs.private.Address.{IsAddress}
@@ -44,3 +44,8 @@ pub optional-address : (name : List ℕ) (o : Option Addressed) → ForSome o Is
 unfolding IsAddress
 optional-address name None h = refl
 optional-address name (Some a) h = subst (λ p. text_and_url name a.text p ≡ Ok (Some a)) (sym (h a refl)) refl
+
+-- what is written of a URL that may be absent
+pub address_written : (o : Option Addressed) → optional_writing (λ u. Ok (string u.text)) o ≡ Ok (option_map address_data o)
+address_written None = refl
+address_written (Some a) = refl

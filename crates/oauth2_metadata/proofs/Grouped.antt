@@ -6,12 +6,12 @@ use Rattle.std.proofs.lemmas.Slice.Eq.{bytes_eq-Decides}
 use Rattle.serde_json.specs.Data.{Data, Members, object}
 use Rattle.serde_json.specs.Find.{get_member}
 use Rattle.oauth2_json.specs.Reading.{Reading, ◌⊛◌}
-use Rattle.oauth2_json.specs.Members.{members_of_object, needed, others}
+use Rattle.oauth2_json.specs.Members.{needed, others}
 use Rattle.oauth2_json.specs.Values.{text}
 use Rattle.oauth2_json.proofs.Objects.{get_member-others, misses}
 use Rattle.oauth2_body_members.specs.Object.{Keeps, has_name}
 use Rattle.oauth2_body_members.proofs.Keeping.{others_kept}
-use Rattle.oauth2_metadata.specs.Metadata.{Metadata, metadata, own_names, metadata_row, metadata_reading, endpoint_names, endpoint_row, supported_names, supported_row, auth_method_names, auth_method_row, signing_algorithm_names, signing_algorithm_row, page_names, page_row, service_names, service_row}
+use Rattle.oauth2_metadata.specs.Metadata.{metadata, own_names, metadata_row, endpoint_names, endpoint_row, supported_names, supported_row, auth_method_names, auth_method_row, signing_algorithm_names, signing_algorithm_row, page_names, page_row, service_names, service_row}
 use Rattle.oauth2_metadata.specs.private.InTurn.{in_turn, endpoints_in_turn, without_endpoints, supported_in_turn, without_supported, auth_methods_in_turn, without_auth_methods, signing_algorithms_in_turn, without_signing_algorithms, pages_in_turn, without_pages, services_in_turn, without_services, after_issuer, after_endpoints, after_supported, after_auth_methods, after_signing_algorithms, after_pages, after_services}
 
 pass_at : (b : Bool) (test : List ℕ → Bool) (k name : List ℕ) (ks : List (List ℕ)) → bytes_eq k name ≡ b → test k && list_all test ks ≡ true → b || has_name name ks ≡ true → (list_all test ks ≡ true → has_name name ks ≡ true → test name ≡ true) → test name ≡ true

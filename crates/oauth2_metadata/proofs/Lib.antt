@@ -2,3 +2,4 @@ pub mod PlaceLaws
 pub mod Addresses
 pub mod TextLists
 pub mod Grouped
+pub mod BackLaws

@@ -1,2 +1,3 @@
 -- What only private clauses and lemmas cite.
 pub mod InTurn
+pub mod Kept

@@ -5,6 +5,7 @@
 
 mod groups;
 mod groups_read;
+mod groups_write;
 mod issuer;
 mod kinds;
 mod metadata;

@@ -1,15 +1,22 @@
-//! Metadata, read from a JSON object.
+//! Metadata as a JSON object.
 
-ghost use Rattle.std.specs.Prelude.{◌≡◌, map, string_bytes};
+ghost use Rattle.std.specs.Prelude.{◌≡◌, Ok, IfOk, map};
+ghost use Rattle.serde_json.specs.View.{view, members_view};
+ghost use Rattle.oauth2_json.specs.Puts.{put_all};
 ghost use Rattle.oauth2_json.specs.Reading.{ReadsAs};
+ghost use Rattle.oauth2_json.specs.Writing.{WritesAs};
 ghost use Rattle.oauth2_body_members.specs.Object.{object_members};
 ghost use Rattle.oauth2_metadata.specs.Metadata.{
   Metadata,
   metadata_reading,
   metadata_seen,
+  metadata_writing,
   own_names,
+  own_rows,
 };
 ghost use Rattle.oauth2_metadata.specs.private.InTurn.{in_turn};
+ghost use Rattle.oauth2_metadata.specs.private.Kept.{AreAddresses};
+ghost use Rattle.oauth2_replies.specs.Kept.{AreFieldsKept};
 
 use crate::groups_read::{
     take_auth_methods, take_endpoints, take_pages, take_services, take_signing_algorithms,
@@ -17,10 +24,10 @@ use crate::groups_read::{
 };
 use crate::metadata::ServerMetadata;
 use oauth2_body_members::Object;
-use oauth2_json::{FromJson, ReadError, members};
+use oauth2_json::{FromJson, ReadError, ToJson, WriteError, members};
 use oauth2_replies::ExtraTokenFields;
-use serde_json::Value;
-use std::alloc::Global;
+use serde_json::{Map, Value};
+use std::alloc::{AllocError, Global};
 
 impl<EF: ExtraTokenFields + Drop> FromJson for ServerMetadata<EF> {
     ghost Meaning = { Metadata EF.Meaning };
@@ -101,4 +108,50 @@ fn from_members<EF: ExtraTokenFields + Drop>(
         services,
         extra_fields,
     })
+}
+
+impl<EF: ExtraTokenFields> ServerMetadata<EF> {
+    fn written(&self, alloc: Global) -> Result<Value, WriteError>
+        ensures written { WritesAs result (metadata_writing EF.writing self.now) }
+        ensures addresses { IfOk result (λ _. AreAddresses self.now.endpoints) }
+    {
+        let extra = self.extra_fields.to_json(alloc)?;
+        let members = members::beside(&own_names(), extra)?;
+        Ok(Value::Object(self.with_members(alloc, members)?))
+    }
+
+    #[tactic(auto, using(crate::proofs::BackLaws::own_puts))]
+    fn with_members(
+        &self,
+        alloc: Global,
+        mut members: Map<String, Value>,
+    ) -> Result<Map<String, Value>, AllocError>
+        ensures put { IfOk result (λ all. members_view all.entries
+            ≡ put_all (own_rows self.now) (members_view members.entries)) }
+        ensures addresses { IfOk result (λ _. AreAddresses self.now.endpoints) }
+    {
+        self.services.put(alloc, &mut members)?;
+        self.pages.put(alloc, &mut members)?;
+        self.signing_algorithms.put(alloc, &mut members)?;
+        self.auth_methods.put(alloc, &mut members)?;
+        self.supported.put(alloc, &mut members)?;
+        self.endpoints.put(alloc, &mut members)?;
+        let issuer = Value::try_from_str(alloc, self.issuer.as_str())?;
+        members::put_some(&mut members, alloc, "issuer", Some(issuer))?;
+        Ok(members)
+    }
+}
+
+impl<EF: ExtraTokenFields> ToJson for ServerMetadata<EF> {
+    ghost writing = { metadata_writing EF.writing };
+
+    fn to_json(&self, alloc: Global) -> Result<Value, WriteError>
+        ensures written { WritesAs result (metadata_writing EF.writing self.now) }
+        // Where its extra fields are kept, it reads back as the same metadata.
+        ensures reads_back { IfOk result (λ v.
+            AreFieldsKept EF.reading EF.meaning EF.writing self.now.extra_fields
+            → metadata_reading EF.reading (view v) ≡ Ok (metadata_seen EF.meaning self.now)) }
+    {
+        self.written(alloc)
+    }
 }

@@ -1,5 +1,5 @@
 -- The members of metadata, taken out group by group, each out of those that the members before it left.
-use Rattle.std.specs.Prelude.{ℕ, List, [], ◌∷◌, Ok, codes}
+use Rattle.std.specs.Prelude.{[], ◌∷◌, Ok, codes}
 use Rattle.serde_json.specs.Data.{Data, Members, object}
 use Rattle.serde_json.specs.Find.{get_member}
 use Rattle.oauth2_json.specs.Reading.{Reading, ◌⊛◌}

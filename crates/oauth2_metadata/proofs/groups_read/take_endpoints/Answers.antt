@@ -1,4 +1,4 @@
-use Rattle.std.proofs.Common.{◌≡◌, ℕ, List, [], ◌∷◌, Option, Ok, Err, option_map, codes}
+use Rattle.std.proofs.Common.{◌≡◌, Option, Ok, Err, codes}
 use Rattle.std.proofs.lemmas.Result.{err_from_is_err_and}
 use Rattle.serde_json.specs.Data.{Members}
 use Rattle.oauth2_urls.specs.Addressed.{Addressed}

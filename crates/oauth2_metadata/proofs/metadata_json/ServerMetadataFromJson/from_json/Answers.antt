@@ -1,5 +1,4 @@
-use Rattle.std.proofs.Common.{◌≡◌, Ok, subst, sym, ap, ◌∙◌}
-use Rattle.serde_json.specs.View.{view}
+use Rattle.std.proofs.Common.{subst, sym, ap, ◌∙◌}
 use Rattle.oauth2_json.specs.Reading.{ReadsAs, read_then}
 use Rattle.oauth2_body_members.specs.Object.{object_members}
 use Rattle.oauth2_metadata.specs.Metadata.{metadata_seen, metadata_row}

@@ -1,0 +1,12 @@
+-- Endpoints that were read: each is the URL of its text.
+use Rattle.std.specs.Option.{ForSome}
+use Rattle.oauth2_replies.specs.private.Address.{IsAddress}
+use Rattle.oauth2_metadata.specs.Metadata.{EndpointMembers}
+
+abbrev pub AreAddresses : EndpointMembers → Type 0
+AreAddresses m =
+    ForSome m.authorization_endpoint IsAddress
+    × ForSome m.token_endpoint IsAddress
+    × ForSome m.device_authorization_endpoint IsAddress
+    × ForSome m.introspection_endpoint IsAddress
+    × ForSome m.revocation_endpoint IsAddress
