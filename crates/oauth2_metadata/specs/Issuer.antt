@@ -6,7 +6,8 @@ use Rattle.url.specs.Ascii.{slash}
 use Rattle.url.specs.declared.host.Host.{Host}
 use Rattle.url.specs.declared.host.Host.TheVariants.{Domain, Ipv4, Ipv6}
 use Rattle.url.specs.Parts.{Parts, nonempty_host}
-use Rattle.url.specs.Parser.{with_path}
+use Rattle.url.specs.Parser.{parse_url, with_path}
+use Rattle.url.specs.declared.error.ParseError.{ParseError}
 use Rattle.oauth2_metadata.specs.declared.issuer.IssuerError.{IssuerError}
 use Rattle.oauth2_metadata.specs.declared.issuer.IssuerError.TheVariants.{NotUrl, NotHttps, HasQuery, HasFragment, TooLong, Memory}
 
@@ -57,6 +58,10 @@ IsOutOfRoom error = (error ≡ Memory) ⊎ (error ≡ TooLong)
 abbrev pub IsPlaced : (Parts → Parts) → Parts → Result Parts IssuerError → Type 0
 IsPlaced place issuer (Ok url) = (refusal issuer ≡ None) × (url ≡ place issuer)
 IsPlaced place issuer (Err error) = (refusal issuer ≡ Some error) ⊎ ((refusal issuer ≡ None) × IsOutOfRoom error)
+
+-- a text is no URL, or there was no room to read it
+abbrev pub IsNoUrl : List ℕ → IssuerError → Type 0
+IsNoUrl text error = ((error ≡ NotUrl) × (cause : ParseError) × (parse_url None text ≡ Err cause)) ⊎ IsOutOfRoom error
 
 -- the text of an error
 abbrev pub issuer_error_text : IssuerError → List ℕ

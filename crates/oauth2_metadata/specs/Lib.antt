@@ -1,4 +1,6 @@
 pub mod Issuer
 pub mod Kinds
 pub mod Metadata
+pub mod Request
+pub mod Client
 pub mod private

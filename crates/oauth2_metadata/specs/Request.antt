@@ -1,0 +1,67 @@
+-- The request for metadata (RFC 8414, 3.1), and what its reply says (3.2 and 3.3).
+use Rattle.std.specs.Prelude.{◌≡◌, ◌⊎◌, ℕ, List, [], codes, bytes_eq, if◌then◌else◌, Option, None, Some, Result, Ok, Err}
+use Rattle.serde_json.specs.Data.{Data}
+use Rattle.http.specs.declared.version.TheConstants.Version.{HTTP_11}
+use Rattle.http_uri.specs.Uri.{Spells, SpellsNone}
+use Rattle.url.specs.Parts.{Parts, serialize}
+use Rattle.url.specs.Parser.{parse_url}
+use Rattle.oauth2_wire.specs.declared.content_type.ReplyRule.TheVariants.{Prefix}
+use Rattle.oauth2_metadata.specs.Issuer.{IsNoUrl, IsPlaced, refusal}
+use Rattle.oauth2_metadata.specs.declared.issuer.IssuerError.{IssuerError}
+use Rattle.oauth2_json.specs.Reading.{Reading}
+use Rattle.oauth2_wire.specs.declared.content_type.ReplyRule.{ReplyRule}
+use Rattle.oauth2_wire.specs.declared.error.RequestTokenError.{RequestTokenError}
+use Rattle.oauth2_wire.specs.Display.{fault_text}
+use Rattle.oauth2_wire.specs.Expected.{one_header}
+use Rattle.oauth2_wire.specs.OneShot.{HttpRequest, OneShot}
+use Rattle.oauth2_wire.specs.Reply.{HttpResponse, answer_of, reply_of}
+use Rattle.oauth2_wire.specs.Request.{RequestView, view_of}
+use Rattle.oauth2_metadata.specs.Metadata.{Metadata}
+use Rattle.oauth2_metadata.specs.declared.metadata_error.MetadataError.{MetadataError}
+use Rattle.oauth2_metadata.specs.declared.metadata_error.MetadataError.TheVariants.{OtherIssuer, Reply}
+
+-- whose metadata is asked for, where it is, and the rule for the Content-Type of the reply
+pub record MetadataQuery : Type 0 where
+  pub issuer : List ℕ
+  pub url : Parts
+  pub reply_rule : ReplyRule
+
+-- a GET of the text of a URL, which says that JSON is wanted
+pub record IsGetOf (text : List ℕ) (v : RequestView) : Type 0 where
+  pub method : v.method ≡ codes "GET"
+  pub target : Spells text v.target
+  pub version : v.version ≡ HTTP_11
+  pub headers : v.headers ≡ one_header (codes "accept") (codes "application/json")
+  pub body : v.body ≡ []
+
+-- the text of an error
+abbrev pub metadata_error_text : {RE T : Type 0} → (T → Option (List ℕ)) → MetadataError RE T → Option (List ℕ)
+metadata_error_text text (Reply error) = fault_text text error
+metadata_error_text text OtherIssuer = Some (codes "metadata is another issuer's")
+
+module _ {E T RE : Type 0} where
+  -- metadata counts where it names the issuer that was asked for, byte for byte (RFC 8414, 3.3)
+  abbrev pub checked : List ℕ → Result (Metadata E) (RequestTokenError RE T) → Result (Metadata E) (MetadataError RE T)
+  checked issuer (Ok m) = if bytes_eq m.issuer issuer then Ok m else Err OtherIssuer
+  checked issuer (Err error) = Err (Reply error)
+
+module _ {E A T F RE C : Type 0} where
+  -- the client makes exactly one step, with the GET, and the result is what its answer says, if it is
+  -- this issuer's; or it makes none, since the URL is no HTTP target or memory ran out before
+  abbrev pub AsksForMetadata : (Metadata E → A) → (T → F) → (Data → Reading A) → (Data → Reading F)
+      → (C → HttpRequest → Result HttpResponse RE → C → Type 0) → MetadataQuery → C → Result (Metadata E) (MetadataError RE T) → C → Type 0
+  AsksForMetadata meaning error_meaning reading error_reading step query before result after =
+      (outcome : Result (Metadata E) (RequestTokenError RE T)) × (result ≡ checked query.issuer outcome)
+      × OneShot meaning error_meaning step
+      (λ reply. answer_of query.reply_rule reading error_reading (reply_of reply))
+      (λ request. IsGetOf (serialize query.url) (view_of request))
+      (SpellsNone (serialize query.url))
+      before outcome after
+
+-- a request for the metadata of the issuer that a text is, at that place
+abbrev pub IsAsked : (Parts → Parts) → List ℕ → Result MetadataQuery IssuerError → Type 0
+IsAsked place text (Ok query) =
+    (url : Parts) × (parse_url None text ≡ Ok url) × (refusal url ≡ None)
+    × (query ≡ record { issuer = text; url = place url; reply_rule = Prefix })
+IsAsked place text (Err error) =
+    IsNoUrl text error ⊎ ((url : Parts) × (parse_url None text ≡ Ok url) × IsPlaced place url (Err error))
