@@ -77,10 +77,18 @@ impl Model for Supported {
 
     ghost view = { λ m. record {
       scopes_supported = option_map (λ list. map string_bytes list.items) m.scopes_supported;
-      response_types_supported = option_map (λ list. map string_bytes list.items) m.response_types_supported;
-      response_modes_supported = option_map (λ list. map string_bytes list.items) m.response_modes_supported;
-      grant_types_supported = option_map (λ list. map string_bytes list.items) m.grant_types_supported;
-      code_challenge_methods_supported = option_map (λ list. map string_bytes list.items) m.code_challenge_methods_supported;
+      response_types_supported =
+          option_map (λ list. map string_bytes list.items)
+          m.response_types_supported;
+      response_modes_supported =
+          option_map (λ list. map string_bytes list.items)
+          m.response_modes_supported;
+      grant_types_supported =
+          option_map (λ list. map string_bytes list.items)
+          m.grant_types_supported;
+      code_challenge_methods_supported =
+          option_map (λ list. map string_bytes list.items)
+          m.code_challenge_methods_supported;
     } };
 }
 
@@ -109,9 +117,15 @@ impl Model for AuthMethods {
     ghost Value = { AuthMethodMembers };
 
     ghost view = { λ m. record {
-      token_endpoint_auth_methods_supported = option_map (λ list. map string_bytes list.items) m.token_endpoint_auth_methods_supported;
-      introspection_endpoint_auth_methods_supported = option_map (λ list. map string_bytes list.items) m.introspection_endpoint_auth_methods_supported;
-      revocation_endpoint_auth_methods_supported = option_map (λ list. map string_bytes list.items) m.revocation_endpoint_auth_methods_supported;
+      token_endpoint_auth_methods_supported =
+          option_map (λ list. map string_bytes list.items)
+          m.token_endpoint_auth_methods_supported;
+      introspection_endpoint_auth_methods_supported =
+          option_map (λ list. map string_bytes list.items)
+          m.introspection_endpoint_auth_methods_supported;
+      revocation_endpoint_auth_methods_supported =
+          option_map (λ list. map string_bytes list.items)
+          m.revocation_endpoint_auth_methods_supported;
     } };
 }
 
@@ -140,9 +154,15 @@ impl Model for SigningAlgorithms {
     ghost Value = { SigningAlgorithmMembers };
 
     ghost view = { λ m. record {
-      token_endpoint_auth_signing_alg_values_supported = option_map (λ list. map string_bytes list.items) m.token_endpoint_auth_signing_alg_values_supported;
-      introspection_endpoint_auth_signing_alg_values_supported = option_map (λ list. map string_bytes list.items) m.introspection_endpoint_auth_signing_alg_values_supported;
-      revocation_endpoint_auth_signing_alg_values_supported = option_map (λ list. map string_bytes list.items) m.revocation_endpoint_auth_signing_alg_values_supported;
+      token_endpoint_auth_signing_alg_values_supported =
+          option_map (λ list. map string_bytes list.items)
+          m.token_endpoint_auth_signing_alg_values_supported;
+      introspection_endpoint_auth_signing_alg_values_supported =
+          option_map (λ list. map string_bytes list.items)
+          m.introspection_endpoint_auth_signing_alg_values_supported;
+      revocation_endpoint_auth_signing_alg_values_supported =
+          option_map (λ list. map string_bytes list.items)
+          m.revocation_endpoint_auth_signing_alg_values_supported;
     } };
 }
 
@@ -176,7 +196,9 @@ impl Model for Pages {
       service_documentation = option_map string_bytes m.service_documentation;
       op_policy_uri = option_map string_bytes m.op_policy_uri;
       op_tos_uri = option_map string_bytes m.op_tos_uri;
-      ui_locales_supported = option_map (λ list. map string_bytes list.items) m.ui_locales_supported;
+      ui_locales_supported =
+          option_map (λ list. map string_bytes list.items)
+          m.ui_locales_supported;
     } };
 }
 
