@@ -26,7 +26,7 @@ use Rattle.oauth2_commands.specs.Exchange.{token_data, token_json, error_display
 use Rattle.oauth2_commands.specs.DeviceAuthorization.{BasicDevice, device_data}
 use Rattle.oauth2_commands.specs.DevicePoll.{device_error_display}
 use Rattle.oauth2_commands.specs.Introspect.{BasicIntrospection, introspection_data}
-use Rattle.oauth2_commands.specs.Out.{Output}
+use Rattle.oauth2_commands.specs.Out.{Output, answered}
 use Rattle.oauth2_world.specs.Lines.{fault_line}
 use Rattle.oauth2_commands.specs.private.Added.{Prints}
 use Rattle.oauth2_commands.specs.private.Results.{configuration_output, end_output, fault_output, TokenSeen, token_meaning}
@@ -75,7 +75,7 @@ abbrev pub device_error_seen : DeviceErrorResponse → List ℕ
 device_error_seen e = device_error_display (parts_of device_error_code e)
 
 abbrev pub poll_output : Result TokenSeen DeviceFault → Output
-poll_output result = end_output device_error_seen (λ t. token_json (token_meaning t)) result
+poll_output result = end_output device_error_seen (λ t. answered (token_json (token_meaning t))) result
 
 -- what is written of a response without extra fields
 abbrev token_written : TokenSeen → Writing

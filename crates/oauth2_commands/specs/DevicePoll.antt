@@ -24,7 +24,7 @@ use Rattle.oauth2_commands.specs.Client.{WithToken}
 use Rattle.oauth2_world.specs.Clock.{Clock, readings_of}
 use Rattle.oauth2_commands.specs.Exchange.{BasicToken, IsTarget, error_display, other_text, refused_text, reply_output, token_json}
 use Rattle.oauth2_world.specs.Lines.{expected_lines, sleep_line}
-use Rattle.oauth2_commands.specs.Out.{Output, after, failed, starved}
+use Rattle.oauth2_commands.specs.Out.{Output, after, answered, failed, starved}
 use Rattle.oauth2_world.specs.Replies.{next_reply, later_replies}
 use Rattle.oauth2_script.specs.DevicePollParams.{DevicePollParams}
 use Rattle.oauth2_script.specs.Replies.{Reply}
@@ -86,7 +86,7 @@ shown_at rule TooLong calls = failed (other_text (codes "failed to convert the t
 shown_at rule OutOfRange calls = failed (other_text (codes "failed to calculate timeout"))
 shown_at rule (Late n) calls =
     failed (refused_text (device_error_display (parts expired_token (Some (codes "This device code has expired.")) None)))
-shown_at rule (Decided n) calls = reply_output token_json device_error_display (poll_answer rule) (last_call None calls)
+shown_at rule (Decided n) calls = reply_output (λ token. answered (token_json token)) device_error_display (poll_answer rule) (last_call None calls)
 shown_at rule (Limited n) calls = failed (other_text (codes "polling limit reached"))
 
 -- a poll with a clock and the replies of a client: its events are those of the poll with what the

@@ -4,7 +4,7 @@ use Rattle.http_uri.specs.declared.uri.Uri.{Uri}
 use Rattle.http_uri.specs.Uri.{Spells, SpellsNone, uri_text}
 use Rattle.serde_json.specs.Data.{Data, string, object, no_members}
 use Rattle.serde_json.specs.Written.{compact_text}
-use Rattle.url.specs.Parts.{serialize}
+use Rattle.url.specs.Parts.{Parts, serialize}
 use Rattle.oauth2_codes.specs.Codes.{TokenCode, token_code_text, token_code_reading}
 use Rattle.oauth2_codes.specs.ErrorCodes.{ErrorCode, error_code_text, error_code_reading}
 use Rattle.oauth2_codes.specs.ErrorResponse.{ErrorParts, error_reading, after_colon, in_brackets}
@@ -58,9 +58,9 @@ refused_text text = codes "Server returned error response: " ++ text
 abbrev pub other_text : List ℕ → List ℕ
 other_text text = codes "Other error: " ++ text
 
-module _ {A E : Type 0} (json : A → List ℕ) (text : E → List ℕ) where
+module _ {A E : Type 0} (shown : A → Output) (text : E → List ℕ) where
   abbrev pub answer_output : Answer A E → Output
-  answer_output (accepted a) = answered (json a)
+  answer_output (accepted a) = shown a
   answer_output (refused e) = failed (refused_text (text e))
   answer_output (unread fault body) = not_read fault
   answer_output (other said) = failed (other_text said)
@@ -72,15 +72,19 @@ module _ {A E : Type 0} (json : A → List ℕ) (text : E → List ℕ) where
 
   -- of a request to this target: its lines, and what the reply says or that memory ran out behind
   -- the request; none is made where the URL has no target
-  abbrev pub IsSent : (ReplyView → Answer A E) → Configuration → List Reply → Option (List ℕ) → Output → Type 0
-  IsSent says c replies None o = o ≡ failed (other_text not_http_text)
-  IsSent says c replies (Some target) o =
-      (o ≡ after (expected_lines c target) (reply_output says (next_reply replies))) ⊎ (o ≡ after (expected_lines c target) starved)
+  abbrev pub IsSent : (ReplyView → Answer A E) → (List ℕ → List ℕ) → List Reply → Option (List ℕ) → Output → Type 0
+  IsSent says lines replies None o = o ≡ failed (other_text not_http_text)
+  IsSent says lines replies (Some target) o =
+      (o ≡ after (lines target) (reply_output says (next_reply replies))) ⊎ (o ≡ after (lines target) starved)
 
-  -- a request and its answer, unless memory ran out before the request was made
-  abbrev pub IsExchange : (ReplyView → Answer A E) → Configuration → Addressed → List Reply → Output → Type 0
-  IsExchange says c endpoint replies o =
-      (o ≡ starved) ⊎ ((target : Option (List ℕ)) × IsTarget (serialize endpoint.url) target × IsSent says c replies target o)
+  -- a request with these lines and its answer, unless memory ran out before the request was made
+  abbrev pub IsCall : (ReplyView → Answer A E) → (List ℕ → List ℕ) → Parts → List Reply → Output → Type 0
+  IsCall says lines url replies o =
+      (o ≡ starved) ⊎ ((target : Option (List ℕ)) × IsTarget (serialize url) target × IsSent says lines replies target o)
+
+-- a request that a configuration asks for, and its answer as JSON
+abbrev pub IsExchange : {A E : Type 0} → (A → List ℕ) → (E → List ℕ) → (ReplyView → Answer A E) → Configuration → Addressed → List Reply → Output → Type 0
+IsExchange json text says c endpoint = IsCall (λ a. answered (json a)) text says (expected_lines c) endpoint.url
 
 -- the text of an error response whose code is written as `code`
 unfoldable pub error_display : {C : Type 0} → (C → List ℕ) → ErrorParts C → List ℕ

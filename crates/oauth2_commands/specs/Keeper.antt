@@ -59,7 +59,7 @@ waiting until = record { lines = wait_line (end_text until); status = status.Fau
 -- what the next reply says; of a token its text is shown
 abbrev pub renewal_output : ReplyRule → List Reply → Output
 renewal_output rule replies =
-    reply_output (λ token. quoted token.access_token) (error_display error_code_text) (token_answer rule) (next_reply replies)
+    reply_output (λ token. answered (quoted token.access_token)) (error_display error_code_text) (token_answer rule) (next_reply replies)
 
 -- with `retry_after`, a request that failed is followed by a wait
 module _ (retry_after : Option ℕ) where

@@ -8,6 +8,7 @@ pub mod DeviceAuthorization
 pub mod DevicePoll
 pub mod Introspect
 pub mod Keeper
+pub mod Metadata
 pub mod Password
 pub mod Redirect
 pub mod Refresh

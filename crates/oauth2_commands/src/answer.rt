@@ -1,10 +1,11 @@
 //! What a run shows of the end of a request.
 
 ghost use Rattle.std.specs.Prelude.{◌≡◌, ◌++◌, ℕ, List, Some, false, string_bytes, codes};
-ghost use Rattle.std.specs.Prelude.{IfOk, OnOk, IsOkAnd};
+ghost use Rattle.std.specs.Prelude.{IfOk, OnOk, IsOkAnd, IfSome};
 ghost use Rattle.serde_json.specs.Data.{Data};
 ghost use Rattle.serde_json.specs.Written.{compact_text, has_float};
 ghost use Rattle.oauth2_commands.specs.Exchange.{cause_name, unread_line};
+ghost use Rattle.oauth2_commands.specs.Out.{answered, failed};
 ghost use Rattle.oauth2_world.specs.Lines.{line};
 ghost use Rattle.oauth2_commands.specs.private.Added.{Prints};
 ghost use Rattle.oauth2_commands.specs.private.Results.{configuration_output, end_output};
@@ -90,6 +91,20 @@ fn print_parse_fault(
     print_unread(alloc, lines, fault.member.as_str(), cause)
 }
 
+/// An error, by its text.
+pub fn show_error<E: Display>(
+    alloc: Global,
+    lines: &mut String,
+    error: &E,
+) -> Result<RunStatus, AllocError>
+    ensures { IfOk result (λ status. IfSome (E.output error.now) (λ text.
+        Prints (string_bytes lines.old) (string_bytes lines.new) status (failed text))) }
+{
+    let text = error.to_string(alloc)?;
+    print_fault(alloc, lines, text.as_str())?;
+    Ok(RunStatus::Fault)
+}
+
 /// The fault of a request, where the server's error is shown as some text.
 pub fn show_fault<T: Display>(
     alloc: Global,
@@ -102,11 +117,10 @@ pub fn show_fault<T: Display>(
 {
     if let RequestTokenError::Parse(fault, _) = fault {
         print_parse_fault(alloc, lines, fault)?;
+        Ok(RunStatus::Fault)
     } else {
-        let text = fault.to_string(alloc)?;
-        print_fault(alloc, lines, text.as_str())?;
+        show_error(alloc, lines, fault)
     }
-    Ok(RunStatus::Fault)
 }
 
 // The compact JSON of what is written without a fault and holds no float.
@@ -123,6 +137,22 @@ fn json_of<T: ToJson>(alloc: Global, value: &T) -> Result<String, AllocError>
     }
 }
 
+/// An answer, which is written without a fault and holds no float.
+pub fn show_answer<A: ToJson>(
+    alloc: Global,
+    lines: &mut String,
+    answer: &A,
+) -> Result<RunStatus, AllocError>
+    requires { IsOkAnd (A.writing answer.now) (λ d. has_float d ≡ false) }
+    ensures { IfOk result (λ status. (d : Data) → A.writing answer.now ≡ Ok d
+        → Prints (string_bytes lines.old) (string_bytes lines.new) status
+        (answered (compact_text d))) }
+{
+    let json = json_of(alloc, answer)?;
+    print_answer(lines, json.as_str())?;
+    Ok(RunStatus::Answered)
+}
+
 /// The end of a request, whose answer is written without a fault and holds no float.
 pub fn show_end<A: ToJson, T: Display>(
     alloc: Global,
@@ -133,14 +163,10 @@ pub fn show_end<A: ToJson, T: Display>(
     ensures { IfOk result (λ status. (value : A → Data) → ((a : A) → A.writing a ≡ Ok (value a))
         → (text : T → List ℕ) → ((e : T) → T.output e ≡ Some (text e))
         → Prints (string_bytes lines.old) (string_bytes lines.new) status
-        (end_output text (λ a. compact_text (value a)) end.now)) }
+        (end_output text (λ a. answered (compact_text (value a))) end.now)) }
 {
     match end {
-        Ok(answer) => {
-            let json = json_of(alloc, answer)?;
-            print_answer(lines, json.as_str())?;
-            Ok(RunStatus::Answered)
-        }
+        Ok(answer) => show_answer(alloc, lines, answer),
         Err(fault) => show_fault(alloc, lines, fault),
     }
 }
@@ -172,7 +198,5 @@ pub fn show_configuration_error(
     ensures { IfOk result (λ status. Prints (string_bytes lines.old) (string_bytes lines.new)
         status (configuration_output error.now)) }
 {
-    let text = error.to_string(alloc)?;
-    print_fault(alloc, lines, text.as_str())?;
-    Ok(RunStatus::Fault)
+    show_error(alloc, lines, error)
 }

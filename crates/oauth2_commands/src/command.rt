@@ -14,6 +14,7 @@ use crate::device_authorization::run_device_authorization;
 use crate::device_poll::run_device_poll;
 use crate::introspect::run_introspect;
 use crate::keeper::run_keeper;
+use crate::metadata::run_metadata;
 use crate::password::run_password;
 use crate::redirect::run_redirect;
 use crate::refresh::run_refresh;
@@ -63,6 +64,7 @@ pub fn run_command(
             world.clock.moments(),
             http_client,
         ),
+        Command::Metadata(params) => run_metadata(alloc, client, params, http_client),
         Command::Authorize(params) => run_authorize(alloc, client, params, &mut http_client.lines),
         Command::Redirect(params) => run_redirect(alloc, params, &mut http_client.lines),
     }

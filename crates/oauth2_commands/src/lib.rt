@@ -14,6 +14,7 @@ mod extra;
 mod input;
 mod introspect;
 mod keeper;
+mod metadata;
 mod password;
 mod redirect;
 mod refresh;

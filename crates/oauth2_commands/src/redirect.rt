@@ -8,11 +8,12 @@ ghost use Rattle.oauth2_redirect.specs.Redirect.{Refusal, Tells, TellsRefusal};
 ghost use Rattle.oauth2_script.specs.Views.{redirect_view};
 ghost use Rattle.oauth2_world.specs.Lines.{quoted};
 
+use crate::answer::show_error;
 use crate::status::RunStatus;
 use oauth2::AuthorizationCode;
 use oauth2_redirect::{RedirectError, read_redirect};
 use oauth2_script::RedirectParams;
-use oauth2_world::{print_answer, print_fault, quoted};
+use oauth2_world::{print_answer, quoted};
 use std::alloc::{AllocError, Global};
 
 fn read(alloc: Global, params: &RedirectParams) -> Result<AuthorizationCode, RedirectError>
@@ -49,9 +50,7 @@ fn show_refusal(
     if let RedirectError::Memory = error {
         return Err(AllocError);
     }
-    let text = error.to_string(alloc)?;
-    print_fault(alloc, lines, text.as_str())?;
-    Ok(RunStatus::Fault)
+    show_error(alloc, lines, error)
 }
 
 /// Shows the code that a redirect brings, or why it brings none.

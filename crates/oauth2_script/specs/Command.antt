@@ -9,6 +9,7 @@ use Rattle.oauth2_script.specs.DeviceAuthorizationParams.{DeviceAuthorizationPar
 use Rattle.oauth2_script.specs.DevicePollParams.{DevicePollParams, device_poll_params}
 use Rattle.oauth2_script.specs.IntrospectParams.{IntrospectParams, introspect_params}
 use Rattle.oauth2_script.specs.KeeperParams.{KeeperParams, keeper_params}
+use Rattle.oauth2_script.specs.MetadataParams.{MetadataParams, metadata_params}
 use Rattle.oauth2_script.specs.PasswordParams.{PasswordParams, password_params}
 use Rattle.oauth2_script.specs.RedirectParams.{RedirectParams, redirect_params}
 use Rattle.oauth2_script.specs.RefreshParams.{RefreshParams, refresh_params}
@@ -26,6 +27,7 @@ pub data Command : Type 0 where
   authorize : AuthorizeParams → Command
   redirect : RedirectParams → Command
   keeper : KeeperParams → Command
+  metadata : MetadataParams → Command
 
 unfoldable pub command_of : List ℕ → Data → Option Command
 command_of name params =
@@ -40,4 +42,5 @@ command_of name params =
     else (if bytes_eq name (codes "authorize") then option_map authorize (authorize_params params)
     else (if bytes_eq name (codes "redirect") then option_map redirect (redirect_params params)
     else (if bytes_eq name (codes "keeper") then option_map keeper (keeper_params params)
-    else None))))))))))
+    else (if bytes_eq name (codes "metadata") then option_map metadata (metadata_params params)
+    else None)))))))))))

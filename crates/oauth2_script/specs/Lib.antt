@@ -9,6 +9,7 @@ pub mod DeviceAuthorizationParams
 pub mod DevicePollParams
 pub mod IntrospectParams
 pub mod KeeperParams
+pub mod MetadataParams
 pub mod PasswordParams
 pub mod RedirectParams
 pub mod RefreshParams

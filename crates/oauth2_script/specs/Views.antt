@@ -18,6 +18,7 @@ use Rattle.oauth2_script.specs.RevokeParams as revoke_spec
 use Rattle.oauth2_script.specs.AuthorizeParams as authorize_spec
 use Rattle.oauth2_script.specs.RedirectParams as redirect_spec
 use Rattle.oauth2_script.specs.KeeperParams as keeper_spec
+use Rattle.oauth2_script.specs.MetadataParams as metadata_spec
 use Rattle.oauth2_script.specs.declared.code_params.CodeParams.{CodeParams}
 use Rattle.oauth2_script.specs.declared.refresh_params.RefreshParams.{RefreshParams}
 use Rattle.oauth2_script.specs.declared.password_params.PasswordParams.{PasswordParams}
@@ -29,10 +30,11 @@ use Rattle.oauth2_script.specs.declared.revoke_params.RevokeParams.{RevokeParams
 use Rattle.oauth2_script.specs.declared.authorize_params.AuthorizeParams.{AuthorizeParams}
 use Rattle.oauth2_script.specs.declared.redirect_params.RedirectParams.{RedirectParams}
 use Rattle.oauth2_script.specs.declared.keeper_params.KeeperParams.{KeeperParams}
+use Rattle.oauth2_script.specs.declared.metadata_params.MetadataParams.{MetadataParams}
 use Rattle.oauth2_script.specs.declared.client_part.ClientPart.{ClientPart}
 use Rattle.oauth2_script.specs.declared.client_part.Endpoints.{Endpoints}
 use Rattle.oauth2_script.specs.declared.command.Command.{Command}
-use Rattle.oauth2_script.specs.declared.command.Command.TheVariants.{Code, Refresh, Password, ClientCredentials, Introspect, Revoke, DeviceAuthorization, DevicePoll, Authorize, Redirect, Keeper}
+use Rattle.oauth2_script.specs.declared.command.Command.TheVariants.{Code, Refresh, Password, ClientCredentials, Introspect, Revoke, DeviceAuthorization, DevicePoll, Authorize, Redirect, Keeper, Metadata}
 use Rattle.oauth2_script.specs.declared.reply.HttpReply.{HttpReply}
 use Rattle.oauth2_script.specs.declared.reply.Reply.{Reply}
 use Rattle.oauth2_script.specs.declared.reply.Reply.TheVariants.{Replied, Failed}
@@ -123,6 +125,12 @@ keeper_view p = record {
   retry_after = option_map as_nanos p.retry_after;
 }
 
+abbrev pub metadata_view : MetadataParams → metadata_spec.MetadataParams
+metadata_view p = record {
+  issuer = string_bytes p.issuer;
+  well_known = p.well_known;
+}
+
 abbrev pub endpoints_view : Endpoints → client_spec.Endpoints
 endpoints_view e = record { auth = e.auth; token = e.token; device = e.device; introspection = e.introspection; revocation = e.revocation }
 
@@ -159,6 +167,7 @@ command_view (DevicePoll p) = command_spec.device_poll (device_poll_view p)
 command_view (Authorize p) = command_spec.authorize (authorize_view p)
 command_view (Redirect p) = command_spec.redirect (redirect_view p)
 command_view (Keeper p) = command_spec.keeper (keeper_view p)
+command_view (Metadata p) = command_spec.metadata (metadata_view p)
 
 abbrev pub script_view : Script → script_spec.Script
 script_view s = record {

@@ -12,6 +12,7 @@ use crate::device_authorization_params::DeviceAuthorizationParams;
 use crate::device_poll_params::DevicePollParams;
 use crate::introspect_params::IntrospectParams;
 use crate::keeper_params::KeeperParams;
+use crate::metadata_params::MetadataParams;
 use crate::part::Part;
 use crate::password_params::PasswordParams;
 use crate::redirect_params::RedirectParams;
@@ -35,6 +36,7 @@ pub enum Command {
     Authorize(AuthorizeParams),
     Redirect(RedirectParams),
     Keeper(KeeperParams),
+    Metadata(MetadataParams),
 }
 
 /// The command of this name, with these parameters.
@@ -58,6 +60,7 @@ pub fn command_of(alloc: Global, name: &str, params: &Value) -> Result<Command, 
             alloc, params,
         )?)),
         "keeper" => Ok(Command::Keeper(KeeperParams::from_value(alloc, params)?)),
+        "metadata" => Ok(Command::Metadata(MetadataParams::from_value(alloc, params)?)),
         _ => Err(ScriptError::Bad),
     }
 }

@@ -29,10 +29,10 @@ module _ {T : Type 0} (text : T → List ℕ) where
   fault_output (Other given) = failed (other_text (string_bytes given))
   fault_output (Memory sent) = starved
 
-  -- the end of a request, where an answer is shown as `json`
-  abbrev pub end_output : {D : Type 0} → (D → List ℕ) → Result D (RequestTokenError NoReply T) → Output
-  end_output json (Ok answer) = answered (json answer)
-  end_output json (Err fault) = fault_output fault
+  -- the end of a request
+  abbrev pub end_output : {D : Type 0} → (D → Output) → Result D (RequestTokenError NoReply T) → Output
+  end_output shown (Ok answer) = shown answer
+  end_output shown (Err fault) = fault_output fault
 
 -- ---- a server that uses no extension
 
@@ -61,7 +61,7 @@ abbrev pub revocation_error_seen : RevocationErrorResponse → List ℕ
 revocation_error_seen e = error_display revocation_error_code_text (parts_of revocation_error_code e)
 
 abbrev pub revocation_output : Result Unit RevocationFault → Output
-revocation_output result = end_output revocation_error_seen (λ done. codes "null") result
+revocation_output result = end_output revocation_error_seen (λ done. answered (codes "null")) result
 
 -- ---- an endpoint that the client has not
 

@@ -1,0 +1,97 @@
+//! The command `metadata`: an issuer's metadata is asked for.
+
+ghost use Rattle.std.specs.Prelude.{◌≡◌, false, string_bytes, IfOk};
+ghost use Rattle.oauth2_commands.specs.Metadata as spec;
+ghost use Rattle.oauth2_commands.specs.private.Added.{Adds};
+ghost use Rattle.oauth2_commands.specs.private.Discovery.{IsQuery, ShowsIssuerError};
+ghost use Rattle.oauth2_commands.specs.private.Discovery.{metadata_end_output};
+ghost use Rattle.oauth2_commands.specs.private.Added.{Prints};
+ghost use Rattle.oauth2_script.specs.Views.{metadata_view};
+ghost use Rattle.oauth2_world.specs.Replay.{replies_of};
+
+use crate::answer::{show_answer, show_error, show_fault};
+use crate::client::ScriptClient;
+use crate::status::RunStatus;
+use oauth2::{EmptyExtraTokenFields, ReplyRule};
+use oauth2_metadata::{IssuerError, MetadataError, MetadataRequest, ServerMetadata};
+use oauth2_script::{MetadataParams, WellKnown};
+use oauth2_world::{NoReply, ScriptedClient};
+use std::alloc::{AllocError, Global};
+
+type Metadata = ServerMetadata<EmptyExtraTokenFields>;
+
+fn request_of(
+    alloc: Global,
+    params: MetadataParams,
+    reply_rule: ReplyRule,
+) -> Result<MetadataRequest, IssuerError>
+    ensures { IsQuery reply_rule (metadata_view params) result }
+{
+    let request = match params.well_known {
+        WellKnown::OauthAuthorizationServer => MetadataRequest::new(alloc, params.issuer)?,
+        WellKnown::OpenidConfiguration => MetadataRequest::openid(alloc, params.issuer)?,
+    };
+    Ok(request.set_reply_rule(reply_rule))
+}
+
+// Why a text is no issuer. Want of room for its URLs is want of memory.
+fn show_issuer_error(
+    alloc: Global,
+    lines: &mut String,
+    error: IssuerError,
+) -> Result<RunStatus, AllocError>
+    ensures { IfOk result (λ status. ShowsIssuerError (string_bytes lines.old)
+        (string_bytes lines.new) status error) }
+{
+    match error {
+        IssuerError::Memory | IssuerError::TooLong => Err(AllocError),
+        error => show_error(alloc, lines, &error),
+    }
+}
+
+fn show_metadata(
+    alloc: Global,
+    lines: &mut String,
+    end: &Result<Metadata, MetadataError<NoReply>>,
+) -> Result<RunStatus, AllocError>
+    ensures { IfOk result (λ status. Prints (string_bytes lines.old) (string_bytes lines.new)
+        status (metadata_end_output end.now)) }
+{
+    match end {
+        Ok(metadata) => show_answer(alloc, lines, metadata),
+        Err(MetadataError::Reply(fault)) => show_fault(alloc, lines, fault),
+        Err(error) => show_error(alloc, lines, error),
+    }
+}
+
+// Sends the request, and shows what came of it.
+fn ask(
+    alloc: Global,
+    request: MetadataRequest,
+    http_client: &mut ScriptedClient,
+) -> Result<RunStatus, AllocError>
+    ensures { IfOk result (λ status. http_client.new.is_starved ≡ false
+        → Adds (string_bytes http_client.old.lines) (string_bytes http_client.new.lines) status
+        (spec.IsDiscovered request.reply_rule request.issuer request.url
+        (replies_of http_client.old))) }
+{
+    let end = request.request(alloc, http_client);
+    show_metadata(alloc, &mut http_client.lines, &end)
+}
+
+/// Asks for an issuer's metadata, and shows what came of it.
+pub fn run_metadata(
+    alloc: Global,
+    client: &ScriptClient,
+    params: MetadataParams,
+    http_client: &mut ScriptedClient,
+) -> Result<RunStatus, AllocError>
+    ensures { IfOk result (λ status. http_client.new.is_starved ≡ false
+        → Adds (string_bytes http_client.old.lines) (string_bytes http_client.new.lines) status
+        (spec.IsMetadataOutput client.now (metadata_view params) (replies_of http_client.old))) }
+{
+    match request_of(alloc, params, client.reply_rule()) {
+        Ok(request) => ask(alloc, request, http_client),
+        Err(error) => show_issuer_error(alloc, &mut http_client.lines, error),
+    }
+}

@@ -1,0 +1,27 @@
+-- The parameters of the command `metadata`.
+use Rattle.std.specs.Prelude.{ℕ, List, Option, Some, None, unwrap_or, if◌then◌else◌, codes}
+use Rattle.std.specs.Str.{bytes_eq}
+use Rattle.serde_json.specs.Data.{Data}
+use Rattle.serde_json.specs.Find.{as_str}
+use Rattle.oauth2_script.specs.Part.{◌>>=◌, needed, optional}
+use Rattle.oauth2_script.specs.declared.metadata_params.WellKnown.{WellKnown}
+use Rattle.oauth2_script.specs.declared.metadata_params.WellKnown.TheVariants.{OauthAuthorizationServer, OpenidConfiguration}
+
+pub record MetadataParams : Type 0 where
+  pub issuer : List ℕ
+  pub well_known : WellKnown
+
+-- the name of a well-known URI (RFC 8414, 7.3; OpenID Connect Discovery 1.0, 4)
+unfoldable pub well_known_of : List ℕ → Option WellKnown
+well_known_of text =
+    if bytes_eq text (codes "oauth-authorization-server") then Some OauthAuthorizationServer
+    else (if bytes_eq text (codes "openid-configuration") then Some OpenidConfiguration else None)
+
+abbrev pub well_known : Data → Option WellKnown
+well_known d = as_str d >>= well_known_of
+
+unfoldable pub metadata_params : Data → Option MetadataParams
+metadata_params d = do
+  issuer ← needed as_str (codes "issuer") d
+  well_known ← optional well_known (codes "well_known") d
+  Some (record { issuer = issuer; well_known = unwrap_or well_known OauthAuthorizationServer })

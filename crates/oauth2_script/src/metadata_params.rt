@@ -1,0 +1,65 @@
+//! The parameters of the command `metadata`.
+
+ghost use Rattle.oauth2_script.specs.MetadataParams as spec;
+
+use crate::part::{Part, needed, optional};
+use crate::script_error::ScriptError;
+use serde_json::Value;
+use std::alloc::Global;
+
+/// Which well-known URI an issuer's metadata has, by its registered name (RFC 8414, section 7.3;
+/// OpenID Connect Discovery 1.0, section 4).
+#[derive(Clone, Copy, Debug, PartialEq, Eq)]
+pub enum WellKnown {
+    OauthAuthorizationServer,
+    OpenidConfiguration,
+}
+
+/// What a request for an issuer's metadata takes.
+#[derive(Drop)]
+pub struct MetadataParams {
+    pub issuer: String,
+    pub well_known: WellKnown,
+}
+
+impl Part for WellKnown {
+    ghost use Rattle.std.specs.Prelude.{false};
+    ghost use Rattle.oauth2_script.specs.declared.metadata_params.WellKnown.{WellKnown};
+
+    ghost Meaning = { WellKnown };
+
+    ghost meaning = { λ well_known. well_known };
+
+    ghost reading = { spec.well_known };
+
+    ghost allocates = { false };
+
+    #[tactic(auto, unfolding(crate::specs::MetadataParams::well_known_of))]
+    fn from_value(_alloc: Global, value: &Value) -> Result<WellKnown, ScriptError> {
+        match value.as_str() {
+            Some("oauth-authorization-server") => Ok(WellKnown::OauthAuthorizationServer),
+            Some("openid-configuration") => Ok(WellKnown::OpenidConfiguration),
+            _ => Err(ScriptError::Bad),
+        }
+    }
+}
+
+impl Part for MetadataParams {
+    ghost use Rattle.oauth2_script.specs.Views.{metadata_view};
+
+    ghost Meaning = { spec.MetadataParams };
+
+    ghost meaning = { metadata_view };
+
+    ghost reading = { spec.metadata_params };
+
+    #[tactic(auto, unfolding(crate::specs::MetadataParams::metadata_params))]
+    fn from_value(alloc: Global, value: &Value) -> Result<MetadataParams, ScriptError> {
+        let issuer = needed(alloc, value, "issuer")?;
+        let well_known = optional(alloc, value, "well_known")?;
+        Ok(MetadataParams {
+            issuer,
+            well_known: well_known.unwrap_or(WellKnown::OauthAuthorizationServer),
+        })
+    }
+}
