@@ -2,13 +2,14 @@
 use Rattle.std.proofs.Common.{◌≡◌, ℕ, List, ◌++◌, Bool, false, Option, Some, None, option_map, option_and_then, Result, Ok, Err, string_bytes, codes, map, inl, inr, refl, ap, ◌∙◌, append_assoc, ◌⊎◌}
 use Rattle.http_header.specs.HeaderMap.{get}
 use Rattle.http_header.specs.FieldValue.{plain_value}
-use Rattle.http_uri.specs.Uri.{SpellsNone, uri_text}
-use Rattle.url.specs.Parts.{serialize}
+use Rattle.http_uri.specs.Uri.{Spells, SpellsNone, uri_text}
+use Rattle.url.specs.Parts.{Parts, serialize}
 use Rattle.oauth2_urls.specs.Addressed.{Addressed}
 use Rattle.oauth2_form.specs.Pairs.{Pair}
 use Rattle.oauth2_form.specs.Basic.{basic, basic_value}
 use Rattle.oauth2_wire.specs.Expected.{Configuration, expected_basic, expected_pairs, authorization_header, headers_before}
-use Rattle.oauth2_wire.specs.OneShot.{HttpRequest, not_http_text, AnswersUnsent, AnswersTo}
+use Rattle.oauth2_metadata.specs.Request.{IsGetOf}
+use Rattle.oauth2_wire.specs.OneShot.{HttpRequest, not_http_text, AnswersUnsent, AnswersTo, OneShot}
 use Rattle.oauth2_wire.specs.Reply.{HttpResponse, Answer, ReplyView, reply_of, ShowsAnswer as ReplyShows}
 use Rattle.oauth2_wire.specs.Request.{RequestView, IsRequestOf, view_of, authorization_of}
 use Rattle.oauth2_wire.specs.ServerView.{shown_pair}
@@ -16,12 +17,13 @@ use Rattle.oauth2_wire.specs.declared.error.RequestTokenError.{RequestTokenError
 use Rattle.oauth2_wire.specs.declared.error.RequestTokenError.TheVariants.{ServerResponse, Request, Parse, Other, Memory}
 use Rattle.oauth2_wire.specs.declared.request.RequestFault.TheVariants as fault
 use Rattle.oauth2_commands.specs.private.Asked.{Asks}
-use Rattle.oauth2_commands.specs.Exchange.{answer_output, reply_output, IsSent, IsExchange, other_text}
+use Rattle.oauth2_commands.specs.Exchange.{answer_output, reply_output, IsSent, IsRequestShown, IsExchange, other_text}
+use Rattle.oauth2_commands.specs.Metadata.{get_lines}
 use Rattle.oauth2_world.specs.Lines.{basic_line, pair_lines, expected_lines, authorization_text}
 use Rattle.oauth2_world.specs.RequestLines.{read_lines, view_lines, request_lines}
-use Rattle.oauth2_commands.specs.Out.{Output, failed, starved, after}
+use Rattle.oauth2_commands.specs.Out.{Output, answered, failed, starved, after}
 use Rattle.oauth2_commands.specs.private.Added.{Prints, Adds}
-use Rattle.oauth2_world.specs.Replay.{Replays, replied, replies_of}
+use Rattle.oauth2_world.specs.Replay.{Replays, ReplaysOrStarves, replied, replies_of}
 use Rattle.oauth2_script.specs.Replies.{Reply}
 use Rattle.oauth2_world.specs.Replies.{next_reply}
 use Rattle.oauth2_commands.specs.private.Results.{end_output}
@@ -55,19 +57,28 @@ request_lines-expected c text v is =
     rw (is.form, a) (read_by (expected_basic c) (map shown_pair (expected_pairs c)) b) in
     rw (r, is.method, is.body, a, texts_by (expected_basic c)) (simp append_assoc)
 
+-- ---- the lines of a GET
+
+pub request_lines-get : (text : List ℕ) (v : RequestView) → IsGetOf text v → request_lines v ≡ get_lines (uri_text v.target)
+unfolding request_lines
+request_lines-get text v is =
+    let a : authorization_of v ≡ None = rw is.headers refl in
+    let r : view_lines v ≡ basic_line None = rw (is.body, a) refl in
+    rw (r, is.method, is.body, a) refl
+
 -- ---- a request, whatever it asks for
 
-module _ {D A T E : Type 0} (meaning : D → A) (error_meaning : T → E) (json : A → List ℕ) (text : E → List ℕ) (says : ReplyView → Answer A E) where
+module _ {D A T E : Type 0} (meaning : D → A) (error_meaning : T → E) (shown : A → Output) (text : E → List ℕ) (says : ReplyView → Answer A E) where
   -- what is shown of a result
-  abbrev shown : Result D (RequestTokenError NoReply T) → Output
-  shown result = end_output (λ e. text (error_meaning e)) (λ d. json (meaning d)) result
+  abbrev output_of : Result D (RequestTokenError NoReply T) → Output
+  output_of result = end_output (λ e. text (error_meaning e)) (λ d. shown (meaning d)) result
 
   -- the result is shown as the reply is judged, or memory ran out
   abbrev IsJudged : Result D (RequestTokenError NoReply T) → Output → Type 0
-  IsJudged result o = (shown result ≡ o) ⊎ ((sent : Bool) × (result ≡ Err (Memory sent)))
+  IsJudged result o = (output_of result ≡ o) ⊎ ((sent : Bool) × (result ≡ Err (Memory sent)))
 
   pub judged : (view : ReplyView) (result : Result D (RequestTokenError NoReply T)) → ReplyShows meaning error_meaning (says view) result
-      → IsJudged result (answer_output json text (says view))
+      → IsJudged result (answer_output shown text (says view))
   judged view (Ok answer) h = inl (rw h refl)
   judged view (Err (ServerResponse e)) h = inl (rw h refl)
   judged view (Err (Parse f body)) h = inl (rw h refl)
@@ -77,36 +88,43 @@ module _ {D A T E : Type 0} (meaning : D → A) (error_meaning : T → E) (json 
 
   answered_by : (replies : List Reply) (answer : Result HttpResponse NoReply) (result : Result D (RequestTokenError NoReply T)) → replied answer ≡ next_reply replies
       → AnswersTo meaning error_meaning (λ reply. says (reply_of reply)) answer result
-      → IsJudged result (reply_output json text says (next_reply replies))
+      → IsJudged result (reply_output shown text says (next_reply replies))
   answered_by replies (Ok reply) result e h = rw (← e) (judged (reply_of reply) result h)
   answered_by replies (Err failure) result e h = inl (rw (← e, h) refl)
 
-  module _ (c : Configuration) (endpoint : Addressed) (old new : ScriptedClient) (lines : List ℕ) (s : RunStatus) where
-    ends_by : (target : List ℕ) (result : Result D (RequestTokenError NoReply T)) → IsJudged result (reply_output json text says (next_reply (replies_of old)))
-        → IsSent json text says c (replies_of old) (Some target) (after (expected_lines c target) (shown result))
-    ends_by target result (inl same) = inl (ap (after (expected_lines c target)) same)
-    ends_by target result (inr (was_sent, e)) = inr (ap (λ (r : Result D (RequestTokenError NoReply T)). after (expected_lines c target) (shown r)) e)
+  -- a request of some kind to a URL, which is shown by these lines
+  module _ (IsRequest : RequestView → Type 0) (lines_of : List ℕ → List ℕ) (url : Parts)
+      (shown_by : (v : RequestView) → IsRequest v → Spells (serialize url) v.target × (request_lines v ≡ lines_of (uri_text v.target)))
+      (old new : ScriptedClient) (lines : List ℕ) (s : RunStatus) where
+    abbrev IsOutput : Output → Type 0
+    IsOutput o = IsRequestShown shown text says lines_of url (replies_of old) o
+
+    ends_by : (target : List ℕ) (result : Result D (RequestTokenError NoReply T)) → IsJudged result (reply_output shown text says (next_reply (replies_of old)))
+        → IsSent shown text says lines_of (replies_of old) (Some target) (after (lines_of target) (output_of result))
+    ends_by target result (inl same) = inl (ap (after (lines_of target)) same)
+    ends_by target result (inr (was_sent, e)) = inr (ap (λ (r : Result D (RequestTokenError NoReply T)). after (lines_of target) (output_of r)) e)
 
     -- one call
-    sent : (request : HttpRequest) → IsRequestOf c (serialize endpoint.url) (view_of request) → (answer : Result HttpResponse NoReply) → Replays old request answer new
-        → (result : Result D (RequestTokenError NoReply T)) → IsJudged result (reply_output json text says (next_reply (replies_of old)))
-        → Prints (string_bytes new.lines) lines s (shown result) → Adds (string_bytes old.lines) lines s (IsExchange json text says c endpoint (replies_of old))
+    sent : (request : HttpRequest) → IsRequest (view_of request) → (answer : Result HttpResponse NoReply) → Replays old request answer new
+        → (result : Result D (RequestTokenError NoReply T)) → IsJudged result (reply_output shown text says (next_reply (replies_of old)))
+        → Prints (string_bytes new.lines) lines s (output_of result) → Adds (string_bytes old.lines) lines s IsOutput
     sent request is answer replays result judged (printed, ended) =
         let target = uri_text (view_of request).target in
-        let o = after (expected_lines c target) (shown result) in
-        let sends : string_bytes new.lines ≡ string_bytes old.lines ++ expected_lines c target = rw (← request_lines-expected c (serialize endpoint.url) (view_of request) is) replays.prints in
-        let all : lines ≡ string_bytes old.lines ++ o.lines = rw (printed, sends) (append_assoc (string_bytes old.lines) (expected_lines c target) (shown result).lines) in
-        (o, inr (Some target, ((view_of request).target, is.target, refl), ends_by target result judged), all, ended)
+        let o = after (lines_of target) (output_of result) in
+        let view = shown_by (view_of request) is in
+        let sends : string_bytes new.lines ≡ string_bytes old.lines ++ lines_of target = rw (← view.1) replays.prints in
+        let all : lines ≡ string_bytes old.lines ++ o.lines = rw (printed, sends) (append_assoc (string_bytes old.lines) (lines_of target) (output_of result).lines) in
+        (o, inr (Some target, ((view_of request).target, view.0, refl), ends_by target result judged), all, ended)
 
     -- no call, for want of memory
-    unsent : (result : Result D (RequestTokenError NoReply T)) → string_bytes new.lines ≡ string_bytes old.lines → shown result ≡ starved
-        → Prints (string_bytes new.lines) lines s (shown result) → Adds (string_bytes old.lines) lines s (IsExchange json text says c endpoint (replies_of old))
+    unsent : (result : Result D (RequestTokenError NoReply T)) → string_bytes new.lines ≡ string_bytes old.lines → output_of result ≡ starved
+        → Prints (string_bytes new.lines) lines s (output_of result) → Adds (string_bytes old.lines) lines s IsOutput
     unsent result same is (printed, ended) =
         let all : lines ≡ string_bytes old.lines ++ starved.lines = rw (printed, same, is) refl in
         (starved, inl refl, all, ended ∙ ap (λ (x : Output). x.status) is)
 
-    not_http : (result : Result D (RequestTokenError NoReply T)) → AnswersUnsent fault.NotHttp result → SpellsNone (serialize endpoint.url) → string_bytes new.lines ≡ string_bytes old.lines
-        → Prints (string_bytes new.lines) lines s (shown result) → Adds (string_bytes old.lines) lines s (IsExchange json text says c endpoint (replies_of old))
+    not_http : (result : Result D (RequestTokenError NoReply T)) → AnswersUnsent fault.NotHttp result → SpellsNone (serialize url) → string_bytes new.lines ≡ string_bytes old.lines
+        → Prints (string_bytes new.lines) lines s (output_of result) → Adds (string_bytes old.lines) lines s IsOutput
     not_http (Ok answer) h none same p = absurd h
     not_http (Err (ServerResponse e)) h none same p = absurd h
     not_http (Err (Request e)) h none same p = absurd h
@@ -118,7 +136,7 @@ module _ {D A T E : Type 0} (meaning : D → A) (error_meaning : T → E) (json 
     not_http (Err (Memory was_sent)) h none same p = unsent (Err (Memory was_sent)) same refl p
 
     unfed : (result : Result D (RequestTokenError NoReply T)) → AnswersUnsent fault.Memory result → string_bytes new.lines ≡ string_bytes old.lines
-        → Prints (string_bytes new.lines) lines s (shown result) → Adds (string_bytes old.lines) lines s (IsExchange json text says c endpoint (replies_of old))
+        → Prints (string_bytes new.lines) lines s (output_of result) → Adds (string_bytes old.lines) lines s IsOutput
     unfed (Ok answer) h same p = absurd h
     unfed (Err (ServerResponse e)) h same p = absurd h
     unfed (Err (Request e)) h same p = absurd h
@@ -126,11 +144,21 @@ module _ {D A T E : Type 0} (meaning : D → A) (error_meaning : T → E) (json 
     unfed (Err (Other given)) h same p = absurd h
     unfed (Err (Memory was_sent)) h same p = unsent (Err (Memory was_sent)) same refl p
 
-    pub exchange_told : (result : Result D (RequestTokenError NoReply T)) → Asks meaning error_meaning says c endpoint old result new → new.is_starved ≡ false
-        → Prints (string_bytes new.lines) lines s (end_output (λ e. text (error_meaning e)) (λ d. json (meaning d)) result)
-        → Adds (string_bytes old.lines) lines s (IsExchange json text says c endpoint (replies_of old))
-    exchange_told result (inl (request, is, (answer, inl out, answers))) fed p = cc
-    exchange_told result (inl (request, is, (answer, inr replays, answers))) fed p =
+    pub request_told : (result : Result D (RequestTokenError NoReply T))
+        → OneShot meaning error_meaning ReplaysOrStarves (λ reply. says (reply_of reply)) (λ request. IsRequest (view_of request)) (SpellsNone (serialize url)) old result new
+        → new.is_starved ≡ false → Prints (string_bytes new.lines) lines s (output_of result) → Adds (string_bytes old.lines) lines s IsOutput
+    request_told result (inl (request, is, (answer, inl out, answers))) fed p = cc
+    request_told result (inl (request, is, (answer, inr replays, answers))) fed p =
         sent request is answer replays result (answered_by (replies_of old) answer result replays.answers answers) p
-    exchange_told result (inr (inl (h, none), same)) fed p = not_http result h none (ap (λ (x : ScriptedClient). string_bytes x.lines) same) p
-    exchange_told result (inr (inr h, same)) fed p = unfed result h (ap (λ (x : ScriptedClient). string_bytes x.lines) same) p
+    request_told result (inr (inl (h, none), same)) fed p = not_http result h none (ap (λ (x : ScriptedClient). string_bytes x.lines) same) p
+    request_told result (inr (inr h, same)) fed p = unfed result h (ap (λ (x : ScriptedClient). string_bytes x.lines) same) p
+
+-- a request that a configuration asks for, and its answer as JSON
+module _ {D A T E : Type 0} (meaning : D → A) (error_meaning : T → E) (json : A → List ℕ) (text : E → List ℕ) (says : ReplyView → Answer A E) where
+  pub exchange_told : (c : Configuration) (endpoint : Addressed) (old new : ScriptedClient) (lines : List ℕ) (s : RunStatus) (result : Result D (RequestTokenError NoReply T))
+      → Asks meaning error_meaning says c endpoint old result new → new.is_starved ≡ false
+      → Prints (string_bytes new.lines) lines s (end_output (λ e. text (error_meaning e)) (λ d. answered (json (meaning d))) result)
+      → Adds (string_bytes old.lines) lines s (IsExchange json text says c endpoint (replies_of old))
+  exchange_told c endpoint =
+      request_told meaning error_meaning (λ a. answered (json a)) text says (IsRequestOf c (serialize endpoint.url)) (expected_lines c) endpoint.url
+      (λ v is. (is.target, request_lines-expected c (serialize endpoint.url) v is))

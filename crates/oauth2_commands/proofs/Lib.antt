@@ -1,6 +1,7 @@
 pub mod NoFloats
 pub mod Results
 pub mod Exchanges
+pub mod Discovery
 pub mod Commands
 pub mod Redirects
 pub mod Scopes

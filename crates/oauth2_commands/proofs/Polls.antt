@@ -24,7 +24,7 @@ use Rattle.oauth2_world.specs.Clock.{reading_of, readings_of}
 use Rattle.oauth2_commands.specs.DevicePoll.{calls_of, last_call, poll_answer, class_of_call, AreLinesOf, device_error_display, shown_at, IsPolled}
 use Rattle.oauth2_commands.specs.Exchange.{BasicToken, other_text, token_json}
 use Rattle.oauth2_world.specs.Lines.{expected_lines, sleep_line}
-use Rattle.oauth2_commands.specs.Out.{Output, after, failed, starved}
+use Rattle.oauth2_commands.specs.Out.{Output, after, answered, failed, starved}
 use Rattle.oauth2_world.specs.Replies.{next_reply}
 use Rattle.oauth2_commands.specs.private.Added.{Prints as PrintsOutput, Adds}
 use Rattle.oauth2_world.specs.Replay.{ReplaysOrStarves, replied, replies_of}
@@ -165,7 +165,7 @@ at_end rule (Late n) e result calls last h = inl (says_expired rule n calls resu
 at_end rule (Limited n) e result calls last h = inl (says_other (codes "polling limit reached") result h)
 at_end rule (Decided n) e result calls last (reply, is, shows) =
     let said : last_call None calls ≡ Some (reply_of reply) = sym last ∙ ap last_said is in
-    elim (judged token_meaning device_error token_json device_error_display (poll_answer rule) (reply_of reply) result shows) [
+    elim (judged token_meaning device_error (λ token. answered (token_json token)) device_error_display (poll_answer rule) (reply_of reply) result shows) [
       | inl same ↦ inl (rw said same)
       | inr (sent, memory) ↦ inr (ap poll_output memory)
     ]

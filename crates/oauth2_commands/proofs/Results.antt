@@ -15,6 +15,7 @@ use Rattle.oauth2_codes.specs.declared.token_type.BasicTokenType.{BasicTokenType
 use Rattle.oauth2_replies.specs.Device.{DeviceAuthorization, device_seen, device_writing}
 use Rattle.oauth2_replies.specs.declared.device.EmptyExtraDeviceAuthorizationFields.{EmptyExtraDeviceAuthorizationFields}
 use Rattle.oauth2_introspection.specs.Introspection.{Introspection, introspection_seen, introspection_writing}
+use Rattle.oauth2_metadata.specs.Metadata.{metadata_writing, own_names, own_rows}
 use Rattle.oauth2_replies.specs.Token.{token_writing}
 use Rattle.oauth2_replies.specs.declared.token.EmptyExtraTokenFields.{EmptyExtraTokenFields}
 use Rattle.oauth2_wire.specs.Display.{configuration_text, fault_text}
@@ -26,30 +27,37 @@ use Rattle.oauth2_commands.specs.Exchange.{token_data, token_json, error_display
 use Rattle.oauth2_commands.specs.DeviceAuthorization.{BasicDevice, device_data}
 use Rattle.oauth2_commands.specs.DevicePoll.{device_error_display}
 use Rattle.oauth2_commands.specs.Introspect.{BasicIntrospection, introspection_data}
-use Rattle.oauth2_commands.specs.Out.{Output, answered}
+use Rattle.oauth2_commands.specs.Metadata.{metadata_data}
+use Rattle.oauth2_commands.specs.private.Discovery.{MetadataSeen, metadata_meaning}
+use Rattle.oauth2_commands.specs.Out.{Output, answered, failed}
 use Rattle.oauth2_world.specs.Lines.{fault_line}
 use Rattle.oauth2_commands.specs.private.Added.{Prints}
 use Rattle.oauth2_commands.specs.private.Results.{configuration_output, end_output, fault_output, TokenSeen, token_meaning}
 use Rattle.oauth2_commands.specs.private.Results.{ErrorResponse, error_seen, RevocationErrorResponse, revocation_error_seen}
 use Rattle.oauth2_world.specs.declared.replay.NoReply.{NoReply}
-use Rattle.oauth2_commands.proofs.NoFloats.{token_data-no_float, device_data-no_float, introspection_data-no_float}
+use Rattle.oauth2_commands.proofs.NoFloats.{token_data-no_float, device_data-no_float, introspection_data-no_float, metadata_data-no_float}
+use Rattle.oauth2_commands.specs.declared.status.RunStatus.{RunStatus}
 use Rattle.oauth2_commands.specs.declared.status.RunStatus.TheVariants as status
 
-module _ {T : Type 0} (display : T → Option (List ℕ)) (text : T → List ℕ) (shows : (e : T) → display e ≡ Some (text e)) where
-  pub fault_shown : (fault : RequestTokenError NoReply T) (shown old new : List ℕ) → ((f : ParseFault) (body : Vec ℕ Global) → fault ≡ Parse f body → ⊥)
-      → IfSome (fault_text display fault) (λ bs. shown ≡ bs) → new ≡ old ++ fault_line shown → Prints old new status.Fault (fault_output text fault)
-  fault_shown (ServerResponse e) shown old new other told printed =
-      let is : shown ≡ codes "Server returned error response: " ++ text e = rw (shows e) at told in
-      (rw (← is) printed, refl)
-  fault_shown (Request e) shown old new other told printed = (rw (← told) printed, refl)
-  fault_shown (Parse f body) shown old new other told printed = absurd (other f body refl)
-  fault_shown (Other given) shown old new other told printed = (rw (← told) printed, refl)
-  fault_shown (Memory sent) shown old new other told printed = (rw (← told) printed, refl)
+-- an error that has a text
+pub error_shown : (o : Option (List ℕ)) (shown old new : List ℕ) → IfSome o (λ text. shown ≡ text) → new ≡ old ++ fault_line shown
+    → IfSome o (λ text. Prints old new status.Fault (failed text))
+error_shown None shown old new told printed = tt
+error_shown (Some text) shown old new told printed = (rw (← told) printed, refl)
 
-pub configuration_shown : (e : ConfigurationError) (shown old new : List ℕ) → IfSome (configuration_text e) (λ bs. shown ≡ bs)
-    → new ≡ old ++ fault_line shown → Prints old new status.Fault (configuration_output e)
-configuration_shown (MissingUrl name) shown old new told printed = (rw (← told) printed, refl)
-configuration_shown (InsecureUrl name) shown old new told printed = (rw (← told) printed, refl)
+module _ {T : Type 0} (display : T → Option (List ℕ)) (text : T → List ℕ) (shows : (e : T) → display e ≡ Some (text e)) where
+  pub fault_shown : (fault : RequestTokenError NoReply T) (old new : List ℕ) (s : RunStatus) → ((f : ParseFault) (body : Vec ℕ Global) → fault ≡ Parse f body → ⊥)
+      → IfSome (fault_text display fault) (λ text. Prints old new s (failed text)) → Prints old new s (fault_output text fault)
+  fault_shown (ServerResponse e) old new s other told = rw (shows e) at told
+  fault_shown (Request e) old new s other told = told
+  fault_shown (Parse f body) old new s other told = absurd (other f body refl)
+  fault_shown (Other given) old new s other told = told
+  fault_shown (Memory sent) old new s other told = told
+
+pub configuration_shown : (e : ConfigurationError) (old new : List ℕ) (s : RunStatus) → IfSome (configuration_text e) (λ text. Prints old new s (failed text))
+    → Prints old new s (configuration_output e)
+configuration_shown (MissingUrl name) old new s told = told
+configuration_shown (InsecureUrl name) old new s told = told
 
 -- ---- the answers and the errors of a server that uses no extension
 
@@ -96,6 +104,13 @@ introspection_written-data r = by_type r.token_type refl
     by_type None e = rw e refl
     by_type (Some k) e = rw e refl
 
+abbrev metadata_written : MetadataSeen → Writing
+metadata_written m = metadata_writing (λ _. Ok (object no_members)) m
+
+pub metadata_written-data : (m : MetadataSeen) → metadata_written m ≡ Ok (metadata_data (metadata_meaning m))
+unfolding metadata_data own_names own_rows
+metadata_written-data m = refl
+
 abbrev device_written : DeviceSeen → Writing
 device_written r = device_writing (λ _. Ok (object no_members)) r
 
@@ -113,6 +128,9 @@ pub introspection_free : (r : IntrospectionSeen) → IsOkAnd (introspection_writ
 introspection_free r =
     free_of (introspection_written r) (introspection_data (introspection_meaning r)) (introspection_written-data r)
     (introspection_data-no_float (introspection_meaning r))
+
+pub metadata_free : (m : MetadataSeen) → IsOkAnd (metadata_written m) (λ d. has_float d ≡ false)
+metadata_free m = free_of (metadata_written m) (metadata_data (metadata_meaning m)) (metadata_written-data m) (metadata_data-no_float (metadata_meaning m))
 
 pub device_free : (r : DeviceSeen) → IsOkAnd (device_written r) (λ d. has_float d ≡ false)
 device_free r = free_of (device_written r) (device_data (device_meaning r)) (device_written-data r) (device_data-no_float (device_meaning r))

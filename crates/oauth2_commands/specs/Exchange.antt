@@ -78,13 +78,13 @@ module _ {A E : Type 0} (shown : A → Output) (text : E → List ℕ) where
       (o ≡ after (lines target) (reply_output says (next_reply replies))) ⊎ (o ≡ after (lines target) starved)
 
   -- a request with these lines and its answer, unless memory ran out before the request was made
-  abbrev pub IsCall : (ReplyView → Answer A E) → (List ℕ → List ℕ) → Parts → List Reply → Output → Type 0
-  IsCall says lines url replies o =
+  abbrev pub IsRequestShown : (ReplyView → Answer A E) → (List ℕ → List ℕ) → Parts → List Reply → Output → Type 0
+  IsRequestShown says lines url replies o =
       (o ≡ starved) ⊎ ((target : Option (List ℕ)) × IsTarget (serialize url) target × IsSent says lines replies target o)
 
 -- a request that a configuration asks for, and its answer as JSON
 abbrev pub IsExchange : {A E : Type 0} → (A → List ℕ) → (E → List ℕ) → (ReplyView → Answer A E) → Configuration → Addressed → List Reply → Output → Type 0
-IsExchange json text says c endpoint = IsCall (λ a. answered (json a)) text says (expected_lines c) endpoint.url
+IsExchange json text says c endpoint = IsRequestShown (λ a. answered (json a)) text says (expected_lines c) endpoint.url
 
 -- the text of an error response whose code is written as `code`
 unfoldable pub error_display : {C : Type 0} → (C → List ℕ) → ErrorParts C → List ℕ

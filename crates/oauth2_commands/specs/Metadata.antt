@@ -16,7 +16,7 @@ use Rattle.oauth2_replies.specs.Kept.{any_object}
 use Rattle.oauth2_wire.specs.declared.content_type.ReplyRule.{ReplyRule}
 use Rattle.oauth2_wire.specs.Reply.{Answer, ReplyView, answer_of}
 use Rattle.oauth2_world.specs.Lines.{request_line, authorization_line, body_line, basic_line}
-use Rattle.oauth2_commands.specs.Exchange.{IsCall, error_display}
+use Rattle.oauth2_commands.specs.Exchange.{IsRequestShown, error_display}
 use Rattle.oauth2_commands.specs.Out.{Output, answered, failed}
 use Rattle.oauth2_script.specs.MetadataParams.{MetadataParams}
 use Rattle.oauth2_script.specs.Replies.{Reply}
@@ -51,7 +51,7 @@ abbrev pub metadata_answer : ReplyRule → ReplyView → Answer BasicMetadata (E
 metadata_answer rule = answer_of rule (metadata_reading any_object) (error_reading error_code_reading)
 
 abbrev pub IsDiscovered : ReplyRule → List ℕ → Parts → List Reply → Output → Type 0
-IsDiscovered rule issuer = IsCall (metadata_output issuer) (error_display error_code_text) (metadata_answer rule) get_lines
+IsDiscovered rule issuer = IsRequestShown (metadata_output issuer) (error_display error_code_text) (metadata_answer rule) get_lines
 
 -- a URL that is an issuer has its metadata at that place, and any other is refused
 abbrev pub IsIssuerOutput : ReplyRule → MetadataParams → List Reply → Parts → Option IssuerError → Output → Type 0

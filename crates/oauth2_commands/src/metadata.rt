@@ -2,17 +2,18 @@
 
 ghost use Rattle.std.specs.Prelude.{◌≡◌, false, string_bytes, IfOk};
 ghost use Rattle.oauth2_commands.specs.Metadata as spec;
-ghost use Rattle.oauth2_commands.specs.private.Added.{Adds};
-ghost use Rattle.oauth2_commands.specs.private.Discovery.{IsQuery, ShowsIssuerError};
-ghost use Rattle.oauth2_commands.specs.private.Discovery.{metadata_end_output};
-ghost use Rattle.oauth2_commands.specs.private.Added.{Prints};
+ghost use Rattle.oauth2_commands.specs.Out.{failed};
+ghost use Rattle.oauth2_commands.specs.private.Added.{Adds, Prints};
+ghost use Rattle.oauth2_commands.specs.private.Discovery.{discovery_output};
+ghost use Rattle.oauth2_metadata.specs.Issuer.{IsOutOfRoom, issuer_error_text};
+ghost use Rattle.oauth2_metadata.specs.Request.{IsAsked};
 ghost use Rattle.oauth2_script.specs.Views.{metadata_view};
 ghost use Rattle.oauth2_world.specs.Replay.{replies_of};
 
 use crate::answer::{show_answer, show_error, show_fault};
 use crate::client::ScriptClient;
 use crate::status::RunStatus;
-use oauth2::{EmptyExtraTokenFields, ReplyRule};
+use oauth2::EmptyExtraTokenFields;
 use oauth2_metadata::{IssuerError, MetadataError, MetadataRequest, ServerMetadata};
 use oauth2_script::{MetadataParams, WellKnown};
 use oauth2_world::{NoReply, ScriptedClient};
@@ -20,28 +21,25 @@ use std::alloc::{AllocError, Global};
 
 type Metadata = ServerMetadata<EmptyExtraTokenFields>;
 
-fn request_of(
-    alloc: Global,
-    params: MetadataParams,
-    reply_rule: ReplyRule,
-) -> Result<MetadataRequest, IssuerError>
-    ensures { IsQuery reply_rule (metadata_view params) result }
+// The request to the place that a well-known URI has.
+fn request_of(alloc: Global, params: MetadataParams) -> Result<MetadataRequest, IssuerError>
+    ensures { IsAsked (spec.place params.well_known) (string_bytes params.issuer) result }
 {
-    let request = match params.well_known {
-        WellKnown::OauthAuthorizationServer => MetadataRequest::new(alloc, params.issuer)?,
-        WellKnown::OpenidConfiguration => MetadataRequest::openid(alloc, params.issuer)?,
-    };
-    Ok(request.set_reply_rule(reply_rule))
+    match params.well_known {
+        WellKnown::OauthAuthorizationServer => MetadataRequest::new(alloc, params.issuer),
+        WellKnown::OpenidConfiguration => MetadataRequest::openid(alloc, params.issuer),
+    }
 }
 
-// Why a text is no issuer. Want of room for its URLs is want of memory.
+// Why a text is no issuer. Want of room for a URL is want of memory.
 fn show_issuer_error(
     alloc: Global,
     lines: &mut String,
     error: IssuerError,
 ) -> Result<RunStatus, AllocError>
-    ensures { IfOk result (λ status. ShowsIssuerError (string_bytes lines.old)
-        (string_bytes lines.new) status error) }
+    ensures { IfOk result (λ status. ¬ (IsOutOfRoom error)
+        × Prints (string_bytes lines.old) (string_bytes lines.new) status
+        (failed (issuer_error_text error))) }
 {
     match error {
         IssuerError::Memory | IssuerError::TooLong => Err(AllocError),
@@ -55,7 +53,7 @@ fn show_metadata(
     end: &Result<Metadata, MetadataError<NoReply>>,
 ) -> Result<RunStatus, AllocError>
     ensures { IfOk result (λ status. Prints (string_bytes lines.old) (string_bytes lines.new)
-        status (metadata_end_output end.now)) }
+        status (discovery_output end.now)) }
 {
     match end {
         Ok(metadata) => show_answer(alloc, lines, metadata),
@@ -90,8 +88,9 @@ pub fn run_metadata(
         → Adds (string_bytes http_client.old.lines) (string_bytes http_client.new.lines) status
         (spec.IsMetadataOutput client.now (metadata_view params) (replies_of http_client.old))) }
 {
-    match request_of(alloc, params, client.reply_rule()) {
-        Ok(request) => ask(alloc, request, http_client),
+    let rule = client.reply_rule();
+    match request_of(alloc, params) {
+        Ok(request) => ask(alloc, request.set_reply_rule(rule), http_client),
         Err(error) => show_issuer_error(alloc, &mut http_client.lines, error),
     }
 }

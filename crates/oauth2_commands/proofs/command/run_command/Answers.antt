@@ -24,3 +24,6 @@ returns-in-Authorize c = IfOk-weaker c.run_authorize.result _ _ (λ status adds.
 
 pub returns-in-Redirect : goal.returns-in-Redirect
 returns-in-Redirect c = IfOk-weaker c.run_redirect.result _ _ (λ status adds. λ fed. rw c.in-Redirect.is adds) c.run_redirect.ensures
+
+pub returns-in-Metadata : goal.returns-in-Metadata
+returns-in-Metadata c = rw c.in-Metadata.is c.run_metadata.ensures
