@@ -1,5 +1,5 @@
 -- What one request adds to the lines of a scripted client.
-use Rattle.std.proofs.Common.{◌≡◌, ℕ, List, ◌++◌, Bool, false, Option, Some, None, option_map, option_and_then, Result, Ok, Err, string_bytes, codes, map, inl, inr, refl, ap, ◌∙◌, append_assoc, ◌⊎◌}
+use Rattle.std.proofs.Common.{◌≡◌, ℕ, List, ◌++◌, Bool, false, Option, Some, None, option_map, option_and_then, Result, Ok, Err, string_bytes, codes, map, inl, inr, refl, ap, ◌∙◌, append-nil, append_assoc, ◌⊎◌}
 use Rattle.http_header.specs.HeaderMap.{get}
 use Rattle.http_header.specs.FieldValue.{plain_value}
 use Rattle.http_uri.specs.Uri.{Spells, SpellsNone, uri_text}
@@ -63,7 +63,7 @@ pub request_lines-get : (text : List ℕ) (v : RequestView) → IsGetOf text v �
 unfolding request_lines
 request_lines-get text v is =
     let a : authorization_of v ≡ None = rw is.headers refl in
-    let r : view_lines v ≡ basic_line None = rw (is.body, a) refl in
+    let r : view_lines v ≡ basic_line None = rw (is.body, a) (append-nil (basic_line None)) in
     rw (r, is.method, is.body, a) refl
 
 -- ---- a request, whatever it asks for
