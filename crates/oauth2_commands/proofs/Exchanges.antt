@@ -1,5 +1,6 @@
 -- What one request adds to the lines of a scripted client.
 use Rattle.std.proofs.Common.{◌≡◌, ℕ, List, ◌++◌, Bool, false, Option, Some, None, option_map, option_and_then, Result, Ok, Err, string_bytes, codes, map, inl, inr, refl, ap, ◌∙◌, append-nil, append_assoc, ◌⊎◌}
+use Rattle.form_urlencoded.specs.Form.{raw_pairs, split}
 use Rattle.http_header.specs.HeaderMap.{get}
 use Rattle.http_header.specs.FieldValue.{plain_value}
 use Rattle.http_uri.specs.Uri.{Spells, SpellsNone, uri_text}
@@ -60,7 +61,7 @@ request_lines-expected c text v is =
 -- ---- the lines of a GET
 
 pub request_lines-get : (text : List ℕ) (v : RequestView) → IsGetOf text v → request_lines v ≡ get_lines (uri_text v.target)
-unfolding request_lines
+unfolding request_lines raw_pairs split
 request_lines-get text v is =
     let a : authorization_of v ≡ None = rw is.headers refl in
     let r : view_lines v ≡ basic_line None = rw (is.body, a) (append-nil (basic_line None)) in

@@ -92,7 +92,7 @@ fn print_parse_fault(
 }
 
 /// An error, by its text.
-pub fn show_error<E: Display>(
+pub fn show_error_text<E: Display>(
     alloc: Global,
     lines: &mut String,
     error: &E,
@@ -119,7 +119,7 @@ pub fn show_fault<T: Display>(
         print_parse_fault(alloc, lines, fault)?;
         Ok(RunStatus::Fault)
     } else {
-        show_error(alloc, lines, fault)
+        show_error_text(alloc, lines, fault)
     }
 }
 
@@ -198,5 +198,5 @@ pub fn show_configuration_error(
     ensures { IfOk result (λ status. Prints (string_bytes lines.old) (string_bytes lines.new)
         status (configuration_output error.now)) }
 {
-    show_error(alloc, lines, error)
+    show_error_text(alloc, lines, error)
 }

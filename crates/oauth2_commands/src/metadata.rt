@@ -5,12 +5,13 @@ ghost use Rattle.oauth2_commands.specs.Metadata as spec;
 ghost use Rattle.oauth2_commands.specs.Out.{failed};
 ghost use Rattle.oauth2_commands.specs.private.Added.{Adds, Prints};
 ghost use Rattle.oauth2_commands.specs.private.Discovery.{discovery_output};
+ghost use Rattle.oauth2_commands.specs.private.Discovery.{metadata_error_output};
 ghost use Rattle.oauth2_metadata.specs.Issuer.{IsOutOfRoom, issuer_error_text};
 ghost use Rattle.oauth2_metadata.specs.Request.{IsAsked};
 ghost use Rattle.oauth2_script.specs.Views.{metadata_view};
 ghost use Rattle.oauth2_world.specs.Replay.{replies_of};
 
-use crate::answer::{show_answer, show_error, show_fault};
+use crate::answer::{show_answer, show_error_text, show_fault};
 use crate::client::ScriptClient;
 use crate::status::RunStatus;
 use oauth2::EmptyExtraTokenFields;
@@ -43,7 +44,22 @@ fn show_issuer_error(
 {
     match error {
         IssuerError::Memory | IssuerError::TooLong => Err(AllocError),
-        error => show_error(alloc, lines, &error),
+        error => show_error_text(alloc, lines, &error),
+    }
+}
+
+// Why there is no metadata.
+fn show_metadata_error(
+    alloc: Global,
+    lines: &mut String,
+    error: &MetadataError<NoReply>,
+) -> Result<RunStatus, AllocError>
+    ensures { IfOk result (λ status. Prints (string_bytes lines.old) (string_bytes lines.new)
+        status (metadata_error_output error.now)) }
+{
+    match error {
+        MetadataError::Reply(fault) => show_fault(alloc, lines, fault),
+        MetadataError::OtherIssuer => show_error_text(alloc, lines, error),
     }
 }
 
@@ -57,8 +73,7 @@ fn show_metadata(
 {
     match end {
         Ok(metadata) => show_answer(alloc, lines, metadata),
-        Err(MetadataError::Reply(fault)) => show_fault(alloc, lines, fault),
-        Err(error) => show_error(alloc, lines, error),
+        Err(error) => show_metadata_error(alloc, lines, error),
     }
 }
 

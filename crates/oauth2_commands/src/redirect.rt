@@ -8,7 +8,7 @@ ghost use Rattle.oauth2_redirect.specs.Redirect.{Refusal, Tells, TellsRefusal};
 ghost use Rattle.oauth2_script.specs.Views.{redirect_view};
 ghost use Rattle.oauth2_world.specs.Lines.{quoted};
 
-use crate::answer::show_error;
+use crate::answer::show_error_text;
 use crate::status::RunStatus;
 use oauth2::AuthorizationCode;
 use oauth2_redirect::{RedirectError, read_redirect};
@@ -50,7 +50,7 @@ fn show_refusal(
     if let RedirectError::Memory = error {
         return Err(AllocError);
     }
-    show_error(alloc, lines, error)
+    show_error_text(alloc, lines, error)
 }
 
 /// Shows the code that a redirect brings, or why it brings none.

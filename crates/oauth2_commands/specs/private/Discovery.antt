@@ -15,8 +15,11 @@ MetadataSeen = Metadata EmptyExtraTokenFields
 abbrev pub metadata_meaning : MetadataSeen → BasicMetadata
 metadata_meaning m = metadata_seen (λ _. tt) m
 
+abbrev pub metadata_error_output : MetadataError NoReply ErrorResponse → Output
+metadata_error_output (Reply fault) = fault_output error_seen fault
+metadata_error_output OtherIssuer = failed (codes "metadata is another issuer's")
+
 -- metadata, or why there is none
 abbrev pub discovery_output : Result MetadataSeen (MetadataError NoReply ErrorResponse) → Output
 discovery_output (Ok m) = answered (metadata_json (metadata_meaning m))
-discovery_output (Err (Reply fault)) = fault_output error_seen fault
-discovery_output (Err OtherIssuer) = failed (codes "metadata is another issuer's")
+discovery_output (Err error) = metadata_error_output error

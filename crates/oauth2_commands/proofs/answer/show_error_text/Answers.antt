@@ -1,7 +1,7 @@
 use Rattle.std.proofs.Common.{◌≡◌, ◌++◌, string_bytes}
 use Rattle.oauth2_world.specs.Lines.{fault_line}
 use Rattle.oauth2_commands.proofs.Results.{error_shown}
-use Rattle.oauth2_commands.proofs.answer.show_error.Goals as goal
+use Rattle.oauth2_commands.proofs.answer.show_error_text.Goals as goal
 
 pub returns : goal.returns
 returns g c =
