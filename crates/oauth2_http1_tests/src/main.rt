@@ -17,6 +17,8 @@ mod replies;
 #[cfg(test)]
 mod requests;
 #[cfg(test)]
+mod server;
+#[cfg(test)]
 mod support;
 #[cfg(test)]
 mod texts;

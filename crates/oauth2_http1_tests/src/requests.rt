@@ -1,7 +1,7 @@
 //! The bytes of requests, and requests that are not sent.
 
 use crate::exchange::RequestTexts;
-use crate::support::{is_so, is_text, outcome_of};
+use crate::support::{is_so, is_text, outcome_of, text_of_request};
 use crate::wire::Wire;
 use oauth2_http1::Bounds;
 use std::process::Abort;
@@ -132,6 +132,8 @@ fn writes(rt: &(impl Abort + AllocGlobal), request: Request, bytes: &str) {
     let outcome = outcome_of(rt, &mut wire, Bounds::default(), texts_of(request));
     is_text(rt, outcome.text.as_str(), "HTTP/1.1 204\n\n", bytes);
     is_so(rt, wire.is_written(), bytes);
+    // The kit's server reads one request with the same parts, and no byte after it.
+    is_text(rt, text_of_request(rt, bytes).as_str(), bytes, bytes);
 }
 
 #[test]

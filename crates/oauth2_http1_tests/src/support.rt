@@ -1,6 +1,7 @@
 //! What the tests of several subjects share.
 
 use crate::exchange::{Answer, RequestTexts, call_once, request_of, show};
+use crate::server::show_request;
 use crate::wire::Wire;
 use oauth2_http1::Bounds;
 use std::fmt::Display;
@@ -30,6 +31,13 @@ pub struct Outcome {
 pub fn text_of(rt: &(impl Abort + AllocGlobal), answer: &Answer) -> String {
     let mut text = Vec::new(rt.alloc());
     show(&mut text, answer).expect(rt, "a text");
+    String::from_utf8(text).expect(rt, "a text")
+}
+
+/// What the kit's server reads of these bytes as a text.
+pub fn text_of_request(rt: &(impl Abort + AllocGlobal), bytes: &str) -> String {
+    let mut text = Vec::new(rt.alloc());
+    show_request(&mut text, bytes.as_bytes()).expect(rt, "a text");
     String::from_utf8(text).expect(rt, "a text")
 }
 
