@@ -112,9 +112,9 @@ def read(*path):
         return f.read()
 
 
-def put(path, content):
-    """Writes a file, unless it is so already: cargo builds what has changed."""
-    path, content = os.path.join(OUT, path), content.encode() if isinstance(content, str) else content
+def put(folder, path, content):
+    """Writes a file of a folder, unless it is so already: cargo builds what has changed."""
+    path, content = os.path.join(folder, path), content.encode() if isinstance(content, str) else content
     if not os.path.exists(path) or read(path) != content:
         os.makedirs(os.path.dirname(path), exist_ok=True)
         with open(path, 'wb') as f:
@@ -125,24 +125,36 @@ def lay_out(crate, is_debian):
     """Writes the workspace of the crate's sources into out/rust."""
     where, config = FROM_DEBIAN if is_debian else FROM_CRATES_IO, os.path.join(OUT, '.cargo', 'config.toml')
     if is_debian:
-        put(config, CONFIG)
+        put(OUT, config, CONFIG)
         for name, (version, below) in STAND_INS.items():
-            put(name + '/Cargo.toml', STAND_IN.format(name=name, version=version, below=below))
-            put(name + '/lib.rs', read(HERE, name + '.rs'))
+            put(OUT, name + '/Cargo.toml', STAND_IN.format(name=name, version=version, below=below))
+            put(OUT, name + '/lib.rs', read(HERE, name + '.rs'))
     elif os.path.exists(config):
         os.remove(config)
-    put('Cargo.toml', WORKSPACE)
-    put('oauth2/Cargo.toml', CRATE.format(**where))
-    put('programs/Cargo.toml', PROGRAMS.format(**where))
+    put(OUT, 'Cargo.toml', WORKSPACE)
+    put(OUT, 'oauth2/Cargo.toml', CRATE.format(**where))
+    put(OUT, 'programs/Cargo.toml', PROGRAMS.format(**where))
     for path, content in crate.items():
-        put('oauth2/src/' + path, content)
+        put(OUT, 'oauth2/src/' + path, content)
     for name in ('driver.rs', 'operations.rs'):
-        put('programs/' + name, read(HERE, name))
+        put(OUT, 'programs/' + name, read(HERE, name))
 
 
 def fail(why):
     print('the Rust side was not built: %s; tools/rust/README.md says what to install' % why, file=sys.stderr)
     sys.exit(2)
+
+
+def cargo(workspace, program, is_debian):
+    """Builds a program of the workspace in that folder: its path. Ends the tool with the status 2 where it can't be built."""
+    command = ['cargo', 'build', '--quiet', '--release', '--bin', program] + ['--offline'] * is_debian
+    try:
+        status = subprocess.run(command, cwd=workspace, stdout=sys.stderr).returncode
+    except OSError:
+        fail('cargo does not run here')
+    if status:
+        fail('cargo ended with the status %d' % status)
+    return os.path.join(workspace, 'target', 'release', program)
 
 
 def build(folder, program):
@@ -151,14 +163,7 @@ def build(folder, program):
     if 'lib.rs' not in crate:
         fail('%s has no src/lib.rs' % folder)
     lay_out(crate, is_debian)
-    command = ['cargo', 'build', '--quiet', '--release', '--bin', program] + ['--offline'] * is_debian
-    try:
-        status = subprocess.run(command, cwd=OUT, stdout=sys.stderr).returncode
-    except OSError:
-        fail('cargo does not run here')
-    if status:
-        fail('cargo ended with the status %d' % status)
-    return os.path.join(OUT, 'target', 'release', program)
+    return cargo(OUT, program, is_debian)
 
 
 def add_argument(parser):

@@ -1,4 +1,4 @@
-"""Tests of tools/bench: the names of functions, what is said of growth, and the parts of the page."""
+"""Tests of tools/bench: the names of functions, what is said of growth, the parts of the page, and other HTTP clients' exchanges."""
 import os
 import sys
 import unittest
@@ -7,6 +7,7 @@ from unittest import mock
 sys.dont_write_bytecode = True
 sys.path.insert(0, os.path.dirname(os.path.abspath(__file__)))
 sys.path.insert(0, os.path.dirname(os.path.dirname(os.path.abspath(__file__))))
+import other_clients
 import repository
 import tool
 
@@ -44,8 +45,23 @@ class Page(unittest.TestCase):
         with open(os.path.join(repository.ROOT, 'docs', 'PERFORMANCE.md'), encoding='utf-8') as f:
             page = f.read()
         with mock.patch.object(bench, 'HAS_VALGRIND', True):
-            for name in bench.parts(['here', 'there'], None):
+            for name in [*bench.parts(['here', 'there'], None), 'exchange']:
                 self.assertIn('new', bench.with_part(page, name, 'new'), name)
+
+
+class Exchange(unittest.TestCase):
+    def test_table(self):
+        clients = [other_clients.Client(name, name) for name in ('one', 'two')]
+        with mock.patch.object(bench, 'instructions', lambda command, *_: {'one': 2000, 'two': 5100}[command[0]]):
+            said = list(bench.exchange(clients))
+        self.assertEqual(said[2:], ['| one | 2,000 | 1.0 |', '| two | 5,100 | 2.5 |'])
+
+    def test_same_exchange(self):
+        one, *others = [other_clients.exchange_of(it) for it in (
+            b'GET / HTTP/1.1\r\nhost: a\r\nx: B\r\n\r\nbody\nreply\n', b'GET / HTTP/1.1\r\nX: B\r\nHost: a\r\n\r\nbody\nreply\n',
+            b'GET / HTTP/1.1\r\nhost: a\r\nx: b\r\n\r\nbody\nreply\n', b'GET / HTTP/1.1\r\nhost: a\r\nx: B\r\n\r\nbody\n\n',
+            b'GET / HTTP/1.1\r\nhost: a\r\n\r\nbody\nreply\n', b'PUT / HTTP/1.1\r\nhost: a\r\nx: B\r\n\r\nbody\nreply\n')]
+        self.assertEqual([it == one for it in others], [True] + [False] * 4)
 
 
 if __name__ == '__main__':

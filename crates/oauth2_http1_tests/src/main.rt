@@ -1,5 +1,5 @@
 //! Tests of `oauth2_http1` over connections in memory; and a program that makes two exchanges, for
-//! `tools/refusals`.
+//! `tools/refusals`, or one exchange as often as its argument says, for `tools/bench`.
 
 #![tactic(auto)]
 
@@ -22,12 +22,15 @@ mod server;
 mod support;
 #[cfg(test)]
 mod texts;
+mod token_exchange;
 mod wire;
 
 use exchange::{RequestTexts, request_of, show_once};
 use oauth2_wire::HttpRequest;
 use std::alloc::Global;
+use std::env;
 use std::io::{self, Write};
+use token_exchange::repeat;
 use wire::Wire;
 
 // A request, its bytes, and the reply to it.
@@ -107,8 +110,18 @@ fn show_exchange<W: Write>(alloc: Global, row: Row, out: &mut W) -> io::Result<(
     }
 }
 
+// How often the argument asks for the exchange of a token, if there is one.
+fn asked_times(rt: &HostRuntime) -> Option<u64> {
+    let mut arguments = env::args(rt).ok()?;
+    let _program = arguments.next();
+    arguments.next()?.as_str().parse::<u64>().ok()
+}
+
 fn main(rt: HostRuntime) -> io::Result<()> {
     let mut writer = io::writer(&rt);
+    if let Some(times) = asked_times(&rt) {
+        return repeat(rt.alloc(), times, &mut writer);
+    }
     for row in ROWS {
         show_exchange(rt.alloc(), row, &mut writer)?;
     }
