@@ -41,6 +41,11 @@ def tools():
     return [Check('tests of the tools', repository.ROOT, command, b'', fault_of_status)]
 
 
+def readme():
+    """The commands on README.md, which compile programs without proofs."""
+    return [of_tool('readme')]
+
+
 def has_tests(crate):
     """Whether a test function stands in a crate's sources."""
     for at, _, names in os.walk(os.path.join(repository.CRATES, crate, 'src')):
