@@ -100,6 +100,14 @@ class Marks(unittest.TestCase):
                 self.assertEqual(examples.filled('page.md', mark + block), mark + block)
                 self.assertEqual(examples.without_mark(mark + block), lines)
 
+    def test_links(self):
+        with open(os.path.join(self.room, 'b.md'), 'w', encoding='utf-8') as f:
+            f.write('# One `b`: two\n')
+        page = '## A part\n[a](a.rt), [b](b.md#one-b-two), [c](#a-part), [d](https://h/x#y)\n```rust\n[e](f)\n```\n'
+        self.assertEqual(list(examples.dead_links('page.md', page)), [])
+        page += '[f](c.rt), [g](b.md#two), [h](#b-part)\n'
+        self.assertEqual(list(examples.dead_links('page.md', page)), ['c.rt', 'b.md#two', '#b-part'])
+
 
 if __name__ == '__main__':
     unittest.main()
