@@ -5,6 +5,7 @@ import os
 import sys
 import tempfile
 import unittest
+from unittest import mock
 
 sys.dont_write_bytecode = True
 sys.path.insert(0, os.path.dirname(os.path.abspath(__file__)))
@@ -71,6 +72,12 @@ class Steps(unittest.TestCase):
         is_so, said = taken('    $ echo why >&2; exit 3\n')
         self.assertFalse(is_so)
         self.assertIn('it ends with status 3\nwhy\n', said)
+
+    def test_a_command_that_does_not_end(self):
+        with mock.patch.object(readme, 'LIMIT', 0.1):
+            is_so, said = taken('    $ sleep 60 & sleep 60\n')
+        self.assertFalse(is_so)
+        self.assertIn('it ends with status -9', said)
 
     def test_the_server_of_the_page_is_replaced(self):
         self.assertTrue(taken('    $ echo https://as.example/token\n    http://127.0.0.1:1/token\n')[0])
