@@ -1,13 +1,14 @@
-"""How tools/oauth2 writes an answer of the program: every member of the reply, or the token alone; for that tool."""
+"""How tools/oauth2 writes an answer of the program: every member of the reply, or the token alone; and a fault; for that tool."""
 import json
 import os
 import re
 import sys
 
-from endings import Stop, say
+from endings import ERROR_RESPONSE, Stop, say, status_of_fault
 
 OUTPUTS = {'json': 'the whole reply as one line of JSON', 'token': 'the access token alone',
            'header': 'the header of a request that has the token (RFC 6750, 2.1)'}
+OF_AN_ERROR = ('error', 'error_description', 'error_uri')  # what the text of a fault has
 
 
 def members_in(text):
@@ -76,6 +77,22 @@ def whole(outcome):
     """The text of an answer that is no fault: what follows 'ok' on the program's line, with the reply's other members."""
     text = outcome.answer.partition(' ')[2]
     return with_others(text, (outcome.reply or {}).get('body', ''))
+
+
+def fault_of(outcome, hint='is the URL that of the endpoint?'):
+    """The fault of the program, with the HTTP status of the reply that it is about; and its exit status."""
+    text = outcome.answer.partition(' ')[2]
+    why, end = json.JSONDecoder().raw_decode(text)
+    status, reply, said = status_of_fault(why), outcome.reply or {}, why + text[end:]
+    if 'status' in reply:
+        said += ' (HTTP status %d)' % reply['status']
+        kind = reply.get('content_type')
+        if text.endswith((' NotJson', ' NotObject')) or 'response Content-Type' in why:
+            said += ': the reply is %s and not a JSON object; %s' % (kind or 'of no named type', hint)
+        more = others(reply['body'], OF_AN_ERROR) if why.startswith(ERROR_RESPONSE) else []
+        if more:
+            said += '; the reply also has ' + object_of(more)
+    return said, status
 
 
 def in_form(text, output):

@@ -8,12 +8,13 @@ import time
 import program
 import repository
 from endings import FAULT, NO_ANSWER, NO_MEMORY, Stop, say
-from http_post import reply_to
+from http_requests import reply_to
 
-Event = collections.namedtuple('Event', 'kind value authorization body')
-# What came of a command: the program's status, its answer, the last reply as the script has it (none where there was none), and when the
-# request for that was sent.
-Outcome = collections.namedtuple('Outcome', 'status answer reply asked_at')
+# What a line of the program says. Of a request, value is its URL; of another line, what follows its kind.
+Event = collections.namedtuple('Event', 'kind value method authorization body', defaults=(None, None, None))
+# What came of a command: the program's status, its answer, the last reply as the script has it (none where there was none), the URL of
+# the request for that, and when it was sent.
+Outcome = collections.namedtuple('Outcome', 'status answer reply url asked_at')
 
 
 def program_path():
@@ -54,9 +55,10 @@ def events_in(lines):
     for at, (kind, value) in enumerate(rows):
         if kind == 'request':
             authorization, body = rows[at + 1][1], json.loads(rows[at + 2][1])
-            yield Event(kind, value.partition(' ')[2], None if authorization == 'none' else authorization, body)
+            method, _, url = value.partition(' ')
+            yield Event(kind, url, method, None if authorization == 'none' else authorization, body)
         elif kind in ('sleep', 'url', 'answer'):
-            yield Event(kind, value, None, None)
+            yield Event(kind, value)
 
 
 def next_of(events, replies, sleeps):
@@ -77,7 +79,7 @@ def next_of(events, replies, sleeps):
 
 def answered(path, script, limit):
     """Does what the program says until its answer stands: what came of it."""
-    script, sleeps, asked_at = dict(script, replies=[]), 0, int(time.time())
+    script, sleeps, url, asked_at = dict(script, replies=[]), 0, None, int(time.time())
     if script['command'] == 'device_poll':
         script['readings'] = [asked_at] * 2  # as the poll begins, and in its first round
     most = script['params'].get('max_polls')
@@ -91,9 +93,9 @@ def answered(path, script, limit):
                 raise Stop('%s ended with %d and no answer' % (path, status), status if status == NO_MEMORY else NO_ANSWER)
             raise Stop(refused_setting(path, script), status)
         if event.kind == 'answer':
-            return Outcome(status, event.value, (script['replies'] or [None])[-1], asked_at)
+            return Outcome(status, event.value, (script['replies'] or [None])[-1], url, asked_at)
         if event.kind == 'request':
-            asked_at = int(time.time())
+            url, asked_at = event.value, int(time.time())
             script['replies'].append(reply_to(event, limit))
         else:
             sleep(float(event.value))

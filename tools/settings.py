@@ -12,14 +12,17 @@ LOOPBACK = ('localhost', '127.0.0.1', '::1')
 URLS = {'auth_url': 'the authorization endpoint', 'token_url': 'the token endpoint', 'device_url': 'the device authorization endpoint',
         'introspection_url': 'the introspection endpoint', 'revocation_url': 'the revocation endpoint',
         'redirect': 'where the server sends the user back'}
+# The member of an issuer's metadata that has each endpoint (RFC 8414, 2; RFC 8628, 4).
+ENDPOINTS = {'auth_url': 'authorization_endpoint', 'token_url': 'token_endpoint', 'device_url': 'device_authorization_endpoint',
+             'introspection_url': 'introspection_endpoint', 'revocation_url': 'revocation_endpoint'}
 # The settings that are texts, each with what it is.
 TEXTS = {'client_id': "the client's identifier", 'auth': 'where the secret goes: basic (a header, as unless said) or body',
-         'issuer': 'the issuer that has to be named where the server sends the user back (RFC 9207)', 'username': "the user's name", **URLS}
+         'issuer': 'the issuer, whose metadata names the endpoints that are not set (RFC 8414)', 'username': "the user's name", **URLS}
 NEEDED = {'login': ('auth_url', 'token_url', 'redirect'), 'token': ('token_url',), 'password': ('token_url', 'username'),
           'refresh': ('token_url',), 'device': ('device_url', 'token_url'), 'introspect': ('introspection_url',),
           'revoke': ('revocation_url',)}
 # Those that only some commands take, each with the commands that take it and can do without it.
-OPTIONAL = {'issuer': ('login',), 'username': (), **dict.fromkeys(URLS, ())}
+OPTIONAL = {'username': (), **dict.fromkeys(URLS, ())}
 
 
 def takes(command, name):
@@ -31,8 +34,8 @@ def flag_of(name):
     return '--' + name.replace('_', '-')
 
 
-def settings_of(given, kept=None):
-    """The settings by name, from flags, environment and file; where those lack one, as the cache has kept it."""
+def settings_of(given, kept):
+    """The settings by name, from flags, environment and file; where those lack one, as the cache has kept it for the same issuer."""
     path, found = given.config or os.environ.get('OAUTH2_CONFIG'), {}
     if path:
         found = read_file(path)
@@ -40,7 +43,9 @@ def settings_of(given, kept=None):
         found[name] = getattr(given, name, None) or os.environ.get('OAUTH2_' + name.upper()) or found.get(name)
         if not isinstance(found[name], (str, type(None))):
             raise Stop('%s: "%s" is no text' % (path, name))
-        found[name] = found[name] or (kept or {}).get(name)
+    for name in kept.keys() & TEXTS.keys():
+        if name not in ENDPOINTS or found['issuer'] in (None, kept['issuer']):
+            found[name] = found[name] or kept[name]
     found['scopes'] = getattr(given, 'scope', None) or os.environ.get('OAUTH2_SCOPES', '').split() or found.get('scopes') or []
     if not isinstance(found['scopes'], list) or not all(isinstance(it, str) for it in found['scopes']):
         raise Stop('%s: "scopes" is no list of texts' % path)
@@ -52,27 +57,28 @@ def settings_of(given, kept=None):
 
 def check(command, found):
     """Stops where a setting that a command needs is missing, or is one that can't be used."""
-    for name in ('client_id', *NEEDED[command]):
-        if not found[name]:
-            raise Stop('%s is not set: give %s, OAUTH2_%s, or "%s" in the file that --config names'
-                       % (TEXTS[name], flag_of(name), name.upper(), name))
-    for name in NEEDED[command]:
-        if name in URLS:
-            check_url(name, found[name])
+    missing = [name for name in ('client_id', *NEEDED[command]) if not found[name]]
+    for name in missing:
+        if not found['issuer'] or name not in ENDPOINTS:
+            raise Stop('%s is not set: give %s, OAUTH2_%s, or "%s" in the file that --config names%s'
+                       % (TEXTS[name], flag_of(name), name.upper(), name, '; or --issuer, to discover it' * (name in ENDPOINTS)))
+    for name in (*NEEDED[command], *['issuer'] * bool(missing)):
+        if name in URLS and name not in missing or name == 'issuer':
+            check_url(name, found[name], flag_of(name))
 
 
-def check_url(name, text):
-    """Stops at a text that is no URL, or one of an endpoint to which a secret would go unencrypted."""
+def check_url(name, text, label, status=BAD_SETTING):
+    """Stops at a text that is no URL, or one of an endpoint to which a secret would go unencrypted. The label says which text it is."""
     try:
         url = urllib.parse.urlsplit(text)
         is_url = url.scheme and (name == 'redirect' or url.hostname and url.port != 0)
     except ValueError:
         is_url = False
     if not is_url or name != 'redirect' and url.scheme not in ('https', 'http'):
-        raise Stop('%s is "%s", which is no URL: it has to be whole, as https://server.example/path' % (flag_of(name), text), BAD_SETTING)
+        raise Stop('%s is "%s", which is no URL: it has to be whole, as https://server.example/path' % (label, text), status)
     if url.scheme == 'http' and url.hostname not in LOOPBACK and name not in ('redirect', 'auth_url'):
         raise Stop('%s is %s, where secrets would go unencrypted: give an https URL (http is taken for this machine alone)'
-                   % (flag_of(name), text), BAD_SETTING)
+                   % (label, text), status)
 
 
 def read_file(path):

@@ -11,8 +11,9 @@ from endings import Stop, say
 
 FORMAT = 'cache of tools/oauth2, 1'
 # What the file has: of which request the token came, when, until when it is good, the reply, and the refresh token that is newest.
-TYPES = {'command': str, 'client_id': str, 'token_url': str, 'auth': (str, type(None)), 'username': (str, type(None)), 'scopes': list,
-         'extra': list, 'obtained_at': int, 'expires_at': int, 'answer': str, 'refresh_token': (str, type(None))}
+TYPES = {'command': str, 'client_id': str, 'issuer': (str, type(None)), 'token_url': str, 'auth': (str, type(None)),
+         'username': (str, type(None)), 'scopes': list, 'extra': list, 'obtained_at': int, 'expires_at': int, 'answer': str,
+         'refresh_token': (str, type(None))}
 
 
 def entry_in(text, path):
@@ -20,7 +21,7 @@ def entry_in(text, path):
     if not text:
         return None
     try:
-        found = json.loads(text)
+        found = {'issuer': None, **json.loads(text)}  # the files of earlier versions have none
         is_ours = found.pop('format') == FORMAT and found.keys() == TYPES.keys() and all(isinstance(found[it], TYPES[it]) for it in TYPES)
         texts = [*found['scopes'], *(it for pair in found['extra'] for it in pair), answers.member(found['answer'], 'access_token')]
         is_ours = is_ours and all(isinstance(it, str) for it in texts)

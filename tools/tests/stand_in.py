@@ -54,6 +54,24 @@ def read(reply):
         end(0, 'ok', json.dumps(kept, separators=(',', ':')))
     end(1, 'fault', json.dumps('Server returned error response: ' + found['error']))
 
+def metadata():
+    """Asks for the metadata of an issuer at one of their places."""
+    issuer, place = params['issuer'], '/.well-known/' + params.get('well_known', 'oauth-authorization-server')
+    url = urllib.parse.urlsplit(issuer)
+    if url.query:
+        end(1, 'fault "issuer has a query"')
+    path = url.path.rstrip('/')
+    path = path + place if place.endswith('openid-configuration') else place + path
+    print('request GET %%s://%%s%%s' %% (url.scheme, url.netloc, path))
+    print('authorization none', 'body ""', 'basic none', sep=chr(10))
+    reply = next(replies, {'fail': True})
+    if reply.get('fail'):
+        end(1, 'fault "Request failed"')
+    if reply['status'] != 200:
+        end(1, 'fault "Failed to parse server response" "error" Missing')
+    found = json.loads(reply['body'])
+    end(*(0, 'ok', json.dumps(found)) if found['issuer'] == issuer else (1, 'fault', json.dumps("metadata is another issuer's")))
+
 def poll():
     found = params['device']
     for _ in range(params['max_polls']):
@@ -71,10 +89,15 @@ elif command == 'authorize':
     print('url', json.dumps(client['auth_url'] + '?' + urllib.parse.urlencode(query)))
     end(0, 'ok', json.dumps(params['state']))
 elif command == 'redirect':
-    found = dict(urllib.parse.parse_qsl(urllib.parse.urlsplit(params['redirect']).query))
+    pairs = urllib.parse.parse_qsl(urllib.parse.urlsplit(params['redirect']).query)
+    found = dict(pairs)
     if found.get('state') != params['state']:
         end(1, 'fault "redirect has another state"')
+    if 'issuer' in params and [value for name, value in pairs if name == 'iss'] != [params['issuer']]:
+        end(1, 'fault "redirect has another issuer"')
     end(*(1, 'fault', json.dumps(found['error'])) if 'error' in found else (0, 'ok', json.dumps(found['code'])))
+elif command == 'metadata':
+    metadata()
 elif command == 'device_authorization':
     read(reply_of(client['device_url'], [('client_id', client['id'])]))
 elif command == 'device_poll':
@@ -95,11 +118,17 @@ OK = {'access_token': 't1', 'token_type': 'Bearer', 'expires_in': 3600}
 
 
 class Handler(http.server.BaseHTTPRequestHandler):
+    def do_GET(self):
+        self.server.looked_at.append((self.path, dict(self.headers)))
+        self.send(*self.server.documents.get(self.path, (404, {}, '')))
+
     def do_POST(self):
         asked = dict(it.partition('=')[::2] for it in self.rfile.read(int(self.headers['Content-Length'])).decode().split('&'))
         self.server.asked.append((self.path, asked, dict(self.headers)))
         reply = self.server.reply(asked) if callable(self.server.reply) else self.server.reply
-        status, headers, body = reply if isinstance(reply, tuple) else (200, {}, reply)
+        self.send(*reply if isinstance(reply, tuple) else (200, {}, reply))
+
+    def send(self, status, headers, body):
         self.send_response(status)
         for name, value in {'Content-Type': 'application/json', **headers}.items():
             self.send_header(name, value)
@@ -111,12 +140,14 @@ class Handler(http.server.BaseHTTPRequestHandler):
 
 
 class Server(http.server.ThreadingHTTPServer):
-    """Answers each POST by .reply, an object, a text, a triple with status and headers, or a function of the form; notes it in .asked."""
+    """Answers each POST by .reply, an object, a text, a triple with status and headers, or a function of the form; notes it in .asked.
+    Answers each GET by the triple that .documents has for the path, or by 404; notes it in .looked_at."""
     block_on_close = False
 
     def __init__(self):
         super().__init__(('127.0.0.1', 0), Handler)
         self.asked, self.reply, self.url = [], OK, 'http://127.0.0.1:%d' % self.server_port
+        self.looked_at, self.documents = [], {}
         threading.Thread(target=self.serve_forever, kwargs={'poll_interval': 0.02}, daemon=True).start()
 
     def handle_error(self, *_):

@@ -59,12 +59,6 @@ class Login(unittest.TestCase):
             self.assertEqual(run.returncode, 0)
             self.assertEqual(scripts[1]['params']['issuer'], 'https://as.example')
 
-    def test_no_other_command_takes_an_issuer(self):
-        words = [os.path.join(tool.TOOLS, 'oauth2'), 'token', '--issuer', 'https://as.example']
-        run = subprocess.run(words, env={'PATH': os.environ['PATH']}, capture_output=True, text=True, timeout=60)
-        self.assertEqual(run.returncode, 125)
-        self.assertIn('unrecognized arguments: --issuer', run.stderr)
-
     def test_a_fault_of_the_redirect_ends_the_login(self):
         for text, status, said in (('redirect has another state', 1, 'has not the state of this login: do not use it'),
                                    ('redirect has another issuer', 1, 'does not name the issuer'),

@@ -27,7 +27,7 @@ def reply_to(request, limit):
         why = "the server's certificate is not one that this machine trusts (SSL_CERT_FILE names others): %s" % error.verify_message
     except (OSError, ValueError, http.client.HTTPException, Unanswered) as error:
         why = error or type(error).__name__
-    say('POST %s: %s' % (request.value, why))
+    say('%s %s: %s' % (request.method, request.value, why))
     return {'fail': True}
 
 
@@ -59,7 +59,9 @@ def connection_to(target, limit):
 def sent(request, limit):
     target = urllib.parse.urlsplit(request.value)
     connection = connection_to(target, limit)
-    headers = {'Accept': 'application/json', 'Content-Type': 'application/x-www-form-urlencoded', 'Connection': 'close'}
+    headers, body = {'Accept': 'application/json', 'Connection': 'close'}, None
+    if request.method == 'POST':
+        headers['Content-Type'], body = 'application/x-www-form-urlencoded', request.body.encode()
     if request.authorization:
         headers['Authorization'] = request.authorization
 
@@ -69,15 +71,15 @@ def sent(request, limit):
     signal.setitimer(signal.ITIMER_REAL, limit)
     try:
         where = '/' + ''.join(request.value.partition('#')[0].split('/', 3)[3:])
-        connection.request('POST', where, request.body.encode(), headers)
+        connection.request(request.method, where, body, headers)
         reply = connection.getresponse()
-        return in_script(reply.status, reply.headers, reply.read(MOST_BYTES + 1))
+        return in_script(request.method, reply.status, reply.headers, reply.read(MOST_BYTES + 1))
     finally:
         signal.setitimer(signal.ITIMER_REAL, 0)
         connection.close()
 
 
-def in_script(status, headers, body):
+def in_script(method, status, headers, body):
     """A reply as a script holds it."""
     content_type, location = headers.get('Content-Type'), headers.get('Location')
     if len(body) > MOST_BYTES:
@@ -86,7 +88,8 @@ def in_script(status, headers, body):
         raise Unanswered('the reply has a Content-Type with control characters')
     if 300 <= status < 400:
         to = ' to ' + location.partition('?')[0] if location else ''
-        say('the server sends elsewhere%s (HTTP status %d), which is not followed: give the URL of the endpoint itself' % (to, status))
+        say('the server sends elsewhere%s (HTTP status %d), which is not followed: give the URL of the %s itself'
+            % (to, status, 'endpoint' if method == 'POST' else 'issuer'))
     try:
         reply = {'status': status, 'body': body.decode('utf-8')}
     except ValueError:
