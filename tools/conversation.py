@@ -22,13 +22,19 @@ def program_path():
     path = os.environ.get('OAUTH2_PROGRAM')
     if path and not os.access(path, os.X_OK):
         raise Stop('OAUTH2_PROGRAM names %s, which is no program' % path)
-    if path or program.is_proved():
-        return os.path.abspath(path or program.PROGRAM)
+    if not path and program.is_proved():
+        path = program.PROGRAM
+        if not os.access(path, os.X_OK):
+            raise Stop('%s can not be run: chmod +x %s' % (path, path))
+    if path:
+        return os.path.abspath(path)
     noted = []
 
     def note():
         if not repository.has_kit():
-            raise Stop('there is no program here, and no kit to compile it: README.md names the kit; or OAUTH2_PROGRAM names a program')
+            is_carried = os.path.exists(program.kept_of(program.NAME))
+            why = 'the proved build here does not fit this checkout (docs/TOOL.md)' if is_carried else 'there is no program here'
+            raise Stop('%s, and no kit to compile it: README.md names the kit; or OAUTH2_PROGRAM names a program' % why)
         noted.append(True)
         say('tools/oauth2: the program is compiled now, once for this checkout, in about a minute; it is not proved, tools/prove does that')
     try:

@@ -4,6 +4,7 @@ import json
 import os
 import socket
 import sys
+import tempfile
 import threading
 import unittest
 from unittest import mock
@@ -75,7 +76,8 @@ class Program(unittest.TestCase):
 
     def test_the_named_one_and_the_proved_one_need_no_word(self):
         self.assertEqual(self.found(True, None, OAUTH2_PROGRAM=sys.executable), (sys.executable, []))
-        self.assertEqual(self.found(True, None), (program.PROGRAM, []))
+        with mock.patch.object(program, 'PROGRAM', sys.executable):
+            self.assertEqual(self.found(True, None), (sys.executable, []))
 
     def test_one_that_is_not_proved_is_told_once(self):
         for unproved in (lambda note: note() or '/p'), (lambda note: '/p'):
@@ -84,12 +86,25 @@ class Program(unittest.TestCase):
             self.assertIn('not proved', said[0])
             self.assertIn('tools/prove', said[0])
 
+    def test_a_proved_build_that_was_carried_here(self):
+        with tempfile.TemporaryDirectory() as room:
+            build = os.path.join(room, 'oauth2_run')
+            for path in build, build + '.proved':
+                open(path, 'w').close()
+            with mock.patch.object(program, 'PROGRAM', build), mock.patch.object(program, 'path_of', lambda _: build):
+                with self.assertRaisesRegex(endings.Stop, 'can not be run: chmod'):
+                    self.found(True, None)
+                with self.assertRaisesRegex(endings.Stop, 'does not fit this checkout .*, and no kit to compile it'):
+                    self.found(False, lambda note: note(), has_kit=False)
+
     def test_why_there_is_none(self):
         def broken(_):
             raise RuntimeError('src/main.rt: no')
-        for unproved, has_kit, said in (lambda note: note(), False, 'no kit to compile it'), (broken, True, 'src/main.rt: no'):
-            with self.assertRaisesRegex(endings.Stop, said):
-                self.found(False, unproved, has_kit)
+        with mock.patch.object(program, 'kept_of', lambda _: '/none/oauth2_run.proved'):
+            for unproved, has_kit, said in ((lambda note: note(), False, 'there is no program here, and no kit to compile it'),
+                                            (broken, True, 'src/main.rt: no')):
+                with self.assertRaisesRegex(endings.Stop, said):
+                    self.found(False, unproved, has_kit)
 
 
 class Settings(stand_in.Case):
