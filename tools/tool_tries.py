@@ -1,21 +1,29 @@
-"""What tools/try-servers tries of tools/oauth2 itself: the listener, the cache, a proxy, and endpoints that answer what they should not."""
+"""What tools/try-servers tries of tools/oauth2 itself: endpoints by discovery, the listener, also with a browser, the cache, a proxy, and
+endpoints that answer what they should not."""
 import http.server
 import json
 import os
 import re
+import shutil
 import socket
 import threading
 import time
 import urllib.parse
 import urllib.request
 
+import firefox
+
 LISTENED = 'http://127.0.0.1/back'  # the redirect that is received on this machine, where a server takes any port
 
 
 def at_server(tries):
-    """All that needs a server: a login that listens or that names its issuer, a token in a cache, a proxy."""
+    """All that needs a server: a login that listens or that names its issuer, endpoints by discovery, a token in a cache, a proxy."""
     issuer(tries)
     listener(tries)
+    if tries.server.agreed_in and shutil.which(firefox.PROGRAM):
+        firefox_at_listener(tries)
+    if tries.server.issuer:
+        discovery(tries)
     cache(tries)
     proxy(tries)
 
@@ -40,6 +48,46 @@ def listener(tries):
 def visit(url):
     with urllib.request.build_opener(urllib.request.ProxyHandler({})).open(url, timeout=60) as page:
         return page.read()
+
+
+def firefox_at_listener(tries):
+    """A login that opens a browser, in which a user signs in and agrees; the browser follows the redirect to --listen itself."""
+    it = firefox.Firefox(tries.server.folder, tries.server.free_port())
+    try:
+        run = tries.start('login', '--listen', str(tries.server.listen_port), OAUTH2_REDIRECT=LISTENED, BROWSER=it.command)
+        url = next(line.strip() for line in run.stderr if line.startswith('https://'))
+        version = it.connect()
+        tries.server.agreed_in(it, url)
+        address, title = it.page()
+        tries.end('redirect received by --listen from Firefox %s' % version, run, '', 'access_token')
+        tries.row('the page that Firefox shows', title, title == 'Back to the terminal' and address.startswith('http://127.0.0.1:'))
+    finally:
+        it.quit()
+
+
+def discovery(tries):
+    """Each kind of request by --issuer alone. The redirect of this issuer names it, though its metadata don't promise that."""
+    server, none = tries.server, dict.fromkeys(('OAUTH2_' + name.upper() for name in tries.server.urls), '')
+    by_issuer = {**none, 'OAUTH2_ISSUER': server.base + server.issuer}
+    tries.end('discovery: client credentials', tries.start('token', **by_issuer), '', 'access_token')
+    run, url = tries.login_begun(**by_issuer)
+    back = server.agreed(url)
+    answer = tries.end('discovery: code with PKCE, the redirect names the issuer', run, back + '\n', 'access_token')
+    tries.end('discovery: refresh', tries.start('refresh', OAUTH2_REFRESH_TOKEN=answer.get('refresh_token', 'none'), **by_issuer), '',
+              'access_token')
+    token = answer.get('access_token', 'none')
+    tries.end('discovery: introspection', tries.start('introspect', OAUTH2_TOKEN=token, **by_issuer), '', '"active":true')
+    tries.end('discovery: revocation', tries.start('revoke', OAUTH2_TOKEN=token, **by_issuer), '', 'null')
+    tries.device('discovery: device', **by_issuer)
+    run, url = tries.login_begun(**by_issuer)
+    named = urllib.parse.urlencode({'iss': server.base + server.issuer})
+    back = server.agreed(url)
+    tries.end('discovery: the redirect names another issuer', run, back.replace(named, named + '%2F') + '\n', '!does not name the issuer')
+    run, url = tries.login_begun(**by_issuer)
+    back = server.agreed(url)
+    tries.end('discovery: the redirect names no issuer', run, back.replace('&' + named, '').replace(named, '') + '\n', 'access_token')
+    by_other = {**none, 'OAUTH2_ISSUER': server.base}
+    tries.end('discovery: an issuer without metadata', tries.start('token', **by_other), '', '!can not be discovered')
 
 
 def cache(tries):
