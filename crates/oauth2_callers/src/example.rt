@@ -1,4 +1,4 @@
-//! The use that the README shows.
+//! A client with a token endpoint alone, and the exchange of a code.
 
 ghost use Rattle.std.specs.Prelude.{◌≡◌, Some, None, Ok, Err, IfOk, IfErr, string_bytes};
 ghost use Rattle.url.specs.Parts.{serialize};
