@@ -1,0 +1,4 @@
+pub mod Rows
+pub mod Encoded
+pub mod RuleLaws
+pub mod TokenRuleLaws

@@ -1,0 +1,90 @@
+-- All rules of a token are met exactly where it is as the standard says.
+use Rattle.std.proofs.Common.{◌≡◌, ◌≢◌, ℕ, ℤ, ◌↔◌, List, Bool, true, false, true≢false, not, Option, Some, None, is_some, IfSome, Result, Ok, Err, IsOk, bytes_eq, codes, if◌then◌else◌, refl, sym}
+use Rattle.std.proofs.lemmas.Slice.Eq.{bytes_eq-Decides}
+use Rattle.serde_json.specs.Data.{Data}
+use Rattle.serde_json.specs.Find.{get}
+use Rattle.oauth2_types.specs.Pkce.{base64url}
+use Rattle.oauth2_openid.specs.declared.claims_error.ClaimsError.{ClaimsError}
+use Rattle.oauth2_openid.specs.declared.claims_error.ClaimsError.TheVariants as errors
+use Rattle.oauth2_openid.specs.declared.access_token_hash.AccessTokenHash.{AccessTokenHash}
+use Rattle.oauth2_openid.specs.declared.access_token_hash.AccessTokenHash.TheVariants as hash
+use Rattle.oauth2_openid.specs.Claims.{Expectation}
+use Rattle.oauth2_openid.specs.Rules.{rule}
+use Rattle.oauth2_openid.specs.Token.{Token}
+use Rattle.oauth2_openid.specs.TokenRules.{algorithm_of, half_digest, told_hash, hash_rule, token_checked, IsAlgorithm, IsHashOf, Holds}
+use Rattle.oauth2_openid.proofs.RuleLaws.{rule_held, both, claims_held, held_claims}
+
+-- ---- the algorithm
+
+differs : (a b : List ℕ) → not (bytes_eq a b) ≡ true → a ≢ b
+differs a b h e = absurd (true≢false (cc (h, (bytes_eq-Decides a b).1 e)))
+
+unequal : (a b : List ℕ) (t : Bool) → bytes_eq a b ≡ t → a ≢ b → not t ≡ true
+unequal a b true e h = absurd (h ((bytes_eq-Decides a b).0 e))
+unequal a b false e h = refl
+
+algorithm_held : (o : Option (List ℕ)) (a : List ℕ) → algorithm_of o a ≡ Ok tt → IsAlgorithm o a
+algorithm_held None a h = differs a (codes "none") (rule_held _ _ h)
+algorithm_held (Some r) a h = (bytes_eq-Decides a r).0 (rule_held _ _ h)
+
+held_algorithm : (o : Option (List ℕ)) (a : List ℕ) → IsAlgorithm o a → algorithm_of o a ≡ Ok tt
+held_algorithm None a h = rw (unequal a (codes "none") (bytes_eq a (codes "none")) refl h) refl
+held_algorithm (Some r) a h = rw ((bytes_eq-Decides a r).1 h) refl
+
+-- ---- the extension
+
+absent_held : (o : Option Data) → rule (not (is_some o)) errors.CriticalExtension ≡ Ok tt → o ≡ None
+absent_held None h = refl
+absent_held (Some d) h = absurd (cc)
+
+-- ---- the hash
+
+matched : (b : Bool) (v : AccessTokenHash) → (if b then Ok hash.Matches else Err errors.OtherAccessToken) ≡ Ok v → b ≡ true
+matched true v h = refl
+matched false v h = absurd (cc)
+
+half_held : (told : List ℕ) (o : Option (List ℕ)) (v : AccessTokenHash) → told_hash told o ≡ Ok v → IfSome o (λ half. told ≡ base64url half)
+half_held told None v h = tt
+half_held told (Some half) v h = (bytes_eq-Decides told (base64url half)).0 (matched (bytes_eq told (base64url half)) v h)
+
+hash_held : (a t : List ℕ) (o : Option (List ℕ)) (v : AccessTokenHash) → hash_rule a t o ≡ Ok v → IsHashOf a t o
+hash_held a t None v h = tt
+hash_held a t (Some told) v h = half_held told (half_digest a t) v h
+
+held_half : (told : List ℕ) (o : Option (List ℕ)) → IfSome o (λ half. told ≡ base64url half) → IsOk (told_hash told o)
+held_half told None h = refl
+held_half told (Some half) h = rw ((bytes_eq-Decides told (base64url half)).1 h) refl
+
+held_hash : (a t : List ℕ) (o : Option (List ℕ)) → IsHashOf a t o → IsOk (hash_rule a t o)
+held_hash a t None h = refl
+held_hash a t (Some told) h = held_half told (half_digest a t) h
+
+-- ---- all
+
+held : (w : Expectation) (a : List ℕ) (n : ℤ) (t : Token) (v : AccessTokenHash) → token_checked w a n t ≡ Ok v → Holds w a n t
+held w a n t v h =
+    let g = both _ _ _ h in
+    let x = both _ _ _ g.1 in
+    let c = both _ _ _ x.1 in
+    record {
+      algorithm = algorithm_held w.algorithm t.header.own.algorithm g.0;
+      no_extension = absent_held (get (codes "crit") t.header.others) x.0;
+      claims = claims_held w n t.claims.own c.0;
+      hash = hash_held t.header.own.algorithm a t.claims.own.access_token_hash v c.1;
+    }
+
+all : (w : Expectation) (a : List ℕ) (n : ℤ) (t : Token) → Holds w a n t → IsOk (token_checked w a n t)
+all w a n t h =
+    rw (
+      held_algorithm w.algorithm t.header.own.algorithm h.algorithm,
+      h.no_extension,
+      held_claims w n t.claims.own h.claims,
+    ) (held_hash t.header.own.algorithm a t.claims.own.access_token_hash h.hash)
+
+some_held : (w : Expectation) (a : List ℕ) (n : ℤ) (t : Token) (r : Result AccessTokenHash ClaimsError) → token_checked w a n t ≡ r → IsOk r → Holds w a n t
+some_held w a n t (Ok v) e ok = held w a n t v e
+some_held w a n t (Err error) e ok = absurd (true≢false (sym ok))
+
+-- a check that answers as the rules do succeeds exactly where all hold
+pub succeeds : (w : Expectation) (a : List ℕ) (n : ℤ) (t : Token) (r : Result AccessTokenHash ClaimsError) → r ≡ token_checked w a n t → IsOk r ↔ Holds w a n t
+succeeds w a n t r e = (λ ok. some_held w a n t r (sym e) ok, λ h. rw e (all w a n t h))

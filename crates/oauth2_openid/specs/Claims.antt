@@ -1,0 +1,42 @@
+-- What an ID token claims, and what a client expects of it (OpenID Connect Core 1.0, section 2).
+use Rattle.std.specs.Prelude.{ℕ, ℤ, List, Option}
+
+-- the claims that have a method; times are in nanoseconds since 1970-01-01T00:00:00Z
+pub record Claims : Type 0 where
+  pub issuer : List ℕ
+  pub subject : List ℕ
+  pub audience : List (List ℕ)
+  pub expires_at : ℤ
+  pub issued_at : ℤ
+  pub auth_time : Option ℤ
+  pub nonce : Option (List ℕ)
+  pub authentication_context_class : Option (List ℕ)
+  pub authentication_methods : Option (List (List ℕ))
+  pub authorized_party : Option (List ℕ)
+  pub access_token_hash : Option (List ℕ)
+
+abbrev pub claims : List ℕ → List ℕ → List (List ℕ) → ℤ → ℤ → Option ℤ
+    → Option (List ℕ) → Option (List ℕ) → Option (List (List ℕ)) → Option (List ℕ) → Option (List ℕ) → Claims
+claims i s a e t u n c m p h =
+    record {
+      issuer = i;
+      subject = s;
+      audience = a;
+      expires_at = e;
+      issued_at = t;
+      auth_time = u;
+      nonce = n;
+      authentication_context_class = c;
+      authentication_methods = m;
+      authorized_party = p;
+      access_token_hash = h;
+    }
+
+-- what is expected; durations are in nanoseconds
+pub record Expectation : Type 0 where
+  pub issuer : List ℕ
+  pub client : List ℕ
+  pub algorithm : Option (List ℕ)
+  pub nonce : Option (List ℕ)
+  pub leeway : ℕ
+  pub max_age : Option ℕ

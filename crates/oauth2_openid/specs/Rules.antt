@@ -1,0 +1,97 @@
+-- The rules for the claims of an ID token (OpenID Connect Core 1.0, 3.1.3.7), in the order in which
+-- the first that does not hold is named.
+use Rattle.std.specs.Prelude.{◌≡◌, ℕ, ℤ, pos, ◌+ℤ◌, ◌<ℤ◌, ◌≤ℤ◌, ◌<◌, int_lt, int_le, nat_le, List, [], ◌∷◌, length, Contains, Bool, false, ◌||◌, if◌then◌else◌, Option, Some, None, IfSome, IsSome, IsSomeAnd, option_map, Result, Ok, Err, bytes_eq}
+use Rattle.sha2.specs.Sha256.{sha256}
+use Rattle.oauth2_types.specs.Digest.{digest_eq}
+use Rattle.oauth2_openid.specs.declared.claims_error.ClaimsError.{ClaimsError}
+use Rattle.oauth2_openid.specs.declared.claims_error.ClaimsError.TheVariants as errors
+use Rattle.oauth2_openid.specs.Claims.{Claims, Expectation}
+
+-- a rule holds, or it does not, and then it is named
+abbrev pub Verdict : Type 0
+Verdict = Result Unit ClaimsError
+
+abbrev pub rule : Bool → ClaimsError → Verdict
+rule is_met error = if is_met then Ok tt else Err error
+
+-- one rule and then another: of two that do not hold the first is named
+infixr 20 ◌then◌
+abbrev pub ◌then◌ : {A : Type 0} → Verdict → Result A ClaimsError → Result A ClaimsError
+(Ok u) then later = later
+(Err e) then later = Err e
+
+-- 3.1.3.7, 2: the issuer is the expected one, byte for byte
+abbrev pub issuer_rule : Expectation → Claims → Verdict
+issuer_rule expected claims = rule (bytes_eq claims.issuer expected.issuer) errors.OtherIssuer
+
+-- a text is one of these
+abbrev pub is_among : List ℕ → List (List ℕ) → Bool
+is_among text [] = false
+is_among text (first ∷ later) = bytes_eq first text || is_among text later
+
+-- 3.1.3.7, 3: the client is one of the audiences
+abbrev pub audience_rule : Expectation → Claims → Verdict
+audience_rule expected claims = rule (is_among expected.client claims.audience) errors.OtherAudience
+
+-- 3.1.3.7, 4 and 5: where there are several audiences there is an authorized party; where there is
+-- one, it is the client
+abbrev pub party_of : List ℕ → List (List ℕ) → Option (List ℕ) → Verdict
+party_of client audience None = rule (nat_le (length audience) 1) errors.NoAuthorizedParty
+party_of client audience (Some party) = rule (bytes_eq party client) errors.OtherAuthorizedParty
+
+abbrev pub party_rule : Expectation → Claims → Verdict
+party_rule expected claims = party_of expected.client claims.audience claims.authorized_party
+
+-- 3.1.3.7, 9: this moment is before the expiry and the leeway after it
+abbrev pub expiry_rule : Expectation → ℤ → Claims → Verdict
+expiry_rule expected now claims = rule (int_lt now (claims.expires_at +ℤ pos expected.leeway)) errors.Expired
+
+-- 3.1.3.7, 10: the token was not issued after this moment and the leeway
+abbrev pub issued_rule : Expectation → ℤ → Claims → Verdict
+issued_rule expected now claims = rule (int_le claims.issued_at (now +ℤ pos expected.leeway)) errors.IssuedLater
+
+-- 3.1.3.7, 11, and section 2: there is a nonce where one was sent and only there, and it has the
+-- digest of that one
+abbrev pub nonce_of : Option (List ℕ) → Option (List ℕ) → Verdict
+nonce_of None None = Ok tt
+nonce_of None (Some told) = Err errors.NonceNotSent
+nonce_of (Some sent) None = Err errors.NoNonce
+nonce_of (Some sent) (Some told) = rule (digest_eq told sent) errors.OtherNonce
+
+abbrev pub nonce_rule : Expectation → Claims → Verdict
+nonce_rule expected claims = nonce_of expected.nonce claims.nonce
+
+-- 3.1.3.7, 13, and section 2: where a maximum age was sent, the token says when the user logged in,
+-- and this moment is not later than that age and the leeway after it
+abbrev pub age_of : ℕ → ℤ → Option ℕ → Option ℤ → Verdict
+age_of leeway now None auth_time = Ok tt
+age_of leeway now (Some max_age) None = Err errors.NoAuthTime
+age_of leeway now (Some max_age) (Some auth_time) =
+    rule (int_le now (auth_time +ℤ pos max_age +ℤ pos leeway)) errors.AuthTooOld
+
+abbrev pub age_rule : Expectation → ℤ → Claims → Verdict
+age_rule expected now claims = age_of expected.leeway now expected.max_age claims.auth_time
+
+-- each rule holds, or the first that does not is named
+abbrev pub claims_checked : Expectation → ℤ → Claims → Verdict
+claims_checked expected now claims =
+    issuer_rule expected claims
+    then audience_rule expected claims
+    then party_rule expected claims
+    then expiry_rule expected now claims
+    then issued_rule expected now claims
+    then nonce_rule expected claims
+    then age_rule expected now claims
+
+-- ---- that all hold
+
+-- the claims are as 3.1.3.7 has them, at this moment, for a client that expects this
+pub record ClaimsHold (expected : Expectation) (now : ℤ) (claims : Claims) : Type 0 where
+  pub issuer : claims.issuer ≡ expected.issuer
+  pub audience : Contains claims.audience expected.client
+  pub party : IfSome claims.authorized_party (λ party. party ≡ expected.client)
+  pub several : 1 < length claims.audience → IsSome claims.authorized_party
+  pub not_expired : now <ℤ (claims.expires_at +ℤ pos expected.leeway)
+  pub issued : claims.issued_at ≤ℤ (now +ℤ pos expected.leeway)
+  pub nonce : option_map sha256 claims.nonce ≡ option_map sha256 expected.nonce
+  pub age : IfSome expected.max_age (λ age. IsSomeAnd claims.auth_time (λ time. now ≤ℤ (time +ℤ pos age +ℤ pos expected.leeway)))

@@ -1,0 +1,85 @@
+-- The rules for the header and for the hash of the access token (OpenID Connect Core 1.0, 3.1.3.6 to
+-- 3.1.3.8; RFC 7515, 4.1.11), and all rules of a token.
+use Rattle.std.specs.Prelude.{◌≡◌, ◌≢◌, ℕ, ℤ, List, [], ◌∷◌, take, not, if◌then◌else◌, Option, Some, None, is_some, IfSome, Result, Ok, Err, bytes_eq, codes}
+use Rattle.serde_json.specs.Find.{get}
+use Rattle.sha2.specs.Sha256.{sha256}
+use Rattle.sha2.specs.Sha512.{sha384, sha512}
+use Rattle.oauth2_types.specs.Pkce.{base64url}
+use Rattle.oauth2_openid.specs.declared.claims_error.ClaimsError.{ClaimsError}
+use Rattle.oauth2_openid.specs.declared.claims_error.ClaimsError.TheVariants as errors
+use Rattle.oauth2_openid.specs.declared.access_token_hash.AccessTokenHash.{AccessTokenHash}
+use Rattle.oauth2_openid.specs.declared.access_token_hash.AccessTokenHash.TheVariants as hash
+use Rattle.oauth2_openid.specs.Claims.{Expectation}
+use Rattle.oauth2_openid.specs.Rules.{Verdict, rule, ◌then◌, is_among, claims_checked, ClaimsHold}
+use Rattle.oauth2_openid.specs.Token.{Header, WithOthers, Token}
+
+-- 3.1.3.7, 7, and section 2: the algorithm is the registered one, where one is given; else it is any
+-- but `none`
+abbrev pub algorithm_of : Option (List ℕ) → List ℕ → Verdict
+algorithm_of None algorithm = rule (not (bytes_eq algorithm (codes "none"))) errors.NoSignature
+algorithm_of (Some registered) algorithm = rule (bytes_eq algorithm registered) errors.OtherAlgorithm
+
+abbrev pub algorithm_rule : Expectation → Header → Verdict
+algorithm_rule expected header = algorithm_of expected.algorithm header.algorithm
+
+-- RFC 7515, 4.1.11: the header names no extension that has to be understood
+abbrev pub critical_rule : WithOthers Header → Verdict
+critical_rule header = rule (not (is_some (get (codes "crit") header.others))) errors.CriticalExtension
+
+-- RFC 7518, 3.1: the algorithms whose hash is SHA-256, SHA-384 and SHA-512
+abbrev pub sha256_algorithms : List (List ℕ)
+sha256_algorithms = codes "RS256" ∷ codes "ES256" ∷ codes "PS256" ∷ codes "HS256" ∷ []
+
+abbrev pub sha384_algorithms : List (List ℕ)
+sha384_algorithms = codes "RS384" ∷ codes "ES384" ∷ codes "PS384" ∷ codes "HS384" ∷ []
+
+abbrev pub sha512_algorithms : List (List ℕ)
+sha512_algorithms = codes "RS512" ∷ codes "ES512" ∷ codes "PS512" ∷ codes "HS512" ∷ []
+
+-- the left half of the access token's digest by the algorithm's hash, if it has one of these
+abbrev pub half_digest : List ℕ → List ℕ → Option (List ℕ)
+half_digest algorithm access_token =
+    if is_among algorithm sha256_algorithms
+    then Some (take 16 (sha256 access_token))
+    else (if is_among algorithm sha384_algorithms
+    then Some (take 24 (sha384 access_token))
+    else (if is_among algorithm sha512_algorithms
+    then Some (take 32 (sha512 access_token))
+    else None))
+
+-- the hash that the ID token tells is that half, in base64url
+abbrev pub told_hash : List ℕ → Option (List ℕ) → Result AccessTokenHash ClaimsError
+told_hash told None = Ok hash.NotChecked
+told_hash told (Some half) = if bytes_eq told (base64url half) then Ok hash.Matches else Err errors.OtherAccessToken
+
+-- 3.1.3.8
+abbrev pub hash_rule : List ℕ → List ℕ → Option (List ℕ) → Result AccessTokenHash ClaimsError
+hash_rule algorithm access_token None = Ok hash.Absent
+hash_rule algorithm access_token (Some told) = told_hash told (half_digest algorithm access_token)
+
+-- each rule holds, or the first that does not is named
+abbrev pub token_checked : Expectation → List ℕ → ℤ → Token → Result AccessTokenHash ClaimsError
+token_checked expected access_token now token =
+    algorithm_rule expected token.header.own
+    then critical_rule token.header
+    then claims_checked expected now token.claims.own
+    then hash_rule token.header.own.algorithm access_token token.claims.own.access_token_hash
+
+-- ---- that all hold
+
+abbrev pub IsAlgorithm : Option (List ℕ) → List ℕ → Type 0
+IsAlgorithm None algorithm = algorithm ≢ codes "none"
+IsAlgorithm (Some registered) algorithm = algorithm ≡ registered
+
+-- the hash that is told, if one is, is that of the access token, if the algorithm has one
+abbrev pub IsHashOf : List ℕ → List ℕ → Option (List ℕ) → Type 0
+IsHashOf algorithm access_token told =
+    IfSome told (λ hash. IfSome (half_digest algorithm access_token) (λ half. hash ≡ base64url half))
+
+-- the token is as 3.1.3.7 and 3.1.3.8 have it, but for its signature, at this moment, for a client
+-- that expects this and got this access token
+pub record Holds (expected : Expectation) (access_token : List ℕ) (now : ℤ) (token : Token) : Type 0 where
+  pub algorithm : IsAlgorithm expected.algorithm token.header.own.algorithm
+  pub no_extension : get (codes "crit") token.header.others ≡ None
+  pub claims : ClaimsHold expected now token.claims.own
+  pub hash : IsHashOf token.header.own.algorithm access_token token.claims.own.access_token_hash

@@ -1,0 +1,42 @@
+//! What a client expects of an ID token.
+
+use crate::nonce::Nonce;
+use oauth2_types::ClientId;
+use std::marker::Model;
+use std::time::Duration;
+
+/// What an ID token is checked against.
+#[derive(Drop)]
+pub struct Expected {
+    /// The issuer whose token endpoint returned the token.
+    pub issuer: String,
+    /// The client itself.
+    pub client_id: ClientId,
+    /// The algorithm that the client registered (`id_token_signed_response_alg`), such as `RS256`:
+    /// a token with another one is refused. Only a client that registered `none` may name it here
+    /// (section 2). Without an algorithm any but `none` is accepted.
+    pub algorithm: Option<String>,
+    /// The nonce that was sent with the request, if one was.
+    pub nonce: Option<Nonce>,
+    /// How far the clocks of the issuer and of the client may be apart.
+    pub leeway: Duration,
+    /// The maximum age (`max_age`) that was sent with the request, if one was.
+    pub max_age: Option<Duration>,
+}
+
+impl Model for Expected {
+    ghost use Rattle.std.specs.Prelude.{option_map, string_bytes};
+    ghost use Rattle.std.specs.Duration.{as_nanos};
+    ghost use Rattle.oauth2_openid.specs.Claims.{Expectation};
+
+    ghost Value = { Expectation };
+
+    ghost view = { λ e. record {
+      issuer = string_bytes e.issuer;
+      client = e.client_id;
+      algorithm = option_map string_bytes e.algorithm;
+      nonce = e.nonce;
+      leeway = as_nanos e.leeway;
+      max_age = option_map as_nanos e.max_age;
+    } };
+}

@@ -1,0 +1,86 @@
+//! The header of an ID token (RFC 7515, section 4.1).
+
+ghost use Rattle.std.specs.Prelude.{◌≡◌, option_copied, option_map, string_bytes};
+ghost use Rattle.oauth2_openid.specs.Token.{Header, WithOthers, with_others};
+ghost use Rattle.serde_json.specs.View.{view};
+ghost use Rattle.oauth2_json.specs.Reading.{ReadsAs};
+ghost use Rattle.oauth2_body_members.specs.Object.{object_members};
+ghost use Rattle.oauth2_openid.specs.Reading.{header_reading};
+ghost use Rattle.oauth2_openid.specs.private.Rows.{header_in_turn};
+
+use oauth2_body_members::Object;
+use oauth2_json::{FromJson, ReadError, members};
+use serde_json::Value;
+use std::alloc::Global;
+use std::marker::Model;
+
+/// What the header of an ID token says of the signature.
+#[derive(Drop)]
+pub struct IdTokenHeader {
+    pub(crate) algorithm: String,
+    pub(crate) key_id: Option<String>,
+}
+
+// The header, and the members that have no field of it.
+#[derive(Drop)]
+pub(crate) struct WholeHeader {
+    pub(crate) header: IdTokenHeader,
+    pub(crate) others: Value,
+}
+
+impl Model for IdTokenHeader {
+    ghost use Rattle.std.specs.Prelude.{option_map, string_bytes};
+    ghost use Rattle.oauth2_openid.specs.Token.{Header};
+
+    ghost Value = { Header };
+
+    ghost view = { λ h. record {
+      algorithm = string_bytes h.algorithm;
+      key_id = option_map string_bytes h.key_id;
+    } };
+}
+
+impl IdTokenHeader {
+    /// The algorithm of the signature (`alg`); `none` for a token without one.
+    pub fn algorithm(&self) -> &str
+        ensures { result.now ≡ self.now.algorithm }
+    {
+        self.algorithm.as_str()
+    }
+
+    /// The key of the signature (`kid`).
+    pub fn key_id(&self) -> Option<&str>
+        ensures { option_copied result ≡ self.now.key_id }
+    {
+        match &self.key_id {
+            Some(key_id) => Some(key_id.as_str()),
+            None => None,
+        }
+    }
+}
+
+impl FromJson for WholeHeader {
+    ghost Meaning = { WithOthers Header };
+
+    ghost meaning = { λ h. with_others h.header (view h.others) };
+
+    ghost reading = { header_reading };
+
+    fn from_json(alloc: Global, value: Value) -> Result<WholeHeader, ReadError> {
+        let members = Object::of_value(alloc, value)?;
+        from_members(alloc, members)
+    }
+}
+
+fn from_members(alloc: Global, mut members: Object<'_>) -> Result<WholeHeader, ReadError>
+    ensures { ReadsAs (λ h. with_others h.header (view h.others)) result
+        (header_in_turn (object_members members.entry)) }
+{
+    let algorithm = members.take("alg");
+    let algorithm = members::needed::<String>(alloc, "alg", algorithm)?;
+    let key_id = members.take("kid");
+    let key_id = members::optional::<String>(alloc, "kid", key_id)?;
+    let others = members.into_value(alloc)?;
+    let header = IdTokenHeader { algorithm, key_id };
+    Ok(WholeHeader { header, others })
+}

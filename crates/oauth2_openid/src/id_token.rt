@@ -1,0 +1,219 @@
+//! An ID token as it was read.
+
+ghost use Rattle.std.specs.Prelude.{◌≡◌, ◌↔◌, IfOk, IsOk, Some, codes};
+ghost use Rattle.std.specs.Fmt.{DisplaysOnOk, WritesStyledOnOk};
+ghost use Rattle.serde_json.specs.View.{view};
+ghost use Rattle.oauth2_openid.specs.Token.{TokenReadsAs, compact_of};
+ghost use Rattle.oauth2_openid.specs.Seen.{token_of};
+ghost use Rattle.oauth2_openid.specs.TokenRules.{
+  algorithm_rule,
+  critical_rule,
+  token_checked,
+  Holds,
+};
+ghost use Rattle.oauth2_openid.specs.Reading.{json_part, token_reading};
+
+use crate::access_token_hash::{AccessTokenHash, check_hash};
+use crate::claims::IdTokenClaims;
+use crate::claims_error::ClaimsError;
+use crate::claims_json::AllClaims;
+use crate::compact::{Encoded, decoded, three_parts};
+use crate::expected::Expected;
+use crate::header::{IdTokenHeader, WholeHeader};
+use crate::read_error::{IdTokenReadError, TokenPart};
+use jiff::Timestamp;
+use oauth2_json::{FromJson, ReadError};
+use oauth2_types::AccessToken;
+use oauth2_types::display::write_display;
+use serde_json::Value;
+use std::alloc::Global;
+use std::fmt;
+
+/// An ID token (section 2) whose signature nobody has checked.
+///
+/// Anyone can make a text that reads to any claims. So rely on an ID token only if your own client
+/// received it directly from the issuer's token endpoint over TLS, whose certificate it checked:
+/// then TLS may stand in for the signature (3.1.3.7, 6). A token that came any other way, such as
+/// through the user's browser, in a request to your server or out of a store that others can write,
+/// says nothing until its signature has been checked against the issuer's keys. Do that with a
+/// library of your own, over `signed_part` and `signature`.
+#[derive(Drop)]
+pub struct IdToken {
+    header: WholeHeader,
+    claims: AllClaims,
+    signed_part: String,
+    signature: Vec<u8>,
+}
+
+// What a part's JSON reads to.
+fn read_part<T: FromJson>(alloc: Global, part: TokenPart, text: &str) -> Result<T, IdTokenReadError>
+    ensures { TokenReadsAs T.meaning result (json_part T.reading part text.now) }
+{
+    let Some(bytes) = decoded(alloc, text)? else {
+        return Err(IdTokenReadError::NotBase64(part));
+    };
+    match T::from_body(alloc, bytes.as_slice()) {
+        Ok(read) => Ok(read),
+        Err(ReadError::Fault(fault)) => Err(IdTokenReadError::Fault(part, fault)),
+        Err(ReadError::Memory) => Err(IdTokenReadError::Memory),
+    }
+}
+
+impl IdToken {
+    /// Reads a token in compact form (RFC 7515, section 7.1).
+    pub fn from_text(alloc: Global, text: &str) -> Result<IdToken, IdTokenReadError>
+        ensures read { TokenReadsAs token_of result (token_reading text.now) }
+        // Nothing of the text is lost.
+        ensures compact { IfOk result (λ t. text.now ≡ compact_of (token_of t)) }
+    {
+        let Some((header, payload, signature)) = three_parts(text) else {
+            return Err(IdTokenReadError::NotThreeParts);
+        };
+        let signed_part = format!(in alloc; "{header}.{payload}")?;
+        let header = read_part::<WholeHeader>(alloc, TokenPart::Header, header)?;
+        let claims = read_part::<AllClaims>(alloc, TokenPart::Payload, payload)?;
+        let Some(signature) = decoded(alloc, signature)? else {
+            return Err(IdTokenReadError::NotBase64(TokenPart::Signature));
+        };
+        Ok(IdToken {
+            header,
+            claims,
+            signed_part,
+            signature,
+        })
+    }
+
+    /// What the header says.
+    pub fn header(&self) -> &IdTokenHeader
+        ensures { result.now ≡ (token_of self.now).header.own }
+    {
+        &self.header.header
+    }
+
+    /// The claims.
+    pub fn claims(&self) -> &IdTokenClaims
+        ensures { result.now ≡ (token_of self.now).claims.own }
+    {
+        &self.claims.claims
+    }
+
+    /// The object of the members of the header that have no method of their own.
+    pub fn other_header_members(&self) -> &Value
+        ensures { view result.now ≡ (token_of self.now).header.others }
+    {
+        &self.header.others
+    }
+
+    /// The object of the claims that have no method of their own.
+    pub fn other_claims(&self) -> &Value
+        ensures { view result.now ≡ (token_of self.now).claims.others }
+    {
+        &self.claims.others
+    }
+
+    /// The text that the signature is over.
+    pub fn signed_part(&self) -> &str
+        ensures { result.now ≡ (token_of self.now).signed }
+    {
+        self.signed_part.as_str()
+    }
+
+    /// The bytes of the signature, none for a token without one.
+    pub fn signature(&self) -> &[u8]
+        ensures { result.now ≡ (token_of self.now).signature }
+    {
+        self.signature.as_slice()
+    }
+
+    /// Whether the token meets each rule of 3.1.3.7 at this moment, else the first that it does
+    /// not, in the order of `ClaimsError`; and what its hash says of the access token that came
+    /// with it. The signature is not checked: see the type.
+    pub fn check(
+        &self,
+        expected: &Expected,
+        access_token: &AccessToken,
+        now: Timestamp,
+    ) -> Result<AccessTokenHash, ClaimsError>
+        ensures rules { result
+            ≡ token_checked expected.now access_token.now now.nanosecond (token_of self.now) }
+        ensures succeeds { IsOk result
+            ↔ Holds expected.now access_token.now now.nanosecond (token_of self.now) }
+    {
+        self.first_broken(expected, access_token, now)
+    }
+
+    fn first_broken(
+        &self,
+        expected: &Expected,
+        access_token: &AccessToken,
+        now: Timestamp,
+    ) -> Result<AccessTokenHash, ClaimsError>
+        ensures { result
+            ≡ token_checked expected.now access_token.now now.nanosecond (token_of self.now) }
+    {
+        self.check_algorithm(expected)?;
+        self.check_critical()?;
+        self.claims.claims.check(expected, now)?;
+        check_hash(
+            self.header.header.algorithm(),
+            access_token.secret().as_bytes(),
+            self.claims.claims.access_token_hash(),
+        )
+    }
+
+    fn check_algorithm(&self, expected: &Expected) -> Result<(), ClaimsError>
+        ensures { result ≡ algorithm_rule expected.now (token_of self.now).header.own }
+    {
+        let algorithm = self.header.header.algorithm();
+        match &expected.algorithm {
+            Some(registered) => if algorithm == registered.as_str() {
+                Ok(())
+            } else {
+                Err(ClaimsError::OtherAlgorithm)
+            },
+            None => if algorithm != "none" {
+                Ok(())
+            } else {
+                Err(ClaimsError::NoSignature)
+            },
+        }
+    }
+
+    fn check_critical(&self) -> Result<(), ClaimsError>
+        ensures { result ≡ critical_rule (token_of self.now).header }
+    {
+        if self.header.others.get("crit").is_none() {
+            Ok(())
+        } else {
+            Err(ClaimsError::CriticalExtension)
+        }
+    }
+}
+
+/// Writes the token itself, in compact form, as an `id_token_hint` has it.
+impl fmt::Display for IdToken {
+    ghost output = { λ t. Some (compact_of (token_of t)) };
+
+    ghost styled_output = { λ t _. Some (compact_of (token_of t)) };
+
+    fn fmt<W: fmt::Write>(&self, f: &mut fmt::Formatter<W>) -> fmt::Result {
+        let signature = Encoded {
+            bytes: self.signature.as_slice(),
+        };
+        write_display(f, format_args!("{}.{}", self.signed_part, signature))
+    }
+}
+
+impl fmt::Debug for IdToken {
+    ghost debug_output = { λ _. Some (codes "IdToken([redacted])") };
+
+    fn fmt<W: fmt::Write>(&self, f: &mut fmt::Formatter<W>) -> fmt::Result
+        ensures writes { DisplaysOnOk W.write_str_gives f.old result
+            (Some (codes "IdToken([redacted])")) f.new }
+        // Whatever options the formatter has, as under `{:#?}`.
+        ensures styled { WritesStyledOnOk W.write_str_gives f.old result
+            (codes "IdToken([redacted])") f.new }
+    {
+        f.write_str("IdToken([redacted])")
+    }
+}

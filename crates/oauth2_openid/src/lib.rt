@@ -1,0 +1,27 @@
+//! The ID token of OpenID Connect Core 1.0: what it says, and whether its claims are those that a
+//! client expects. Its signature is not checked here.
+
+#![tactic(auto)]
+
+mod access_token_hash;
+mod claims;
+mod claims_error;
+mod claims_json;
+mod compact;
+mod expected;
+mod fields;
+mod header;
+mod id_token;
+mod kinds;
+mod nonce;
+mod read_error;
+
+pub use access_token_hash::AccessTokenHash;
+pub use claims::IdTokenClaims;
+pub use claims_error::ClaimsError;
+pub use expected::Expected;
+pub use fields::{IdTokenFields, IdTokenMember, IdTokenText};
+pub use header::IdTokenHeader;
+pub use id_token::IdToken;
+pub use nonce::Nonce;
+pub use read_error::{IdTokenReadError, TokenPart};
