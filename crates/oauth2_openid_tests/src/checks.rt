@@ -1,0 +1,340 @@
+//! Tokens that meet each rule, and tokens that do not meet one.
+
+use crate::support::{ACCESS_TOKEN, APPENDIX_A2, is_text_at, read, text, token};
+use jiff::Timestamp;
+use oauth2_openid::{Expected, Nonce};
+use oauth2_types::{AccessToken, ClientId};
+use std::process::Abort;
+use std::time::Duration;
+
+// What the client of the standard's examples expects.
+fn expected(rt: &(impl Abort + AllocGlobal)) -> Expected {
+    Expected {
+        issuer: text(rt, "https://server.example.com"),
+        client_id: ClientId::new(text(rt, "s6BhdRkqt3")),
+        algorithm: None,
+        nonce: Some(Nonce::new(text(rt, "n-0S6_WzA2Mj"))),
+        leeway: Duration::from_secs(0),
+        max_age: Some(Duration::from_secs(100)),
+    }
+}
+
+// The same of the client of appendix A, which sent no maximum age.
+fn expected_in_appendix(rt: &(impl Abort + AllocGlobal)) -> Expected {
+    let mut wanted = expected(rt);
+    wanted.issuer = text(rt, "http://server.example.com");
+    wanted.max_age = None;
+    wanted
+}
+
+// The claims of section 2's example, with the members that a row adds. Of a name that stands twice
+// the last counts.
+fn claims(rt: &(impl Abort + AllocGlobal), more: &str) -> String {
+    format!(in rt.alloc(); "{{{SECTION_2}{more}}}").expect(rt, "claims")
+}
+
+const SECTION_2: &str = r#""iss":"https://server.example.com","sub":"24400320","aud":"s6BhdRkqt3",
+    "nonce":"n-0S6_WzA2Mj","exp":1311281970,"iat":1311280970,"auth_time":1311280969,
+    "acr":"urn:mace:incommon:iap:silver""#;
+
+// What a check of the token returns at that second, as one word.
+fn word(rt: &(impl Abort + AllocGlobal), token: &str, wanted: &Expected, second: i64) -> String {
+    let now = Timestamp::from_second(second).ok().expect(rt, "a time");
+    let access_token = AccessToken::new(text(rt, ACCESS_TOKEN));
+    match read(rt, token).check(wanted, &access_token, now) {
+        Ok(hash) => format!(in rt.alloc(); "{hash:?}").expect(rt, "a word"),
+        Err(error) => format!(in rt.alloc(); "{error:?}").expect(rt, "a word"),
+    }
+}
+
+// A check of the token at that second returns this.
+fn is_checked_as(
+    rt: &(impl Abort + AllocGlobal),
+    token: &str,
+    wanted: &Expected,
+    second: i64,
+    word_wanted: &str,
+) {
+    is_text_at(
+        rt,
+        word(rt, token, wanted, second).as_str(),
+        word_wanted,
+        token,
+    );
+}
+
+// The same of section 2's claims, with this header and these members.
+fn is_row(
+    rt: &(impl Abort + AllocGlobal),
+    wanted: &Expected,
+    header: &str,
+    more: &str,
+    word_wanted: &str,
+) {
+    let token = token(rt, header, claims(rt, more).as_str());
+    let found = word(rt, token.as_str(), wanted, 1311281000);
+    is_text_at(rt, found.as_str(), word_wanted, more);
+}
+
+const RS256: &str = r#"{"alg":"RS256"}"#;
+
+// The members that are added, and what the check returns.
+const CLAIMS: [(&str, &str); 33] = [
+    ("", "Absent"),
+    (r#","iss":"https://server.example.com/""#, "OtherIssuer"),
+    (r#","iss":"https://Server.example.com""#, "OtherIssuer"),
+    (r#","iss":"""#, "OtherIssuer"),
+    (r#","aud":"s6BhdRkqt""#, "OtherAudience"),
+    (r#","aud":[]"#, "OtherAudience"),
+    (r#","aud":["s6BhdRkqt3"]"#, "Absent"),
+    (r#","aud":["other","s6BhdRkqt3"]"#, "NoAuthorizedParty"),
+    (r#","aud":["s6BhdRkqt3","s6BhdRkqt3"]"#, "NoAuthorizedParty"),
+    (
+        r#","aud":["other","s6BhdRkqt3"],"azp":"s6BhdRkqt3""#,
+        "Absent",
+    ),
+    (
+        r#","aud":["other","s6BhdRkqt3"],"azp":"other""#,
+        "OtherAuthorizedParty",
+    ),
+    (r#","aud":["other"],"azp":"s6BhdRkqt3""#, "OtherAudience"),
+    (r#","azp":"s6BhdRkqt3""#, "Absent"),
+    (r#","azp":"other""#, "OtherAuthorizedParty"),
+    (r#","exp":1311281001"#, "Absent"),
+    (r#","exp":1311281000"#, "Expired"),
+    (r#","exp":1311280999"#, "Expired"),
+    (r#","exp":-1"#, "Expired"),
+    (r#","iat":1311281000"#, "Absent"),
+    (r#","iat":1311281001"#, "IssuedLater"),
+    (r#","nonce":null"#, "NoNonce"),
+    (r#","nonce":"n-0S6_WzA2Mk""#, "OtherNonce"),
+    (r#","nonce":"n-0S6_WzA2M""#, "OtherNonce"),
+    (r#","auth_time":null"#, "NoAuthTime"),
+    (r#","auth_time":1311280900"#, "Absent"),
+    (r#","auth_time":1311280899"#, "AuthTooOld"),
+    (r#","iss":"x","aud":"x","exp":0"#, "OtherIssuer"),
+    (r#","at_hash":"77QmUPtjPfzWtF2AnpK9RQ""#, "Matches"),
+    (r#","at_hash":"2SmKENGwc1g33EvYXaxkGw""#, "OtherAccessToken"),
+    (
+        r#","at_hash":"77QmUPtjPfzWtF2AnpK9RQ==""#,
+        "OtherAccessToken",
+    ),
+    (r#","at_hash":"77QmUPtjPfzWtF2AnpK9R""#, "OtherAccessToken"),
+    (
+        r#","at_hash":"77QmUPtjPfzWtF2AnpK9RWpXrWlrecdbLUyJDIb7S6Q""#,
+        "OtherAccessToken",
+    ),
+    (r#","at_hash":"""#, "OtherAccessToken"),
+];
+
+#[test]
+fn names_the_rule_that_the_claims_break(rt: HostRuntime) {
+    let wanted = expected(&rt);
+    for (more, word_wanted) in CLAIMS {
+        is_row(&rt, &wanted, RS256, more, word_wanted);
+    }
+}
+
+// The header, the members that are added, and what the check returns.
+const HEADERS: [(&str, &str, &str); 22] = [
+    (r#"{"alg":"none"}"#, "", "NoSignature"),
+    (r#"{"alg":"none"}"#, r#","iss":"x""#, "NoSignature"),
+    (r#"{"alg":"None"}"#, "", "Absent"),
+    (
+        r#"{"alg":"RS256","crit":["exp"],"exp":1363284000}"#,
+        "",
+        "CriticalExtension",
+    ),
+    (r#"{"alg":"RS256","crit":null}"#, "", "CriticalExtension"),
+    (
+        r#"{"alg":"RS256","crit":["exp"]}"#,
+        r#","iss":"x""#,
+        "CriticalExtension",
+    ),
+    (r#"{"alg":"none","crit":["exp"]}"#, "", "NoSignature"),
+    (
+        r#"{"alg":"ES256"}"#,
+        r#","at_hash":"77QmUPtjPfzWtF2AnpK9RQ""#,
+        "Matches",
+    ),
+    (
+        r#"{"alg":"PS256"}"#,
+        r#","at_hash":"77QmUPtjPfzWtF2AnpK9RQ""#,
+        "Matches",
+    ),
+    (
+        r#"{"alg":"HS256"}"#,
+        r#","at_hash":"77QmUPtjPfzWtF2AnpK9RQ""#,
+        "Matches",
+    ),
+    (
+        r#"{"alg":"RS384"}"#,
+        r#","at_hash":"jtAeDp945y1dDqU3nkIVGNZP1HjH_MFs""#,
+        "Matches",
+    ),
+    (
+        r#"{"alg":"ES384"}"#,
+        r#","at_hash":"jtAeDp945y1dDqU3nkIVGNZP1HjH_MFs""#,
+        "Matches",
+    ),
+    (
+        r#"{"alg":"PS384"}"#,
+        r#","at_hash":"jtAeDp945y1dDqU3nkIVGNZP1HjH_MFs""#,
+        "Matches",
+    ),
+    (
+        r#"{"alg":"HS384"}"#,
+        r#","at_hash":"jtAeDp945y1dDqU3nkIVGNZP1HjH_MFs""#,
+        "Matches",
+    ),
+    (
+        r#"{"alg":"RS512"}"#,
+        r#","at_hash":"q7nS86GgvvFaZkzALLWqJYaJIKw2wCDAVfCAsm5CrBM""#,
+        "Matches",
+    ),
+    (
+        r#"{"alg":"ES512"}"#,
+        r#","at_hash":"q7nS86GgvvFaZkzALLWqJYaJIKw2wCDAVfCAsm5CrBM""#,
+        "Matches",
+    ),
+    (
+        r#"{"alg":"PS512"}"#,
+        r#","at_hash":"q7nS86GgvvFaZkzALLWqJYaJIKw2wCDAVfCAsm5CrBM""#,
+        "Matches",
+    ),
+    (
+        r#"{"alg":"HS512"}"#,
+        r#","at_hash":"q7nS86GgvvFaZkzALLWqJYaJIKw2wCDAVfCAsm5CrBM""#,
+        "Matches",
+    ),
+    (
+        r#"{"alg":"ES384"}"#,
+        r#","at_hash":"77QmUPtjPfzWtF2AnpK9RQ""#,
+        "OtherAccessToken",
+    ),
+    (
+        r#"{"alg":"RS512"}"#,
+        r#","at_hash":"jtAeDp945y1dDqU3nkIVGNZP1HjH_MFs""#,
+        "OtherAccessToken",
+    ),
+    (
+        r#"{"alg":"EdDSA"}"#,
+        r#","at_hash":"77QmUPtjPfzWtF2AnpK9RQ""#,
+        "NotChecked",
+    ),
+    (
+        r#"{"alg":"rs256"}"#,
+        r#","at_hash":"77QmUPtjPfzWtF2AnpK9RQ""#,
+        "NotChecked",
+    ),
+];
+
+#[test]
+fn names_the_rule_that_the_header_breaks(rt: HostRuntime) {
+    let wanted = expected(&rt);
+    for (header, more, word_wanted) in HEADERS {
+        is_row(&rt, &wanted, header, more, word_wanted);
+    }
+}
+
+// The algorithm that the client registered, the header, and what the check returns.
+const ALGORITHMS: [(&str, &str, &str); 5] = [
+    ("RS256", r#"{"alg":"RS256"}"#, "Absent"),
+    ("RS256", r#"{"alg":"HS256"}"#, "OtherAlgorithm"),
+    ("RS256", r#"{"alg":"none"}"#, "OtherAlgorithm"),
+    ("none", r#"{"alg":"none"}"#, "Absent"),
+    ("none", r#"{"alg":"RS256"}"#, "OtherAlgorithm"),
+];
+
+#[test]
+fn takes_the_registered_algorithm(rt: HostRuntime) {
+    let mut wanted = expected(&rt);
+    for (algorithm, header, word_wanted) in ALGORITHMS {
+        wanted.algorithm = Some(text(&rt, algorithm));
+        is_row(&rt, &wanted, header, "", word_wanted);
+    }
+}
+
+// Claims that break each rule.
+const BROKEN: &str = r#","iss":"x","aud":["x","y"],"exp":0,"iat":1311281001,"nonce":"x",
+    "auth_time":0,"at_hash":"x""#;
+
+// The header, the members that are added to those before, and what the check returns: each row
+// mends what the row before it named.
+const ORDER: [(&str, &str, &str); 10] = [
+    (r#"{"alg":"none","crit":[]}"#, "", "NoSignature"),
+    (r#"{"alg":"RS256","crit":[]}"#, "", "CriticalExtension"),
+    (RS256, "", "OtherIssuer"),
+    (
+        RS256,
+        r#","iss":"https://server.example.com""#,
+        "OtherAudience",
+    ),
+    (RS256, r#","aud":["x","s6BhdRkqt3"]"#, "NoAuthorizedParty"),
+    (RS256, r#","azp":"s6BhdRkqt3""#, "Expired"),
+    (RS256, r#","exp":1311281970"#, "IssuedLater"),
+    (RS256, r#","iat":1311280970"#, "OtherNonce"),
+    (RS256, r#","nonce":"n-0S6_WzA2Mj""#, "AuthTooOld"),
+    (RS256, r#","auth_time":1311280969"#, "OtherAccessToken"),
+];
+
+#[test]
+fn names_the_first_rule(rt: HostRuntime) {
+    let wanted = expected(&rt);
+    let mut more = text(&rt, BROKEN);
+    for (header, mend, word_wanted) in ORDER {
+        more.push_str(mend).expect(&rt, "members");
+        is_row(&rt, &wanted, header, more.as_str(), word_wanted);
+    }
+}
+
+// A token that was issued at 900 after a login at 900, and expires at 1000.
+fn token_of_900(rt: &(impl Abort + AllocGlobal)) -> String {
+    let claims = claims(rt, r#","exp":1000,"iat":900,"auth_time":900"#);
+    token(rt, RS256, claims.as_str())
+}
+
+// The leeway and the maximum age in seconds, the second of the check, and what it returns.
+const TIMES: [(u64, u64, i64, &str); 14] = [
+    (60, 100, -1, "IssuedLater"),
+    (60, 100, 839, "IssuedLater"),
+    (60, 100, 840, "Absent"),
+    (60, 100, 1059, "Absent"),
+    (60, 100, 1060, "Expired"),
+    (60, 100, 253402207200, "Expired"),
+    (u64::MAX, u64::MAX, 253402207200, "Absent"),
+    (0, 50, 900, "Absent"),
+    (0, 50, 950, "Absent"),
+    (0, 50, 951, "AuthTooOld"),
+    (10, 50, 960, "Absent"),
+    (10, 50, 961, "AuthTooOld"),
+    (10, u64::MAX, 961, "Absent"),
+    (0, 0, 900, "Absent"),
+];
+
+#[test]
+fn takes_the_leeway_on_the_right_side(rt: HostRuntime) {
+    let mut wanted = expected(&rt);
+    let token = token_of_900(&rt);
+    for (leeway, max_age, second, word_wanted) in TIMES {
+        wanted.leeway = Duration::from_secs(leeway);
+        wanted.max_age = Some(Duration::from_secs(max_age));
+        is_checked_as(&rt, token.as_str(), &wanted, second, word_wanted);
+    }
+}
+
+#[test]
+fn asks_for_the_nonce_that_was_sent(rt: HostRuntime) {
+    let mut wanted = expected_in_appendix(&rt);
+    let claims =
+        r#"{"iss":"http://server.example.com","sub":"1","aud":"s6BhdRkqt3","exp":1000,"iat":900}"#;
+    let no_nonce = token(&rt, RS256, claims);
+    is_checked_as(&rt, APPENDIX_A2, &wanted, 1311281000, "Absent");
+    is_checked_as(&rt, APPENDIX_A2, &wanted, 1311281970, "Expired");
+    is_checked_as(&rt, no_nonce.as_str(), &wanted, 950, "NoNonce");
+    wanted.nonce = None;
+    is_checked_as(&rt, APPENDIX_A2, &wanted, 1311281000, "NonceNotSent");
+    is_checked_as(&rt, no_nonce.as_str(), &wanted, 950, "Absent");
+    wanted.max_age = Some(Duration::from_secs(100));
+    is_checked_as(&rt, no_nonce.as_str(), &wanted, 950, "NoAuthTime");
+}
