@@ -1,7 +1,6 @@
 -- The command `metadata`, from its request.
-use Rattle.std.proofs.Common.{◌≡◌, ℕ, List, Bool, true, false, None, Result, Ok, Err, inl, inr, string_bytes, refl}
+use Rattle.std.proofs.Common.{◌≡◌, ℕ, List, Bool, true, false, Result, Ok, Err, inl, inr, refl}
 use Rattle.std.specs.Prelude.{bytes_eq}
-use Rattle.url.specs.Parser.{parse_url}
 use Rattle.oauth2.specs.Settings.{Settings}
 use Rattle.oauth2_metadata.specs.Issuer.{IsOutOfRoom, issuer_error_text}
 use Rattle.oauth2_metadata.specs.Request.{MetadataQuery, IsAsked, checked}

@@ -31,7 +31,7 @@ use Rattle.oauth2_script.specs.KeeperParams.{KeeperParams}
 use Rattle.oauth2_script.specs.Replies.{Reply}
 use Rattle.oauth2_commands.specs.Client.{WithEndpoint, WithToken, missing}
 use Rattle.oauth2_commands.specs.Exchange.{BasicToken, other_text, token_answer}
-use Rattle.oauth2_commands.specs.Keeper.{Standing, is_early, end_text, waiting, IsCall, IsRenewal, IsSentAt, AreCalls, IsKeeperOutput, after_failure, kept_after_reply, renewal_output, both, joined, nothing}
+use Rattle.oauth2_commands.specs.Keeper.{Standing, is_early, end_text, waiting, IsCall, IsRenewal, IsSentAt, AreCalls, IsKeeperOutput, kept_after_reply, renewal_output, both, joined, nothing}
 use Rattle.oauth2_world.specs.Lines.{expected_lines, quoted}
 use Rattle.oauth2_commands.specs.Out.{Output, after, answered, failed as shown_fault, starved}
 use Rattle.oauth2_commands.specs.private.Added.{Adds, Prints}

@@ -1,5 +1,5 @@
 -- The command `metadata`: an issuer's metadata is asked for (RFC 8414, 3; OpenID Connect Discovery 1.0, 4).
-use Rattle.std.specs.Prelude.{◌≡◌, ℕ, List, [], ◌++◌, bytes_eq, if◌then◌else◌, Option, None, Some, Result, Ok, Err, codes}
+use Rattle.std.specs.Prelude.{◌≡◌, ℕ, List, [], ◌++◌, bytes_eq, if◌then◌else◌, Option, None, Some, Ok, Err, codes}
 use Rattle.serde_json.specs.Data.{Data, object, no_members}
 use Rattle.serde_json.specs.Written.{compact_text}
 use Rattle.url.specs.Parser.{Parsed, parse_url}
