@@ -6,5 +6,6 @@ use Rattle.oauth2_examples.specs.declared.over_connection.fault.Fault.{Fault}
 abbrev pub status_of : Fault → ℕ
 status_of (Fault.Setting error) = 2
 status_of (Fault.Unreadable name) = 2
+status_of (Fault.Unwritable name) = 1
 status_of (Fault.Unanswered told) = 1
 status_of Fault.Memory = 1

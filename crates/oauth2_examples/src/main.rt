@@ -4,13 +4,15 @@
 #![tactic(auto)]
 
 mod over_connection;
+mod stored_token;
 
 use over_connection::over_connection;
 use std::env;
 use std::process::ExitCode;
+use stored_token::stored_token;
 
 fn usage(rt: &HostRuntime) -> ExitCode {
-    let _ = rt.eprintln("usage: oauth2_examples over_connection SETTINGS.json");
+    let _ = rt.eprintln("usage: oauth2_examples over_connection|stored_token SETTINGS.json");
     ExitCode::from(2)
 }
 
@@ -24,6 +26,7 @@ fn main(rt: HostRuntime) -> ExitCode {
     };
     match example.as_str() {
         "over_connection" => over_connection(&rt, argument.as_str()),
+        "stored_token" => stored_token(&rt, argument.as_str()),
         _ => usage(&rt),
     }
 }

@@ -6,10 +6,10 @@
 //! The answer is one line of JSON on standard error. The exit status is 0 if there is an answer, 1
 //! if the request got none, and 2 if a setting is wrong; then nothing is written to the connection.
 
-mod fault;
+pub mod fault;
 mod get;
-mod requests;
-mod settings;
+pub mod requests;
+pub mod settings;
 
 use fault::Fault;
 use oauth2::ParseCause;
@@ -24,7 +24,12 @@ pub type HttpClient = Http1Client<Over<Duplex<Stdin, Stdout>>>;
 
 /// Makes the request that a file of settings names, and prints what came of it.
 pub fn over_connection(rt: &HostRuntime, path: &str) -> ExitCode {
-    let (line, status) = match run(rt, path) {
+    ended(rt, run(rt, path))
+}
+
+/// Prints what came of a run.
+pub fn ended(rt: &HostRuntime, end: Result<Value, Fault>) -> ExitCode {
+    let (line, status) = match end {
         Ok(answer) => (answer.to_string(rt.alloc()), 0),
         Err(fault) => (fault.line(rt.alloc()), fault.status()),
     };
@@ -38,13 +43,18 @@ pub fn over_connection(rt: &HostRuntime, path: &str) -> ExitCode {
 
 fn run(rt: &HostRuntime, path: &str) -> Result<Value, Fault> {
     let mut settings = Settings::read(rt, path)?;
+    let mut http_client = connected(rt, &mut settings)?;
+    ask(&mut settings, &mut http_client)
+}
+
+/// The client of a run.
+pub fn connected(rt: &HostRuntime, settings: &mut Settings<'_>) -> Result<HttpClient, Fault> {
     let connection = Over::new(Duplex {
         reader: rt.stdin(),
         writer: rt.stdout(),
     });
     let bounds = settings.bounds()?;
-    let mut http_client = Http1Client::new(rt.alloc(), connection).set_bounds(bounds);
-    ask(&mut settings, &mut http_client)
+    Ok(Http1Client::new(rt.alloc(), connection).set_bounds(bounds))
 }
 
 // Makes the request of the command that the settings name.

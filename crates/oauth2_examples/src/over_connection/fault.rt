@@ -16,6 +16,8 @@ pub enum Fault {
     /// The file or the variable with this name, or the file that this setting names, cannot be
     /// read.
     Unreadable(String),
+    /// The file with this name cannot be written.
+    Unwritable(String),
     /// The request got no answer. The members of this object tell why.
     Unanswered(Value),
     /// Memory ran out.
@@ -57,6 +59,14 @@ impl Fault {
         }
     }
 
+    /// The file with this name cannot be written.
+    pub fn unwritable(alloc: Global, name: &str) -> Fault {
+        match String::from_str(alloc, name) {
+            Ok(name) => Fault::Unwritable(name),
+            Err(AllocError) => Fault::Memory,
+        }
+    }
+
     /// The request got no answer, for a reason that its text tells.
     pub fn unanswered<E: Display>(alloc: Global, error: &E) -> Fault {
         Fault::told(error_value(alloc, error))
@@ -83,7 +93,7 @@ impl Fault {
     {
         match self {
             Fault::Setting(_) | Fault::Unreadable(_) => 2,
-            Fault::Unanswered(_) | Fault::Memory => 1,
+            Fault::Unwritable(_) | Fault::Unanswered(_) | Fault::Memory => 1,
         }
     }
 
@@ -93,6 +103,10 @@ impl Fault {
             Fault::Setting(error) => error_value(alloc, error)?.to_string(alloc),
             Fault::Unreadable(name) => {
                 let error = format!(in alloc; "{name}: cannot be read")?;
+                json!(in alloc; {"error": error})?.to_string(alloc)
+            }
+            Fault::Unwritable(name) => {
+                let error = format!(in alloc; "{name}: cannot be written")?;
                 json!(in alloc; {"error": error})?.to_string(alloc)
             }
             Fault::Unanswered(value) => value.to_string(alloc),

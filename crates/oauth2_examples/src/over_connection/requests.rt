@@ -13,7 +13,7 @@ use std::alloc::Global;
 use std::fmt::Display;
 
 /// A client with a token endpoint.
-type TokenClient = BasicClient<
+pub type TokenClient = BasicClient<
     EndpointNotSet,
     EndpointNotSet,
     EndpointNotSet,
@@ -44,8 +44,8 @@ fn answered<T: ToJson + Drop, E: Display + Drop, R: Display + ToJson + Drop>(
     }
 }
 
-// The client with its token endpoint.
-fn token_client(settings: &mut Settings<'_>) -> Result<TokenClient, Fault> {
+/// The client with its token endpoint.
+pub fn token_client(settings: &mut Settings<'_>) -> Result<TokenClient, Fault> {
     let token_url = settings.needed("token_url")?;
     Ok(settings.client()?.set_token_uri(token_url))
 }

@@ -82,15 +82,21 @@ impl<'a> Settings<'a> {
         members::number_or(self.rt.alloc(), name, default, found)
     }
 
+    /// A list of texts, which is empty if it is absent.
+    pub fn texts(&mut self, name: &str) -> Result<Vec<String>, Fault> {
+        let alloc = self.rt.alloc();
+        let found = members::take(&mut self.members, name);
+        match members::optional_texts(alloc, name, found)? {
+            Some(texts) => Ok(texts),
+            None => Ok(Vec::new(alloc)),
+        }
+    }
+
     /// The scopes, none if they are absent.
     pub fn scopes(&mut self) -> Result<Vec<Scope>, Fault> {
-        let alloc = self.rt.alloc();
-        let mut scopes = Vec::new(alloc);
-        let found = members::take(&mut self.members, "scopes");
-        if let Some(texts) = members::optional_texts(alloc, "scopes", found)? {
-            for text in texts {
-                scopes.push(Scope::new(text))?;
-            }
+        let mut scopes = Vec::new(self.rt.alloc());
+        for text in self.texts("scopes")? {
+            scopes.push(Scope::new(text))?;
         }
         Ok(scopes)
     }

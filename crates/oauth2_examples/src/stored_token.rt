@@ -1,0 +1,151 @@
+//! A service that keeps its token over a restart. It goes on with the token that it stored, asks
+//! for another when that is good no longer, and stores what it has before it ends. A failed request
+//! is not made again at once. Standard input and output are its connection, as in
+//! `over_connection`:
+//!
+//!     socat OPENSSL:as.example:443 EXEC:'oauth2_examples stored_token settings.json'
+//!
+//! It needs the token for each of the `jobs` of its settings, and prints what it has for each.
+
+use crate::over_connection::fault::Fault;
+use crate::over_connection::requests::{TokenClient, token_client};
+use crate::over_connection::settings::Settings;
+use crate::over_connection::{HttpClient, connected, ended};
+use jiff::Timestamp;
+use oauth2::{ParamText, compact, read_body};
+use oauth2_keeper::{BasicPatientKeeper, BasicTokenKeeper, PatientError, TokenKeeper};
+use oauth2_stored_token::{StoredToken, starting_from_stored, to_stored};
+use serde_json::{Value, json};
+use std::alloc::{AllocError, Global};
+use std::fs;
+use std::io::ErrorKind;
+use std::process::ExitCode;
+use std::time::Duration;
+
+// A token is not used in the last seconds of its lifetime, so that it is still good on its way.
+const MARGIN_SECONDS: u64 = 10;
+
+// How long a token is good if the reply has no `expires_in`.
+const LIFETIME_SECONDS: u64 = 300;
+
+// How long no request is made after one that failed.
+const WAIT_SECONDS: u64 = 30;
+
+/// Does the jobs that a file of settings names, and prints what came of them.
+pub fn stored_token(rt: &HostRuntime, path: &str) -> ExitCode {
+    ended(rt, run(rt, path))
+}
+
+fn run(rt: &HostRuntime, path: &str) -> Result<Value, Fault> {
+    let mut settings = Settings::read(rt, path)?;
+    let client = token_client(&mut settings)?;
+    serve(rt, &mut settings, &client)
+}
+
+fn serve(
+    rt: &HostRuntime,
+    settings: &mut Settings<'_>,
+    client: &TokenClient,
+) -> Result<Value, Fault> {
+    let store: String = settings.needed("store")?;
+    let mut keeper = keeper(rt, settings, client, store.as_str())?;
+    let answers = answers(rt, settings, &mut keeper);
+    save(rt, keeper.keeper(), store.as_str())?;
+    Ok(Value::Array(answers?))
+}
+
+// The keeper, with the token that was stored, if there is one.
+fn keeper<'a>(
+    rt: &HostRuntime,
+    settings: &mut Settings<'_>,
+    client: &'a TokenClient,
+    store: &str,
+) -> Result<BasicPatientKeeper<'a>, Fault> {
+    let margin = Duration::from_secs(MARGIN_SECONDS);
+    let lifetime = Duration::from_secs(LIFETIME_SECONDS);
+    let mut keeper: BasicTokenKeeper<'a> = TokenKeeper::new(client, None, margin, lifetime);
+    if let Some(stored) = load(rt, store)? {
+        keeper = starting_from_stored(keeper, stored);
+    }
+    keeper.add_scopes(rt.alloc(), settings.scopes()?)?;
+    if let Some(audience) = settings.optional::<String>("audience")? {
+        let name = ParamText::Borrowed("audience");
+        keeper.add_extra_param(rt.alloc(), name, ParamText::Owned(audience))?;
+    }
+    let wait = Duration::from_secs(WAIT_SECONDS);
+    Ok(keeper.set_retry_after(wait).use_token_until_end())
+}
+
+fn load(rt: &HostRuntime, store: &str) -> Result<Option<StoredToken>, Fault> {
+    match fs::read_to_string(rt, store) {
+        Ok(text) => Ok(Some(read_body(rt.alloc(), text.as_bytes())?)),
+        Err(error) if error.kind() == ErrorKind::NotFound => Ok(None),
+        Err(_) => Err(Fault::unreadable(rt.alloc(), store)),
+    }
+}
+
+// Writes another file first, so that the stored token is the old one or the new one, and whole.
+fn save(rt: &HostRuntime, keeper: &BasicTokenKeeper<'_>, store: &str) -> Result<(), Fault> {
+    let alloc = rt.alloc();
+    let Some(stored) = to_stored(alloc, keeper)? else {
+        return Ok(());
+    };
+    let Ok(text) = compact(alloc, &stored) else {
+        return Err(Fault::Memory);
+    };
+    let new = format!(in alloc; "{store}.new")?;
+    if fs::write(rt, new.as_str(), text.as_str()).is_err()
+        || fs::rename(rt, new.as_str(), store).is_err()
+    {
+        return Err(Fault::unwritable(alloc, store));
+    }
+    Ok(())
+}
+
+fn answers(
+    rt: &HostRuntime,
+    settings: &mut Settings<'_>,
+    keeper: &mut BasicPatientKeeper<'_>,
+) -> Result<Vec<Value>, Fault> {
+    let mut http_client = connected(rt, settings)?;
+    let mut answers = Vec::new(rt.alloc());
+    for job in settings.texts("jobs")? {
+        answers.push(answer(rt, keeper, &mut http_client, job)?)?;
+    }
+    Ok(answers)
+}
+
+// The token for a job, or why there is none.
+fn answer(
+    rt: &HostRuntime,
+    keeper: &mut BasicPatientKeeper<'_>,
+    http_client: &mut HttpClient,
+    job: String,
+) -> Result<Value, Fault> {
+    let alloc = rt.alloc();
+    let Ok(now) = Timestamp::now(rt) else {
+        return Err(Fault::unreadable(alloc, "clock"));
+    };
+    match keeper.token(alloc, now, http_client) {
+        Ok(token) => {
+            let token = String::from_str(alloc, token.secret().as_str())?;
+            Ok(json!(in alloc; {"job": job, "token": token})?)
+        }
+        Err(PatientError::Request(error)) => {
+            let error = error.to_string(alloc)?;
+            Ok(json!(in alloc; {"job": job, "error": error})?)
+        }
+        Err(PatientError::Waits(until)) => {
+            let until = moment(alloc, until)?;
+            Ok(json!(in alloc; {"job": job, "waits_until": until})?)
+        }
+    }
+}
+
+// A moment as a text, or null.
+fn moment(alloc: Global, moment: Option<Timestamp>) -> Result<Value, AllocError> {
+    match moment {
+        Some(moment) => Ok(Value::String(moment.to_string(alloc)?)),
+        None => Ok(Value::Null),
+    }
+}
