@@ -28,11 +28,14 @@ def value_of(args, flag):
 
 
 def kind_of(line):
-    """The crate, the kind and the number of the check that a process is; None if it is none of the gate's."""
+    """The crate, the kind and the number of the check that a process is; None if it is none of the gate's. The kind 'in turn' is that of a
+    kit which tries a crate's edits one after the other over one folder, and then the crate as it stands."""
     args, crate = line['args'], value_of(line['args'], '--crate-name')
     if line['comm'] != 'rattle' or not crate:
         return None
-    kept = re.search(r'/rt-edits-[^/]*/(seed|\d+)$', value_of(args, '--incremental') or '')
+    kept = re.search(r'/rt-edits-[^/]*(?:/(seed|\d+))?$', value_of(args, '--incremental') or '')
+    if kept and not kept.group(1):
+        return crate, 'in turn', 0
     if kept:
         return (crate, 'seed', 0) if kept.group(1) == 'seed' else (crate, 'edit', int(kept.group(1)))
     if '--crate-checked' in args:
@@ -46,10 +49,13 @@ def kind_of(line):
 
 def checks_of(lines):
     """The checks of logs. One that was done twice counts once, as it was the last time."""
-    found, seeds = {}, set()
+    found, seeds, in_turn = {}, set(), {}
     for line in lines:
         key = kind_of(line) if 'args' in line else None
         if not key:
+            continue
+        if key[1] == 'in turn':
+            in_turn.setdefault((key[0], value_of(line['args'], '--incremental')), []).append(line)
             continue
         if key[1] in ('seed', 'edit'):
             # the first check over a seed's folder makes it, and one after edits looks whether it is as it was
@@ -57,6 +63,9 @@ def checks_of(lines):
             key = (key[0], 'sound', 0) if key[1] == 'seed' and folder in seeds else key
             seeds.add(folder)
         found[key] = Check(*key, line['cpu'], line.get('peak_kb', 0) << 10)
+    for (crate, _), tried in in_turn.items():  # of two runs the later one's come last, and count
+        kinds = [('edit', number) for number in range(len(tried) - 1)] + [('sound', 0)]
+        found.update(((crate, *kind), Check(crate, *kind, line['cpu'], line.get('peak_kb', 0) << 10)) for kind, line in zip(kinds, tried))
     return list(found.values())
 
 
@@ -107,11 +116,13 @@ def tasks_of(checks):
         tasks[crate, 'proof'] = Task(waits, weight, seconds_of(checks, crate, 'proof', 'build'))
         tasks[crate, 'tests'] = Task(waits, weight * has_tests, seconds_of(checks, crate, 'tests'))
         edits, after = [it for it in checks if it.crate == crate and it.kind == 'edit'], [(crate, 'proof'), (crate, 'tests')]
-        if len(edits) > 1:
+        if seconds_of(checks, crate, 'seed'):
             tasks[crate, 'seed'] = Task(waits, 0, seconds_of(checks, crate, 'seed'))
             after = after + [(crate, 'seed')]
+        is_in_turn = len(edits) > 1 and not seconds_of(checks, crate, 'seed')
         for it in edits:
-            tasks[crate, 'edit', it.number] = Task(after, weight, it.seconds)
+            before = [(crate, 'edit', it.number - 1)] if is_in_turn and it.number else []
+            tasks[crate, 'edit', it.number] = Task(after + before, weight, it.seconds)
         if len(edits) > 1:
             tasks[crate, 'sound'] = Task([key for key in tasks if key[:2] == (crate, 'edit')], 0, seconds_of(checks, crate, 'sound'))
     return tasks

@@ -30,6 +30,7 @@ BUILD = 'build --crate-name high src/main.rt --crate-checked /tmp/rt-proved-1-a/
 SEED = 'check --crate-name low src/lib.rt --jobs 1 --incremental /tmp/rt-edits-1-a/seed'
 EDIT = 'check --crate-name low src/lib.rt --jobs 1 --incremental /tmp/rt-edits-1-a/%d'
 ALONE = 'check --crate-name low src/lib.rt --jobs 1'
+IN_TURN = 'check --crate-name low src/lib.rt --jobs 1 --incremental /tmp/rt-edits-1-a'
 OTHER_CHECK = 'check --crate-name low src/lib.rt --jobs 2 --incremental out/incremental'
 
 
@@ -42,6 +43,7 @@ class KindOf(unittest.TestCase):
             (BUILD, ('high', 'build', 'rattle')),
             (SEED, ('low', 'seed', 0)),
             (EDIT % 3, ('low', 'edit', 3)),
+            (IN_TURN, ('low', 'in turn', 0)),
             (OTHER_CHECK, None),
             (ALONE, None),
             ('fmt --check src/lib.rt', None),
@@ -61,6 +63,11 @@ class ChecksOf(unittest.TestCase):
         lines = [process(0, 9, SEED), process(10, 2, EDIT % 0), process(12, 3, EDIT % 1), process(15, 1, SEED)]
         self.assertEqual([(it.kind, it.number, it.seconds) for it in costs.checks_of(lines)],
                          [('seed', 0, 9), ('edit', 0, 2), ('edit', 1, 3), ('sound', 0, 1)])
+
+    def test_edits_in_turn(self):
+        lines = [process(0, 9, IN_TURN), process(10, 2, IN_TURN), process(12, 1, IN_TURN)]
+        self.assertEqual([(it.kind, it.number, it.seconds) for it in costs.checks_of(lines)],
+                         [('edit', 0, 9), ('edit', 1, 2), ('sound', 0, 1)])
 
     def test_log_that_begins_among_the_edits(self):
         lines = [process(10, 2, EDIT % 4), process(15, 1, SEED)]
@@ -106,6 +113,11 @@ class Lanes(unittest.TestCase):
     def test_lone_edit_has_no_seed(self):
         tasks = costs.tasks_of([Check('low', 'edit', 0, 4, 0)])
         self.assertEqual(tasks['low', 'edit', 0].waits, [('low', 'proof'), ('low', 'tests')])
+        self.assertNotIn(('low', 'seed'), tasks)
+
+    def test_edits_in_turn_wait_for_each_other(self):
+        tasks = costs.tasks_of([Check('low', 'edit', 0, 4, 0), Check('low', 'edit', 1, 2, 0), Check('low', 'sound', 0, 1, 0)])
+        self.assertIn(('low', 'edit', 0), tasks['low', 'edit', 1].waits)
         self.assertNotIn(('low', 'seed'), tasks)
 
     def test_one_lane_takes_the_sum(self):
