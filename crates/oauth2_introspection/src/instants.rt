@@ -3,7 +3,7 @@
 ghost use Rattle.std.specs.Prelude.{◌≡◌, ℕ, ℤ, List, Ok, IfSome, option_map};
 ghost use Rattle.serde_json.specs.View.{view};
 ghost use Rattle.oauth2_json.specs.Reading.{ReadsAs};
-ghost use Rattle.oauth2_json.specs.Members.{optional};
+ghost use Rattle.oauth2_json.specs.Members.{needed, optional};
 ghost use Rattle.oauth2_introspection.specs.Instants.{
   instant,
   instant_at,
@@ -67,6 +67,16 @@ pub fn optional_time(
         Some(Instant(at)) => Ok(Some(at)),
         None => Ok(None),
     }
+}
+
+/// An instant in whole seconds since 1970 that has to be there. Its faults are those of
+/// `optional_time`, and `Missing` and `WrongType` where it is absent or null.
+pub fn needed_time(alloc: Global, name: &str, found: Option<Value>) -> Result<Timestamp, ReadError>
+    ensures { ReadsAs (λ t. t.nanosecond) result
+        (needed instant name.now (option_map view found)) }
+{
+    let Instant(at) = members::needed::<Instant>(alloc, name, found)?;
+    Ok(at)
 }
 
 // The whole seconds of an instant, rounded down.

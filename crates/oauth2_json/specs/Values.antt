@@ -84,6 +84,15 @@ texts (string s) = Ok (s ∷ [])
 texts (array ds) = each_text ds
 texts (object ms) = wrong_type
 
+-- an array of texts; a text alone is none
+abbrev pub text_list : Data → Reading (List (List ℕ))
+text_list null = wrong_type
+text_list (boolean b) = wrong_type
+text_list (number n) = wrong_type
+text_list (string s) = wrong_type
+text_list (array ds) = each_text ds
+text_list (object ms) = wrong_type
+
 abbrev pub text_items : List (List ℕ) → Items
 text_items [] = no_items
 text_items (p ∷ ps) = item (string p) (text_items ps)

@@ -1,11 +1,11 @@
-//! Lists of texts as members, of which a text alone is a list of one (RFC 7662, section 2.2).
+//! Lists of texts as members. For some a text alone is a list of one (RFC 7662, section 2.2).
 
 ghost use Rattle.std.specs.Prelude.{◌≡◌, ℕ, List, [], ◌∷◌, map, option_map, IfOk, string_bytes};
 ghost use Rattle.serde_json.specs.Data.{array};
 ghost use Rattle.serde_json.specs.View.{view, items_view};
 ghost use Rattle.oauth2_json.specs.Reading.{ReadsAs};
-ghost use Rattle.oauth2_json.specs.Members.{optional};
-ghost use Rattle.oauth2_json.specs.Values.{texts, each_text, text_items};
+ghost use Rattle.oauth2_json.specs.Members.{needed, optional};
+ghost use Rattle.oauth2_json.specs.Values.{texts, each_text, text_list, text_items};
 
 use crate::member_readers;
 use crate::read::{FromJson, ParseCause, ReadError};
@@ -72,6 +72,34 @@ pub fn optional_texts(
     match member_readers::optional::<Texts>(alloc, name, found)? {
         Some(Texts(list)) => Ok(Some(list)),
         None => Ok(None),
+    }
+}
+
+/// A text or a list of texts that has to be there.
+pub fn needed_texts(
+    alloc: Global,
+    name: &str,
+    found: Option<Value>,
+) -> Result<Vec<String>, ReadError>
+    ensures { ReadsAs (λ v. map string_bytes v.items) result
+        (needed texts name.now (option_map view found)) }
+{
+    let Texts(list) = member_readers::needed::<Texts>(alloc, name, found)?;
+    Ok(list)
+}
+
+/// A list of texts that may be absent or null. A text alone is of the wrong type.
+pub fn optional_text_list(
+    alloc: Global,
+    name: &str,
+    found: Option<Value>,
+) -> Result<Option<Vec<String>>, ReadError>
+    ensures { ReadsAs (option_map (λ v. map string_bytes v.items)) result
+        (optional text_list name.now (option_map view found)) }
+{
+    match found {
+        Some(Value::String(_)) => Err(ReadError::at(alloc, name, ParseCause::WrongType)),
+        found => optional_texts(alloc, name, found),
     }
 }
 

@@ -2,9 +2,9 @@
 use Rattle.std.proofs.Common.{◌≡◌, ℕ, List, Bool, Option, Some, None, option_map, Ok, refl}
 use Rattle.serde_json.specs.Data.{boolean}
 use Rattle.oauth2_json.specs.Members.{optional}
-use Rattle.oauth2_json.specs.Values.{flag}
+use Rattle.oauth2_json.specs.Values.{flag, text_list}
 use Rattle.oauth2_json.proofs.Lists.{optional-texts}
-use Rattle.oauth2_metadata.specs.Kinds.{list_data, text_list}
+use Rattle.oauth2_metadata.specs.Kinds.{list_data}
 
 pub optional-list : (name : List ℕ) (o : Option (List (List ℕ))) → optional text_list name (option_map list_data o) ≡ Ok o
 optional-list name None = refl

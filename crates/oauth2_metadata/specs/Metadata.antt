@@ -6,9 +6,9 @@ use Rattle.oauth2_urls.specs.Addressed.{Addressed}
 use Rattle.oauth2_json.specs.Reading.{Reading, read_then, ◌⊛◌}
 use Rattle.oauth2_json.specs.Writing.{Writing, write_then}
 use Rattle.oauth2_json.specs.Members.{members_of_object, needed, others, beside}
-use Rattle.oauth2_json.specs.Values.{text, flag, url}
+use Rattle.oauth2_json.specs.Values.{text, flag, url, text_list}
 use Rattle.oauth2_json.specs.Puts.{Row, put_all}
-use Rattle.oauth2_metadata.specs.Kinds.{text_list, list_data, address_data, told}
+use Rattle.oauth2_metadata.specs.Kinds.{list_data, address_data, told}
 
 -- Each group: its record, its names, its rows as they are read, and its rows as they are written.
 

@@ -3,12 +3,12 @@
 ghost use Rattle.std.specs.Prelude.{◌≡◌, map, option_map, string_bytes};
 ghost use Rattle.oauth2_json.specs.Reading.{ReadsAs};
 ghost use Rattle.oauth2_json.specs.Members.{without};
-ghost use Rattle.oauth2_json.specs.Values.{flag, text};
+ghost use Rattle.oauth2_json.specs.Values.{flag, text, text_list};
 ghost use Rattle.oauth2_body_members.specs.Object.{object_members};
-ghost use Rattle.oauth2_metadata.specs.Kinds.{text_list, told};
+ghost use Rattle.oauth2_metadata.specs.Kinds.{told};
 
 use oauth2_body_members::Object;
-use oauth2_json::{FromJson, ParseCause, ReadError, members};
+use oauth2_json::{FromJson, ReadError, members};
 use serde_json::Value;
 use std::alloc::Global;
 
@@ -49,10 +49,8 @@ pub(crate) fn take_text_list(
         (told text_list name.now (object_members object.old)) }
     ensures rest { object_members object.new ≡ without name.now (object_members object.old) }
 {
-    match object.take(name) {
-        Some(Value::String(_)) => Err(ReadError::at(alloc, name, ParseCause::WrongType)),
-        found => members::optional_texts(alloc, name, found),
-    }
+    let found = object.take(name);
+    members::optional_text_list(alloc, name, found)
 }
 
 // True or false.

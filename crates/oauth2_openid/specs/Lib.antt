@@ -2,7 +2,6 @@ pub mod Claims
 pub mod Rules
 pub mod TokenRules
 pub mod Token
-pub mod Kinds
 pub mod Reading
 pub mod Seen
 pub mod ErrorTexts

@@ -5,9 +5,8 @@ use Rattle.serde_json.specs.Find.{get_member}
 use Rattle.oauth2_json.specs.Body.{body_reading}
 use Rattle.oauth2_json.specs.Members.{members_of_object, needed, optional, others}
 use Rattle.oauth2_json.specs.Reading.{Reading, read_then, ◌⊛◌}
-use Rattle.oauth2_json.specs.Values.{text, texts}
+use Rattle.oauth2_json.specs.Values.{text, texts, text_list}
 use Rattle.oauth2_introspection.specs.Instants.{instant}
-use Rattle.oauth2_openid.specs.Kinds.{text_list}
 use Rattle.oauth2_openid.specs.declared.read_error.TokenPart.{TokenPart}
 use Rattle.oauth2_openid.specs.declared.read_error.TokenPart.TheVariants as part
 use Rattle.oauth2_openid.specs.Claims.{Claims, claims}

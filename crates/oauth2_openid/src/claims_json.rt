@@ -23,11 +23,10 @@ ghost use Rattle.oauth2_openid.specs.private.Rows.{
 };
 
 use crate::claims::IdTokenClaims;
-use crate::kinds::{needed_texts, needed_time, optional_text_list};
 use crate::nonce::Nonce;
 use jiff::Timestamp;
 use oauth2_body_members::Object;
-use oauth2_introspection::optional_time;
+use oauth2_introspection::{needed_time, optional_time};
 use oauth2_json::{FromJson, ReadError, members};
 use serde_json::Value;
 use std::alloc::Global;
@@ -96,7 +95,7 @@ fn take_names(alloc: Global, members: &mut Object<'_>) -> Result<Names, ReadErro
     let subject = members.take("sub");
     let subject = members::needed::<String>(alloc, "sub", subject)?;
     let audience = members.take("aud");
-    let audience = needed_texts(alloc, "aud", audience)?;
+    let audience = members::needed_texts(alloc, "aud", audience)?;
     Ok(Names {
         issuer,
         subject,
@@ -139,7 +138,7 @@ fn take_login(alloc: Global, members: &mut Object<'_>) -> Result<Login, ReadErro
     let class = members.take("acr");
     let authentication_context_class = members::optional::<String>(alloc, "acr", class)?;
     let methods = members.take("amr");
-    let authentication_methods = optional_text_list(alloc, "amr", methods)?;
+    let authentication_methods = members::optional_text_list(alloc, "amr", methods)?;
     Ok(Login {
         nonce,
         authentication_context_class,

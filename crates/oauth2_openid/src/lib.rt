@@ -12,7 +12,6 @@ mod expected;
 mod fields;
 mod header;
 mod id_token;
-mod kinds;
 mod nonce;
 mod read_error;
 

@@ -1,6 +1,6 @@
 //! Access tokens (RFC 6749, section 1.4).
 
-ghost use Rattle.std.specs.Prelude.{◌≡◌, ℕ, List, string_bytes, codes, Some};
+ghost use Rattle.std.specs.Prelude.{◌≡◌, ℕ, List, string_bytes, codes, Some, IfOk};
 ghost use Rattle.std.specs.Fmt.{DisplaysOnOk, WritesStyledOnOk};
 
 use crate::secret::Secret;
@@ -27,6 +27,13 @@ impl AccessToken {
         ensures { result ≡ string_bytes secret }
     {
         AccessToken(Secret::new(secret))
+    }
+
+    /// Takes a copy of the text.
+    pub fn from_str(alloc: Global, text: &str) -> Result<AccessToken, AllocError>
+        ensures { IfOk result (λ made. made ≡ text.now) }
+    {
+        Ok(AccessToken::new(String::from_str(alloc, text)?))
     }
 
     /// Leaking this text may compromise the security of the flow.

@@ -32,6 +32,13 @@ impl CsrfToken {
         CsrfToken(Secret::new(secret))
     }
 
+    /// Takes a copy of the text.
+    pub fn from_str(alloc: Global, text: &str) -> Result<CsrfToken, AllocError>
+        ensures { IfOk result (λ made. made ≡ text.now) }
+    {
+        Ok(CsrfToken::new(String::from_str(alloc, text)?))
+    }
+
     /// Leaking this text may compromise the security of the flow.
     pub fn secret(&self) -> &String
         ensures { string_bytes result.now ≡ self.now }

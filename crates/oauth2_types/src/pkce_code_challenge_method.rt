@@ -1,6 +1,6 @@
 //! Methods of code challenges (RFC 7636, section 4.2).
 
-ghost use Rattle.std.specs.Prelude.{◌≡◌, ℕ, List, codes, string_bytes};
+ghost use Rattle.std.specs.Prelude.{◌≡◌, ℕ, List, codes, string_bytes, IfOk};
 ghost use Rattle.std.specs.Fmt.{DisplaysOnOk, debug_str, debug_variant};
 ghost use Rattle.oauth2_types.specs.Display.{WritesDebugText};
 
@@ -29,6 +29,13 @@ impl PkceCodeChallengeMethod {
         ensures { result ≡ string_bytes text }
     {
         PkceCodeChallengeMethod(PlainText::new(text))
+    }
+
+    /// Takes a copy of the text.
+    pub fn from_str(alloc: Global, text: &str) -> Result<PkceCodeChallengeMethod, AllocError>
+        ensures { IfOk result (λ made. made ≡ text.now) }
+    {
+        Ok(PkceCodeChallengeMethod::new(String::from_str(alloc, text)?))
     }
 }
 

@@ -1,10 +1,11 @@
 //! Code verifiers (RFC 7636, section 4.1).
 
-ghost use Rattle.std.specs.Prelude.{◌≡◌, ℕ, List, string_bytes, codes, Some, IsTrue, ◌↔◌};
+ghost use Rattle.std.specs.Prelude.{◌≡◌, ℕ, List, string_bytes, codes, Some, IfOk, IsTrue, ◌↔◌};
 ghost use Rattle.std.specs.Fmt.{DisplaysOnOk, WritesStyledOnOk};
 ghost use Rattle.oauth2_types.specs.Pkce.{HasValidLength};
 
 use crate::secret::Secret;
+use std::alloc::{AllocError, Global};
 use std::fmt;
 use std::marker::Model;
 
@@ -26,6 +27,13 @@ impl PkceCodeVerifier {
         ensures { result ≡ string_bytes secret }
     {
         PkceCodeVerifier(Secret::new(secret))
+    }
+
+    /// Takes a copy of the text.
+    pub fn from_str(alloc: Global, text: &str) -> Result<PkceCodeVerifier, AllocError>
+        ensures { IfOk result (λ made. made ≡ text.now) }
+    {
+        Ok(PkceCodeVerifier::new(String::from_str(alloc, text)?))
     }
 
     /// Leaking this text may compromise the security of the flow.

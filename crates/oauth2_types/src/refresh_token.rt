@@ -1,6 +1,6 @@
 //! Refresh tokens (RFC 6749, section 1.5).
 
-ghost use Rattle.std.specs.Prelude.{◌≡◌, ℕ, List, string_bytes, codes, Some};
+ghost use Rattle.std.specs.Prelude.{◌≡◌, ℕ, List, string_bytes, codes, Some, IfOk};
 ghost use Rattle.std.specs.Fmt.{DisplaysOnOk, WritesStyledOnOk};
 
 use crate::secret::Secret;
@@ -27,6 +27,13 @@ impl RefreshToken {
         ensures { result ≡ string_bytes secret }
     {
         RefreshToken(Secret::new(secret))
+    }
+
+    /// Takes a copy of the text.
+    pub fn from_str(alloc: Global, text: &str) -> Result<RefreshToken, AllocError>
+        ensures { IfOk result (λ made. made ≡ text.now) }
+    {
+        Ok(RefreshToken::new(String::from_str(alloc, text)?))
     }
 
     /// Leaking this text may compromise the security of the flow.

@@ -1,6 +1,6 @@
 //! Response types (RFC 6749, section 3.1.1).
 
-ghost use Rattle.std.specs.Prelude.{◌≡◌, ℕ, List, codes, string_bytes};
+ghost use Rattle.std.specs.Prelude.{◌≡◌, ℕ, List, codes, string_bytes, IfOk};
 ghost use Rattle.std.specs.Fmt.{DisplaysOnOk, debug_str, debug_variant};
 ghost use Rattle.oauth2_types.specs.Display.{WritesDebugText};
 
@@ -29,6 +29,13 @@ impl ResponseType {
         ensures { result ≡ string_bytes text }
     {
         ResponseType(PlainText::new(text))
+    }
+
+    /// Takes a copy of the text.
+    pub fn from_str(alloc: Global, text: &str) -> Result<ResponseType, AllocError>
+        ensures { IfOk result (λ made. made ≡ text.now) }
+    {
+        Ok(ResponseType::new(String::from_str(alloc, text)?))
     }
 }
 

@@ -1,6 +1,6 @@
 //! Access token scopes (RFC 6749, section 3.3).
 
-ghost use Rattle.std.specs.Prelude.{◌≡◌, ℕ, List, codes, string_bytes};
+ghost use Rattle.std.specs.Prelude.{◌≡◌, ℕ, List, codes, string_bytes, IfOk};
 ghost use Rattle.std.specs.Fmt.{DisplaysOnOk, debug_str, debug_variant};
 ghost use Rattle.oauth2_types.specs.Display.{WritesDebugText};
 
@@ -30,6 +30,13 @@ impl Scope {
         ensures { result ≡ string_bytes text }
     {
         Scope(PlainText::new(text))
+    }
+
+    /// Takes a copy of the text.
+    pub fn from_str(alloc: Global, text: &str) -> Result<Scope, AllocError>
+        ensures { IfOk result (λ made. made ≡ text.now) }
+    {
+        Ok(Scope::new(String::from_str(alloc, text)?))
     }
 }
 

@@ -33,6 +33,13 @@ impl AuthUrl {
         Ok(AuthUrl(AddressedUrl::new(alloc, url)?))
     }
 
+    /// Parses a copy of the text, as `new` does.
+    pub fn parse(alloc: Global, url: &str) -> Result<AuthUrl, ParseError>
+        ensures { Addresses url.now result }
+    {
+        AuthUrl::new(alloc, String::from_str(alloc, url)?)
+    }
+
     /// The URL beside the text that it is written as.
     pub fn from_url(alloc: Global, url: Url) -> Result<AuthUrl, AllocError>
         ensures { IfOk result (λ u. u ≡ written_url url) }

@@ -34,6 +34,13 @@ impl EndUserVerificationUrl {
         Ok(EndUserVerificationUrl(AddressedUrl::new(alloc, url)?))
     }
 
+    /// Parses a copy of the text, as `new` does.
+    pub fn parse(alloc: Global, url: &str) -> Result<EndUserVerificationUrl, ParseError>
+        ensures { Addresses url.now result }
+    {
+        EndUserVerificationUrl::new(alloc, String::from_str(alloc, url)?)
+    }
+
     /// The URL beside the text that it is written as.
     pub fn from_url(alloc: Global, url: Url) -> Result<EndUserVerificationUrl, AllocError>
         ensures { IfOk result (λ u. u ≡ written_url url) }

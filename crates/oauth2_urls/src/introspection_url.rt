@@ -33,6 +33,13 @@ impl IntrospectionUrl {
         Ok(IntrospectionUrl(AddressedUrl::new(alloc, url)?))
     }
 
+    /// Parses a copy of the text, as `new` does.
+    pub fn parse(alloc: Global, url: &str) -> Result<IntrospectionUrl, ParseError>
+        ensures { Addresses url.now result }
+    {
+        IntrospectionUrl::new(alloc, String::from_str(alloc, url)?)
+    }
+
     /// The URL beside the text that it is written as.
     pub fn from_url(alloc: Global, url: Url) -> Result<IntrospectionUrl, AllocError>
         ensures { IfOk result (λ u. u ≡ written_url url) }

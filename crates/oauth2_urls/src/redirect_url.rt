@@ -33,6 +33,13 @@ impl RedirectUrl {
         Ok(RedirectUrl(AddressedUrl::new(alloc, url)?))
     }
 
+    /// Parses a copy of the text, as `new` does.
+    pub fn parse(alloc: Global, url: &str) -> Result<RedirectUrl, ParseError>
+        ensures { Addresses url.now result }
+    {
+        RedirectUrl::new(alloc, String::from_str(alloc, url)?)
+    }
+
     /// The URL beside the text that it is written as.
     pub fn from_url(alloc: Global, url: Url) -> Result<RedirectUrl, AllocError>
         ensures { IfOk result (λ u. u ≡ written_url url) }

@@ -33,6 +33,13 @@ impl RevocationUrl {
         Ok(RevocationUrl(AddressedUrl::new(alloc, url)?))
     }
 
+    /// Parses a copy of the text, as `new` does.
+    pub fn parse(alloc: Global, url: &str) -> Result<RevocationUrl, ParseError>
+        ensures { Addresses url.now result }
+    {
+        RevocationUrl::new(alloc, String::from_str(alloc, url)?)
+    }
+
     /// The URL beside the text that it is written as.
     pub fn from_url(alloc: Global, url: Url) -> Result<RevocationUrl, AllocError>
         ensures { IfOk result (λ u. u ≡ written_url url) }

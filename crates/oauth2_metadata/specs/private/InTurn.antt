@@ -4,8 +4,8 @@ use Rattle.serde_json.specs.Data.{Data, Members, object}
 use Rattle.serde_json.specs.Find.{get_member}
 use Rattle.oauth2_json.specs.Reading.{Reading, ◌⊛◌}
 use Rattle.oauth2_json.specs.Members.{needed, others, without}
-use Rattle.oauth2_json.specs.Values.{text, flag, url}
-use Rattle.oauth2_metadata.specs.Kinds.{text_list, told}
+use Rattle.oauth2_json.specs.Values.{text, flag, url, text_list}
+use Rattle.oauth2_metadata.specs.Kinds.{told}
 use Rattle.oauth2_metadata.specs.Metadata.{Metadata, metadata, EndpointMembers, endpoint_group, endpoint_names, SupportedMembers, supported_group, supported_names, AuthMethodMembers, auth_method_group, auth_method_names, SigningAlgorithmMembers, signing_algorithm_group, signing_algorithm_names, PageMembers, page_group, page_names, ServiceMembers, service_group, service_names}
 
 unfoldable pub endpoints_in_turn : Members → Reading EndpointMembers

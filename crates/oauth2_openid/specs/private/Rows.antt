@@ -5,10 +5,9 @@ use Rattle.serde_json.specs.Data.{Data, Members, object}
 use Rattle.serde_json.specs.Find.{get_member}
 use Rattle.oauth2_json.specs.Reading.{Reading, ◌⊛◌}
 use Rattle.oauth2_json.specs.Members.{needed, optional, others}
-use Rattle.oauth2_json.specs.Values.{text, texts}
+use Rattle.oauth2_json.specs.Values.{text, texts, text_list}
 use Rattle.oauth2_introspection.specs.Instants.{instant}
 use Rattle.oauth2_openid.specs.Claims.{Claims, claims}
-use Rattle.oauth2_openid.specs.Kinds.{text_list}
 use Rattle.oauth2_openid.specs.Token.{Header, header, WithOthers, with_others}
 
 abbrev pub triple : {A B C : Type 0} → A → B → C → A × B × C

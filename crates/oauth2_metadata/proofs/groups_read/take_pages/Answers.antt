@@ -1,9 +1,9 @@
 use Rattle.std.proofs.Common.{◌≡◌, ℕ, List, Option, Ok, codes, refl}
 use Rattle.serde_json.specs.Data.{Members}
 use Rattle.oauth2_json.specs.Members.{without}
-use Rattle.oauth2_json.specs.Values.{text}
+use Rattle.oauth2_json.specs.Values.{text, text_list}
 use Rattle.oauth2_body_members.specs.Object.{object_members}
-use Rattle.oauth2_metadata.specs.Kinds.{told, text_list}
+use Rattle.oauth2_metadata.specs.Kinds.{told}
 use Rattle.oauth2_metadata.specs.Metadata.{page_group}
 use Rattle.oauth2_metadata.specs.private.InTurn.{pages_in_turn}
 use Rattle.oauth2_metadata.proofs.groups_read.take_pages.Goals as goal
