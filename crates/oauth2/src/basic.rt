@@ -1,6 +1,10 @@
 //! The types for a server that uses no extension.
 
 pub use crate::client::BasicClient;
+pub use crate::endpoint_sets::{
+    BasicDeviceClient, BasicFullClient, BasicIntrospectionClient, BasicLoginClient,
+    BasicTokenClient,
+};
 pub use oauth2_codes::{
     BasicErrorResponse, BasicErrorResponseType, BasicRevocationErrorResponse, BasicTokenType,
 };

@@ -12,6 +12,7 @@ mod client;
 mod client_text;
 mod device_authorization_endpoint;
 mod endpoint;
+mod endpoint_sets;
 mod flow;
 mod introspection_endpoint;
 pub mod members;
