@@ -41,6 +41,7 @@ def has_libraries(rt, room, crate):
 def takes_libraries(rt, crates):
     """Gives each crate, lowest first, the library that `rt ci` passed of the same files over the same libraries; whether there is one of each."""
     kept = rt.Kept(crates)
+    kept.drop = lambda _: None  # `give` drops an entry that it cannot copy; what the gate kept stays the gate's
     for it in crates:
         # its files may be second names of the checkout's, so they are removed before others take their place
         shutil.rmtree(os.path.join(it.folder, 'out', 'rlib'), ignore_errors=True)
