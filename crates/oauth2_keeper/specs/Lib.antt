@@ -1,3 +1,4 @@
+pub mod ErrorTexts
 pub mod Keeper
 pub mod Patience
 pub mod Runs

@@ -40,12 +40,14 @@ use oauth2::{
     AccessToken, EndpointNotSet, EndpointState, ErrorResponse, RequestTokenError,
     StandardRevocableToken, SyncHttpClient, TokenResponse,
 };
+use oauth2_types::display::write_display;
 use std::alloc::Global;
+use std::fmt;
 use std::marker::Model;
 use std::time::Duration;
 
 /// Why a patient keeper has no good token.
-#[derive(Drop)]
+#[derive(Debug, Drop)]
 pub enum PatientError<RE, TE> {
     /// The error of the request for another.
     Request(RequestTokenError<RE, TE>),
@@ -53,6 +55,27 @@ pub enum PatientError<RE, TE> {
     /// `Timestamp`.
     Waits(Option<Timestamp>),
 }
+
+impl<RE, TE: fmt::Display> fmt::Display for PatientError<RE, TE> {
+    ghost use Rattle.oauth2_keeper.specs.ErrorTexts.{patient_error_text};
+
+    ghost output = { patient_error_text TE.output };
+
+    ghost styled_output = { λ error _. patient_error_text TE.output error };
+
+    fn fmt<W: fmt::Write>(&self, f: &mut fmt::Formatter<W>) -> fmt::Result {
+        match self {
+            PatientError::Request(error) => write_display(f, error),
+            PatientError::Waits(_) => f.write_str("The last request failed, and none is made yet"),
+        }
+    }
+}
+
+impl<RE, TE> std::error::Error for PatientError<RE, TE>
+where
+    RE: fmt::Debug + Drop,
+    TE: fmt::Debug + fmt::Display + Drop,
+{}
 
 /// A keeper that makes no request for some time after one that failed.
 ///

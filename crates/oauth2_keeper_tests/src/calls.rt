@@ -8,6 +8,7 @@ use oauth2::basic::BasicErrorResponse;
 use oauth2_keeper::{BasicPatientKeeper, PatientError};
 use oauth2_refused_memory_values_tests::{Ended, Want};
 use std::alloc::Global;
+use std::error::Error;
 use std::io::Write;
 use std::time::Duration;
 
@@ -143,12 +144,19 @@ fn show_answer<W: Write>(
 ) -> Result<(), Ended> {
     match answer {
         Ok(()) => show_token(out, keeper),
-        Err(PatientError::Request(error)) => {
-            writeln!(out, "error {error}")?;
+        Err(error) => {
+            show_error(out, error)?;
+            if let PatientError::Waits(until) = error {
+                show_moment(out, "waits until", *until)?;
+            }
             Ok(())
         }
-        Err(PatientError::Waits(until)) => show_moment(out, "waits until", *until),
     }
+}
+
+fn show_error<W: Write, E: Error>(out: &mut W, error: &E) -> Result<(), Ended> {
+    writeln!(out, "error {error}")?;
+    Ok(())
 }
 
 fn show_token<W: Write>(out: &mut W, keeper: &BasicPatientKeeper<'_>) -> Result<(), Ended> {

@@ -35,7 +35,7 @@ pub fn client(alloc: Global) -> Result<TokenClient, Ended> {
 pub type Reply<'a> = (u16, &'a str);
 
 /// There is no reply left.
-#[derive(Clone, Copy)]
+#[derive(Clone, Copy, Debug)]
 pub struct NoReply;
 
 /// An HTTP client that replies at its first call. The reply was made before, so a call takes no
