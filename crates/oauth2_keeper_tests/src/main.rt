@@ -1,7 +1,7 @@
 //! Tests of `oauth2_keeper` and `oauth2_stored_token`: runs the rows that standard input names, one
-//! on each line, and prints what comes of each. The file `stdout` has what it has to print: bodies
-//! by RFC 6749, sections 4.4.2 and 6, moments and lifetimes reckoned by hand. `tools/refusals`
-//! refuses memory to each row.
+//! on each line, and prints what comes of each. The file `stdout` has what it has to print:
+//! `tools/tests/test_keeper_rows.py` derives each line from the row's inputs, RFC 6749 and the pages.
+//! `tools/refusals` refuses memory to each row.
 //!
 //! Printing takes no memory, so a growth that is refused belongs to a call of the row, or to what
 //! it is called with. Exit status 0: every row has a result; 1: memory ran out in one; 2: there is
