@@ -11,6 +11,7 @@ pub record AuthorizeParams : Type 0 where
   pub challenge : Option Challenge
   pub redirect : Option Addressed
   pub response_type : Option (List ℕ)
+  pub nonce : Option (List ℕ)
   pub scopes : List (List ℕ)
   pub extra : List (List ℕ × List ℕ)
 
@@ -22,11 +23,13 @@ authorize_params d = do
   challenge ← optional challenge (codes "verifier") d
   redirect ← optional address (codes "redirect") d
   response_type ← optional as_str (codes "response_type") d
+  nonce ← optional as_str (codes "nonce") d
   Some (record {
     state = state;
     challenge = challenge;
     redirect = redirect;
     response_type = response_type;
+    nonce = nonce;
     scopes = scopes;
     extra = extra;
   })

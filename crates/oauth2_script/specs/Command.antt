@@ -7,6 +7,7 @@ use Rattle.oauth2_script.specs.ClientCredentialsParams.{ClientCredentialsParams,
 use Rattle.oauth2_script.specs.CodeParams.{CodeParams, code_params}
 use Rattle.oauth2_script.specs.DeviceAuthorizationParams.{DeviceAuthorizationParams, device_authorization_params}
 use Rattle.oauth2_script.specs.DevicePollParams.{DevicePollParams, device_poll_params}
+use Rattle.oauth2_script.specs.IdTokenParams.{IdTokenParams, id_token_params}
 use Rattle.oauth2_script.specs.IntrospectParams.{IntrospectParams, introspect_params}
 use Rattle.oauth2_script.specs.KeeperParams.{KeeperParams, keeper_params}
 use Rattle.oauth2_script.specs.MetadataParams.{MetadataParams, metadata_params}
@@ -28,6 +29,7 @@ pub data Command : Type 0 where
   redirect : RedirectParams → Command
   keeper : KeeperParams → Command
   metadata : MetadataParams → Command
+  id_token : IdTokenParams → Command
 
 unfoldable pub command_of : List ℕ → Data → Option Command
 command_of name params =
@@ -43,4 +45,5 @@ command_of name params =
     else (if bytes_eq name (codes "redirect") then option_map redirect (redirect_params params)
     else (if bytes_eq name (codes "keeper") then option_map keeper (keeper_params params)
     else (if bytes_eq name (codes "metadata") then option_map metadata (metadata_params params)
-    else None)))))))))))
+    else (if bytes_eq name (codes "id_token") then option_map id_token (id_token_params params)
+    else None))))))))))))

@@ -7,6 +7,7 @@ pub mod ClientCredentialsParams
 pub mod CodeParams
 pub mod DeviceAuthorizationParams
 pub mod DevicePollParams
+pub mod IdTokenParams
 pub mod IntrospectParams
 pub mod KeeperParams
 pub mod MetadataParams

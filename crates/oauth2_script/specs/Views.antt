@@ -19,6 +19,7 @@ use Rattle.oauth2_script.specs.AuthorizeParams as authorize_spec
 use Rattle.oauth2_script.specs.RedirectParams as redirect_spec
 use Rattle.oauth2_script.specs.KeeperParams as keeper_spec
 use Rattle.oauth2_script.specs.MetadataParams as metadata_spec
+use Rattle.oauth2_script.specs.IdTokenParams as id_token_spec
 use Rattle.oauth2_script.specs.declared.code_params.CodeParams.{CodeParams}
 use Rattle.oauth2_script.specs.declared.refresh_params.RefreshParams.{RefreshParams}
 use Rattle.oauth2_script.specs.declared.password_params.PasswordParams.{PasswordParams}
@@ -31,10 +32,11 @@ use Rattle.oauth2_script.specs.declared.authorize_params.AuthorizeParams.{Author
 use Rattle.oauth2_script.specs.declared.redirect_params.RedirectParams.{RedirectParams}
 use Rattle.oauth2_script.specs.declared.keeper_params.KeeperParams.{KeeperParams}
 use Rattle.oauth2_script.specs.declared.metadata_params.MetadataParams.{MetadataParams}
+use Rattle.oauth2_script.specs.declared.id_token_params.IdTokenParams.{IdTokenParams}
 use Rattle.oauth2_script.specs.declared.client_part.ClientPart.{ClientPart}
 use Rattle.oauth2_script.specs.declared.client_part.Endpoints.{Endpoints}
 use Rattle.oauth2_script.specs.declared.command.Command.{Command}
-use Rattle.oauth2_script.specs.declared.command.Command.TheVariants.{Code, Refresh, Password, ClientCredentials, Introspect, Revoke, DeviceAuthorization, DevicePoll, Authorize, Redirect, Keeper, Metadata}
+use Rattle.oauth2_script.specs.declared.command.Command.TheVariants.{Code, Refresh, Password, ClientCredentials, Introspect, Revoke, DeviceAuthorization, DevicePoll, Authorize, Redirect, Keeper, Metadata, IdToken}
 use Rattle.oauth2_script.specs.declared.reply.HttpReply.{HttpReply}
 use Rattle.oauth2_script.specs.declared.reply.Reply.{Reply}
 use Rattle.oauth2_script.specs.declared.reply.Reply.TheVariants.{Replied, Failed}
@@ -104,6 +106,7 @@ authorize_view p = record {
   challenge = p.challenge;
   redirect = p.redirect;
   response_type = p.response_type;
+  nonce = option_map string_bytes p.nonce;
   scopes = p.scopes.items;
   extra = map (λ e. (string_bytes e.0, string_bytes e.1)) p.extra.items;
 }
@@ -129,6 +132,17 @@ abbrev pub metadata_view : MetadataParams → metadata_spec.MetadataParams
 metadata_view p = record {
   issuer = string_bytes p.issuer;
   well_known = p.well_known;
+}
+
+abbrev pub id_token_view : IdTokenParams → id_token_spec.IdTokenParams
+id_token_view p = record {
+  id_token = string_bytes p.id_token;
+  access_token = p.access_token;
+  issuer = string_bytes p.issuer;
+  algorithm = option_map string_bytes p.algorithm;
+  nonce = option_map string_bytes p.nonce;
+  leeway = as_nanos p.leeway;
+  max_age = option_map as_nanos p.max_age;
 }
 
 abbrev pub endpoints_view : Endpoints → client_spec.Endpoints
@@ -168,6 +182,7 @@ command_view (Authorize p) = command_spec.authorize (authorize_view p)
 command_view (Redirect p) = command_spec.redirect (redirect_view p)
 command_view (Keeper p) = command_spec.keeper (keeper_view p)
 command_view (Metadata p) = command_spec.metadata (metadata_view p)
+command_view (IdToken p) = command_spec.id_token (id_token_view p)
 
 abbrev pub script_view : Script → script_spec.Script
 script_view s = record {

@@ -16,6 +16,8 @@ pub struct AuthorizeParams {
     pub challenge: Option<PkceCodeChallenge>,
     pub redirect: Option<RedirectUrl>,
     pub response_type: Option<ResponseType>,
+    /// What an ID token has to name (OpenID Connect Core 1.0, section 3.1.2.1).
+    pub nonce: Option<String>,
     pub scopes: Vec<Scope>,
     pub extra: Vec<(String, String)>,
 }
@@ -37,11 +39,13 @@ impl Part for AuthorizeParams {
         let challenge = optional(alloc, value, "verifier")?;
         let redirect = optional(alloc, value, "redirect")?;
         let response_type = optional(alloc, value, "response_type")?;
+        let nonce = optional(alloc, value, "nonce")?;
         Ok(AuthorizeParams {
             state,
             challenge,
             redirect,
             response_type,
+            nonce,
             scopes,
             extra,
         })

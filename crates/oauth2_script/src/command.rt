@@ -10,6 +10,7 @@ use crate::client_credentials_params::ClientCredentialsParams;
 use crate::code_params::CodeParams;
 use crate::device_authorization_params::DeviceAuthorizationParams;
 use crate::device_poll_params::DevicePollParams;
+use crate::id_token_params::IdTokenParams;
 use crate::introspect_params::IntrospectParams;
 use crate::keeper_params::KeeperParams;
 use crate::metadata_params::MetadataParams;
@@ -37,6 +38,7 @@ pub enum Command {
     Redirect(RedirectParams),
     Keeper(KeeperParams),
     Metadata(MetadataParams),
+    IdToken(IdTokenParams),
 }
 
 /// The command of this name, with these parameters.
@@ -61,6 +63,7 @@ pub fn command_of(alloc: Global, name: &str, params: &Value) -> Result<Command, 
         )?)),
         "keeper" => Ok(Command::Keeper(KeeperParams::from_value(alloc, params)?)),
         "metadata" => Ok(Command::Metadata(MetadataParams::from_value(alloc, params)?)),
+        "id_token" => Ok(Command::IdToken(IdTokenParams::from_value(alloc, params)?)),
         _ => Err(ScriptError::Bad),
     }
 }

@@ -14,8 +14,23 @@ returns-in_err-response_type-clause-read c =
     (Refuses-then c.in_err-response_type.field-0.0 _ _ c.in_err-response_type.ensures.read) in
     Gives-refused _ c.from_residual-in_err-response_type.result c.in_err-response_type.field-0.0 _ c.from_residual-in_err-response_type.ensures.1 refused
 
+pub returns-in_err-nonce-clause-read : goal.returns-in_err-nonce-clause-read
+unfolding authorize_params
+returns-in_err-nonce-clause-read c =
+    let refused : Refuses c.in_err-nonce.field-0.0 (authorize_params (view c.args.value.now)) =
+    rw (c.in_ok-state.ensures.read, c.in_ok-scopes.ensures, c.in_ok-extra.ensures, c.in_ok-challenge.ensures.read, c.in_ok-redirect.ensures.read, c.in_ok-response_type.ensures.read)
+    (Refuses-then c.in_err-nonce.field-0.0 _ _ c.in_err-nonce.ensures.read) in
+    Gives-refused _ c.from_residual-in_err-nonce.result c.in_err-nonce.field-0.0 _ c.from_residual-in_err-nonce.ensures.1 refused
+
 pub returns-clause-read : goal.returns-clause-read
 unfolding authorize_params
 returns-clause-read c =
-    rw (c.in_ok-state.ensures.read, c.in_ok-scopes.ensures, c.in_ok-extra.ensures, c.in_ok-challenge.ensures.read, c.in_ok-redirect.ensures.read, c.in_ok-response_type.ensures.read)
-    (simp (option_map_id, map-id))
+    rw (
+      c.in_ok-state.ensures.read,
+      c.in_ok-scopes.ensures,
+      c.in_ok-extra.ensures,
+      c.in_ok-challenge.ensures.read,
+      c.in_ok-redirect.ensures.read,
+      c.in_ok-response_type.ensures.read,
+      c.in_ok-nonce.ensures.read,
+    ) (simp (option_map_id, map-id))
