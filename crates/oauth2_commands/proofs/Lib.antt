@@ -4,6 +4,7 @@ pub mod Exchanges
 pub mod Discovery
 pub mod Commands
 pub mod Redirects
+pub mod IdTokens
 pub mod Scopes
 pub mod Polls
 pub mod Kept

@@ -1,5 +1,5 @@
 -- No response without extra fields holds a float.
-use Rattle.std.proofs.Common.{◌≡◌, ℕ, ℤ, pos, negsuc, List, [], ◌∷◌, ◌++◌, Bool, false, true, ◌||◌, Option, Some, None, option_map, refl}
+use Rattle.std.proofs.Common.{◌≡◌, ℕ, ℤ, pos, negsuc, List, [], ◌∷◌, ◌++◌, Bool, false, true, ◌||◌, Option, Some, None, option_map, codes, refl}
 use Rattle.std.specs.Ordering.{nat_cmp, match_ordering}
 use Rattle.std.specs.declared.cmp.Ordering.{Ordering}
 use Rattle.std.specs.declared.cmp.Ordering.TheVariants.{Less, Equal, Greater}
@@ -17,9 +17,12 @@ use Rattle.oauth2_replies.specs.Device.{own_rows as device_rows}
 use Rattle.oauth2_introspection.specs.Introspection.{own_rows as introspection_rows}
 use Rattle.oauth2_metadata.specs.Metadata.{own_rows as metadata_rows, endpoint_rows, supported_rows, auth_method_rows, signing_algorithm_rows, page_rows, service_rows}
 use Rattle.oauth2_metadata.specs.Metadata.{EndpointMembers, SupportedMembers, AuthMethodMembers, SigningAlgorithmMembers, PageMembers, ServiceMembers}
+use Rattle.oauth2_openid.specs.Claims.{Claims}
+use Rattle.oauth2_openid.specs.declared.access_token_hash.AccessTokenHash.{AccessTokenHash}
 use Rattle.oauth2_replies.specs.Token.{own_rows as token_rows}
 use Rattle.oauth2_commands.specs.Exchange.{BasicToken, token_data}
 use Rattle.oauth2_commands.specs.DeviceAuthorization.{BasicDevice, device_data}
+use Rattle.oauth2_commands.specs.IdToken.{claim_rows, claims_data, checked_data, hash_name}
 use Rattle.oauth2_commands.specs.Introspect.{BasicIntrospection, introspection_data}
 use Rattle.oauth2_commands.specs.Metadata.{BasicMetadata, metadata_data}
 
@@ -213,3 +216,40 @@ metadata_rows_free m =
 pub metadata_data-no_float : (m : BasicMetadata) → has_float (metadata_data m) ≡ false
 unfolding metadata_data
 metadata_data-no_float m = put_all-no_float (metadata_rows m) no_members (metadata_rows_free m) refl
+
+claims_free : (c : Claims) → AreFree (claim_rows c)
+claims_free c = (
+  refl,
+  (
+    refl,
+    (
+      items_free c.audience,
+      (
+        integers_free (second_of c.expires_at),
+        (
+          integers_free (second_of c.issued_at),
+          (
+            seconds_free c.auth_time,
+            (
+              texts_free (λ s. s) c.nonce,
+              (
+                texts_free (λ s. s) c.authentication_context_class,
+                (lists_free c.authentication_methods, (texts_free (λ s. s) c.authorized_party, (texts_free (λ s. s) c.access_token_hash, tt))),
+              ),
+            ),
+          ),
+        ),
+      ),
+    ),
+  ),
+)
+
+claims_data-no_float : (c : Claims) → has_float (claims_data c) ≡ false
+unfolding claims_data
+claims_data-no_float c = put_all-no_float (claim_rows c) no_members (claims_free c) refl
+
+pub checked_data-no_float : (hash : AccessTokenHash) (c : Claims) → has_float (checked_data hash c) ≡ false
+unfolding checked_data
+checked_data-no_float hash c =
+    let rows : List Row = (codes "access_token_hash", Some (string (hash_name hash))) ∷ (codes "claims", Some (claims_data c)) ∷ [] in
+    put_all-no_float rows no_members (refl, (claims_data-no_float c, tt)) refl

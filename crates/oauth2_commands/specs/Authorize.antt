@@ -4,12 +4,14 @@ use Rattle.url.specs.Parts.{Parts, serialize}
 use Rattle.oauth2_urls.specs.Addressed.{Addressed}
 use Rattle.oauth2_requests.specs.Authorization.{Authorization, query_pairs}
 use Rattle.oauth2_form.specs.Query.{ExtendsQuery}
+use Rattle.oauth2_wire.specs.Expected.{optional_pair}
 use Rattle.oauth2.specs.Settings.{Settings}
 use Rattle.oauth2_commands.specs.Client.{WithEndpoint, given_or}
 use Rattle.oauth2_world.specs.Lines.{line, quoted}
 use Rattle.oauth2_commands.specs.Out.{Output, answered, after}
 use Rattle.oauth2_script.specs.AuthorizeParams.{AuthorizeParams}
 
+-- a nonce goes before the extra parameters (OpenID Connect Core 1.0, 3.1.2.1)
 abbrev pub authorization : Settings → AuthorizeParams → Addressed → Authorization
 authorization client p url = record {
   auth_url = url;
@@ -19,7 +21,7 @@ authorization client p url = record {
   pkce_challenge = p.challenge;
   redirect_url = given_or p.redirect client.redirect_url;
   scopes = p.scopes;
-  extra_params = p.extra;
+  extra_params = optional_pair (codes "nonce") p.nonce ++ p.extra;
 }
 
 unfoldable pub url_line : List ℕ → List ℕ

@@ -6,6 +6,7 @@ pub mod ClientCredentials
 pub mod Code
 pub mod DeviceAuthorization
 pub mod DevicePoll
+pub mod IdToken
 pub mod Introspect
 pub mod Keeper
 pub mod Metadata

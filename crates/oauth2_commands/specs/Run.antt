@@ -7,6 +7,7 @@ use Rattle.oauth2_commands.specs.Code.{IsCodeOutput}
 use Rattle.oauth2_world.specs.Clock.{Clock, new_clock}
 use Rattle.oauth2_commands.specs.DeviceAuthorization.{IsDeviceAuthorizationOutput}
 use Rattle.oauth2_commands.specs.DevicePoll.{IsDevicePollOutput}
+use Rattle.oauth2_commands.specs.IdToken.{IsIdTokenOutput}
 use Rattle.oauth2_commands.specs.Introspect.{IsIntrospectOutput}
 use Rattle.oauth2_commands.specs.Keeper.{IsKeeperOutput}
 use Rattle.oauth2_commands.specs.Metadata.{IsMetadataOutput}
@@ -16,7 +17,7 @@ use Rattle.oauth2_commands.specs.Refresh.{IsRefreshOutput}
 use Rattle.oauth2_commands.specs.Revoke.{IsRevokeOutput}
 use Rattle.oauth2_world.specs.Lines.{line}
 use Rattle.oauth2_commands.specs.Out.{Output}
-use Rattle.oauth2_script.specs.Command.{Command, code, refresh, password, client_credentials, introspect, revoke, device_authorization, device_poll, keeper, metadata, authorize, redirect}
+use Rattle.oauth2_script.specs.Command.{Command, code, refresh, password, client_credentials, introspect, revoke, device_authorization, device_poll, keeper, metadata, id_token, authorize, redirect}
 use Rattle.oauth2_script.specs.Script.{Script, script_in}
 use Rattle.oauth2_commands.specs.Client.{settings_of}
 use Rattle.oauth2_script.specs.Replies.{Reply}
@@ -33,6 +34,7 @@ IsCommandOutput client clock replies (device_authorization p) o = IsDeviceAuthor
 IsCommandOutput client clock replies (device_poll p) o = IsDevicePollOutput client p clock replies o
 IsCommandOutput client clock replies (keeper p) o = IsKeeperOutput client p clock.moments replies o
 IsCommandOutput client clock replies (metadata p) o = IsMetadataOutput client p replies o
+IsCommandOutput client clock replies (id_token p) o = IsIdTokenOutput client p clock o
 IsCommandOutput client clock replies (authorize p) o = IsAuthorizeOutput client p o
 IsCommandOutput client clock replies (redirect p) o = IsRedirectOutput p o
 

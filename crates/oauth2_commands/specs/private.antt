@@ -1,6 +1,7 @@
 -- What only private clauses cite.
 pub mod Added
 pub mod Asked
+pub mod ClaimRows
 pub mod Discovery
 pub mod Extra
 pub mod Kept

@@ -1,8 +1,9 @@
 //! The command `authorize`: the URL to send a user to.
 
-ghost use Rattle.std.specs.Prelude.{◌≡◌, ◌++◌, Some, codes, unwrap_or, string_bytes};
+ghost use Rattle.std.specs.Prelude.{◌≡◌, ◌++◌, Some, codes, option_copied, unwrap_or, string_bytes};
 ghost use Rattle.std.specs.Prelude.{IfSome, IfNone, IsOkAnd, IsErrAnd, OnOk, IfOk};
 ghost use Rattle.oauth2_wire.specs.ConfigurationError.{IsMissingUrl};
+ghost use Rattle.oauth2_wire.specs.Expected.{optional_pair};
 ghost use Rattle.oauth2_commands.specs.Authorize as spec;
 ghost use Rattle.oauth2.specs.NewRequest.{new_authorization};
 ghost use Rattle.oauth2_commands.specs.Client.{given_or};
@@ -99,6 +100,24 @@ fn with_response_type<'a>(
     }
 }
 
+fn with_nonce<'a>(
+    request: AuthorizationRequest<'a>,
+    nonce: Option<&'a str>,
+) -> Result<AuthorizationRequest<'a>, AllocError>
+    ensures { IfOk result (λ r. r ≡ record request.entry {
+      extra_params = request.entry.extra_params
+          ++ optional_pair (codes "nonce") (option_copied nonce.entry);
+    }) }
+{
+    match nonce {
+        Some(nonce) => request.add_extra_param(
+            ParamText::Borrowed("nonce"),
+            ParamText::Borrowed(nonce),
+        ),
+        None => Ok(request),
+    }
+}
+
 #[tactic(auto, unfolding(crate::specs::Authorize::url_line))]
 fn print_url(alloc: Global, lines: &mut String, url: &str) -> Result<(), AllocError>
     ensures { OnOk result (string_bytes lines.new
@@ -144,7 +163,8 @@ pub fn run_authorize(
             let redirected = with_redirect(challenged, params.redirect);
             let typed = with_response_type(alloc, redirected, params.response_type)?;
             let scoped = typed.add_scopes(params.scopes)?;
-            let asked = with_extra(scoped, params.extra.as_slice())?;
+            let bound = with_nonce(scoped, params.nonce.as_deref())?;
+            let asked = with_extra(bound, params.extra.as_slice())?;
             show_url(alloc, lines, asked)
         }
         Err(error) => show_configuration_error(alloc, lines, &error),

@@ -12,6 +12,7 @@ use crate::client_credentials::run_client_credentials;
 use crate::code::run_code;
 use crate::device_authorization::run_device_authorization;
 use crate::device_poll::run_device_poll;
+use crate::id_token::run_id_token;
 use crate::introspect::run_introspect;
 use crate::keeper::run_keeper;
 use crate::metadata::run_metadata;
@@ -65,6 +66,13 @@ pub fn run_command(
             http_client,
         ),
         Command::Metadata(params) => run_metadata(alloc, client, params, http_client),
+        Command::IdToken(params) => run_id_token(
+            alloc,
+            client,
+            params,
+            &mut world.clock,
+            &mut http_client.lines,
+        ),
         Command::Authorize(params) => run_authorize(alloc, client, params, &mut http_client.lines),
         Command::Redirect(params) => run_redirect(alloc, params, &mut http_client.lines),
     }

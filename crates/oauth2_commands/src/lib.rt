@@ -11,6 +11,8 @@ mod command;
 mod device_authorization;
 mod device_poll;
 mod extra;
+mod id_token;
+mod id_token_json;
 mod input;
 mod introspect;
 mod keeper;

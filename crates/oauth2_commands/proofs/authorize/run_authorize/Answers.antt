@@ -1,7 +1,9 @@
-use Rattle.std.proofs.Common.{◌≡◌, ◌++◌, ℕ, List, length, string_bytes, codes, unwrap_or, refl, rules, ap, ◌∙◌}
+use Rattle.std.proofs.Common.{◌≡◌, ◌++◌, ℕ, List, Option, length, string_bytes, codes, unwrap_or, refl, rules, ap, ◌∙◌, append_assoc}
+use Rattle.std.specs.Prelude.{option_copied}
 use Rattle.std.specs.Vec.Iter.{into_iter_len}
 use Rattle.std.proofs.lemmas.Result.{IfOk-weaker}
 use Rattle.oauth2_requests.specs.Authorization.{Authorization}
+use Rattle.oauth2_wire.specs.Expected.{optional_pair}
 use Rattle.oauth2_script.specs.AuthorizeParams.{AuthorizeParams}
 use Rattle.oauth2_commands.specs.Authorize.{authorization, IsUrlShown}
 use Rattle.oauth2.specs.NewRequest.{new_authorization}
@@ -21,11 +23,14 @@ given p started = record {
   pkce_challenge = given_or p.challenge started.pkce_challenge;
   redirect_url = given_or p.redirect started.redirect_url;
   scopes = started.scopes ++ p.scopes;
-  extra_params = started.extra_params ++ p.extra;
+  extra_params = started.extra_params ++ (optional_pair (codes "nonce") p.nonce ++ p.extra);
 }
 
 abbrev scoped_by : Authorization → List (List ℕ) → Authorization
 scoped_by r scopes = record r { scopes = r.scopes ++ scopes }
+
+abbrev bound_by : Authorization → Option (List ℕ) → Authorization
+bound_by r nonce = record r { extra_params = r.extra_params ++ optional_pair (codes "nonce") nonce }
 
 pub returns-in_ok-asked-in-Ok : goal.returns-in_ok-asked-in-Ok
 returns-in_ok-asked-in-Ok c =
@@ -34,8 +39,11 @@ returns-in_ok-asked-in-Ok c =
     let count : into_iter_len h.0 ≡ length c.args.params.scopes.items = h.2.1 ∙ search rules in
     let scoped : c.in_ok-scoped-in-Ok.scoped ≡ scoped_by c.in_ok-typed-in-Ok.typed c.args.params.scopes.items =
     h.4 ∙ ap (scoped_by c.in_ok-typed-in-Ok.typed) (every_item h.0 c.args.params.scopes.items h.1 h.2.0 count h.3) in
+    let nonce : option_copied c.as_deref.result ≡ p.nonce = c.as_deref.ensures.value in
+    let bound : c.in_ok-bound-in-Ok.bound ≡ bound_by c.in_ok-scoped-in-Ok.scoped p.nonce = rw nonce at c.in_ok-bound-in-Ok.ensures in
     let asked : c.in_ok-asked-in-Ok.asked ≡ given p c.in-Ok.request =
-    rw (c.in_ok-asked-in-Ok.ensures, scoped, c.in_ok-typed-in-Ok.ensures, c.with_redirect-redirected.ensures, c.with_challenge-challenged.ensures, c.as_slice.ensures.value) refl in
+    rw (c.in_ok-asked-in-Ok.ensures, bound, scoped, c.in_ok-typed-in-Ok.ensures, c.with_redirect-redirected.ensures, c.with_challenge-challenged.ensures, c.as_slice.ensures.value)
+    (simp append_assoc) in
     IfOk-weaker c.show_url.result _ _
     (λ status adds.
     command_told (codes "authorization") IsUrlShown (λ u. new_authorization c.args.client.now u p.state) (given p) (λ u. authorization c.args.client.now p u)

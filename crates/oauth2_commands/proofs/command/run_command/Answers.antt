@@ -22,6 +22,9 @@ returns-in-Revoke c = rw c.in-Revoke.is c.run_revoke.ensures
 pub returns-in-Authorize : goal.returns-in-Authorize
 returns-in-Authorize c = IfOk-weaker c.run_authorize.result _ _ (λ status adds. λ fed. rw c.in-Authorize.is adds) c.run_authorize.ensures
 
+pub returns-in-IdToken : goal.returns-in-IdToken
+returns-in-IdToken c = IfOk-weaker c.run_id_token.result _ _ (λ status adds. λ fed. rw c.in-IdToken.is adds) c.run_id_token.ensures
+
 pub returns-in-Redirect : goal.returns-in-Redirect
 returns-in-Redirect c = IfOk-weaker c.run_redirect.result _ _ (λ status adds. λ fed. rw c.in-Redirect.is adds) c.run_redirect.ensures
 

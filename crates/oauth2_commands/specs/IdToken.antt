@@ -1,0 +1,94 @@
+-- The command `id_token`: an ID token is read, and its claims are checked (OpenID Connect Core 1.0, 3.1.3.7).
+use Rattle.std.specs.Prelude.{◌≡◌, ℕ, ℤ, List, [], ◌∷◌, ◌++◌, Some, option_map, Result, Ok, Err, codes}
+use Rattle.serde_json.specs.Data.{Data, string, array, object, no_members}
+use Rattle.serde_json.specs.Written.{compact_text}
+use Rattle.oauth2.specs.Settings.{Settings}
+use Rattle.oauth2_introspection.specs.Instants.{second_data}
+use Rattle.oauth2_json.specs.ErrorTexts.{parse_fault_text}
+use Rattle.oauth2_json.specs.Puts.{Row, put_all}
+use Rattle.oauth2_json.specs.Values.{text_items}
+use Rattle.oauth2_openid.specs.Claims.{Claims, Expectation}
+use Rattle.oauth2_openid.specs.ErrorTexts.{claims_error_text, part_text}
+use Rattle.oauth2_openid.specs.Reading.{token_reading}
+use Rattle.oauth2_openid.specs.Token.{Token, TokenFault, TokenReading, not_three_parts, not_base64, at_fault}
+use Rattle.oauth2_openid.specs.TokenRules.{token_checked}
+use Rattle.oauth2_openid.specs.declared.access_token_hash.AccessTokenHash.{AccessTokenHash}
+use Rattle.oauth2_openid.specs.declared.access_token_hash.AccessTokenHash.TheVariants.{Absent, Matches, NotChecked}
+use Rattle.oauth2_openid.specs.declared.claims_error.ClaimsError.{ClaimsError}
+use Rattle.oauth2_world.specs.Clock.{Clock, reading_of}
+use Rattle.oauth2_commands.specs.Out.{Output, answered, failed}
+use Rattle.oauth2_script.specs.IdTokenParams.{IdTokenParams}
+
+-- what the client of a script expects of an ID token
+abbrev pub expectation : Settings → IdTokenParams → Expectation
+expectation client p = record {
+  issuer = p.issuer;
+  client = client.client_id;
+  algorithm = p.algorithm;
+  nonce = p.nonce;
+  leeway = p.leeway;
+  max_age = p.max_age;
+}
+
+-- ---- a token whose rules hold
+
+-- the claims, by their names of section 2; none is shown that is not there
+abbrev pub claim_rows : Claims → List Row
+claim_rows c =
+    (codes "iss", Some (string c.issuer))
+    ∷ (codes "sub", Some (string c.subject))
+    ∷ (codes "aud", Some (array (text_items c.audience)))
+    ∷ (codes "exp", Some (second_data c.expires_at))
+    ∷ (codes "iat", Some (second_data c.issued_at))
+    ∷ (codes "auth_time", option_map second_data c.auth_time)
+    ∷ (codes "nonce", option_map string c.nonce)
+    ∷ (codes "acr", option_map string c.authentication_context_class)
+    ∷ (codes "amr", option_map (λ list. array (text_items list)) c.authentication_methods)
+    ∷ (codes "azp", option_map string c.authorized_party)
+    ∷ (codes "at_hash", option_map string c.access_token_hash)
+    ∷ []
+
+unfoldable pub claims_data : Claims → Data
+claims_data c = object (put_all (claim_rows c) no_members)
+
+-- 3.1.3.8: what the token's hash says of the access token
+abbrev pub hash_name : AccessTokenHash → List ℕ
+hash_name Absent = codes "absent"
+hash_name Matches = codes "matches"
+hash_name NotChecked = codes "not_checked"
+
+unfoldable pub checked_data : AccessTokenHash → Claims → Data
+checked_data hash c =
+    object (put_all ((codes "access_token_hash", Some (string (hash_name hash))) ∷ (codes "claims", Some (claims_data c)) ∷ []) no_members)
+
+-- the hash and the claims as compact JSON
+unfoldable pub checked_json : AccessTokenHash → Claims → List ℕ
+checked_json hash c = compact_text (checked_data hash c)
+
+-- ---- each case
+
+-- each rule of 3.1.3.7 holds, or the first that does not is named
+abbrev pub verdict_output : Claims → Result AccessTokenHash ClaimsError → Output
+verdict_output c (Ok hash) = answered (checked_json hash c)
+verdict_output c (Err broken) = failed (claims_error_text broken)
+
+-- why a text is no ID token (RFC 7515, 7.1; section 2)
+abbrev pub token_fault_text : TokenFault → List ℕ
+token_fault_text not_three_parts = codes "not three parts"
+token_fault_text (not_base64 part) = part_text part ++ codes ": not base64url"
+token_fault_text (at_fault part fault) = part_text part ++ codes ": " ++ parse_fault_text fault
+
+-- what a text reads to is shown so, or why it is no ID token
+abbrev pub reading_output : (Token → Output) → TokenReading Token → Output
+reading_output shown (Ok token) = shown token
+reading_output shown (Err fault) = failed (token_fault_text fault)
+
+-- the rules for a token that came with this access token, at this moment
+unfoldable pub token_output : Expectation → List ℕ → ℤ → Token → Output
+token_output expected access_token now token =
+    verdict_output token.claims.own (token_checked expected access_token now token)
+
+-- the moment is what the clock shows when it is read once
+abbrev pub IsIdTokenOutput : Settings → IdTokenParams → Clock → Output → Type 0
+IsIdTokenOutput client p clock o =
+    o ≡ reading_output (token_output (expectation client p) p.access_token (reading_of clock)) (token_reading p.id_token)

@@ -1,0 +1,34 @@
+-- The rows of an ID token's claims, in the groups in which they are put.
+use Rattle.std.specs.Prelude.{List, [], ◌∷◌, Some, option_map, codes}
+use Rattle.serde_json.specs.Data.{string, array}
+use Rattle.oauth2_introspection.specs.Instants.{second_data}
+use Rattle.oauth2_json.specs.Puts.{Row}
+use Rattle.oauth2_json.specs.Values.{text_items}
+use Rattle.oauth2_openid.specs.Claims.{Claims}
+
+abbrev pub names_rows : Claims → List Row
+names_rows c =
+    (codes "iss", Some (string c.issuer))
+    ∷ (codes "sub", Some (string c.subject))
+    ∷ (codes "aud", Some (array (text_items c.audience)))
+    ∷ []
+
+abbrev pub times_rows : Claims → List Row
+times_rows c =
+    (codes "exp", Some (second_data c.expires_at))
+    ∷ (codes "iat", Some (second_data c.issued_at))
+    ∷ (codes "auth_time", option_map second_data c.auth_time)
+    ∷ []
+
+abbrev pub login_rows : Claims → List Row
+login_rows c =
+    (codes "nonce", option_map string c.nonce)
+    ∷ (codes "acr", option_map string c.authentication_context_class)
+    ∷ (codes "amr", option_map (λ list. array (text_items list)) c.authentication_methods)
+    ∷ []
+
+abbrev pub bindings_rows : Claims → List Row
+bindings_rows c =
+    (codes "azp", option_map string c.authorized_party)
+    ∷ (codes "at_hash", option_map string c.access_token_hash)
+    ∷ []

@@ -1,0 +1,107 @@
+//! The command `id_token`: an ID token is read, and its claims are checked.
+
+ghost use Rattle.std.specs.Prelude.{◌≡◌, IfOk, option_map, string_bytes};
+ghost use Rattle.oauth2_commands.specs.IdToken as spec;
+ghost use Rattle.oauth2_commands.specs.Out.{Output};
+ghost use Rattle.oauth2_commands.specs.private.Added.{Adds, Prints};
+ghost use Rattle.oauth2_openid.specs.Seen.{token_of};
+ghost use Rattle.oauth2_openid.specs.Token.{Token, TokenErrsAs, TokenReading};
+ghost use Rattle.oauth2_openid.specs.TokenRules.{token_checked};
+ghost use Rattle.oauth2_script.specs.Views.{id_token_view};
+
+use crate::answer::{show_answer, show_error_text};
+use crate::client::ScriptClient;
+use crate::id_token_json::CheckedToken;
+use crate::status::RunStatus;
+use jiff::Timestamp;
+use oauth2::TryClone;
+use oauth2_openid::{
+    AccessTokenHash, ClaimsError, Expected, IdToken, IdTokenClaims, IdTokenReadError, Nonce,
+};
+use oauth2_script::IdTokenParams;
+use oauth2_world::ScriptedClock;
+use std::alloc::{AllocError, Global};
+
+fn nonce_of(text: Option<String>) -> Option<Nonce>
+    ensures { result ≡ option_map string_bytes text }
+{
+    match text {
+        Some(text) => Some(Nonce::new(text)),
+        None => None,
+    }
+}
+
+// Whether the rules for the token hold at this moment.
+fn check(
+    alloc: Global,
+    client: &ScriptClient,
+    params: IdTokenParams,
+    token: &IdToken,
+    now: Timestamp,
+) -> Result<Result<AccessTokenHash, ClaimsError>, AllocError>
+    ensures { IfOk result (λ verdict. verdict
+        ≡ token_checked (spec.expectation client.now (id_token_view params)) params.access_token
+        now.nanosecond (token_of token.now)) }
+{
+    let expected = Expected {
+        issuer: params.issuer,
+        client_id: client.client_id().try_clone(alloc)?,
+        algorithm: params.algorithm,
+        nonce: nonce_of(params.nonce),
+        leeway: params.leeway,
+        max_age: params.max_age,
+    };
+    Ok(token.check(&expected, &params.access_token, now))
+}
+
+fn show_verdict(
+    alloc: Global,
+    lines: &mut String,
+    claims: &IdTokenClaims,
+    verdict: Result<AccessTokenHash, ClaimsError>,
+) -> Result<RunStatus, AllocError>
+    ensures { IfOk result (λ status. Prints (string_bytes lines.old) (string_bytes lines.new)
+        status (spec.verdict_output claims.now verdict)) }
+{
+    match verdict {
+        Ok(hash) => show_answer(alloc, lines, &CheckedToken { hash, claims }),
+        Err(broken) => show_error_text(alloc, lines, &broken),
+    }
+}
+
+// Why a text is no ID token.
+fn show_read_error(
+    alloc: Global,
+    lines: &mut String,
+    error: &IdTokenReadError,
+) -> Result<RunStatus, AllocError>
+    ensures { IfOk result (λ status. (shown : Token → Output) (read : TokenReading Token)
+        → TokenErrsAs error.now read
+        → Prints (string_bytes lines.old) (string_bytes lines.new) status
+        (spec.reading_output shown read)) }
+{
+    if let IdTokenReadError::Memory = error {
+        return Err(AllocError);
+    }
+    show_error_text(alloc, lines, error)
+}
+
+/// Shows what an ID token claims, or the first rule that it breaks, or why the text is none.
+pub fn run_id_token(
+    alloc: Global,
+    client: &ScriptClient,
+    params: IdTokenParams,
+    clock: &mut ScriptedClock,
+    lines: &mut String,
+) -> Result<RunStatus, AllocError>
+    ensures { IfOk result (λ status. Adds (string_bytes lines.old) (string_bytes lines.new) status
+        (spec.IsIdTokenOutput client.now (id_token_view params) clock.old)) }
+{
+    match IdToken::from_text(alloc, params.id_token.as_str()) {
+        Ok(token) => {
+            let verdict = check(alloc, client, params, &token, clock.read())?;
+            show_verdict(alloc, lines, token.claims(), verdict)
+        }
+        Err(error) => show_read_error(alloc, lines, &error),
+    }
+}
