@@ -1,7 +1,7 @@
 """Random scripts (docs/SCRIPT.md) for tools/compare-with-rust: most of them good, the same for the same seed.
 
-Left out are the commands `keeper`, `redirect` and `metadata`, which the Rust crate lacks, and URLs that docs/DIFFERENCES.md lists under
-"How URLs are read".
+Left out are the commands `keeper`, `redirect`, `metadata` and `id_token`, which the Rust crate lacks, and URLs that docs/DIFFERENCES.md
+lists under "How URLs are read".
 """
 import json
 import random
