@@ -1,0 +1,197 @@
+"""Tests of tools/compare-id-tokens: worked tokens of the standards, and that its tokens show each of many bugs."""
+import base64
+import collections
+import contextlib
+import io
+import json
+import os
+import sys
+import types
+import unittest
+from unittest import mock
+
+import tool
+
+sys.path.insert(0, tool.TOOLS)
+import authlib_checks
+
+TOOL = tool.load('compare-id-tokens')
+# Edits of the checker, each of which makes a program with one bug of it.
+BUGS = [('not LETTERS.issuperset(text) or', ''), ('or len(text) % 4 == 1', ''), ('if encoded(found) != text', 'if False'),
+        ('if not LETTERS.issuperset(text) or len(text) % 4 == 1', "text = text.rstrip('=')\n    if len(text) % 4 == 1"),
+        ('-1 << 63 <= int(number)', '0 <= int(number)'), (" and number != '-0'", ''), ('if math.isinf(float(number))', 'if False'),
+        ('DEEPEST = 127', 'DEEPEST = 128'), ('DEEPEST = 127', 'DEEPEST = 126'), ('value.encode()', 'pass'),
+        ('isinstance(value, bool) or not isinstance(value, (int, float))', 'not isinstance(value, (int, float))'),
+        ("return 'not a whole number'", 'return None if value == int(value) else 0'), ('FIRST_SECOND <= value <= LAST_SECOND', 'True'),
+        ('FIRST_SECOND <= value <= LAST_SECOND', '0 <= value <= LAST_SECOND'), ('FIRST_SECOND <= value <=', 'FIRST_SECOND < value <'),
+        ('isinstance(value, list) and all(isinstance(it, str) for it in value)', 'isinstance(value, list)'),
+        ("isinstance(value, str) and kind != 'texts'", 'isinstance(value, str)'), ("or is_list and kind != 'text'", 'or is_list'),
+        ('body.decode()', "body.decode('latin-1')"), ('body.decode()', "body.decode('utf-8-sig')"),
+        ('body.decode()', "body.decode(errors='replace')"), ('return dict(found)', 'return dict(reversed(found))'),
+        ("': not an object'", "': not one whole JSON value'"), ('if is_needed or value is not None', 'if is_needed or name in found'),
+        ('if name not in found and is_needed', 'if value is None and is_needed'), ("'kid': ('text', False)", ''),
+        ("'sub': ('text', True)", "'sub': ('text', False)"), ("'iat': ('time', True)", "'iat': ('time', False)"),
+        ("'aud': ('text or texts', True)", "'aud': ('texts', True)"), ("'amr': ('texts', False)", "'amr': ('text or texts', False)"),
+        ('if len(parts) != 3', 'if len(parts) < 3'), ("decoded('signature', parts[2])", 'pass'),
+        ("    members_of('header', header, OF_HEADER)\n    claims = members_of('payload', object_in('payload', parts[1]), CLAIMS)",
+         "    claims = members_of('payload', object_in('payload', parts[1]), CLAIMS)\n    members_of('header', header, OF_HEADER)"),
+        ("header['alg'] == 'none' and algorithm != 'none'", "header['alg'] == 'none' and algorithm is None"),
+        ("header['alg'] == 'none' and algorithm != 'none'", "header['alg'] == 'none'"),
+        ("header['alg'] == 'none' and", "header['alg'].lower() == 'none' and"),
+        ("header['alg'] != algorithm:", "header['alg'].lower() != algorithm.lower():"),
+        ('if algorithm is not None and', 'if algorithm and'), ("if 'crit' in header", "if header.get('crit') is not None"),
+        ("if 'crit' in header", "if header.get('crit')"), ("if 'crit' in header", 'if False'),
+        ("claims['iss'] != params['issuer']", 'False'),
+        ("claims['iss'] != params['issuer']", "not claims['iss'].startswith(params['issuer'])"),
+        ("claims['iss'] != params['issuer']", "claims['iss'].rstrip('/') != params['issuer'].rstrip('/')"),
+        ("claims['iss'] != params['issuer']", "claims['iss'].lower() != params['issuer'].lower()"),
+        ('client not in audiences(claims)', "client not in claims['aud']"),
+        ('client not in audiences(claims)', 'client not in audiences(claims)[:1]'),
+        ('client not in audiences(claims)', 'any(it != client for it in audiences(claims))'), ('client not in audiences(claims)', 'False'),
+        ('len(audiences(claims)) > 1 and', 'len(set(audiences(claims))) > 1 and'), ('if len(audiences(claims)) > 1 and', 'if'),
+        ("len(audiences(claims)) > 1 and 'azp' not in claims", 'False'), ("'azp' in claims and claims['azp'] != client", 'False'),
+        ("if 'azp' in claims and", "if claims.get('azp') and"), ("if 'azp' in claims and", 'if len(audiences(claims)) > 1 and'),
+        ("not now < claims['exp'] + leeway", "not now <= claims['exp'] + leeway"), ("not now < claims['exp'] + leeway", 'False'),
+        ("not now < claims['exp'] + leeway", "not now < claims['exp']"), ("claims['exp'] + leeway", "claims['exp'] - leeway"),
+        ("claims['iat'] > now + leeway", "claims['iat'] >= now + leeway"), ("claims['iat'] > now + leeway", 'False'),
+        ("claims['iat'] > now + leeway", "claims['iat'] > now"),
+        ("nonce is not None and 'nonce' not in claims", "nonce and 'nonce' not in claims"),
+        ("nonce is None and 'nonce' in claims", 'False'), ("nonce is None and 'nonce' in claims", "nonce is None and claims.get('nonce')"),
+        ("nonce is not None and claims['nonce'] != nonce", "nonce and claims['nonce'] != nonce"),
+        ("nonce is not None and claims['nonce'] != nonce", "nonce is not None and claims['nonce'].lower() != nonce.lower()"),
+        ("max_age is not None and 'auth_time' not in", "max_age and 'auth_time' not in"),
+        ("'auth_time' not in claims", "not claims.get('auth_time')"), ('> max_age + leeway', '>= max_age + leeway'),
+        ('> max_age + leeway', '> max_age'), ("now - claims['auth_time'] > max_age", "abs(now - claims['auth_time']) > max_age"),
+        ("'at_hash' not in claims", "not claims.get('at_hash')"), ('[:hashed.digest_size // 2]', ''),
+        ('digest()[:hashed.digest_size // 2]', 'digest()[hashed.digest_size // 2:]'),
+        ('digest()[:hashed.digest_size // 2]', 'digest()[:16]'), ("!= claims['at_hash']", "!= claims['at_hash'].rstrip('=')"),
+        ("hashlib.new('sha' + size)", 'hashlib.sha256()'), ("header['alg'] not in HASHES", "header['alg'].upper() not in HASHES"),
+        ("HASHES[header['alg']].copy()", "HASHES['RS256'].copy()"), ("('HS', 'RS', 'ES', 'PS')", "('HS', 'RS', 'ES')"),
+        ('access_token.encode()', "access_token.encode('latin-1', 'replace')"),
+        ("return 'not_checked'", "raise Fault('the hash is that of another access token')"),
+        ("script['readings'][0]", "script['readings'][-1]"), (', aud=audiences(claims)', ''), ('sort_keys=True', 'sort_keys=False'),
+        ('ensure_ascii=False, separators', 'separators')]
+
+
+def with_bug(old, new):
+    """The tool with one edit."""
+    with open(os.path.join(tool.TOOLS, 'compare-id-tokens'), encoding='utf-8') as f:
+        text = f.read()
+    before, _, rest = text.partition('# ---- the checker\n')
+    checker, mark, after = rest.partition('# ---- the tokens\n')
+    assert checker.count(old) == 1, old
+    made = types.ModuleType('made')
+    exec(compile(before + checker.replace(old, new) + mark + after, 'made', 'exec'), made.__dict__)
+    return made
+
+
+def ran_by(made):
+    """What takes the place of a run of the program: the checker of a module."""
+    def told(_, script):
+        try:
+            line, status = made.read(script)
+        except (KeyError, TypeError, ValueError, IndexError):
+            return '', 101, ''
+        return line + '\n', status, ''
+    return told
+
+
+def signed(header, claims):
+    """A token of these JSON texts, with a signature that nobody looks at."""
+    return '.'.join(base64.urlsafe_b64encode(it).decode().rstrip('=') for it in (header.encode(), claims.encode(), b'signature'))
+
+
+# The access token of OpenID Connect Core 1.0, appendix A.3, whose hash is there too; and the claims of section 2.
+ACCESS_TOKEN = 'jHkWEdUXMU1BwAsC4vtUsZwnNvTIxEl0z9K3vx5KF0Y'
+CLAIMS = ('{"iss":"https://server.example.com","sub":"24400320","aud":"s6BhdRkqt3","nonce":"n-0S6_WzA2Mj","exp":1311281970,'
+          '"iat":1311280970,"auth_time":1311280969,"acr":"urn:mace:incommon:iap:silver"}')
+
+
+class IdTokens(unittest.TestCase):
+    def read(self, header='{"alg":"RS256"}', claims=CLAIMS, now=1311281000, **more):
+        params = {'id_token': signed(header, claims), 'access_token': ACCESS_TOKEN, 'issuer': 'https://server.example.com',
+                  'nonce': 'n-0S6_WzA2Mj', **more}
+        return TOOL.read({'client': {'id': 's6BhdRkqt3'}, 'command': 'id_token', 'params': params, 'readings': [now]})
+
+    def test_the_token_of_section_2(self):
+        claims = dict(json.loads(CLAIMS), aud=['s6BhdRkqt3'])
+        wanted = json.dumps({'access_token_hash': 'absent', 'claims': claims}, sort_keys=True, separators=(',', ':'))
+        self.assertEqual(self.read(), ('answer ok ' + wanted, 0))
+
+    def test_its_limits(self):
+        for wanted, params in (('the token has expired', {'now': 1311281970}), ('the token was issued in the future', {'now': 1311280969}),
+                               ('the user logged in too long ago', {'max_age': 30}), ('the issuer is another one', {'issuer': 'x'}),
+                               ('the algorithm is not the registered one', {'algorithm': 'ES256'})):
+            self.assertEqual(self.read(**params), ('answer fault "%s"' % wanted, 1))
+        for params in {'now': 1311281970, 'leeway': 1}, {'now': 1311280969, 'leeway': 1}, {'max_age': 31}:
+            self.assertEqual(self.read(**params)[1], 0)
+
+    def test_the_hash_of_appendix_a_3(self):
+        claims = CLAIMS[:-1] + ',"at_hash":"77QmUPtjPfzWtF2AnpK9RQ"}'
+        self.assertIn('"matches"', self.read(claims=claims)[0])
+        self.assertIn('"not_checked"', self.read('{"alg":"EdDSA"}', claims)[0])
+        self.assertIn('another access token', self.read('{"alg":"RS512"}', claims)[0])
+
+    def compared(self, told, number):
+        """How many tokens differ, and what was printed."""
+        said = io.StringIO()
+        with mock.patch.object(TOOL, 'told', told), contextlib.redirect_stdout(said):
+            return TOOL.compare('/program', number, 1), said.getvalue().splitlines()
+
+    def test_a_program_without_a_bug(self):
+        differences, said = self.compared(ran_by(TOOL), 500)
+        self.assertEqual((differences, said[-1]), (0, '500 tokens, 0 differences'))
+        self.assertEqual(sum(int(it.split()[0]) for it in said[:-1]), 500)
+
+    def test_a_program_with_a_bug(self):
+        differences, said = self.compared(ran_by(with_bug("'crit' in header", 'False')), 500)
+        self.assertGreater(differences, 0)
+        self.assertEqual(said[-1], '500 tokens, %d differences' % differences)
+        self.assertIn('there, with status 1:', said)
+
+    def beside_authlib(self, verdicts, number=500):
+        """How many tokens differ from what is told of Authlib, and what was printed."""
+        said = io.StringIO()
+        with mock.patch.object(TOOL, 'told', ran_by(TOOL)), mock.patch.object(authlib_checks, 'verdicts', verdicts), \
+                contextlib.redirect_stdout(said), contextlib.redirect_stderr(said):
+            return TOOL.compare('/program', number, 1, TOOL.BESIDE), said.getvalue().splitlines()
+
+    def test_without_authlib(self):
+        with mock.patch.object(authlib_checks, 'PYTHONS', ('/none/python3',)):
+            differences, said = self.beside_authlib(authlib_checks.verdicts)
+        self.assertEqual((differences, said[-2:]), (0, ['tools/compare-id-tokens: ' + authlib_checks.MISSING, '500 tokens, 0 differences']))
+
+    def test_what_authlib_refuses_or_takes_without_a_reason(self):
+        for verdict in None, 'expired_token: The token is expired':
+            differences, said = self.beside_authlib(lambda rows: ('1', [verdict] * len(rows)))
+            self.assertGreater(differences, 20)
+            self.assertEqual(said[-1], '500 tokens, %d differences' % differences)
+            self.assertIn(', %d of them in no class' % differences, said[-2])
+
+    def test_each_class_beside_authlib(self):
+        if not authlib_checks.verdicts([]):
+            self.skipTest(authlib_checks.MISSING)
+        with mock.patch.object(TOOL, 'BESIDE', 3000):
+            differences, said = self.beside_authlib(authlib_checks.verdicts, 3000)
+        self.assertEqual(differences, 0)
+        for it in authlib_checks.CLASSES:
+            self.assertTrue(it.name == 'nbf' or any('  %s (%s): ' % (it.name, it.section) in line for line in said), it.name)
+
+    def test_each_end_is_met_often(self):
+        tokens = TOOL.Tokens(1)
+        ends = collections.Counter(TOOL.end_of(TOOL.read(tokens.script())[0]) for _ in range(3000))
+        self.assertEqual(len(ends), 52)
+        self.assertGreaterEqual(min(ends.values()), 10, ends)
+
+    def test_each_bug_is_seen(self):
+        tokens = TOOL.Tokens(1)
+        scripts = [tokens.script() for _ in range(3000)]
+        answers = [TOOL.read(it) for it in scripts]
+        for old, new in BUGS:
+            with self.subTest('%s for %s' % (new, old)):
+                told = ran_by(with_bug(old, new))
+                self.assertTrue(any(told('', script) != (line + '\n', status, '') for script, (line, status) in zip(scripts, answers)))
+
+
+if __name__ == '__main__':
+    unittest.main()
