@@ -17,12 +17,13 @@ ENDPOINTS = {'auth_url': 'authorization_endpoint', 'token_url': 'token_endpoint'
              'introspection_url': 'introspection_endpoint', 'revocation_url': 'revocation_endpoint'}
 # The settings that are texts, each with what it is.
 TEXTS = {'client_id': "the client's identifier", 'auth': 'where the secret goes: basic (a header, as unless said) or body',
-         'issuer': 'the issuer, whose metadata names the endpoints that are not set (RFC 8414)', 'username': "the user's name", **URLS}
+         'issuer': 'the issuer, whose metadata names the endpoints that are not set (RFC 8414)',
+         'id_token_issuer': 'the issuer of the ID token of --openid, if it is not --issuer', 'username': "the user's name", **URLS}
 NEEDED = {'login': ('auth_url', 'token_url', 'redirect'), 'token': ('token_url',), 'password': ('token_url', 'username'),
           'refresh': ('token_url',), 'device': ('device_url', 'token_url'), 'introspect': ('introspection_url',),
           'revoke': ('revocation_url',)}
 # Those that only some commands take, each with the commands that take it and can do without it.
-OPTIONAL = {'username': (), **dict.fromkeys(URLS, ())}
+OPTIONAL = {'username': (), 'id_token_issuer': ('login',), **dict.fromkeys(URLS, ())}
 
 
 def takes(command, name):
@@ -49,6 +50,8 @@ def settings_of(given, kept):
     found['scopes'] = getattr(given, 'scope', None) or os.environ.get('OAUTH2_SCOPES', '').split() or found.get('scopes') or []
     if not isinstance(found['scopes'], list) or not all(isinstance(it, str) for it in found['scopes']):
         raise Stop('%s: "scopes" is no list of texts' % path)
+    if getattr(given, 'openid', False):
+        check_openid(found)
     if getattr(given, 'listen', None) is not None:
         found['redirect'] = found['redirect'] or 'http://127.0.0.1/'
     check(given.command, found)
@@ -65,6 +68,14 @@ def check(command, found):
     for name in (*NEEDED[command], *['issuer'] * bool(missing)):
         if name in URLS and name not in missing or name == 'issuer':
             check_url(name, found[name], flag_of(name))
+
+
+def check_openid(found):
+    """Adds the scope of OpenID Connect. Stops where no setting says whose ID token is taken."""
+    if 'openid' not in found['scopes']:
+        found['scopes'] = ['openid', *found['scopes']]
+    if not (found['issuer'] or found['id_token_issuer']):
+        raise Stop('the issuer of the ID token is not set: give --issuer; or --id-token-issuer, if no endpoint is to be discovered')
 
 
 def check_url(name, text, label, status=BAD_SETTING):

@@ -81,11 +81,32 @@ def poll():
         print('sleep %%d.000000000' %% found['interval'])
     end(1, 'fault "Other error: polling limit reached"')
 
+def id_token():
+    """Reads an ID token, and looks at some of the rules."""
+    parts = params['id_token'].split('.')
+    if len(parts) != 3:
+        end(1, 'fault "not three parts"')
+    header, claims = (json.loads(base64.urlsafe_b64decode(it + '==')) for it in parts[:2])
+    now, leeway = script['readings'][0], params.get('leeway', 0)
+    rules = [(params.get('algorithm') in (None, header['alg']), 'the algorithm is not the registered one'),
+             (claims['iss'] == params['issuer'], 'the issuer is another one'),
+             (claims['aud'] == client['id'], 'the client is not in the audience'),
+             (now < claims['exp'] + leeway, 'the token has expired'),
+             (claims['iat'] <= now + leeway, 'the token was issued in the future'),
+             (claims.get('nonce') == params.get('nonce'), 'the nonce is another one'),
+             (now - claims.get('auth_time', now) <= params.get('max_age', now) + leeway, 'the user logged in too long ago')]
+    for holds, why in rules:
+        if not holds:
+            end(1, 'fault', json.dumps(why))
+    end(0, 'ok', json.dumps({'access_token_hash': 'absent', 'claims': claims}, separators=(',', ':')))
+
 if client.get('id') == 'bad':
     print('bad script')
     sys.exit(2)
 elif command == 'authorize':
     query = [('client_id', client['id']), ('state', params['state']), ('redirect_uri', client['redirect'])]
+    query += [('nonce', params['nonce'])] if 'nonce' in params else []
+    query += params.get('extra', [])
     print('url', json.dumps(client['auth_url'] + '?' + urllib.parse.urlencode(query)))
     end(0, 'ok', json.dumps(params['state']))
 elif command == 'redirect':
@@ -98,6 +119,8 @@ elif command == 'redirect':
     end(*(1, 'fault', json.dumps(found['error'])) if 'error' in found else (0, 'ok', json.dumps(found['code'])))
 elif command == 'metadata':
     metadata()
+elif command == 'id_token':
+    id_token()
 elif command == 'device_authorization':
     read(reply_of(client['device_url'], [('client_id', client['id'])]))
 elif command == 'device_poll':
