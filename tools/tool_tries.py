@@ -1,5 +1,5 @@
-"""What tools/try-servers tries of tools/oauth2 itself: endpoints by discovery, the listener, also with a browser, the cache, a proxy, and
-endpoints that answer what they should not."""
+"""What tools/try-servers tries of tools/oauth2 itself: endpoints by discovery, the listener, also with a browser, ID tokens, the cache, a
+proxy, and endpoints that answer what they should not."""
 import http.server
 import json
 import os
@@ -17,13 +17,15 @@ LISTENED = 'http://127.0.0.1/back'  # the redirect that is received on this mach
 
 
 def at_server(tries):
-    """All that needs a server: a login that listens or that names its issuer, endpoints by discovery, a token in a cache, a proxy."""
+    """All that needs a server: a login that listens or that names its issuer, endpoints by discovery, ID tokens, a token in a cache, a
+    proxy."""
     issuer(tries)
     listener(tries)
     if tries.server.agreed_in and shutil.which(firefox.PROGRAM):
         firefox_at_listener(tries)
     if tries.server.issuer:
         discovery(tries)
+    openid(tries)
     cache(tries)
     proxy(tries)
 
@@ -88,6 +90,45 @@ def discovery(tries):
     tries.end('discovery: the redirect names no issuer', run, back.replace('&' + named, '').replace(named, '') + '\n', 'access_token')
     by_other = {**none, 'OAUTH2_ISSUER': server.base}
     tries.end('discovery: an issuer without metadata', tries.start('token', **by_other), '', '!can not be discovered')
+
+
+def by_openid(server):
+    """The settings of a login at this server by OpenID Connect: its issuer alone, where that has metadata that the tool finds."""
+    if server.issuer:
+        return {**dict.fromkeys(('OAUTH2_' + name.upper() for name in server.urls), ''), 'OAUTH2_ISSUER': server.base + server.issuer}
+    return {'OAUTH2_ID_TOKEN_ISSUER': server.base + server.openid_issuer}
+
+
+def openid(tries):
+    """Logins with an ID token that is good, and such as have to be refused. On the way to the server a request is changed."""
+    server, path = tries.server, os.path.join(tries.server.folder, 'openid.cache')
+    settings, other = by_openid(server), server.base + '/other'
+
+    def begun(*flags, **env):
+        return tries.login_begun('--openid', *flags, **{**settings, **env})
+
+    def named(tried, run, back=''):
+        out, err = run.communicate(back)
+        last = err.strip().split('\n')[-1]
+        is_user = re.fullmatch('signed in as "[^"]+" at ' + re.escape(server.base + server.openid_issuer), last)
+        tries.row('OpenID Connect: ' + tried, last, run.returncode == 0 and is_user and '"id_token":' in out)
+    for tried, flags in (('who has signed in', []), ('a login within --max-age', ['--max-age', '600']),
+                         ('a login into a cache', ['--cache', path])):
+        run, url = begun(*flags)
+        named(tried, run, server.agreed(url) + '\n')
+    named('a later run', tries.start('login', '--openid', '--cache', path, **settings))
+    for tried, flags, env, changed, wanted in (
+            ('another issuer', [], {'OAUTH2_ID_TOKEN_ISSUER': other}, str, '!the issuer is another one'),
+            ('another algorithm', ['--algorithm', 'ES512'], {}, str, '!the algorithm is not the registered one'),
+            ('another nonce', [], {}, lambda url: url.replace('nonce=', 'nonce=x'), '!the nonce is another one'),
+            ('no nonce', [], {}, lambda url: re.sub('&nonce=[^&]*', '', url), '!the token has no nonce'),
+            ('no scope openid', [], {}, lambda url: re.sub('openid(%20|[+])', '', url), '!sent no ID token')):
+        run, url = begun(*flags, **env)
+        tries.end('OpenID Connect: ' + tried, run, server.agreed(changed(url)) + '\n', wanted)
+    run, url = begun('--max-age', '0', '--leeway', '0')
+    back = server.agreed(url)
+    time.sleep(2)
+    tries.end('OpenID Connect: a login before --max-age', run, back + '\n', '!the user logged in too long ago')
 
 
 def cache(tries):
