@@ -5,6 +5,7 @@ import contextlib
 import io
 import json
 import os
+import re
 import sys
 import types
 import unittest
@@ -32,7 +33,8 @@ BUGS = [('not LETTERS.issuperset(text) or', ''), ('or len(text) % 4 == 1', ''), 
         ('if name not in found and is_needed', 'if value is None and is_needed'), ("'kid': ('text', False)", ''),
         ("'sub': ('text', True)", "'sub': ('text', False)"), ("'iat': ('time', True)", "'iat': ('time', False)"),
         ("'aud': ('text or texts', True)", "'aud': ('texts', True)"), ("'amr': ('texts', False)", "'amr': ('text or texts', False)"),
-        ('if len(parts) != 3', 'if len(parts) < 3'), ("decoded('signature', parts[2])", 'pass'),
+        ('in kinds.items()', 'in sorted(kinds.items())'), ('in kinds.items()', 'in reversed(kinds.items())'),
+        ('in kinds.items()', 'in sorted(kinds.items(), key=lambda it: it[0] in found)'), ('if len(parts) != 3', 'if len(parts) < 3'), ("decoded('signature', parts[2])", 'pass'),
         ("    members_of('header', header, OF_HEADER)\n    claims = members_of('payload', object_in('payload', parts[1]), CLAIMS)",
          "    claims = members_of('payload', object_in('payload', parts[1]), CLAIMS)\n    members_of('header', header, OF_HEADER)"),
         ("algorithm is None and header['alg'] == 'none'", "algorithm != 'none' and header['alg'] == 'none'"),
@@ -72,6 +74,22 @@ BUGS = [('not LETTERS.issuperset(text) or', ''), ('or len(text) % 4 == 1', ''), 
         ("return 'not_checked'", "raise Fault('the hash is that of another access token')"),
         ("script['readings'][0]", "script['readings'][-1]"), (', aud=audiences(claims)', ''), ('sort_keys=True', 'sort_keys=False'),
         ('ensure_ascii=False, separators', 'separators')]
+
+
+# The texts of the first of two rules of which never both are broken, so that their order is not seen.
+ALONE = ('the token has no signature', 'several audiences, and no authorized party', 'the token has no nonce',
+         'the token has a nonce, and none was sent')
+
+
+def in_other_order():
+    """Edits that swap two rules which are tried one after the other."""
+    with open(os.path.join(tool.TOOLS, 'compare-id-tokens'), encoding='utf-8') as f:
+        text = f.read()
+    rules = re.findall(r"    if .*\n        raise Fault\('(.*)'\)\n", text)
+    for one, other in zip(rules, rules[1:]):
+        blocks = [re.search(r"    if .*\n        raise Fault\('%s'\)\n" % re.escape(it), text)[0] for it in (one, other)]
+        if ''.join(blocks) in text and one not in ALONE:
+            yield ''.join(blocks), ''.join(reversed(blocks))
 
 
 def with_bug(old, new):
@@ -182,13 +200,14 @@ class IdTokens(unittest.TestCase):
         tokens = TOOL.Tokens(1)
         ends = collections.Counter(TOOL.end_of(TOOL.read(tokens.script())[0]) for _ in range(3000))
         self.assertEqual(len(ends), 52)
+        self.assertEqual(len(list(in_other_order())), 8)
         self.assertGreaterEqual(min(ends.values()), 10, ends)
 
     def test_each_bug_is_seen(self):
         tokens = TOOL.Tokens(1)
         scripts = [tokens.script() for _ in range(3000)]
         answers = [TOOL.read(it) for it in scripts]
-        for old, new in BUGS:
+        for old, new in BUGS + list(in_other_order()):
             with self.subTest('%s for %s' % (new, old)):
                 told = ran_by(with_bug(old, new))
                 self.assertTrue(any(told('', script) != (line + '\n', status, '') for script, (line, status) in zip(scripts, answers)))
