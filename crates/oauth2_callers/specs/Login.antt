@@ -1,7 +1,6 @@
 -- The pairs of a login, the request that its exchange sent, and the reply that answered it.
-use Rattle.std.specs.Prelude.{◌≡◌, ℕ, List, [], ◌∷◌, ◌++◌, codes, Option, Some, Result, Ok, option_and_then, option_map}
-use Rattle.serde_json.specs.Data.{Data, Members}
-use Rattle.serde_json.specs.Find.{as_str, get_member}
+use Rattle.std.specs.Prelude.{◌≡◌, ℕ, List, [], ◌∷◌, ◌++◌, codes, Some, Result, Ok, option_map}
+use Rattle.serde_json.specs.Data.{Data}
 use Rattle.url.specs.Parts.{serialize}
 use Rattle.oauth2_json.specs.Reading.{Reading}
 use Rattle.oauth2_types.specs.Pkce.{sha256_challenge}
@@ -40,11 +39,6 @@ openid_pairs client state verifier nonce =
     ++ (codes "scope", codes "openid")
     ∷ (codes "nonce", nonce)
     ∷ []
-
--- the text of the ID token among the members of a response that the standard of OAuth does not name
--- (OpenID Connect Core 1.0, section 3.1.3.3)
-abbrev pub id_token_in : Members → Option (List ℕ)
-id_token_in members = option_and_then as_str (get_member (codes "id_token") members)
 
 module _ {A E RE C : Type 0} where
   -- the HTTP client made one step, with the request for the token of this login and this code, and

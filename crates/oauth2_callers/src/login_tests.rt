@@ -5,16 +5,21 @@ ghost use Rattle.oauth2_types.specs.Pkce.{HasValidLength};
 
 use crate::application::{CannedClient, CannedError};
 use crate::client::CodeClient;
-use crate::openid::{IdTokenError, OpenIdClient, finish_login, start_login};
+use crate::openid::{finish_login, provider, start_login};
 use crate::support::{is_equal, is_text, text};
 use crate::web_login::{begin, end};
+use jiff::Timestamp;
+use oauth2::basic::BasicErrorResponse;
 use oauth2::http::Response;
 use oauth2::url::Url;
 use oauth2::{
     AuthUrl, AuthorizationCode, Client, ClientId, ClientSecret, CodeFlow, CodeFlowError, CsrfToken,
     HttpResponse, PkceCodeVerifier, TokenResponse, TokenUrl, code_flow,
 };
-use oauth2_redirect::{Login, LoginError, RedirectError};
+use oauth2_openid_login::{
+    OpenIdClient, OpenIdLogin, OpenIdLoginEnd, OpenIdLoginError, OpenIdTokenResponse,
+};
+use oauth2_redirect::{LoginError, RedirectError};
 use oauth2_refused_memory_values_tests::{Repeated, VERIFIER};
 use std::process::Abort;
 
@@ -124,17 +129,15 @@ fn reply(rt: &(impl Abort + AllocGlobal), body: &str) -> HttpResponse {
 }
 
 // A login of this client, which sends its user to this URL.
-fn started(rt: &(impl Abort + AllocGlobal), client: &OpenIdClient) -> Login {
+fn started(rt: &(impl Abort + AllocGlobal), client: &OpenIdClient) -> OpenIdLogin {
     let mut rng = Repeated(0);
-    let (url, login) = start_login(rt.alloc(), client, &mut rng, "n-0S6_WzA2Mj").expect(
-        rt, "a login",
-    );
+    let (url, login) = start_login(rt.alloc(), client, &mut rng).expect(rt, "a login");
     is_text(
         rt,
         url.as_str(),
         "https://example.com/auth?response_type=code&client_id=aaa&state=AAAAAAAAAAAAAAAAAAAAAA\
          &code_challenge=DwBzhbb51LfusnSGBa_hqYSgo7-j8BTQnip4TOnlzRo&code_challenge_method=S256\
-         &scope=openid&nonce=n-0S6_WzA2Mj",
+         &scope=openid&nonce=AAAAAAAAAAAAAAAAAAAAAA",
     );
     login
 }
@@ -144,34 +147,42 @@ fn ends(
     rt: &(impl Abort + AllocGlobal),
     state: &str,
     body: &str,
-) -> Result<String, IdTokenError<CannedError>> {
+) -> Result<
+    OpenIdLoginEnd<OpenIdTokenResponse>,
+    OpenIdLoginError<CannedError, BasicErrorResponse>,
+> {
     let client = open_id_client(rt);
     let login = started(rt, &client);
-    let redirect = format!(in rt.alloc(); "https://app.example/cb?code=ccc&state={state}").expect(
-        rt, "a text",
-    );
+    let redirect = format!(in rt.alloc();
+        "https://app.example/cb?code=ccc&state={state}&iss=https%3A%2F%2Fas.example"
+    ).expect(rt, "a text");
     let redirect = Url::parse(rt.alloc(), redirect.as_str()).expect(rt, "a URL");
+    let now = Timestamp::from_second(1311281000).ok().expect(rt, "a time");
     finish_login(
         rt.alloc(),
         &client,
         &mut CannedClient::new(reply(rt, body)),
         login,
         &redirect,
-        None,
+        &provider("https://as.example"),
+        now,
     )
 }
 
 const STATE: &str = "AAAAAAAAAAAAAAAAAAAAAA";
 
+// A response with an ID token of this login, made and encoded by Python.
+const TOKENS: &str =
+    r#"{"access_token":"a","token_type":"bearer","id_token":"eyJhbGciOiJSUzI1NiJ9.eyJpc3MiOiJodHRwczovL2FzLmV4YW1wbGUiLCJzdWIiOiIyNDgyODk3NjEwMDEiLCJhdWQiOiJhYWEiLCJub25jZSI6IkFBQUFBQUFBQUFBQUFBQUFBQUFBQUEiLCJleHAiOjEzMTEyODE5NzAsImlhdCI6MTMxMTI4MDk3MCwiYXRfaGFzaCI6InlwZUJFc29idmNyNndqR3ptaVBjVFEifQ.c2ln"}"#;
+
 #[test]
 fn open_id_login(rt: HostRuntime) {
-    let body = r#"{"access_token":"a","token_type":"bearer","id_token":"x.y.z"}"#;
-    let id_token = ends(&rt, STATE, body).expect(&rt, "an ID token");
-    is_text(&rt, id_token.as_str(), "x.y.z");
-    let other = ends(&rt, "B", body);
+    let end = ends(&rt, STATE, TOKENS).ok().expect(&rt, "a user");
+    is_text(&rt, end.id_token.claims().subject(), "248289761001");
+    let other = ends(&rt, "B", TOKENS);
     let refused = matches!(
         other,
-        Err(IdTokenError::Login(LoginError::Redirect(RedirectError::OtherState))),
+        Err(OpenIdLoginError::Login(LoginError::Redirect(RedirectError::OtherState))),
     );
     assert!(rt; refused);
 }
@@ -179,10 +190,10 @@ fn open_id_login(rt: HostRuntime) {
 #[test]
 fn open_id_login_without_id_token(rt: HostRuntime) {
     let body = r#"{"access_token":"a","token_type":"bearer"}"#;
-    assert!(rt; matches!(ends(&rt, STATE, body), Err(IdTokenError::NoIdToken)));
+    assert!(rt; matches!(ends(&rt, STATE, body), Err(OpenIdLoginError::NoIdToken)));
     let refused = matches!(
         ends(&rt, STATE, "{}"),
-        Err(IdTokenError::Login(LoginError::Token(_)))
+        Err(OpenIdLoginError::Login(LoginError::Token(_)))
     );
     assert!(rt; refused);
 }

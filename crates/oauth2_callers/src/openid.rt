@@ -1,5 +1,5 @@
 //! A login with OpenID Connect (Core 1.0, section 3.1), as an application has it in a crate of its
-//! own: the provider's `id_token` beside the access token, and a `nonce` in the login's URL.
+//! own: the URL that leads the user to the provider, and who the user is.
 
 ghost use Rattle.std.specs.Prelude.{
   ◌≡◌,
@@ -12,79 +12,47 @@ ghost use Rattle.std.specs.Prelude.{
   Err,
   IfOk,
   IfErr,
-  IsSome,
   false,
   codes,
-  option_copied,
-  string_bytes,
 };
+ghost use Rattle.std.specs.Duration.{as_nanos};
 ghost use Rattle.rand_core.specs.Stream.{Stream};
 ghost use Rattle.url.specs.Parser.{IsOutOfRoom};
-ghost use Rattle.oauth2_replies.specs.Extra.{extra_members};
 ghost use Rattle.oauth2_types.specs.Pkce.{IsRandomText};
 ghost use Rattle.oauth2_urls.specs.Addressed.{Addressed};
 ghost use Rattle.oauth2_form.specs.Query.{ExtendsQuery, query_form};
 ghost use Rattle.oauth2_redirect.specs.End.{EndsLogin};
 ghost use Rattle.oauth2_redirect.specs.Query.{sole_text};
 ghost use Rattle.oauth2_redirect.specs.Redirect.{answer, is_state};
-ghost use Rattle.oauth2_callers.specs.Login.{IsAnsweredBy, id_token_in, openid_pairs};
+ghost use Rattle.oauth2_openid.specs.Seen.{token_of};
+ghost use Rattle.oauth2_openid.specs.Token.{Token, TokenFault};
+ghost use Rattle.oauth2_openid.specs.TokenRules.{Holds, token_checked};
+ghost use Rattle.oauth2_openid_login.specs.End.{fault_told, id_token_reading};
+ghost use Rattle.oauth2_openid_login.specs.Provider.{expected_of, redirect_issuer};
+ghost use Rattle.oauth2_callers.specs.Login.{IsAnsweredBy, openid_pairs};
 
-use crate::application::{IdentityTokenResponse, id_token};
-use oauth2::basic::{
-    BasicErrorResponse, BasicRevocationErrorResponse, BasicTokenIntrospectionResponse,
-};
+use jiff::Timestamp;
+use oauth2::basic::BasicErrorResponse;
 use oauth2::url::{ParseError, Url};
-use oauth2::{
-    Client, EndpointNotSet, EndpointSet, FromJson, Scope, StandardRevocableToken, SyncHttpClient,
+use oauth2::{FromJson, SyncHttpClient};
+use oauth2_openid_login::{
+    OpenIdClient, OpenIdLogin, OpenIdLoginEnd, OpenIdLoginError, OpenIdProvider,
+    OpenIdTokenResponse,
 };
-use oauth2_redirect::{Login, LoginError};
 use rand_core::Rng;
-use std::alloc::{AllocError, Global};
+use std::alloc::Global;
+use std::time::Duration;
 
-/// A client of an OpenID provider.
-pub type OpenIdClient = Client<
-    BasicErrorResponse,
-    IdentityTokenResponse,
-    BasicTokenIntrospectionResponse,
-    StandardRevocableToken,
-    BasicRevocationErrorResponse,
-    EndpointSet,
-    EndpointNotSet,
-    EndpointNotSet,
-    EndpointNotSet,
-    EndpointSet,
->;
-
-/// Why a login gave no ID token.
-#[derive(Debug, Drop)]
-pub enum IdTokenError<E> {
-    /// The login gave no token.
-    Login(LoginError<E, BasicErrorResponse>),
-    /// The response has no ID token.
-    NoIdToken,
-    /// Memory ran out.
-    Memory,
-}
-
-impl<E> From<LoginError<E, BasicErrorResponse>> for IdTokenError<E> {
-    ghost use Rattle.std.specs.Prelude.{◌≡◌};
-    ghost use Rattle.oauth2_callers.specs.declared.openid.IdTokenError.TheVariants.{Login};
-
-    ghost from_gives = { λ error e. e ≡ Login error };
-
-    fn from(error: LoginError<E, BasicErrorResponse>) -> IdTokenError<E> {
-        IdTokenError::Login(error)
-    }
-}
-
-impl<E> From<AllocError> for IdTokenError<E> {
-    ghost use Rattle.std.specs.Prelude.{◌≡◌};
-    ghost use Rattle.oauth2_callers.specs.declared.openid.IdTokenError.TheVariants.{Memory};
-
-    ghost from_gives = { λ _ e. e ≡ Memory };
-
-    fn from(_: AllocError) -> IdTokenError<E> {
-        IdTokenError::Memory
+/// What the application knows of a provider that tells its issuer in each redirect too, and with
+/// which it registered `RS256`.
+pub fn provider(issuer: &str) -> OpenIdProvider<'_>
+    ensures { result.issuer ≡ issuer.now }
+{
+    OpenIdProvider {
+        issuer,
+        tells_issuer_in_redirect: true,
+        algorithm: Some("RS256"),
+        leeway: Duration::from_secs(60),
     }
 }
 
@@ -93,87 +61,83 @@ pub fn start_login<R: Rng>(
     alloc: Global,
     client: &OpenIdClient,
     rng: &mut R,
-    nonce: &str,
-) -> Result<(Url, Login), ParseError>
-    ensures random { IfOk result (λ (_, login). (between : Stream)
-        × IsRandomText 16 (R.stream rng.old) between login.state
-        × IsRandomText 32 between (R.stream rng.new) login.verifier) }
-    ensures url { IfOk result (λ (url, login). (endpoint : Addressed)
+) -> Result<(Url, OpenIdLogin), ParseError>
+    ensures random { IfOk result (λ (_, kept). (second : Stream) × (third : Stream)
+        × IsRandomText 16 (R.stream rng.old) second kept.login.state
+        × IsRandomText 32 second third kept.login.verifier
+        × IsRandomText 16 third (R.stream rng.new) kept.nonce) }
+    ensures url { IfOk result (λ (url, kept). (endpoint : Addressed)
         × (client.now.auth_url ≡ Some endpoint) × ExtendsQuery endpoint.url url
-        (openid_pairs client.now login.state login.verifier nonce.now)) }
+        (openid_pairs client.now kept.login.state kept.login.verifier kept.nonce)) }
     ensures redirect_uri { IfOk result
-        (λ (_, login). login.redirect_uri ≡ client.now.redirect_url) }
+        (λ (_, kept). kept.login.redirect_uri ≡ client.now.redirect_url) }
     ensures refusal { IfErr result IsOutOfRoom }
 {
-    let scope = Scope::new(String::from_str(alloc, "openid")?);
-    let request = Login::start(alloc, client, rng)?
-        .add_scope(scope)?
-        .add_extra_param("nonce".into(), nonce.into())?;
-    Ok(request.url(alloc)?)
+    Ok(OpenIdLogin::start(alloc, client, rng)?.url(alloc)?)
 }
 
-/// The ID token for the code of the redirect, if its state is the login's and, where an issuer is
-/// expected, it comes from that issuer. It is what one request with the code and the login's
-/// verifier was answered, and still to be validated.
+/// Who the user is and the tokens, if the redirect has the login's state and the provider's issuer,
+/// and the ID token meets each rule. All is what one request with the code and the login's verifier
+/// was answered.
 pub fn finish_login<C: SyncHttpClient>(
     alloc: Global,
     client: &OpenIdClient,
     http_client: &mut C,
-    login: Login,
+    login: OpenIdLogin,
     redirect: &Url,
-    issuer: Option<&str>,
-) -> Result<String, IdTokenError<C::Error>>
+    provider: &OpenIdProvider<'_>,
+    now: Timestamp,
+) -> Result<OpenIdLoginEnd<OpenIdTokenResponse>, OpenIdLoginError<C::Error, BasicErrorResponse>>
     requires { C.is_ready http_client.old }
     ensures other_state { let state = sole_text (codes "state") (query_form redirect.now) in
-        is_state login.state state ≡ false → http_client.new ≡ http_client.old }
-    ensures id_token { IfOk result (λ text. (code : List ℕ)
-        × (answer login.state (option_copied issuer.entry) (query_form redirect.now) ≡ Ok code)
-        × (response : ⟦<IdentityTokenResponse as FromJson>⟧.Meaning)
-        × IsAnsweredBy ⟦<IdentityTokenResponse as FromJson>⟧.reading
+        is_state login.login.state state ≡ false → http_client.new ≡ http_client.old }
+    ensures user { IfOk result (λ end. (code : List ℕ)
+        × (answer login.login.state (redirect_issuer provider.now) (query_form redirect.now)
+        ≡ Ok code)
+        × (response : ⟦<OpenIdTokenResponse as FromJson>⟧.Meaning)
+        × IsAnsweredBy ⟦<OpenIdTokenResponse as FromJson>⟧.reading
         ⟦<BasicErrorResponse as FromJson>⟧.reading C.step
-        client.now login code http_client.old response http_client.new
-        × (id_token_in response.extra_fields ≡ Some (string_bytes text))) }
-    ensures no_id_token { result ≡ Err IdTokenError.NoIdToken → (code : List ℕ)
-        × (answer login.state (option_copied issuer.entry) (query_form redirect.now) ≡ Ok code)
-        × (response : ⟦<IdentityTokenResponse as FromJson>⟧.Meaning)
-        × IsAnsweredBy ⟦<IdentityTokenResponse as FromJson>⟧.reading
+        client.now login.login code http_client.old response http_client.new
+        × (id_token_reading response.extra_fields.value ≡ Some (Ok (token_of end.id_token)))
+        × Holds (expected_of provider.now client.now login) response.access_token now.nanosecond
+        (token_of end.id_token)) }
+    ensures no_id_token { result ≡ Err OpenIdLoginError.NoIdToken → (code : List ℕ)
+        × (answer login.login.state (redirect_issuer provider.now) (query_form redirect.now)
+        ≡ Ok code)
+        × (response : ⟦<OpenIdTokenResponse as FromJson>⟧.Meaning)
+        × IsAnsweredBy ⟦<OpenIdTokenResponse as FromJson>⟧.reading
         ⟦<BasicErrorResponse as FromJson>⟧.reading C.step
-        client.now login code http_client.old response http_client.new
-        × (id_token_in response.extra_fields ≡ None) }
-    ensures login { (error : _) → result ≡ Err (IdTokenError.Login error)
-        → EndsLogin ⟦<IdentityTokenResponse as FromJson>⟧.meaning
+        client.now login.login code http_client.old response http_client.new
+        × (response.extra_fields.value ≡ None) }
+    ensures rule { (error : _) → result ≡ Err (OpenIdLoginError.Claims error) → (code : List ℕ)
+        × (answer login.login.state (redirect_issuer provider.now) (query_form redirect.now)
+        ≡ Ok code)
+        × (response : ⟦<OpenIdTokenResponse as FromJson>⟧.Meaning)
+        × IsAnsweredBy ⟦<OpenIdTokenResponse as FromJson>⟧.reading
+        ⟦<BasicErrorResponse as FromJson>⟧.reading C.step
+        client.now login.login code http_client.old response http_client.new
+        × (token : Token) × (id_token_reading response.extra_fields.value ≡ Some (Ok token))
+        × (token_checked (expected_of provider.now client.now login) response.access_token
+        now.nanosecond token ≡ Err error) }
+    ensures unread { (error : _) → result ≡ Err (OpenIdLoginError.Read error) → (code : List ℕ)
+        × (answer login.login.state (redirect_issuer provider.now) (query_form redirect.now)
+        ≡ Ok code)
+        × (response : ⟦<OpenIdTokenResponse as FromJson>⟧.Meaning)
+        × IsAnsweredBy ⟦<OpenIdTokenResponse as FromJson>⟧.reading
+        ⟦<BasicErrorResponse as FromJson>⟧.reading C.step
+        client.now login.login code http_client.old response http_client.new
+        × (fault : TokenFault) × (fault_told error ≡ Some fault)
+        × (id_token_reading response.extra_fields.value ≡ Some (Err fault)) }
+    ensures login { (error : _) → result ≡ Err (OpenIdLoginError.Login error)
+        → EndsLogin ⟦<OpenIdTokenResponse as FromJson>⟧.meaning
         ⟦<BasicErrorResponse as FromJson>⟧.meaning
-        ⟦<IdentityTokenResponse as FromJson>⟧.reading
-        ⟦<BasicErrorResponse as FromJson>⟧.reading C.step client.now login
-        (answer login.state (option_copied issuer.entry) (query_form redirect.now))
+        ⟦<OpenIdTokenResponse as FromJson>⟧.reading
+        ⟦<BasicErrorResponse as FromJson>⟧.reading C.step client.now login.login
+        (answer login.login.state (redirect_issuer provider.now) (query_form redirect.now))
         http_client.old (Err error) http_client.new }
-    ensures memory { result ≡ Err IdTokenError.Memory → (code : List ℕ)
-        × (answer login.state (option_copied issuer.entry) (query_form redirect.now) ≡ Ok code)
-        × (response : ⟦<IdentityTokenResponse as FromJson>⟧.Meaning)
-        × IsAnsweredBy ⟦<IdentityTokenResponse as FromJson>⟧.reading
-        ⟦<BasicErrorResponse as FromJson>⟧.reading C.step
-        client.now login code http_client.old response http_client.new
-        × IsSome (id_token_in response.extra_fields) }
+    ensures memory { result ≡ Err (OpenIdLoginError.Memory false)
+        → http_client.new ≡ http_client.old }
     ensures ready { C.is_ready http_client.new }
 {
-    let token = login.finish(alloc, client, http_client, redirect, issuer)?;
-    id_token_of(alloc, &token)
-}
-
-// The ID token of a response, copied. (The one call leaves one way out that lets go of the
-// response.)
-fn id_token_of<E>(alloc: Global, token: &IdentityTokenResponse) -> Result<String, IdTokenError<E>>
-    ensures id_token { IfOk result
-        (λ text. id_token_in (extra_members token.now.extra_fields) ≡ Some (string_bytes text)) }
-    ensures no_id_token { result ≡ Err IdTokenError.NoIdToken
-        → id_token_in (extra_members token.now.extra_fields) ≡ None }
-    ensures memory { result ≡ Err IdTokenError.Memory
-        → IsSome (id_token_in (extra_members token.now.extra_fields)) }
-    ensures error { IfErr result
-        (λ error. (error ≡ IdTokenError.NoIdToken) ⊎ (error ≡ IdTokenError.Memory)) }
-{
-    match id_token(token) {
-        Some(text) => Ok(String::from_str(alloc, text)?),
-        None => Err(IdTokenError::NoIdToken),
-    }
+    login.finish(alloc, client, http_client, redirect, provider, now)
 }

@@ -1,0 +1,4 @@
+pub mod Provider
+pub mod Login
+pub mod Start
+pub mod End

@@ -1,0 +1,40 @@
+-- A login with OpenID Connect: what is kept while the user is away.
+use Rattle.std.specs.Prelude.{ℕ, List, ◌∷◌, Option, Some, Ok, codes, option_map}
+use Rattle.serde_json.specs.Data.{Data, Members, string, number, unsigned, object, no_members}
+use Rattle.serde_json.specs.Find.{get_member}
+use Rattle.oauth2_json.specs.Reading.{Reading, read_then, ◌⊛◌}
+use Rattle.oauth2_json.specs.Writing.{Writing}
+use Rattle.oauth2_json.specs.Members.{members_of_object, needed, optional}
+use Rattle.oauth2_json.specs.Puts.{Row, put_all}
+use Rattle.oauth2_json.specs.Values.{text, whole_number}
+use Rattle.oauth2_redirect.specs.Login.{Kept, login_row, login_rows}
+
+-- the login by a code, the nonce that the ID token has to have, and the maximum age in seconds, if
+-- one was asked for
+pub record OpenIdKept : Type 0 where
+  pub login : Kept
+  pub nonce : List ℕ
+  pub max_age : Option ℕ
+
+abbrev pub openid_kept : Kept → List ℕ → Option ℕ → OpenIdKept
+openid_kept l n m = record { login = l; nonce = n; max_age = m }
+
+-- the members of the login by a code, and two more; others are ignored
+abbrev pub openid_login_row : Members → Reading OpenIdKept
+openid_login_row ms =
+    Ok openid_kept
+    ⊛ login_row ms
+    ⊛ needed text (codes "nonce") (get_member (codes "nonce") ms)
+    ⊛ optional whole_number (codes "max_age") (get_member (codes "max_age") ms)
+
+abbrev pub openid_login_reading : Data → Reading OpenIdKept
+openid_login_reading d = read_then (members_of_object d) openid_login_row
+
+abbrev pub openid_login_rows : OpenIdKept → List Row
+openid_login_rows l =
+    (codes "nonce", Some (string l.nonce))
+    ∷ (codes "max_age", option_map (λ n. number (unsigned n)) l.max_age)
+    ∷ login_rows l.login
+
+abbrev pub openid_login_writing : OpenIdKept → Writing
+openid_login_writing l = Ok (object (put_all (openid_login_rows l) no_members))

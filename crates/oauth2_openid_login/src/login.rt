@@ -1,0 +1,197 @@
+//! A login with OpenID Connect from its start to its ID token (Core 1.0, section 3.1).
+
+ghost use Rattle.std.specs.Prelude.{◌≡◌, ℕ, List, Ok, Err, Some, None, IfOk, false, codes};
+ghost use Rattle.std.specs.Fmt.{DisplaysOnOk, WritesStyledOnOk};
+ghost use Rattle.rand_core.specs.Stream.{Stream};
+ghost use Rattle.oauth2_types.specs.Pkce.{IsRandomText};
+ghost use Rattle.oauth2_urls.specs.Addressed.{Addressed};
+ghost use Rattle.oauth2_form.specs.Query.{query_form};
+ghost use Rattle.oauth2_redirect.specs.Query.{sole_text};
+ghost use Rattle.oauth2_redirect.specs.Redirect.{Refusal, answer, is_state};
+ghost use Rattle.oauth2_openid.specs.Seen.{token_of};
+ghost use Rattle.oauth2_openid.specs.TokenRules.{Holds};
+ghost use Rattle.oauth2_openid_login.specs.End.{EndsOpenIdLogin, Judges};
+ghost use Rattle.oauth2_openid_login.specs.Login.{openid_kept};
+ghost use Rattle.oauth2_openid_login.specs.Provider.{expected_of, redirect_issuer};
+ghost use Rattle.oauth2_openid_login.specs.Start.{openid_authorization};
+
+use crate::login_end::OpenIdLoginEnd;
+use crate::login_error::OpenIdLoginError;
+use crate::login_request::OpenIdLoginRequest;
+use crate::provider::OpenIdProvider;
+use crate::token_response::HasIdToken;
+use jiff::Timestamp;
+use oauth2::{Client, EndpointSet, EndpointState};
+use oauth2_codes::ErrorResponse;
+use oauth2_openid::{Expected, IdToken, IdTokenReadError, Nonce};
+use oauth2_redirect::Login;
+use oauth2_types::{Scope, TryClone};
+use oauth2_wire::SyncHttpClient;
+use rand_core::Rng;
+use std::alloc::{AllocError, Global};
+use std::fmt;
+use std::marker::Model;
+use url::Url;
+
+/// What an application keeps with the session while its user is away: the login by a code, the
+/// nonce that the ID token has to have, and the maximum age that was asked for.
+#[derive(Drop)]
+pub struct OpenIdLogin {
+    pub(crate) login: Login,
+    pub(crate) nonce: Nonce,
+    pub(crate) max_age: Option<u64>,
+}
+
+impl Model for OpenIdLogin {
+    ghost use Rattle.oauth2_openid_login.specs.Login.{OpenIdKept, openid_kept};
+
+    ghost Value = { OpenIdKept };
+
+    ghost view = { λ l. openid_kept l.login l.nonce l.max_age };
+}
+
+impl OpenIdLogin {
+    // A login of these parts.
+    pub(crate) fn new(login: Login, nonce: Nonce, max_age: Option<u64>) -> OpenIdLogin
+        ensures { result ≡ openid_kept login nonce max_age }
+    {
+        OpenIdLogin {
+            login,
+            nonce,
+            max_age,
+        }
+    }
+
+    /// Begins a login at this client's authorization endpoint: a state of 16 random bytes, a
+    /// verifier of 32 whose challenge is made by `S256`, and a nonce of 16, with the scope `openid`.
+    pub fn start<'a, TE, TR, TIR, RT, TRE, D, I, R, T, G: Rng>(
+        alloc: Global,
+        client: &'a Client<TE, TR, TIR, RT, TRE, EndpointSet, D, I, R, T>,
+        rng: &mut G,
+    ) -> Result<OpenIdLoginRequest<'a>, AllocError>
+    where
+        D: EndpointState,
+        I: EndpointState,
+        R: EndpointState,
+        T: EndpointState,
+        ensures random { IfOk result (λ login. (second : Stream) × (third : Stream)
+            × IsRandomText 16 (G.stream rng.old) second login.request.state
+            × IsRandomText 32 second third login.verifier
+            × IsRandomText 16 third (G.stream rng.new) login.nonce) }
+        ensures request { IfOk result
+            (λ login. (endpoint : Addressed) × (client.now.auth_url ≡ Some endpoint)
+            × (login.request ≡ openid_authorization client.now endpoint login.request.state
+            login.verifier login.nonce)) }
+        ensures max_age { IfOk result (λ login. login.max_age ≡ None) }
+    {
+        let login = Login::start(alloc, client, rng)?;
+        let nonce = Nonce::new_random(alloc, rng)?;
+        let sent = nonce.try_clone(alloc)?.into_secret();
+        let scope = Scope::new(String::from_str(alloc, "openid")?);
+        let login = login
+            .add_scope(scope)?
+            .add_extra_param("nonce".into(), sent.into())?;
+        Ok(OpenIdLoginRequest::new(login, nonce))
+    }
+
+    /// The tokens for the code that the redirect brings, and the ID token among them, if it meets
+    /// each rule at this moment. On a redirect that brings no code of this login the HTTP client is
+    /// not called.
+    pub fn finish<TE, TR, TIR, RT, TRE, A, D, I, R, C: SyncHttpClient>(
+        self,
+        alloc: Global,
+        client: &Client<TE, TR, TIR, RT, TRE, A, D, I, R, EndpointSet>,
+        http_client: &mut C,
+        redirect: &Url,
+        provider: &OpenIdProvider<'_>,
+        now: Timestamp,
+    ) -> Result<OpenIdLoginEnd<TR>, OpenIdLoginError<C::Error, TE>>
+    where
+        TE: ErrorResponse,
+        TR: HasIdToken,
+        A: EndpointState,
+        D: EndpointState,
+        I: EndpointState,
+        R: EndpointState,
+        requires { C.is_ready http_client.old }
+        ensures end { EndsOpenIdLogin TR.meaning TE.meaning TR.reading TE.reading C.step
+            TR.access_token TR.id_token client.now self (expected_of provider.now client.now self)
+            now.nanosecond
+            (answer self.login.state (redirect_issuer provider.now) (query_form redirect.now))
+            http_client.old result http_client.new }
+
+        // In the plainest words: each rule holds.
+        ensures rules { IfOk result (λ end. Holds (expected_of provider.now client.now self)
+            (TR.access_token end.token_response) now.nanosecond (token_of end.id_token)) }
+
+        // A redirect that tells no code sends nothing, so none with another state does.
+        ensures no_code { (why : Refusal)
+            → answer self.login.state (redirect_issuer provider.now) (query_form redirect.now)
+            ≡ Err why
+            → http_client.new ≡ http_client.old }
+        ensures other_state { let state = sole_text (codes "state") (query_form redirect.now) in
+            is_state self.login.state state ≡ false → http_client.new ≡ http_client.old }
+        ensures ready { C.is_ready http_client.new }
+    {
+        // Made first, so that want of memory for it costs no code.
+        let Ok(expected) = provider.expected(alloc, client.client_id(), self.nonce, self.max_age)
+        else {
+            return Err(OpenIdLoginError::Memory { sent: false });
+        };
+        let issuer = provider.redirect_issuer();
+        let response = self
+            .login
+            .finish(alloc, client, http_client, redirect, issuer)?;
+        judged(alloc, response, &expected, now)
+    }
+}
+
+// The ID token of a response.
+fn read_id_token<TR: HasIdToken, RE, T>(
+    alloc: Global,
+    response: &TR,
+) -> Result<IdToken, OpenIdLoginError<RE, T>> {
+    let Some(text) = response.id_token() else {
+        return Err(OpenIdLoginError::NoIdToken);
+    };
+    match IdToken::from_text(alloc, text.secret().as_str()) {
+        Ok(id_token) => Ok(id_token),
+        Err(IdTokenReadError::Memory) => Err(OpenIdLoginError::Memory { sent: true }),
+        Err(error) => Err(OpenIdLoginError::Read(error)),
+    }
+}
+
+// What comes of a response.
+fn judged<TR: HasIdToken, RE, T>(
+    alloc: Global,
+    response: TR,
+    expected: &Expected,
+    now: Timestamp,
+) -> Result<OpenIdLoginEnd<TR>, OpenIdLoginError<RE, T>>
+    ensures judges { Judges TR.access_token TR.id_token expected.now now.nanosecond response
+        result }
+    ensures rules { IfOk result (λ end. Holds expected.now (TR.access_token end.token_response)
+        now.nanosecond (token_of end.id_token)) }
+{
+    let id_token = read_id_token(alloc, &response)?;
+    let access_token_hash = id_token.check(expected, response.access_token(), now)?;
+    Ok(OpenIdLoginEnd {
+        token_response: response,
+        id_token,
+        access_token_hash,
+    })
+}
+
+impl fmt::Debug for OpenIdLogin {
+    ghost debug_output = { λ _. Some (codes "OpenIdLogin([redacted])") };
+
+    fn fmt<W: fmt::Write>(&self, f: &mut fmt::Formatter<W>) -> fmt::Result
+        ensures writes { DisplaysOnOk W.write_str_gives f.old result
+            (Some (codes "OpenIdLogin([redacted])")) f.new }
+        // Whatever options the formatter has, as under `{:#?}`.
+        ensures styled { WritesStyledOnOk W.write_str_gives f.old result
+            (codes "OpenIdLogin([redacted])") f.new }
+    {
+        f.write_str("OpenIdLogin([redacted])")
+    }
+}

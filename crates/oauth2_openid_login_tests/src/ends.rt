@@ -1,0 +1,222 @@
+//! Logins from their redirect to their ID token.
+
+use crate::support::{client, is_text, login, url};
+use jiff::Timestamp;
+use oauth2::basic::BasicErrorResponse;
+use oauth2::http::Response;
+use oauth2::{HttpRequest, HttpResponse, RefreshToken, SyncHttpClient, TokenResponse};
+use oauth2_openid::AccessTokenHash;
+use oauth2_openid_login::{OpenIdLoginEnd, OpenIdLoginError, OpenIdProvider, OpenIdTokenResponse};
+use std::process::Abort;
+use std::time::Duration;
+
+// An HTTP client that keeps the bodies it was handed, one after the other.
+#[derive(Drop)]
+struct Canned {
+    bodies: Vec<u8>,
+    reply: Option<HttpResponse>,
+}
+
+impl SyncHttpClient for Canned {
+    type Error = ();
+
+    fn call(&mut self, request: HttpRequest) -> Result<HttpResponse, ()> {
+        if self
+            .bodies
+            .extend_from_slice(request.body().as_slice())
+            .is_err()
+        {
+            return Err(());
+        }
+        self.reply.take().ok_or(())
+    }
+}
+
+fn answering(rt: &(impl Abort + AllocGlobal), body: &str) -> Canned {
+    let alloc = rt.alloc();
+    let body = body.as_bytes().to_vec(alloc).expect(rt, "a body");
+    Canned {
+        bodies: Vec::new(alloc),
+        reply: Some(Response::new(alloc, body)),
+    }
+}
+
+// The provider of the standard's examples, whose redirects tell the issuer or not.
+fn provider(tells_issuer_in_redirect: bool) -> OpenIdProvider<'static> {
+    OpenIdProvider {
+        issuer: "http://server.example.com",
+        tells_issuer_in_redirect,
+        algorithm: Some("RS256"),
+        leeway: Duration::from_secs(60),
+    }
+}
+
+type Ended = Result<OpenIdLoginEnd<OpenIdTokenResponse>, OpenIdLoginError<(), BasicErrorResponse>>;
+
+// A login of the standard's nonce, and one that asked for a maximum age too.
+const STORED: &str = r#"{"nonce":"n-0S6_WzA2Mj","state":"af0ifjsldkj","verifier":"v"}"#;
+
+const STORED_WITH_AGE: &str =
+    r#"{"max_age":100,"nonce":"n-0S6_WzA2Mj","state":"af0ifjsldkj","verifier":"v"}"#;
+
+// The redirect of the standard's examples (3.1.2.5), and one that tells the issuer too.
+const REDIRECT: &str =
+    "https://client.example.org/cb?code=SplxlOBeZQQYbYS6WxSbIA&state=af0ifjsldkj";
+
+const REDIRECT_WITH_ISSUER: &str =
+    "https://client.example.org/cb?code=SplxlOBeZQQYbYS6WxSbIA&state=af0ifjsldkj&iss=http%3A%2F%2Fserver.example.com";
+
+// What a login ends with that was stored as this, whose user comes back by this redirect.
+fn ended(
+    rt: &(impl Abort + AllocGlobal),
+    http_client: &mut Canned,
+    stored: &str,
+    redirect: &str,
+    tells_issuer: bool,
+) -> Ended {
+    let now = Timestamp::from_second(1311281000).ok().expect(rt, "a time");
+    login(rt, stored).finish(
+        rt.alloc(),
+        &client(rt),
+        http_client,
+        &url(rt, redirect),
+        &provider(tells_issuer),
+        now,
+    )
+}
+
+// The token response of the standard's example (3.1.3.3).
+const EXAMPLE: &str =
+    r#"{"access_token":"SlAV32hkKG","token_type":"Bearer","refresh_token":"8xLOxBtZp8","expires_in":3600,"id_token":"eyJhbGciOiJSUzI1NiIsImtpZCI6IjFlOWdkazcifQ.ewogImlzcyI6ICJodHRwOi8vc2VydmVyLmV4YW1wbGUuY29tIiwKICJzdWIiOiAiMjQ4Mjg5NzYxMDAxIiwKICJhdWQiOiAiczZCaGRSa3F0MyIsCiAibm9uY2UiOiAibi0wUzZfV3pBMk1qIiwKICJleHAiOiAxMzExMjgxOTcwLAogImlhdCI6IDEzMTEyODA5NzAKfQ.ggW8hZ1EuVLuxNuuIJKX_V8a_OMXzR0EHR9R6jgdqrOOF4daGU96Sr_P6qJp6IcmD3HP99Obi1PRs-cwh3LO-p146waJ8IhehcwL7F09JdijmBqkvPeB2T9CJNqeGpe-gccMg4vfKjkM8FcGvnzZUN4_KSP0aAp1tOJ1zZwgjxqGByKHiOtX7TpdQyHE5lcMiKPXfEIQILVq0pc_E2DzL7emopWoaoZTF_m0_N0YzFC6g6EJbOEoRoSK5hoDalrcvRYLSrQAZZKflyuVCyixEoV9GfNQC3_osjzw2PAithfubEEBLuVVk4XUVrWOLrLl0nx7RkKU8NXNHq-rvKMzqg"}"#;
+
+#[test]
+fn the_login_of_the_standard(rt: HostRuntime) {
+    let mut http_client = answering(&rt, EXAMPLE);
+    let end = ended(&rt, &mut http_client, STORED, REDIRECT_WITH_ISSUER, true)
+        .ok()
+        .expect(&rt, "a user");
+    is_text(&rt, end.id_token.claims().subject(), "248289761001");
+    is_text(
+        &rt,
+        end.token_response.access_token().secret().as_str(),
+        "SlAV32hkKG",
+    );
+    let refresh_token = end
+        .token_response
+        .refresh_token()
+        .map_or("", |t| t.secret().as_str());
+    is_text(&rt, refresh_token, "8xLOxBtZp8");
+    assert!(rt; end.access_token_hash == AccessTokenHash::Absent);
+    let sent =
+        "grant_type=authorization_code&code=SplxlOBeZQQYbYS6WxSbIA&code_verifier=v&client_id=s6BhdRkqt3";
+    assert_eq!(rt; http_client.bodies.as_slice(), sent.as_bytes());
+}
+
+// The claims are made and encoded by Python: those of the standard's example, and then with the hash
+// of its access token, with the hash of its refresh token, with another nonce, and with the time at
+// which the user logged in.
+const WITH_HASH: &str =
+    "eyJpc3MiOiJodHRwOi8vc2VydmVyLmV4YW1wbGUuY29tIiwic3ViIjoiMjQ4Mjg5NzYxMDAxIiwiYXVkIjoiczZCaGRSa3F0MyIsIm5vbmNlIjoibi0wUzZfV3pBMk1qIiwiZXhwIjoxMzExMjgxOTcwLCJpYXQiOjEzMTEyODA5NzAsImF0X2hhc2giOiJyWEg3UVdWVFpuWFlDb3VfNlZkcGZnIn0";
+
+const WITH_HASH_OF_THE_REFRESH_TOKEN: &str =
+    "eyJpc3MiOiJodHRwOi8vc2VydmVyLmV4YW1wbGUuY29tIiwic3ViIjoiMjQ4Mjg5NzYxMDAxIiwiYXVkIjoiczZCaGRSa3F0MyIsIm5vbmNlIjoibi0wUzZfV3pBMk1qIiwiZXhwIjoxMzExMjgxOTcwLCJpYXQiOjEzMTEyODA5NzAsImF0X2hhc2giOiJuakNjek5NUjZtVFFRVFBhOTNZUGNRIn0";
+
+const WITH_ANOTHER_NONCE: &str =
+    "eyJpc3MiOiJodHRwOi8vc2VydmVyLmV4YW1wbGUuY29tIiwic3ViIjoiMjQ4Mjg5NzYxMDAxIiwiYXVkIjoiczZCaGRSa3F0MyIsIm5vbmNlIjoibi0wUzZfV3pBMk1rIiwiZXhwIjoxMzExMjgxOTcwLCJpYXQiOjEzMTEyODA5NzB9";
+
+const WITH_AUTH_TIME: &str =
+    "eyJpc3MiOiJodHRwOi8vc2VydmVyLmV4YW1wbGUuY29tIiwic3ViIjoiMjQ4Mjg5NzYxMDAxIiwiYXVkIjoiczZCaGRSa3F0MyIsIm5vbmNlIjoibi0wUzZfV3pBMk1qIiwiZXhwIjoxMzExMjgxOTcwLCJpYXQiOjEzMTEyODA5NzAsImF1dGhfdGltZSI6MTMxMTI4MDk2OX0";
+
+// The response of the standard's example with these claims.
+fn response(rt: &(impl Abort + AllocGlobal), claims: &str) -> String {
+    format!(in rt.alloc();
+        "{{\"access_token\":\"SlAV32hkKG\",\"token_type\":\"Bearer\",\"refresh_token\":\"8xLOxBtZp8\",\"id_token\":\"eyJhbGciOiJSUzI1NiJ9.{claims}.c2ln\"}}"
+    ).expect(rt, "a response")
+}
+
+// How a login ends, in a line.
+fn line(rt: &(impl Abort + AllocGlobal), ended: Ended) -> String {
+    match ended {
+        Ok(end) => {
+            let hash = end.access_token_hash;
+            format!(in rt.alloc(); "{hash:?}").expect(rt, "a line")
+        }
+        Err(error) => format!(in rt.alloc(); "{error}").expect(rt, "a line"),
+    }
+}
+
+// A login that was stored as this ends in this line, if this is replied.
+fn ends_as(rt: &(impl Abort + AllocGlobal), stored: &str, body: &str, expected: &str) {
+    let ended = ended(rt, &mut answering(rt, body), stored, REDIRECT, false);
+    is_text(rt, line(rt, ended).as_str(), expected);
+}
+
+#[test]
+fn the_rules_hold_for_this_login(rt: HostRuntime) {
+    let rows = [
+        (STORED, WITH_HASH, "Matches"),
+        (
+            STORED,
+            WITH_HASH_OF_THE_REFRESH_TOKEN,
+            "ID token: the hash is that of another access token",
+        ),
+        (
+            STORED,
+            WITH_ANOTHER_NONCE,
+            "ID token: the nonce is another one",
+        ),
+        (STORED_WITH_AGE, WITH_AUTH_TIME, "Absent"),
+        (
+            STORED_WITH_AGE,
+            WITH_HASH,
+            "ID token: the token does not say when the user logged in",
+        ),
+    ];
+    for (stored, claims, expected) in rows {
+        ends_as(&rt, stored, response(&rt, claims).as_str(), expected);
+    }
+}
+
+#[test]
+fn a_response_without_an_id_token(rt: HostRuntime) {
+    let rows = [
+        (
+            r#"{"access_token":"a","token_type":"bearer"}"#,
+            "token response has no ID token",
+        ),
+        (
+            r#"{"access_token":"a","token_type":"bearer","id_token":null}"#,
+            "token response has no ID token",
+        ),
+        (
+            r#"{"access_token":"a","token_type":"bearer","id_token":"x.y"}"#,
+            "ID token: not three parts",
+        ),
+        (
+            r#"{"access_token":"a","token_type":"bearer","id_token":"e30.e30."}"#,
+            "ID token: header: alg: missing",
+        ),
+        ("{}", "Failed to parse server response"),
+    ];
+    for (body, expected) in rows {
+        ends_as(&rt, STORED, body, expected);
+    }
+}
+
+// A login whose redirect is not its own, or does not tell its issuer, sends nothing.
+fn sends_nothing(rt: &(impl Abort + AllocGlobal), redirect: &str, expected: &str) {
+    let mut http_client = answering(rt, EXAMPLE);
+    let ended = ended(rt, &mut http_client, STORED, redirect, true);
+    is_text(rt, line(rt, ended).as_str(), expected);
+    assert!(rt; http_client.bodies.is_empty());
+}
+
+#[test]
+fn a_redirect_without_a_code_of_the_login(rt: HostRuntime) {
+    sends_nothing(&rt, REDIRECT, "redirect has another issuer");
+    sends_nothing(
+        &rt,
+        "https://client.example.org/cb?code=SplxlOBeZQQYbYS6WxSbIA&state=bf0ifjsldkj&iss=http%3A%2F%2Fserver.example.com",
+        "redirect has another state",
+    );
+}

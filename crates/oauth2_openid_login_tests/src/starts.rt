@@ -1,0 +1,112 @@
+//! The URL of a login, and what is kept of it.
+
+use crate::support::{client, is_stored_as, is_text, login, text};
+use oauth2::{ParseCause, ReadError, RedirectUrl, Scope, read_body};
+use oauth2_openid_login::{OpenIdClient, OpenIdLogin, OpenIdLoginRequest};
+use rand_pcg::Pcg32;
+use std::process::Abort;
+use std::time::Duration;
+
+fn started<'a>(
+    rt: &(impl Abort + AllocGlobal),
+    client: &'a OpenIdClient,
+) -> OpenIdLoginRequest<'a> {
+    let mut rng = Pcg32::new(42, 54);
+    OpenIdLogin::start(rt.alloc(), client, &mut rng).expect(rt, "a login")
+}
+
+// A login has this URL, and is stored as this text.
+fn leads_to(
+    rt: &(impl Abort + AllocGlobal),
+    request: OpenIdLoginRequest<'_>,
+    url: &str,
+    stored: &str,
+) {
+    let (led, login) = request.url(rt.alloc()).ok().expect(rt, "a URL");
+    is_text(rt, led.as_str(), url);
+    is_stored_as(rt, &login, stored);
+}
+
+// The state, the verifier and the nonce are those that a generator in Python draws.
+#[test]
+fn a_login_is_started(rt: HostRuntime) {
+    let client = client(&rt);
+    let request = started(&rt, &client);
+    let shown = format!(in rt.alloc(); "{request:?}").expect(&rt, "a text");
+    is_text(&rt, shown.as_str(), "OpenIdLoginRequest([redacted])");
+    leads_to(
+        &rt,
+        request,
+        "https://server.example.com/authorize?response_type=code&client_id=s6BhdRkqt3\
+         &state=twJcoQn0R3swMx26k_LSgw&code_challenge=H7ZdcLcbjjOKQshuaEBh45jlXGBfQdZSXs7wHPjiPgQ\
+         &code_challenge_method=S256&scope=openid&nonce=Jmh47R1EIjjXE6Eri4FbHA",
+        r#"{"nonce":"Jmh47R1EIjjXE6Eri4FbHA","state":"twJcoQn0R3swMx26k_LSgw","verifier":"S3ikv25g7cuto8a_bf8vgVowH-aQSzj5_obbMvk1wB0"}"#,
+    );
+}
+
+#[test]
+fn a_login_is_started_with_more(rt: HostRuntime) {
+    let alloc = rt.alloc();
+    let client = client(&rt);
+    let redirect = RedirectUrl::new(alloc, text(&rt, "https://app.example/cb"))
+        .ok()
+        .expect(&rt, "a URL");
+    let request = started(&rt, &client)
+        .add_scope(Scope::new(text(&rt, "profile")))
+        .expect(&rt, "room")
+        .add_scopes(Some(Scope::new(text(&rt, "email"))))
+        .expect(&rt, "room")
+        .add_extra_param("prompt".into(), "consent".into())
+        .expect(&rt, "room")
+        .set_max_age(alloc, Duration::from_millis(3_600_999))
+        .expect(&rt, "room")
+        .set_redirect_uri(&redirect);
+    leads_to(
+        &rt,
+        request,
+        "https://server.example.com/authorize?response_type=code&client_id=s6BhdRkqt3\
+         &state=twJcoQn0R3swMx26k_LSgw&code_challenge=H7ZdcLcbjjOKQshuaEBh45jlXGBfQdZSXs7wHPjiPgQ\
+         &code_challenge_method=S256&redirect_uri=https%3A%2F%2Fapp.example%2Fcb\
+         &scope=openid+profile+email&nonce=Jmh47R1EIjjXE6Eri4FbHA&prompt=consent&max_age=3600",
+        r#"{"max_age":3600,"nonce":"Jmh47R1EIjjXE6Eri4FbHA","redirect_uri":"https://app.example/cb","state":"twJcoQn0R3swMx26k_LSgw","verifier":"S3ikv25g7cuto8a_bf8vgVowH-aQSzj5_obbMvk1wB0"}"#,
+    );
+}
+
+// What is read of a text, and the member that is at fault.
+fn fault_of(rt: &(impl Abort + AllocGlobal), stored: &str, member: &str, cause: ParseCause) {
+    let read: Result<OpenIdLogin, ReadError> = read_body(rt.alloc(), stored.as_bytes());
+    match read {
+        Err(ReadError::Fault(fault)) => {
+            is_text(rt, fault.member.as_str(), member);
+            assert!(rt; fault.cause == cause);
+        }
+        _ => is_text(rt, "no fault", member),
+    }
+}
+
+#[test]
+fn a_login_is_stored(rt: HostRuntime) {
+    let stored = r#"{"max_age":0,"nonce":"n","state":"s","verifier":"v"}"#;
+    let login = login(&rt, stored);
+    is_stored_as(&rt, &login, stored);
+    let shown = format!(in rt.alloc(); "{login:?}").expect(&rt, "a text");
+    is_text(&rt, shown.as_str(), "OpenIdLogin([redacted])");
+    fault_of(
+        &rt,
+        r#"{"state":"s","verifier":"v"}"#,
+        "nonce",
+        ParseCause::Missing,
+    );
+    fault_of(
+        &rt,
+        r#"{"nonce":"n","verifier":"v"}"#,
+        "state",
+        ParseCause::Missing,
+    );
+    fault_of(
+        &rt,
+        r#"{"max_age":-1,"nonce":"n","state":"s","verifier":"v"}"#,
+        "max_age",
+        ParseCause::OutOfRange,
+    );
+}

@@ -1,0 +1,43 @@
+//! A client of a provider, and what tests compare.
+
+use oauth2::url::Url;
+use oauth2::{AuthUrl, Client, ClientId, TokenUrl, compact, read_body};
+use oauth2_openid_login::{OpenIdClient, OpenIdLogin};
+use std::process::Abort;
+
+/// Makes a text whose bytes proofs do not see.
+pub(crate) fn text(rt: &(impl Abort + AllocGlobal), text: &str) -> String {
+    String::from_str(rt.alloc(), text).expect(rt, "a text")
+}
+
+/// The texts are equal. (A call is much cheaper to prove than the assertion itself.)
+pub(crate) fn is_text(rt: &impl Abort, found: &str, expected: &str) {
+    assert_eq!(rt; found, expected);
+}
+
+pub(crate) fn url(rt: &(impl Abort + AllocGlobal), url: &str) -> Url {
+    Url::parse(rt.alloc(), url).ok().expect(rt, "a URL")
+}
+
+/// The client of the standard's examples.
+pub(crate) fn client(rt: &(impl Abort + AllocGlobal)) -> OpenIdClient {
+    let alloc = rt.alloc();
+    let auth = AuthUrl::new(alloc, text(rt, "https://server.example.com/authorize"));
+    let token = TokenUrl::new(alloc, text(rt, "https://server.example.com/token"));
+    Client::new(ClientId::new(text(rt, "s6BhdRkqt3")))
+        .set_auth_uri(auth.ok().expect(rt, "a URL"))
+        .set_token_uri(token.ok().expect(rt, "a URL"))
+}
+
+/// The login that was stored as this.
+pub(crate) fn login(rt: &(impl Abort + AllocGlobal), stored: &str) -> OpenIdLogin {
+    read_body(rt.alloc(), stored.as_bytes())
+        .ok()
+        .expect(rt, "a login")
+}
+
+/// The login is stored as this.
+pub(crate) fn is_stored_as(rt: &(impl Abort + AllocGlobal), login: &OpenIdLogin, stored: &str) {
+    let written = compact(rt.alloc(), login).ok().expect(rt, "a text");
+    is_text(rt, written.as_str(), stored);
+}
