@@ -1,6 +1,6 @@
 //! A login with OpenID Connect from its start to its ID token (Core 1.0, section 3.1).
 
-ghost use Rattle.std.specs.Prelude.{◌≡◌, ℕ, List, Ok, Err, Some, None, IfOk, false, codes};
+ghost use Rattle.std.specs.Prelude.{◌≡◌, ℕ, ℤ, List, Ok, Err, Some, None, IfOk, IfErr, false, codes};
 ghost use Rattle.std.specs.Fmt.{DisplaysOnOk, WritesStyledOnOk};
 ghost use Rattle.rand_core.specs.Stream.{Stream};
 ghost use Rattle.oauth2_types.specs.Pkce.{IsRandomText};
@@ -10,7 +10,8 @@ ghost use Rattle.oauth2_redirect.specs.Query.{sole_text};
 ghost use Rattle.oauth2_redirect.specs.Redirect.{Refusal, answer, is_state};
 ghost use Rattle.oauth2_openid.specs.Seen.{token_of};
 ghost use Rattle.oauth2_openid.specs.TokenRules.{Holds};
-ghost use Rattle.oauth2_openid_login.specs.End.{EndsOpenIdLogin, Judges};
+ghost use Rattle.oauth2_openid.specs.Claims.{Expectation};
+ghost use Rattle.oauth2_openid_login.specs.End.{EndsOpenIdLogin, Judges, id_token_reading};
 ghost use Rattle.oauth2_openid_login.specs.Login.{openid_kept};
 ghost use Rattle.oauth2_openid_login.specs.Provider.{expected_of, redirect_issuer};
 ghost use Rattle.oauth2_openid_login.specs.Start.{openid_authorization};
@@ -139,25 +140,13 @@ impl OpenIdLogin {
             return Err(OpenIdLoginError::Memory { sent: false });
         };
         let issuer = provider.redirect_issuer();
-        let response = self
+        match self
             .login
-            .finish(alloc, client, http_client, redirect, issuer)?;
-        judged(alloc, response, &expected, now)
-    }
-}
-
-// The ID token of a response.
-fn read_id_token<TR: HasIdToken, RE, T>(
-    alloc: Global,
-    response: &TR,
-) -> Result<IdToken, OpenIdLoginError<RE, T>> {
-    let Some(text) = response.id_token() else {
-        return Err(OpenIdLoginError::NoIdToken);
-    };
-    match IdToken::from_text(alloc, text.secret().as_str()) {
-        Ok(id_token) => Ok(id_token),
-        Err(IdTokenReadError::Memory) => Err(OpenIdLoginError::Memory { sent: true }),
-        Err(error) => Err(OpenIdLoginError::Read(error)),
+            .finish(alloc, client, http_client, redirect, issuer)
+        {
+            Ok(response) => judged(alloc, response, &expected, now),
+            Err(error) => Err(OpenIdLoginError::Login(error)),
+        }
     }
 }
 
@@ -173,13 +162,53 @@ fn judged<TR: HasIdToken, RE, T>(
     ensures rules { IfOk result (λ end. Holds expected.now (TR.access_token end.token_response)
         now.nanosecond (token_of end.id_token)) }
 {
-    let id_token = read_id_token(alloc, &response)?;
-    let access_token_hash = id_token.check(expected, response.access_token(), now)?;
-    Ok(OpenIdLoginEnd {
-        token_response: response,
-        id_token,
-        access_token_hash,
-    })
+    match read_id_token(alloc, &response) {
+        Ok(id_token) => checked(response, id_token, expected, now),
+        Err(error) => Err(error),
+    }
+}
+
+// The ID token of a response.
+fn read_id_token<TR: HasIdToken, RE, T>(
+    alloc: Global,
+    response: &TR,
+) -> Result<IdToken, OpenIdLoginError<RE, T>>
+    ensures read { IfOk result (λ id_token. id_token_reading (TR.id_token response.now)
+        ≡ Some (Ok (token_of id_token))) }
+    ensures error { IfErr result (λ error. (expected : Expectation) (now : ℤ)
+        → Judges TR.access_token TR.id_token expected now response.now (Err error)) }
+{
+    let Some(text) = response.id_token() else {
+        return Err(OpenIdLoginError::NoIdToken);
+    };
+    match IdToken::from_text(alloc, text.secret().as_str()) {
+        Ok(id_token) => Ok(id_token),
+        Err(IdTokenReadError::Memory) => Err(OpenIdLoginError::Memory { sent: true }),
+        Err(error) => Err(OpenIdLoginError::Read(error)),
+    }
+}
+
+// What comes of a response with this ID token.
+fn checked<TR: HasIdToken, RE, T>(
+    response: TR,
+    id_token: IdToken,
+    expected: &Expected,
+    now: Timestamp,
+) -> Result<OpenIdLoginEnd<TR>, OpenIdLoginError<RE, T>>
+    requires { id_token_reading (TR.id_token response) ≡ Some (Ok (token_of id_token)) }
+    ensures judges { Judges TR.access_token TR.id_token expected.now now.nanosecond response
+        result }
+    ensures rules { IfOk result (λ end. Holds expected.now (TR.access_token end.token_response)
+        now.nanosecond (token_of end.id_token)) }
+{
+    match id_token.check(expected, response.access_token(), now) {
+        Ok(access_token_hash) => Ok(OpenIdLoginEnd {
+            token_response: response,
+            id_token,
+            access_token_hash,
+        }),
+        Err(error) => Err(OpenIdLoginError::Claims(error)),
+    }
 }
 
 impl fmt::Debug for OpenIdLogin {

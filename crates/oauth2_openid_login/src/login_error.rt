@@ -44,29 +44,3 @@ where
     RE: fmt::Debug + Drop,
     T: fmt::Debug + fmt::Display + Drop,
 {}
-
-impl<RE, T> From<LoginError<RE, T>> for OpenIdLoginError<RE, T> {
-    ghost use Rattle.std.specs.Prelude.{◌≡◌};
-    ghost use Rattle.oauth2_openid_login.specs.declared.login_error.OpenIdLoginError.TheVariants.{
-      Login,
-    };
-
-    ghost from_gives = { λ error e. e ≡ Login error };
-
-    fn from(error: LoginError<RE, T>) -> OpenIdLoginError<RE, T> {
-        OpenIdLoginError::Login(error)
-    }
-}
-
-impl<RE, T> From<ClaimsError> for OpenIdLoginError<RE, T> {
-    ghost use Rattle.std.specs.Prelude.{◌≡◌};
-    ghost use Rattle.oauth2_openid_login.specs.declared.login_error.OpenIdLoginError.TheVariants.{
-      Claims,
-    };
-
-    ghost from_gives = { λ error e. e ≡ Claims error };
-
-    fn from(error: ClaimsError) -> OpenIdLoginError<RE, T> {
-        OpenIdLoginError::Claims(error)
-    }
-}

@@ -22,6 +22,7 @@ ghost use Rattle.std.specs.Prelude.{
 };
 ghost use Rattle.std.specs.Duration.{as_nanos};
 ghost use Rattle.url.specs.Parser.{IsOutOfRoom};
+ghost use Rattle.url.specs.declared.error.ParseError.TheVariants.{Overflow};
 ghost use Rattle.oauth2_form.specs.Query.{ExtendsQuery, query_form};
 ghost use Rattle.oauth2_wire.specs.ByName.{avoid_own_names};
 ghost use Rattle.oauth2_wire.specs.Texts.{param_bytes};
@@ -140,7 +141,7 @@ impl<'a> OpenIdLoginRequest<'a> {
     /// Asks the provider to let the user log in again, if the last time is longer ago than so many
     /// whole seconds (`max_age`). The ID token then has to tell when that was.
     pub fn set_max_age(self, alloc: Global, max_age: Duration) -> Result<Self, AllocError>
-        requires { self.entry.max_age ≡ None }
+        requires { self.max_age ≡ None }
         ensures { let seconds = as_nanos max_age / 1_000_000_000 in
             IfOk result (λ l. l ≡ record self.entry {
               request = record self.entry.request {
@@ -187,7 +188,7 @@ impl<'a> OpenIdLoginRequest<'a> {
             → IfOk result (λ (url, kept). ShowsLogin kept.login (query_form url)) }
         ensures refusal { IfErr result
             (λ refused. (refused.request ≡ self.entry) × IsOutOfRoom refused.error) }
-        ensures overflow { IfErr result (λ refused. refused.error ≡ ParseError.Overflow
+        ensures overflow { IfErr result (λ refused. refused.error ≡ Overflow
             → IsTooLong (asked_url self.entry.request)) }
     {
         match self.login.url(alloc) {
