@@ -1,5 +1,5 @@
 -- An answer that was accepted was asked for once.
-use Rattle.std.proofs.Common.{◌≡◌, ℕ, ℤ, List, Option, Some, None, Ok, Err, false, inl, inr, refl, sym, ap, subst}
+use Rattle.std.proofs.Common.{◌≡◌, ℕ, ℤ, List, Option, Some, None, Ok, Err, false, true, inl, inr, refl, sym, ap, ◌∙◌, subst}
 use Rattle.std.specs.Prelude.{Result, IfOk, IfSome, IfNone, option_map}
 use Rattle.oauth2.specs.NewRequest.{new_code_request}
 use Rattle.oauth2.specs.Settings.{Settings}
@@ -12,7 +12,7 @@ use Rattle.oauth2_wire.specs.OneShot.{HttpRequest, OneShot}
 use Rattle.oauth2_wire.specs.Request.{RequestView, IsRequestOf}
 use Rattle.oauth2_wire.specs.declared.error.RequestTokenError.{RequestTokenError}
 use Rattle.oauth2_wire.specs.Expected.{Configuration}
-use Rattle.oauth2_redirect.specs.End.{IsExchange}
+use Rattle.oauth2_redirect.specs.End.{EndsLogin, IsExchange}
 use Rattle.oauth2_redirect.specs.Login.{Kept}
 use Rattle.oauth2_redirect.specs.Redirect.{Refusal}
 use Rattle.oauth2_redirect.specs.declared.login_error.LoginError.{LoginError}
@@ -87,6 +87,30 @@ module _ {D A T E RE C : Type 0} {meaning : D → A} {error_meaning : T → E} (
   IfOk-from_end (Ok end) (inr (inl (error, is, ended))) = cc
   IfOk-from_end (Ok end) (inr (inr (is, stayed))) = cc
   IfOk-from_end (Err error) ends = tt
+
+  same_error : {a b : LoginError RE T} → Err {A = OpenIdLoginEnd D} (Login {RE = RE} {T = T} a) ≡ Err (Login b) → a ≡ b
+  same_error is = cc
+
+  -- a login that ended in the error of the login by a code ended as that does
+  pub EndsLogin-from_end : (result : Result (OpenIdLoginEnd D) (OpenIdLoginError RE T))
+      → EndsOpenIdLogin meaning error_meaning reading error_reading step access_token id_token client login expected now told before result after
+      → (error : LoginError RE T) → result ≡ Err (Login error)
+      → EndsLogin meaning error_meaning reading error_reading step client login.login told before (Err error) after
+  EndsLogin-from_end result (inl (code, is_code, response, asked, judged)) error is =
+      absurd (subst (Judges access_token id_token expected now response) is judged)
+  EndsLogin-from_end result (inr (inl (other, is_other, ended))) error is =
+      let same : other ≡ error = same_error (sym is_other ∙ is) in
+      subst (λ e. EndsLogin meaning error_meaning reading error_reading step client login.login told before (Err e) after) same ended
+  EndsLogin-from_end result (inr (inr (is_memory, stayed))) error is = cc
+
+  -- a login that had no memory before its request left the client as it was
+  pub stayed-from_end : (result : Result (OpenIdLoginEnd D) (OpenIdLoginError RE T))
+      → EndsOpenIdLogin meaning error_meaning reading error_reading step access_token id_token client login expected now told before result after
+      → result ≡ Err (Memory false) → after ≡ before
+  stayed-from_end result (inl (code, is_code, response, asked, judged)) is =
+      let sent : false ≡ true = subst (Judges access_token id_token expected now response) is judged in cc
+  stayed-from_end result (inr (inl (other, is_other, ended))) is = cc
+  stayed-from_end result (inr (inr (is_memory, stayed))) is = stayed
 
 -- two facts of a value give a third
 pub IfOk-both : {V E : Type 0} (P Q R : V → Type 0) → ((v : V) → P v → Q v → R v) → (r : Result V E) → IfOk r P → IfOk r Q → IfOk r R

@@ -1,0 +1,2 @@
+pub mod LoginRows
+pub mod EndLaws

@@ -2,3 +2,4 @@ pub mod Provider
 pub mod Login
 pub mod Start
 pub mod End
+pub mod private

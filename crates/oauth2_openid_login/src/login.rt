@@ -15,6 +15,7 @@ ghost use Rattle.oauth2_openid_login.specs.End.{EndsOpenIdLogin, Judges, id_toke
 ghost use Rattle.oauth2_openid_login.specs.Login.{openid_kept};
 ghost use Rattle.oauth2_openid_login.specs.Provider.{expected_of, redirect_issuer};
 ghost use Rattle.oauth2_openid_login.specs.Start.{openid_authorization};
+ghost use Rattle.oauth2_openid_login.specs.private.Told.{told_as};
 
 use crate::login_end::OpenIdLoginEnd;
 use crate::login_error::OpenIdLoginError;
@@ -183,8 +184,24 @@ fn read_id_token<TR: HasIdToken, RE, T>(
     };
     match IdToken::from_text(alloc, text.secret().as_str()) {
         Ok(id_token) => Ok(id_token),
-        Err(IdTokenReadError::Memory) => Err(OpenIdLoginError::Memory { sent: true }),
-        Err(error) => Err(OpenIdLoginError::Read(error)),
+        Err(error) => Err(read_error(error)),
+    }
+}
+
+// The error of a login whose ID token did not read. (Each arm is written out, so that a fault is
+// known not to be want of memory.)
+fn read_error<RE, T>(error: IdTokenReadError) -> OpenIdLoginError<RE, T>
+    ensures { result ≡ told_as error }
+{
+    match error {
+        IdTokenReadError::NotThreeParts => OpenIdLoginError::Read(IdTokenReadError::NotThreeParts),
+        IdTokenReadError::NotBase64(part) => {
+            OpenIdLoginError::Read(IdTokenReadError::NotBase64(part))
+        }
+        IdTokenReadError::Fault(part, fault) => {
+            OpenIdLoginError::Read(IdTokenReadError::Fault(part, fault))
+        }
+        IdTokenReadError::Memory => OpenIdLoginError::Memory { sent: true },
     }
 }
 

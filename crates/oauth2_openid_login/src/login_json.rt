@@ -1,7 +1,8 @@
 //! A login with OpenID Connect as JSON, for the store of a session.
 
 ghost use Rattle.std.specs.Prelude.{◌≡◌, Ok, IfOk};
-ghost use Rattle.serde_json.specs.View.{view};
+ghost use Rattle.serde_json.specs.View.{members_view, view};
+ghost use Rattle.oauth2_json.specs.Reading.{ReadsAs};
 ghost use Rattle.oauth2_json.specs.Writing.{WritesAs};
 ghost use Rattle.oauth2_redirect.specs.Login.{IsReadFromText};
 ghost use Rattle.oauth2_openid_login.specs.Login.{
@@ -9,11 +10,12 @@ ghost use Rattle.oauth2_openid_login.specs.Login.{
   openid_login_reading,
   openid_login_writing,
 };
+ghost use Rattle.oauth2_openid_login.specs.private.Rows.{login_members, read_in_turn};
 
 use crate::login::OpenIdLogin;
 use oauth2_json::{FromJson, ReadError, ToJson, WriteError, members};
 use oauth2_redirect::Login;
-use serde_json::Value;
+use serde_json::{Map, Value};
 use std::alloc::Global;
 
 impl FromJson for OpenIdLogin {
@@ -23,16 +25,27 @@ impl FromJson for OpenIdLogin {
 
     ghost reading = { openid_login_reading };
 
-    #[tactic(auto, using(oauth2_json::proofs::Objects::member_facts))]
     fn from_json(alloc: Global, value: Value) -> Result<OpenIdLogin, ReadError> {
-        let mut members = members::of_object(alloc, value)?;
-        let nonce = members::take(&mut members, "nonce");
-        let max_age = members::take(&mut members, "max_age");
-        let login = Login::from_json(alloc, Value::Object(members))?;
-        let nonce = members::needed(alloc, "nonce", nonce)?;
-        let max_age = members::optional_number(alloc, "max_age", max_age)?;
-        Ok(OpenIdLogin::new(login, nonce, max_age))
+        let members = members::of_object(alloc, value)?;
+        from_members(alloc, members)
     }
+}
+
+fn from_members(alloc: Global, mut members: Map<String, Value>) -> Result<OpenIdLogin, ReadError>
+    ensures { ReadsAs (λ l. l) result (read_in_turn (members_view members.entries)) }
+{
+    let nonce = members::take(&mut members, "nonce");
+    let max_age = members::take(&mut members, "max_age");
+    let login = read_login(alloc, members)?;
+    let nonce = members::needed(alloc, "nonce", nonce)?;
+    let max_age = members::optional_number(alloc, "max_age", max_age)?;
+    Ok(OpenIdLogin::new(login, nonce, max_age))
+}
+
+fn read_login(alloc: Global, members: Map<String, Value>) -> Result<Login, ReadError>
+    ensures { ReadsAs (λ l. l) result (login_members (members_view members.entries)) }
+{
+    Login::from_json(alloc, Value::Object(members))
 }
 
 // The members of a login.
