@@ -1,36 +1,62 @@
-use Rattle.std.proofs.Common.{◌≡◌, Ok, Err, Some, None, ap, ◌∙◌}
+use Rattle.std.proofs.Common.{◌≡◌, Ok, Err, Some, None, false, true, inl, inr, ap, ◌∙◌, sym, subst}
 use Rattle.oauth2_openid_login.specs.End.{id_token_reading}
-use Rattle.oauth2_callers.proofs.Accepted.{IfOk-both, IfOk-from_end, IsJudged-from_end, EndsLogin-from_end, stayed-from_end, seen_as_itself}
+use Rattle.oauth2_callers.proofs.Accepted.{IfOk-from_each, IsAnsweredBy-from_IsExchange, seen_as_itself}
 use Rattle.oauth2_callers.proofs.openid.finish_login.Goals as goal
 
 pub returns-clause-user : goal.returns-clause-user
-returns-clause-user g c = IfOk-both _ _ _
-    (λ end h rules. (h.0, h.1, _, h.2, ap id_token_reading (seen_as_itself end.token_response.extra_fields.value) ∙ h.3, rules))
-    c.finish.result
-    (IfOk-from_end _ _ g.C.SyncHttpClient.step _ _ c.args.client.now c.args.login _ _ _ c.finish.result c.finish.ensures.end)
-    c.finish.ensures.rules
+returns-clause-user g c = IfOk-from_each _ c.finish.result (λ end is.
+    elim c.finish.ensures.end [
+      | inl h ↦
+          let answered = IsAnsweredBy-from_IsExchange _ _ g.C.SyncHttpClient.step c.args.client.now c.args.login.login h.0 (Ok h.2) h.3 in
+          let judged = rw is at h.4 in
+          let rules = rw is at c.finish.ensures.rules in
+          (h.0, h.1, _, answered, ap id_token_reading (seen_as_itself h.2.extra_fields.value) ∙ judged.1, rw judged.0 at rules)
+      | inr other ↦ elim other [ inl h ↦ absurd (cc) | inr h ↦ absurd (cc) ]
+    ])
 
 pub returns-clause-no_id_token : goal.returns-clause-no_id_token
 returns-clause-no_id_token g c = λ none.
-    let (code, told, response, answered, judged) = IsJudged-from_end _ _ g.C.SyncHttpClient.step _ _ c.args.client.now c.args.login _ _ _ c.finish.result c.finish.ensures.end (λ error is. cc) (λ is. cc) in
-    (code, told, _, answered, seen_as_itself response.extra_fields.value ∙ (rw none at judged))
+    elim c.finish.ensures.end [
+      | inl h ↦
+          let answered = IsAnsweredBy-from_IsExchange _ _ g.C.SyncHttpClient.step c.args.client.now c.args.login.login h.0 (Ok h.2) h.3 in
+          let judged = rw none at h.4 in
+          (h.0, h.1, _, answered, seen_as_itself h.2.extra_fields.value ∙ judged)
+      | inr other ↦ elim other [ inl h ↦ absurd (cc) | inr h ↦ absurd (cc) ]
+    ]
 
 pub returns-clause-rule : goal.returns-clause-rule
 returns-clause-rule g c = λ error broken.
-    let (code, told, response, answered, judged) = IsJudged-from_end _ _ g.C.SyncHttpClient.step _ _ c.args.client.now c.args.login _ _ _ c.finish.result c.finish.ensures.end (λ other is. cc) (λ is. cc) in
-    let (token, read, checked) = rw broken at judged in
-    (code, told, _, answered, token, ap id_token_reading (seen_as_itself response.extra_fields.value) ∙ read, checked)
+    elim c.finish.ensures.end [
+      | inl h ↦
+          let answered = IsAnsweredBy-from_IsExchange _ _ g.C.SyncHttpClient.step c.args.client.now c.args.login.login h.0 (Ok h.2) h.3 in
+          let judged = rw broken at h.4 in
+          (h.0, h.1, _, answered, judged.0, ap id_token_reading (seen_as_itself h.2.extra_fields.value) ∙ judged.1, judged.2)
+      | inr other ↦ elim other [ inl h ↦ absurd (cc) | inr h ↦ absurd (cc) ]
+    ]
 
 pub returns-clause-unread : goal.returns-clause-unread
 returns-clause-unread g c = λ error unread.
-    let (code, told, response, answered, judged) = IsJudged-from_end _ _ g.C.SyncHttpClient.step _ _ c.args.client.now c.args.login _ _ _ c.finish.result c.finish.ensures.end (λ other is. cc) (λ is. cc) in
-    let (fault, is_fault, read) = rw unread at judged in
-    (code, told, _, answered, fault, is_fault, ap id_token_reading (seen_as_itself response.extra_fields.value) ∙ read)
+    elim c.finish.ensures.end [
+      | inl h ↦
+          let answered = IsAnsweredBy-from_IsExchange _ _ g.C.SyncHttpClient.step c.args.client.now c.args.login.login h.0 (Ok h.2) h.3 in
+          let judged = rw unread at h.4 in
+          (h.0, h.1, _, answered, judged.0, judged.1, ap id_token_reading (seen_as_itself h.2.extra_fields.value) ∙ judged.2)
+      | inr other ↦ elim other [ inl h ↦ absurd (cc) | inr h ↦ absurd (cc) ]
+    ]
 
 pub returns-clause-login : goal.returns-clause-login
 returns-clause-login g c = λ error is.
-    EndsLogin-from_end _ _ g.C.SyncHttpClient.step _ _ c.args.client.now c.args.login _ _ _ c.finish.result c.finish.ensures.end error is
+    elim c.finish.ensures.end [
+      | inl h ↦ absurd (rw is at h.4)
+      | inr other ↦ elim other [
+        | inl h ↦ let same : h.0 ≡ error = cc (h.1, is) in rw same at h.2
+        | inr h ↦ absurd (cc)
+      ]
+    ]
 
 pub returns-clause-memory : goal.returns-clause-memory
 returns-clause-memory g c = λ is.
-    stayed-from_end _ _ g.C.SyncHttpClient.step _ _ c.args.client.now c.args.login _ _ _ c.finish.result c.finish.ensures.end is
+    elim c.finish.ensures.end [
+      | inl h ↦ absurd (let sent = rw is at h.4 in cc)
+      | inr other ↦ elim other [ inl h ↦ absurd (cc) | inr h ↦ h.1 ]
+    ]
