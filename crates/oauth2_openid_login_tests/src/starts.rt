@@ -1,5 +1,7 @@
 //! The URL of a login, and what is kept of it.
 
+ghost use Rattle.std.specs.Prelude.{◌≡◌, None};
+
 use crate::support::{client, is_stored_as, is_text, login, text};
 use oauth2::{ParseCause, ReadError, RedirectUrl, Scope, read_body};
 use oauth2_openid_login::{OpenIdClient, OpenIdLogin, OpenIdLoginRequest};
@@ -7,10 +9,9 @@ use rand_pcg::Pcg32;
 use std::process::Abort;
 use std::time::Duration;
 
-fn started<'a>(
-    rt: &(impl Abort + AllocGlobal),
-    client: &'a OpenIdClient,
-) -> OpenIdLoginRequest<'a> {
+fn started<'a>(rt: &(impl Abort + AllocGlobal), client: &'a OpenIdClient) -> OpenIdLoginRequest<'a>
+    ensures { result.max_age ≡ None }
+{
     let mut rng = Pcg32::new(42, 54);
     OpenIdLogin::start(rt.alloc(), client, &mut rng).expect(rt, "a login")
 }
