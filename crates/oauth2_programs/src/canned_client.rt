@@ -1,0 +1,33 @@
+//! An HTTP client that opens no connection: it hands out replies that were written down before. A
+//! program of yours has a client here that sends requests.
+
+use anyhow::anyhow;
+use oauth2::http::Response;
+use oauth2::{HttpRequest, HttpResponse, SyncHttpClient};
+use std::alloc::Global;
+
+/// Hands out one reply after the other: a status, and a body of JSON.
+#[derive(Drop)]
+pub struct CannedClient<'a> {
+    alloc: Global,
+    replies: &'a [(u16, &'a str)],
+}
+
+impl<'a> CannedClient<'a> {
+    pub fn new(alloc: Global, replies: &'a [(u16, &'a str)]) -> CannedClient<'a> {
+        CannedClient { alloc, replies }
+    }
+}
+
+impl SyncHttpClient for CannedClient<'_> {
+    type Error = anyhow::Error;
+
+    fn call(&mut self, _request: HttpRequest) -> anyhow::Result<HttpResponse> {
+        let Some((&(status, body), others)) = self.replies.split_first() else {
+            return Err(anyhow!("no reply is left"));
+        };
+        self.replies = others;
+        let body = String::from_str(self.alloc, body)?.into_bytes();
+        Ok(Response::builder(self.alloc).status(status).body(body)?)
+    }
+}

@@ -1,0 +1,23 @@
+//! Revokes a refresh token (RFC 7009), as at the end of a session.
+
+use crate::canned_client::CannedClient;
+use oauth2::basic::BasicClient;
+use oauth2::{ClientId, ClientSecret, RefreshToken, RevocationUrl};
+
+pub fn main(rt: HostRuntime) -> anyhow::Result<()> {
+    let alloc = rt.alloc();
+    let id = ClientId::from_str(alloc, "aaa")?;
+    let secret = ClientSecret::from_str(alloc, "bbb")?;
+    let url = RevocationUrl::parse(alloc, "https://as.example/revoke")?;
+    let token = RefreshToken::from_str(alloc, "def")?;
+    let replies = [(200, "")];
+    let mut http_client = CannedClient::new(alloc, &replies);
+    let client = BasicClient::new(id)
+        .set_client_secret(secret)
+        .set_revocation_url(url);
+    client
+        .revoke_token(alloc, token.into())?
+        .request(alloc, &mut http_client)?;
+    println!(rt; "the token is revoked")?;
+    Ok(())
+}
