@@ -11,11 +11,16 @@ use std::alloc::Global;
 pub struct CannedClient<'a> {
     alloc: Global,
     replies: &'a [(u16, &'a str)],
+    next: usize,
 }
 
 impl<'a> CannedClient<'a> {
     pub fn new(alloc: Global, replies: &'a [(u16, &'a str)]) -> CannedClient<'a> {
-        CannedClient { alloc, replies }
+        CannedClient {
+            alloc,
+            replies,
+            next: 0,
+        }
     }
 }
 
@@ -23,10 +28,10 @@ impl SyncHttpClient for CannedClient<'_> {
     type Error = anyhow::Error;
 
     fn call(&mut self, _request: HttpRequest) -> anyhow::Result<HttpResponse> {
-        let Some((&(status, body), others)) = self.replies.split_first() else {
+        let Some(&(status, body)) = self.replies.get(self.next) else {
             return Err(anyhow!("no reply is left"));
         };
-        self.replies = others;
+        self.next = self.next.saturating_add(1);
         let body = String::from_str(self.alloc, body)?.into_bytes();
         Ok(Response::builder(self.alloc).status(status).body(body)?)
     }
