@@ -4,7 +4,6 @@ use crate::clients::{ClientTexts, RowClient, USUAL};
 use crate::exchanges::show_exchange;
 use crate::keepers::{show_first_token, show_renewed_token};
 use crate::logins::show_login;
-use crate::openid_logins::show_openid_login;
 use crate::polls::{Poll, show_poll};
 use crate::post_rows::{PostRow, show_post_row};
 use crate::replies::ReplyTexts;
@@ -84,7 +83,6 @@ pub enum ClientRow {
     Poll(Poll<'static>),
     Login,
     WebLogin(ReplyTexts<'static>),
-    OpenIdLogin,
     FirstToken,
     RenewedToken,
 }
@@ -109,7 +107,7 @@ const WAITING: Poll<'static> = Poll {
     replies: 2,
 };
 
-const ROWS: [(&str, ClientRow); 36] = [
+const ROWS: [(&str, ClientRow); 35] = [
     ("basic_credentials", ClientRow::Post(PostRow::Credentials)),
     ("empty_credentials", ClientRow::Post(PostRow::Credentials)),
     ("no_secret", ClientRow::Post(PostRow::Credentials)),
@@ -212,7 +210,6 @@ const ROWS: [(&str, ClientRow); 36] = [
     ("user_password", ClientRow::Post(PostRow::Password)),
     ("code_flow", ClientRow::Login),
     ("web_login", ClientRow::WebLogin(TOKEN)),
-    ("openid_login", ClientRow::OpenIdLogin),
     ("first_token", ClientRow::FirstToken),
     ("renewed_token", ClientRow::RenewedToken),
 ];
@@ -236,7 +233,6 @@ pub fn show_client_row<W: Write>(
         ClientRow::Poll(poll) => show_poll(alloc, client, &poll, out),
         ClientRow::Login => show_login(alloc, client, out),
         ClientRow::WebLogin(reply) => show_web_login(alloc, client, reply, out),
-        ClientRow::OpenIdLogin => show_openid_login(alloc, out),
         ClientRow::FirstToken => show_first_token(alloc, client, out),
         ClientRow::RenewedToken => show_renewed_token(alloc, client, out),
     }

@@ -57,11 +57,8 @@ fn secret(alloc: Global, secret: Option<&str>) -> Result<Option<ClientSecret>, E
     }
 }
 
-/// Where the client asks for codes and tokens.
-pub fn token_endpoints(
-    alloc: Global,
-    texts: ClientTexts<'_>,
-) -> Result<(AuthUrl, TokenUrl), Ended> {
+// Where the client asks for codes and tokens.
+fn token_endpoints(alloc: Global, texts: ClientTexts<'_>) -> Result<(AuthUrl, TokenUrl), Ended> {
     let auth = AuthUrl::new(alloc, text(alloc, texts.auth_url)?)?;
     let token = TokenUrl::new(alloc, text(alloc, texts.token_url)?)?;
     Ok((auth, token))

@@ -15,7 +15,6 @@ mod counting_client;
 mod exchanges;
 mod keepers;
 mod logins;
-mod openid_logins;
 mod polls;
 mod post_rows;
 mod posts;
