@@ -102,6 +102,7 @@ pub use oauth2_urls::IntrospectionUrl;
 pub use oauth2_urls::RedirectUrl;
 pub use oauth2_urls::RevocationUrl;
 pub use oauth2_urls::TokenUrl;
+pub use oauth2_wire::AlwaysReady;
 pub use oauth2_wire::AuthType;
 pub use oauth2_wire::ConfigurationError;
 pub use oauth2_wire::FnClient;

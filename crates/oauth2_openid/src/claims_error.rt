@@ -9,7 +9,8 @@ use std::fmt;
 /// tried in the order of these variants.
 #[derive(Clone, Copy, Debug, PartialEq, Eq, Drop)]
 pub enum ClaimsError {
-    /// The token has no signature, and the client did not register that (section 2).
+    /// The token has no signature (`alg` is `none`), and the client registered no algorithm
+    /// (section 2).
     NoSignature,
     /// The algorithm is not the one that the client registered (3.1.3.7, 7).
     OtherAlgorithm,

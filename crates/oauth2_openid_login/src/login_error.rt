@@ -5,7 +5,8 @@ use oauth2_redirect::LoginError;
 use oauth2_types::display::write_display;
 use std::fmt;
 
-/// Why a login gave no user. No token of the response is handed out with an error.
+/// Why a login gave no user. Where a token response was read, no error holds anything of it. The
+/// body of one that could not be read is in `Login`, as in each `RequestTokenError`.
 #[derive(Debug, Drop)]
 pub enum OpenIdLoginError<RE, T> {
     /// The redirect has no code or is not this login's, or the token endpoint gave no token.

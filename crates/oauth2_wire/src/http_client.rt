@@ -10,9 +10,10 @@ pub type HttpResponse = Response<Vec<u8>>;
 /// A client that sends one request and waits for its reply.
 ///
 /// If your client may always be called, do not define `is_ready`: its callers then need no
-/// precondition. A function that is generic over the client writes
-/// `requires { C.is_ready client.old }`, and also `ensures { C.is_ready client.new }` if its
-/// callers may call again. To use `?` into `anyhow` it writes `where C::Error: fmt::Debug`.
+/// precondition. A function that is generic over such clients takes an `AlwaysReady`. One for
+/// every client writes `requires { C.is_ready client.old }`, and also
+/// `ensures { C.is_ready client.new }` if its callers may call again. To use `?` into `anyhow` it
+/// writes `where C::Error: fmt::Debug`.
 pub trait SyncHttpClient {
     ghost use Rattle.std.specs.Prelude.{ℕ, Vec, Result, ⊤};
     ghost use Rattle.std.specs.declared.alloc.Global.{Global};
@@ -34,6 +35,14 @@ pub trait SyncHttpClient {
         requires { is_ready self.old }
         ensures step { step self.old request result self.new }
         ensures ready { is_ready self.new };
+}
+
+/// A client that may be called in every state, so that a function which is generic over it needs
+/// no clause. A client that does not define `is_ready` is one by a line:
+/// `impl AlwaysReady for MyClient { ghost always_ready = { λ _. tt }; }`.
+pub trait AlwaysReady: SyncHttpClient {
+    // The client may be called in this state.
+    ghost always_ready: { (c : Self) → Self.is_ready c };
 }
 
 /// A closure as a client. Contracts see the closure.

@@ -14,7 +14,7 @@ mod view;
 
 pub use content_type::ReplyRule;
 pub use error::{BasicRequestTokenError, ConfigurationError, HttpClientError, RequestTokenError};
-pub use http_client::{FnClient, HttpResponse, SyncHttpClient};
+pub use http_client::{AlwaysReady, FnClient, HttpResponse, SyncHttpClient};
 pub use once::{send_once, send_once_status_only};
 pub use reply::{endpoint_response, endpoint_response_status_only, endpoint_response_with};
 pub use request::{
