@@ -2,7 +2,7 @@
 //! that the standard does not name.
 
 use crate::application::canned_id_token;
-use crate::support::{is_equal, text};
+use crate::support::{assert_equal, text};
 use oauth2::HttpResponse;
 use oauth2::http::Response;
 use std::process::Abort;
@@ -15,20 +15,20 @@ fn reply(rt: &(impl Abort + AllocGlobal), body: &str) -> HttpResponse {
 }
 
 // The application answers this `id_token` for a code and this reply.
-fn tells(rt: &(impl Abort + AllocGlobal), body: &str, wanted: Option<&str>) {
+fn assert_id_token(rt: &(impl Abort + AllocGlobal), body: &str, wanted: Option<&str>) {
     let url = text(rt, "https://example.com/token");
     let answer = canned_id_token(rt.alloc(), url, text(rt, "ccc"), reply(rt, body));
     let id_token = answer.expect(rt, "an answer");
-    is_equal(rt, id_token.as_deref(), wanted);
+    assert_equal(rt, id_token.as_deref(), wanted);
 }
 
 #[test]
 fn id_token_of_a_reply(rt: HostRuntime) {
     let body = r#"{"access_token":"a","token_type":"bearer","id_token":"x.y.z"}"#;
-    tells(&rt, body, Some("x.y.z"));
+    assert_id_token(&rt, body, Some("x.y.z"));
 }
 
 #[test]
 fn no_id_token_in_a_reply(rt: HostRuntime) {
-    tells(&rt, r#"{"access_token":"a","token_type":"bearer"}"#, None);
+    assert_id_token(&rt, r#"{"access_token":"a","token_type":"bearer"}"#, None);
 }

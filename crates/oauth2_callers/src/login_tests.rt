@@ -6,7 +6,7 @@ ghost use Rattle.oauth2_types.specs.Pkce.{HasValidLength};
 use crate::application::{CannedClient, CannedError};
 use crate::client::CodeClient;
 use crate::openid::{finish_login, provider, start_login};
-use crate::support::{is_equal, is_text, text};
+use crate::support::{assert_equal, assert_text, text};
 use crate::web_login::{begin, end};
 use jiff::Timestamp;
 use oauth2::basic::BasicErrorResponse;
@@ -74,18 +74,18 @@ fn login(
 }
 
 // The login at this endpoint has this URL.
-fn leads_to(rt: &(impl Abort + AllocGlobal), auth: &str, url: &str) {
+fn assert_login_url(rt: &(impl Abort + AllocGlobal), auth: &str, url: &str) {
     let flow = login(rt, auth, TOKEN).expect(rt, "a login");
-    is_text(rt, flow.url.as_str(), url);
-    is_text(rt, flow.state.secret().as_str(), "csrf_token");
+    assert_text(rt, flow.url.as_str(), url);
+    assert_text(rt, flow.state.secret().as_str(), "csrf_token");
     let body = "grant_type=authorization_code&code=ccc\
          &code_verifier=dBjftJeZ4CVP-mB92K27uhbUJU1p1r_wW1gFWFOEjXk";
-    is_equal(rt, flow.request.body().as_slice(), body.as_bytes());
+    assert_equal(rt, flow.request.body().as_slice(), body.as_bytes());
 }
 
 #[test]
 fn joined_login(rt: HostRuntime) {
-    leads_to(
+    assert_login_url(
         &rt,
         AUTH,
         "https://example.com/auth?response_type=code&client_id=aaa&state=csrf_token\
@@ -96,7 +96,7 @@ fn joined_login(rt: HostRuntime) {
 // A challenge of the endpoint's own stays, so the query has two, and no server reads the name.
 #[test]
 fn joined_login_beside_another_challenge(rt: HostRuntime) {
-    leads_to(
+    assert_login_url(
         &rt,
         "https://example.com/auth?code_challenge=x",
         "https://example.com/auth?code_challenge=x&response_type=code&client_id=aaa\
@@ -110,9 +110,9 @@ fn joined_login_without_a_target(rt: HostRuntime) {
     let error = login(&rt, AUTH, "data:text/plain,hello")
         .err()
         .expect(&rt, "a refusal");
-    is_equal(&rt, error, CodeFlowError::NotHttp);
+    assert_equal(&rt, error, CodeFlowError::NotHttp);
     let shown = format!(in rt.alloc(); "{error}").expect(&rt, "a text");
-    is_text(&rt, shown.as_str(), "endpoint URL is not an HTTP target");
+    assert_text(&rt, shown.as_str(), "endpoint URL is not an HTTP target");
 }
 
 fn open_id_client(rt: &(impl Abort + AllocGlobal)) -> OpenIdClient {
@@ -132,7 +132,7 @@ fn reply(rt: &(impl Abort + AllocGlobal), body: &str) -> HttpResponse {
 fn started(rt: &(impl Abort + AllocGlobal), client: &OpenIdClient) -> OpenIdLogin {
     let mut rng = Repeated(0);
     let (url, login) = start_login(rt.alloc(), client, &mut rng).expect(rt, "a login");
-    is_text(
+    assert_text(
         rt,
         url.as_str(),
         "https://example.com/auth?response_type=code&client_id=aaa&state=AAAAAAAAAAAAAAAAAAAAAA\
@@ -178,7 +178,7 @@ const TOKENS: &str =
 #[test]
 fn open_id_login(rt: HostRuntime) {
     let end = ends(&rt, STATE, TOKENS).ok().expect(&rt, "a user");
-    is_text(&rt, end.id_token.claims().subject(), "248289761001");
+    assert_text(&rt, end.id_token.claims().subject(), "248289761001");
     let other = ends(&rt, "B", TOKENS);
     let refused = matches!(
         other,
@@ -203,7 +203,7 @@ fn open_id_login_without_id_token(rt: HostRuntime) {
 fn web_login(rt: HostRuntime) {
     let client = client(&rt, AUTH, TOKEN);
     let (url, session) = begin(rt.alloc(), &client, &mut Repeated(0)).expect(&rt, "a login");
-    is_text(
+    assert_text(
         &rt,
         url.as_str(),
         "https://example.com/auth?response_type=code&client_id=aaa&state=AAAAAAAAAAAAAAAAAAAAAA\
@@ -221,7 +221,7 @@ fn web_login(rt: HostRuntime) {
         &redirect,
         None,
     );
-    is_text(
+    assert_text(
         &rt,
         token
             .expect(&rt, "a token")

@@ -9,10 +9,10 @@ pub fn text(rt: &(impl Abort + AllocGlobal), text: &str) -> String {
 }
 
 /// The two are equal. (A call costs a proof far less than the assertion would in its place.)
-pub fn is_equal<T: PartialEq + Debug + Drop>(rt: &impl Abort, found: T, wanted: T) {
+pub fn assert_equal<T: PartialEq + Debug + Drop>(rt: &impl Abort, found: T, wanted: T) {
     assert_eq!(rt; found, wanted);
 }
 
-pub fn is_text(rt: &impl Abort, found: &str, wanted: &str) {
+pub fn assert_text(rt: &impl Abort, found: &str, wanted: &str) {
     assert_eq!(rt; found, wanted);
 }

@@ -1,7 +1,7 @@
 //! Runs of a keeper, worked out by hand from what a good token is.
 
 use crate::callers::{TokenClient, bearer};
-use crate::support::{Scripted, client, duration, is_fault, is_so, is_token, moment};
+use crate::support::{Scripted, assert_fault, assert_that, assert_token, client, duration, moment};
 use oauth2_keeper::{BasicTokenKeeper, TokenKeeper};
 use std::process::Abort;
 
@@ -171,7 +171,7 @@ const RUNS: [Run<'static>; 9] = [
 ];
 
 // One call, and the request that it sends.
-fn answers(
+fn assert_call(
     rt: &(impl Abort + AllocGlobal),
     keeper: &mut BasicTokenKeeper<'_>,
     http_client: &mut Scripted<'_>,
@@ -181,14 +181,14 @@ fn answers(
     let now = moment(rt, second, nanosecond);
     http_client.body = Vec::new(rt.alloc());
     match keeper.token(rt.alloc(), now, http_client) {
-        Ok(token) => is_token(rt, token, answer),
-        Err(error) => is_fault(rt, &error, answer),
+        Ok(token) => assert_token(rt, token, answer),
+        Err(error) => assert_fault(rt, &error, answer),
     }
-    is_so(rt, http_client.body.as_slice() == body.as_bytes(), body);
+    assert_that(rt, http_client.body.as_slice() == body.as_bytes(), body);
 }
 
 // The calls of a run do and answer this, one after another.
-fn does(rt: &(impl Abort + AllocGlobal), client: &TokenClient, run: Run<'_>) {
+fn assert_run(rt: &(impl Abort + AllocGlobal), client: &TokenClient, run: Run<'_>) {
     let mut keeper: BasicTokenKeeper<'_> = TokenKeeper::new(
         client,
         None,
@@ -197,16 +197,16 @@ fn does(rt: &(impl Abort + AllocGlobal), client: &TokenClient, run: Run<'_>) {
     );
     let mut http_client = Scripted::new(rt.alloc(), run.replies);
     for call in run.calls.iter() {
-        answers(rt, &mut keeper, &mut http_client, *call);
+        assert_call(rt, &mut keeper, &mut http_client, *call);
     }
 }
 
 // A caller reads the token twice, and asks once for it.
-fn bears(rt: &(impl Abort + AllocGlobal), client: &TokenClient) {
+fn assert_bearer(rt: &(impl Abort + AllocGlobal), client: &TokenClient) {
     let life = duration((60, 0));
     let mut keeper: BasicTokenKeeper<'_> = TokenKeeper::new(client, None, duration((0, 0)), life);
     let mut http_client = Scripted::new(rt.alloc(), &[NEITHER]);
-    is_so(rt, keeper.get().is_none(), "no token at first");
+    assert_that(rt, keeper.get().is_none(), "no token at first");
     for second in [0, 60] {
         let text = bearer(
             rt.alloc(),
@@ -215,16 +215,16 @@ fn bears(rt: &(impl Abort + AllocGlobal), client: &TokenClient) {
             &mut http_client,
         )
         .expect(rt, "a token");
-        is_so(rt, text.as_str() == "Bearer t2", text.as_str());
+        assert_that(rt, text.as_str() == "Bearer t2", text.as_str());
     }
-    is_so(rt, http_client.sent == 1, "one request");
+    assert_that(rt, http_client.sent == 1, "one request");
 }
 
 #[test]
 fn a_token_is_kept(rt: HostRuntime) {
     let client = client(&rt);
     for run in RUNS {
-        does(&rt, &client, run);
+        assert_run(&rt, &client, run);
     }
-    bears(&rt, &client);
+    assert_bearer(&rt, &client);
 }

@@ -1,6 +1,6 @@
 //! Polls over lists of readings and answers, and the sleeps that answers bring about.
 
-use crate::support::{Seen, duration, is_so, moment, moments, slept};
+use crate::support::{Seen, assert_that, duration, moment, moments, slept};
 use oauth2_poll::{DevicePoll, PollAnswer, PollEnd, PollEvent, PollReady, PollSettings, PollStep};
 use std::process::Abort;
 use std::time::Duration;
@@ -136,15 +136,15 @@ fn seen_of(event: PollEvent) -> Seen {
     }
 }
 
-fn is_trace(rt: &impl Abort, trace: &[PollEvent], wanted: &[Seen]) {
-    is_so(rt, trace.len() == wanted.len(), "a whole trace");
+fn assert_trace(rt: &impl Abort, trace: &[PollEvent], wanted: &[Seen]) {
+    assert_that(rt, trace.len() == wanted.len(), "a whole trace");
     for (event, seen) in trace.iter().zip(wanted.iter()) {
-        is_so(rt, seen_of(*event) == *seen, "an event");
+        assert_that(rt, seen_of(*event) == *seen, "an event");
     }
 }
 
 // The run does this and ends so.
-fn does(rt: &(impl Abort + AllocGlobal), run: Run<'_>) {
+fn assert_run(rt: &(impl Abort + AllocGlobal), run: Run<'_>) {
     let readings = moments(rt, run.readings);
     let settings = PollSettings {
         interval: Duration::from_secs(1),
@@ -160,14 +160,14 @@ fn does(rt: &(impl Abort + AllocGlobal), run: Run<'_>) {
         run.answers,
     )
     .expect(rt, "a run");
-    is_trace(rt, found.trace.as_slice(), run.trace);
-    is_so(rt, found.end == run.end, "an end");
+    assert_trace(rt, found.trace.as_slice(), run.trace);
+    assert_that(rt, found.end == run.end, "an end");
 }
 
 #[test]
 fn a_poll_runs(rt: HostRuntime) {
     for run in RUNS {
-        does(&rt, run);
+        assert_run(&rt, run);
     }
 }
 
@@ -228,7 +228,7 @@ fn started(rt: &impl Abort, settings: PollSettings) -> DevicePoll {
     DevicePoll::new(moment(rt, 0, 0), timeout, settings).expect(rt, "a deadline")
 }
 
-fn paces(rt: &impl Abort, pace: Pace<'_>) {
+fn assert_pace(rt: &impl Abort, pace: Pace<'_>) {
     let settings = PollSettings {
         interval: duration(pace.interval),
         cap: duration(pace.cap),
@@ -240,14 +240,14 @@ fn paces(rt: &impl Abort, pace: Pace<'_>) {
         let PollStep::Sleep(duration) = poll.answer(*answer) else {
             panic!(rt; "no sleep");
         };
-        is_so(rt, slept(duration) == *wanted, "a sleep");
+        assert_that(rt, slept(duration) == *wanted, "a sleep");
     }
 }
 
 #[test]
 fn sleeps_are_paced(rt: HostRuntime) {
     for pace in PACES {
-        paces(&rt, pace);
+        assert_pace(&rt, pace);
     }
 }
 
@@ -261,7 +261,7 @@ fn at_the_deadline_it_still_asks(rt: HostRuntime) {
     let poll = started(&rt, settings);
     let at = poll.ready(moment(&rt, 2, 0));
     let after = poll.ready(moment(&rt, 2, 1));
-    is_so(&rt, at == PollReady::Ask, "at the deadline");
-    is_so(&rt, after == PollReady::Expired, "a nanosecond later");
-    is_so(&rt, poll.polls_left() == 3, "no request is counted");
+    assert_that(&rt, at == PollReady::Ask, "at the deadline");
+    assert_that(&rt, after == PollReady::Expired, "a nanosecond later");
+    assert_that(&rt, poll.polls_left() == 3, "no request is counted");
 }

@@ -14,6 +14,17 @@ use std::fmt::Display;
 use std::process::Abort;
 use std::time::Duration;
 
+/// Why a scripted client returned no reply.
+#[derive(Debug, Drop)]
+pub enum ScriptedError {
+    /// All replies were returned before.
+    Spent,
+    /// The number is no status.
+    BadStatus,
+    /// There was no memory for the body.
+    Memory,
+}
+
 /// An HTTP client that returns these replies one after the other, each a status and a body, and
 /// then fails. It keeps the body of the last request.
 #[derive(Drop)]
@@ -36,20 +47,23 @@ impl<'a> Scripted<'a> {
 }
 
 impl SyncHttpClient for Scripted<'_> {
-    type Error = AllocError;
+    type Error = ScriptedError;
 
-    fn call(&mut self, request: HttpRequest) -> Result<HttpResponse, AllocError> {
+    fn call(&mut self, request: HttpRequest) -> Result<HttpResponse, ScriptedError> {
         self.body = request.into_body();
         let Some((status, body)) = self.replies.get(self.sent).copied() else {
-            return Err(AllocError);
+            return Err(ScriptedError::Spent);
         };
         self.sent = self.sent.saturating_add(1);
         let mut head = Parts::new(self.alloc);
         let Ok(status) = StatusCode::from_u16(status) else {
-            return Err(AllocError);
+            return Err(ScriptedError::BadStatus);
         };
         head.status = status;
-        Ok(Response::from_parts(head, body.as_bytes().to_vec(self.alloc)?))
+        match body.as_bytes().to_vec(self.alloc) {
+            Ok(body) => Ok(Response::from_parts(head, body)),
+            Err(AllocError) => Err(ScriptedError::Memory),
+        }
     }
 }
 
@@ -96,21 +110,21 @@ pub fn slept(duration: Duration) -> Seen {
 }
 
 /// Checks a condition in one case. (A call is much cheaper to prove than the assertion itself.)
-pub fn is_so(rt: &impl Abort, is_so: bool, case: &str) {
+pub fn assert_that(rt: &impl Abort, is_so: bool, case: &str) {
     assert!(rt; is_so, "{case}");
 }
 
 /// Checks that the token is the expected answer.
-pub fn is_token(rt: &impl Abort, token: &AccessToken, answer: Result<&str, &str>) {
-    is_so(rt, answer == Ok(token.secret().as_str()), "a token");
+pub fn assert_token(rt: &impl Abort, token: &AccessToken, answer: Result<&str, &str>) {
+    assert_that(rt, answer == Ok(token.secret().as_str()), "a token");
 }
 
 /// Checks that the text of the fault is the expected answer.
-pub fn is_fault<E: Display>(
+pub fn assert_fault<E: Display>(
     rt: &(impl Abort + AllocGlobal),
     error: &E,
     answer: Result<&str, &str>,
 ) {
     let fault = format!(in rt.alloc(); "{error}").expect(rt, "a text");
-    is_so(rt, answer == Err(fault.as_str()), fault.as_str());
+    assert_that(rt, answer == Err(fault.as_str()), fault.as_str());
 }

@@ -2,7 +2,8 @@
 
 use crate::callers::{TokenClient, device_token};
 use crate::support::{
-    Scripted, Seen, client, duration, is_fault, is_so, is_token, moment, moments, slept,
+    Scripted, ScriptedError, Seen, assert_fault, assert_that, assert_token, client, duration,
+    moment, moments, slept,
 };
 use jiff::Timestamp;
 use oauth2::basic::BasicTokenResponse;
@@ -10,14 +11,13 @@ use oauth2::{
     DeviceCodeErrorResponse, HttpRequest, HttpResponse, PollWorld, RequestTokenError,
     StandardDeviceAuthorizationResponse, SyncHttpClient, TokenResponse, read_body,
 };
-use std::alloc::AllocError;
 use std::process::Abort;
 use std::time::Duration;
 
-// The result of a poll whose client can fail only because memory runs out.
+// The result of a poll over a scripted client.
 type TokenResult = Result<
     BasicTokenResponse,
-    RequestTokenError<AllocError, DeviceCodeErrorResponse>,
+    RequestTokenError<ScriptedError, DeviceCodeErrorResponse>,
 >;
 
 // The response to a device, whose code is good for two seconds; its interval is one second.
@@ -53,7 +53,7 @@ impl Recorder<'_> {
 }
 
 impl PollWorld for Recorder<'_> {
-    type Error = AllocError;
+    type Error = ScriptedError;
 
     fn now(&mut self) -> Timestamp {
         if let Some((first, rest)) = self.readings.split_first() {
@@ -64,7 +64,7 @@ impl PollWorld for Recorder<'_> {
         self.last
     }
 
-    fn send(&mut self, request: HttpRequest) -> Result<HttpResponse, AllocError> {
+    fn send(&mut self, request: HttpRequest) -> Result<HttpResponse, ScriptedError> {
         self.note(Seen::Request);
         self.http_client.call(request)
     }
@@ -169,15 +169,15 @@ fn polled_in(
 }
 
 // Checks that the poll returns this token, or an error with this text.
-fn says(rt: &(impl Abort + AllocGlobal), polled: TokenResult, answer: Result<&str, &str>) {
+fn assert_polled(rt: &(impl Abort + AllocGlobal), polled: TokenResult, answer: Result<&str, &str>) {
     match polled {
-        Ok(token) => is_token(rt, token.access_token(), answer),
-        Err(error) => is_fault(rt, &error, answer),
+        Ok(token) => assert_token(rt, token.access_token(), answer),
+        Err(error) => assert_fault(rt, &error, answer),
     }
 }
 
 // The world of the poll sees this, and the poll ends so.
-fn polls(
+fn assert_poll(
     rt: &(impl Abort + AllocGlobal),
     client: &TokenClient,
     device: &StandardDeviceAuthorizationResponse,
@@ -191,17 +191,17 @@ fn polls(
         seen: Vec::new(rt.alloc()),
         is_whole: true,
     };
-    says(
+    assert_polled(
         rt,
         polled_in(rt, client, device, poll, &mut world),
         poll.answer,
     );
-    is_so(rt, world.is_whole, "a whole list");
-    is_so(rt, world.seen.as_slice() == poll.seen, "what is seen");
+    assert_that(rt, world.is_whole, "a whole list");
+    assert_that(rt, world.seen.as_slice() == poll.seen, "what is seen");
 }
 
 // A poll by a clock that counts its readings, which are also what it shows.
-fn polls_by_a_clock(
+fn assert_poll_by_clock(
     rt: &(impl Abort + AllocGlobal),
     client: &TokenClient,
     device: &StandardDeviceAuthorizationResponse,
@@ -230,10 +230,10 @@ fn polls_by_a_clock(
         time_fn,
         &mut sleep_fn,
     );
-    says(rt, polled, Err(EXPIRED));
+    assert_polled(rt, polled, Err(EXPIRED));
     let is_counted = (readings, http_client.sent, sleeps) == (4, 2, 2);
-    is_so(rt, is_counted, "readings, requests and sleeps");
-    is_so(rt, slept == Duration::from_secs(2), "what is slept");
+    assert_that(rt, is_counted, "readings, requests and sleeps");
+    assert_that(rt, slept == Duration::from_secs(2), "what is slept");
 }
 
 #[test]
@@ -241,7 +241,7 @@ fn a_device_polls(rt: HostRuntime) {
     let client = client(&rt);
     let device = read_body(rt.alloc(), TWO_SECONDS.as_bytes()).expect(&rt, "a response");
     for poll in POLLS {
-        polls(&rt, &client, &device, poll);
+        assert_poll(&rt, &client, &device, poll);
     }
-    polls_by_a_clock(&rt, &client, &device);
+    assert_poll_by_clock(&rt, &client, &device);
 }

@@ -1,6 +1,6 @@
 //! Each bound, on both sides.
 
-use crate::support::{GET, GET_BYTES, is_so, is_text, outcome_of};
+use crate::support::{GET, GET_BYTES, assert_at, assert_text_at, outcome_of};
 use crate::wire::Wire;
 use oauth2_http1::Bounds;
 use std::process::Abort;
@@ -65,9 +65,9 @@ fn text_within(rt: &(impl Abort + AllocGlobal), bound: Bound, came: &str, piece:
     outcome_of(rt, &mut wire, bounds_of(bound), GET).text
 }
 
-fn keeps(rt: &(impl Abort + AllocGlobal), bound: Bound, came: &str, wanted: &str) {
-    is_text(rt, text_within(rt, bound, came, 1).as_str(), wanted, came);
-    is_text(
+fn assert_text_within(rt: &(impl Abort + AllocGlobal), bound: Bound, came: &str, wanted: &str) {
+    assert_text_at(rt, text_within(rt, bound, came, 1).as_str(), wanted, came);
+    assert_text_at(
         rt,
         text_within(rt, bound, came, usize::MAX).as_str(),
         wanted,
@@ -78,7 +78,7 @@ fn keeps(rt: &(impl Abort + AllocGlobal), bound: Bound, came: &str, wanted: &str
 #[test]
 fn each_bound(rt: HostRuntime) {
     for (bound, came, wanted) in BOUNDS {
-        keeps(&rt, *bound, came, wanted);
+        assert_text_within(&rt, *bound, came, wanted);
     }
 }
 
@@ -146,19 +146,19 @@ const LONG: &[LongRow] = &[
     ),
 ];
 
-fn begins(rt: &(impl Abort + AllocGlobal), row: LongRow) {
+fn assert_start_within(rt: &(impl Abort + AllocGlobal), row: LongRow) {
     let (start, text, times, end, max_head, wanted) = row;
     let middle = text.repeat(rt.alloc(), times).expect(rt, "a text");
     let came = format!(in rt.alloc(); "{start}{middle}{end}").expect(rt, "a text");
     for piece in [100, 4096] {
         let text = text_within(rt, Bound::Head(max_head), came.as_str(), piece);
-        is_so(rt, text.starts_with(wanted), wanted);
+        assert_at(rt, text.starts_with(wanted), wanted);
     }
 }
 
 #[test]
 fn long_heads(rt: HostRuntime) {
     for row in LONG {
-        begins(&rt, *row);
+        assert_start_within(&rt, *row);
     }
 }

@@ -1,21 +1,21 @@
 //! Connections that are handed out once, and a client's own bounds.
 
 use crate::exchange::{MemoryClient, call, request_of};
-use crate::support::{GET, GET_BYTES, is_so, is_text, text_of};
+use crate::support::{GET, GET_BYTES, assert_at, assert_text_at, text_of};
 use crate::wire::Wire;
 use oauth2_http1::{Duplex, Http1Client, Over, send};
 use std::io::{self, Read};
 use std::process::Abort;
 
 // One call of a client.
-fn gives(rt: &(impl Abort + AllocGlobal), client: &mut MemoryClient<'_, '_>, wanted: &str) {
+fn assert_call(rt: &(impl Abort + AllocGlobal), client: &mut MemoryClient<'_, '_>, wanted: &str) {
     let request = request_of(rt.alloc(), GET).expect(rt, "a request");
     let text = text_of(rt, &call(client, request));
-    is_text(rt, text.as_str(), wanted, wanted);
+    assert_text_at(rt, text.as_str(), wanted, wanted);
 }
 
 // Two calls of a client that has these bounds on a body and on the reads.
-fn calls_twice(
+fn assert_two_calls(
     rt: &(impl Abort + AllocGlobal),
     wire: &mut Wire<'_>,
     bounds: (usize, u32),
@@ -24,8 +24,8 @@ fn calls_twice(
     let mut client = Http1Client::new(rt.alloc(), Over::new(wire))
         .set_max_body(bounds.0)
         .set_max_reads(bounds.1);
-    gives(rt, &mut client, wanted);
-    gives(rt, &mut client, "Connect(NoConnection)");
+    assert_call(rt, &mut client, wanted);
+    assert_call(rt, &mut client, "Connect(NoConnection)");
 }
 
 // The bounds on a body and on the reads, and what the first call returns.
@@ -40,8 +40,8 @@ fn a_second_call(rt: HostRuntime) {
     for (bounds, wanted) in FIRST {
         let came = b"HTTP/1.1 200 OK\r\ncontent-length: 2\r\n\r\n{}";
         let mut wire = Wire::new(came, GET_BYTES.as_bytes());
-        calls_twice(&rt, &mut wire, *bounds, wanted);
-        is_so(&rt, wire.is_written(), wanted);
+        assert_two_calls(&rt, &mut wire, *bounds, wanted);
+        assert_at(&rt, wire.is_written(), wanted);
     }
 }
 
@@ -56,8 +56,8 @@ fn a_reader_and_a_writer(rt: HostRuntime) -> io::Result<()> {
     let mut bytes = [0; 8];
     send(&mut both, b"request")?;
     let len = both.read(&mut bytes)?;
-    is_so(&rt, &bytes[..len] == b"reply".as_slice(), "what is read");
-    is_so(&rt, writer.is_written() && writer.calls == 8, "the writer");
-    is_so(&rt, reader.calls == 1, "the reader");
+    assert_at(&rt, &bytes[..len] == b"reply".as_slice(), "what is read");
+    assert_at(&rt, writer.is_written() && writer.calls == 8, "the writer");
+    assert_at(&rt, reader.calls == 1, "the reader");
     Ok(())
 }

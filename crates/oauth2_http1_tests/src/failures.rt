@@ -1,7 +1,7 @@
 //! Reads and writes that fail.
 
 use crate::exchange::{Answer, RequestTexts, request_of};
-use crate::support::{is_so, is_text, outcome_of, text_of};
+use crate::support::{assert_at, assert_text_at, outcome_of, text_of};
 use crate::wire::Wire;
 use oauth2_http1::{Bounds, exchange};
 use oauth2_wire::HttpRequest;
@@ -35,13 +35,13 @@ fn byte_by_byte(fails_at: usize) -> Wire<'static> {
 }
 
 // Nothing is called after a failure, and what was written before it is the front of the request.
-fn fails(rt: &(impl Abort + AllocGlobal), at: usize, wanted: &str) {
+fn assert_failure(rt: &(impl Abort + AllocGlobal), at: usize, wanted: &str) {
     let mut wire = byte_by_byte(at);
     let outcome = outcome_of(rt, &mut wire, Bounds::default(), POST);
     let unwritten = POST_BYTES.len().saturating_sub(at.saturating_sub(1));
-    is_text(rt, outcome.text.as_str(), wanted, "a failure");
-    is_so(rt, outcome.is_open && !wire.is_other, wanted);
-    is_so(
+    assert_text_at(rt, outcome.text.as_str(), wanted, "a failure");
+    assert_at(rt, outcome.is_open && !wire.is_other, wanted);
+    assert_at(
         rt,
         wire.calls == at && wire.awaited.len() == unwritten,
         wanted,
@@ -54,15 +54,15 @@ fn calls_that_fail(rt: HostRuntime) {
     let sending = POST_BYTES.len().saturating_add(1);
     let all = sending.saturating_add(REPLY.len());
     for at in 1..=sending {
-        fails(&rt, at, UNWRITTEN);
+        assert_failure(&rt, at, UNWRITTEN);
     }
     for at in sending.saturating_add(1)..=all {
-        fails(&rt, at, UNREAD);
+        assert_failure(&rt, at, UNREAD);
     }
     let mut wire = byte_by_byte(0);
     let outcome = outcome_of(&rt, &mut wire, Bounds::default(), POST);
-    is_text(&rt, outcome.text.as_str(), READ, "no failure");
-    is_so(&rt, wire.is_written() && wire.calls == all, "no failure");
+    assert_text_at(&rt, outcome.text.as_str(), READ, "no failure");
+    assert_at(&rt, wire.is_written() && wire.calls == all, "no failure");
 }
 
 // A writer that takes no byte.
@@ -71,8 +71,8 @@ fn a_full_writer(rt: HostRuntime) {
     let mut wire = byte_by_byte(0).in_pieces(0, 0);
     let outcome = outcome_of(&rt, &mut wire, Bounds::default(), POST);
     let wanted = "Write(Error { kind: WriteZero, message: \"failed to write whole buffer\" })";
-    is_text(&rt, outcome.text.as_str(), wanted, "a full writer");
-    is_so(&rt, wire.calls == 1 && wire.reads == 0, "a full writer");
+    assert_text_at(&rt, outcome.text.as_str(), wanted, "a full writer");
+    assert_at(&rt, wire.calls == 1 && wire.reads == 0, "a full writer");
 }
 
 // Which call of the writer fails, which call of the reader, and what the exchange returns.
@@ -104,8 +104,8 @@ fn exchanged(
     let request = request_of(rt.alloc(), POST).expect(rt, "a request");
     let (mut reader, mut writer) = (byte_by_byte(read), byte_by_byte(write));
     let answer = exchange_over(rt.alloc(), &request, &mut reader, &mut writer);
-    is_text(rt, text_of(rt, &answer).as_str(), wanted, wanted);
-    is_so(
+    assert_text_at(rt, text_of(rt, &answer).as_str(), wanted, wanted);
+    assert_at(
         rt,
         !writer.is_other && writer.reads == 0 && reader.calls == reader.reads,
         wanted,
@@ -123,6 +123,6 @@ fn halves_that_fail(rt: HostRuntime) {
             (0, read) => (all.0, read),
             (write, _) => (write, 0),
         };
-        is_so(&rt, calls == expected, wanted);
+        assert_at(&rt, calls == expected, wanted);
     }
 }

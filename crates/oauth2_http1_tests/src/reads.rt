@@ -1,6 +1,6 @@
 //! How much is read, and how often.
 
-use crate::support::{GET, GET_BYTES, is_so, is_text, outcome_of};
+use crate::support::{GET, GET_BYTES, assert_at, assert_text_at, outcome_of};
 use crate::wire::Wire;
 use oauth2_http1::Bounds;
 use std::process::Abort;
@@ -59,12 +59,12 @@ fn taken(
     wanted: &str,
 ) -> usize {
     let outcome = outcome_of(rt, &mut wire, bounds, GET);
-    is_text(rt, outcome.text.as_str(), wanted, wanted);
+    assert_text_at(rt, outcome.text.as_str(), wanted, wanted);
     wire.given
 }
 
 // The last read begins before the error shows, and takes what one read asks for.
-fn ends(rt: &(impl Abort + AllocGlobal), came: &str, text: &str, wanted: &str, shows: usize) {
+fn assert_end(rt: &(impl Abort + AllocGlobal), came: &str, text: &str, wanted: &str, shows: usize) {
     let bounds = Bounds::default()
         .set_max_head(500)
         .set_max_extensions(500)
@@ -78,7 +78,7 @@ fn ends(rt: &(impl Abort + AllocGlobal), came: &str, text: &str, wanted: &str, s
         wanted,
     );
     let whole = taken(rt, endless(came, again.as_str()), bounds, wanted);
-    is_so(
+    assert_at(
         rt,
         bytes == shows && whole < shows.saturating_add(CHUNK),
         wanted,
@@ -88,7 +88,7 @@ fn ends(rt: &(impl Abort + AllocGlobal), came: &str, text: &str, wanted: &str, s
 #[test]
 fn replies_without_an_end(rt: HostRuntime) {
     for (came, text, wanted, shows) in ENDLESS {
-        ends(&rt, came, text, wanted, *shows);
+        assert_end(&rt, came, text, wanted, *shows);
     }
 }
 
@@ -126,7 +126,7 @@ fn read_count(
     let mut wire = wire.in_pieces(1, 1);
     let bounds = Bounds::default().set_max_reads(max_reads);
     let outcome = outcome_of(rt, &mut wire, bounds, GET);
-    is_text(rt, outcome.text.as_str(), wanted, wanted);
+    assert_text_at(rt, outcome.text.as_str(), wanted, wanted);
     wire.reads
 }
 
@@ -134,7 +134,7 @@ fn read_count(
 fn reads_are_counted(rt: HostRuntime) {
     for (came, again, max_reads, wanted) in READS {
         let reads = read_count(&rt, endless(came, again), *max_reads, wanted);
-        is_so(&rt, reads == *max_reads as usize, came);
+        assert_at(&rt, reads == *max_reads as usize, came);
     }
 }
 
@@ -155,6 +155,6 @@ fn reads_that_are_interrupted(rt: HostRuntime) {
             interrupts_left: *interrupts,
             ..endless(REPLY, "")
         };
-        is_so(&rt, read_count(&rt, wire, 40, wanted) == *reads, wanted);
+        assert_at(&rt, read_count(&rt, wire, 40, wanted) == *reads, wanted);
     }
 }

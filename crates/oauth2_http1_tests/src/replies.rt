@@ -1,20 +1,25 @@
 //! Replies as servers send them.
 
 use crate::exchange::RequestTexts;
-use crate::support::{GET, GET_BYTES, is_so, is_text, outcome_of};
+use crate::support::{GET, GET_BYTES, assert_at, assert_text_at, outcome_of};
 use crate::wire::Wire;
 use oauth2_http1::Bounds;
 use std::process::Abort;
 
 // One call that takes heads of 120 bytes and bodies of 64, to which the reply comes in pieces of
 // these lengths; and how often the connection is read when it has given all of it.
-fn reads(rt: &(impl Abort + AllocGlobal), row: (&str, usize, &str), first: usize, piece: usize) {
+fn assert_reply(
+    rt: &(impl Abort + AllocGlobal),
+    row: (&str, usize, &str),
+    first: usize,
+    piece: usize,
+) {
     let (came, past, wanted) = row;
     let bounds = Bounds::default().set_max_head(120).set_max_body(64);
     let mut wire = Wire::new(came.as_bytes(), GET_BYTES.as_bytes()).in_pieces(first, piece);
     let outcome = outcome_of(rt, &mut wire, bounds, GET);
-    is_text(rt, outcome.text.as_str(), wanted, came);
-    is_so(
+    assert_text_at(rt, outcome.text.as_str(), wanted, came);
+    assert_at(
         rt,
         outcome.is_open && wire.is_written() && wire.reads_past == past,
         came,
@@ -22,10 +27,10 @@ fn reads(rt: &(impl Abort + AllocGlobal), row: (&str, usize, &str), first: usize
 }
 
 // The reply comes byte by byte, in two pieces that are parted at every place, and in one.
-fn reads_in_pieces(rt: &(impl Abort + AllocGlobal), came: &str, past: usize, wanted: &str) {
-    reads(rt, (came, past, wanted), 1, 1);
+fn assert_reply_in_pieces(rt: &(impl Abort + AllocGlobal), came: &str, past: usize, wanted: &str) {
+    assert_reply(rt, (came, past, wanted), 1, 1);
     for first in 1..=came.len() {
-        reads(rt, (came, past, wanted), first, usize::MAX);
+        assert_reply(rt, (came, past, wanted), first, usize::MAX);
     }
 }
 
@@ -148,7 +153,7 @@ const REPLIES: &[(&str, usize, &str)] = &[
 #[test]
 fn replies_in_pieces(rt: HostRuntime) {
     for (came, past, wanted) in REPLIES {
-        reads_in_pieces(&rt, came, *past, wanted);
+        assert_reply_in_pieces(&rt, came, *past, wanted);
     }
 }
 
@@ -168,7 +173,7 @@ const CUT: &[&str] = &[
 #[test]
 fn replies_that_are_cut(rt: HostRuntime) {
     for came in CUT {
-        reads_in_pieces(&rt, came, 1, "Reply(Response(UnexpectedEof))");
+        assert_reply_in_pieces(&rt, came, 1, "Reply(Response(UnexpectedEof))");
     }
 }
 
@@ -276,7 +281,7 @@ const REFUSED: &[(&str, &str)] = &[
 #[test]
 fn what_is_no_reply(rt: HostRuntime) {
     for (came, wanted) in REFUSED {
-        reads_in_pieces(&rt, came, 0, wanted);
+        assert_reply_in_pieces(&rt, came, 0, wanted);
     }
 }
 
@@ -318,7 +323,7 @@ const BY_REQUEST: &[(RequestTexts<'static>, &str, &str, &str)] = &[
     ),
 ];
 
-fn replies_to(
+fn assert_reply_to(
     rt: &(impl Abort + AllocGlobal),
     request: RequestTexts<'_>,
     sent: &str,
@@ -327,13 +332,13 @@ fn replies_to(
 ) {
     let mut wire = Wire::new(came.as_bytes(), sent.as_bytes());
     let outcome = outcome_of(rt, &mut wire, Bounds::default(), request);
-    is_text(rt, outcome.text.as_str(), wanted, sent);
-    is_so(rt, wire.is_written() && wire.reads == 1, sent);
+    assert_text_at(rt, outcome.text.as_str(), wanted, sent);
+    assert_at(rt, wire.is_written() && wire.reads == 1, sent);
 }
 
 #[test]
 fn replies_by_request(rt: HostRuntime) {
     for (request, sent, came, wanted) in BY_REQUEST {
-        replies_to(&rt, *request, sent, came, wanted);
+        assert_reply_to(&rt, *request, sent, came, wanted);
     }
 }

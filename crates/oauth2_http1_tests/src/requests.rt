@@ -1,7 +1,7 @@
 //! The bytes of requests, and requests that are not sent.
 
 use crate::exchange::RequestTexts;
-use crate::support::{is_so, is_text, outcome_of, text_of_request};
+use crate::support::{assert_at, assert_text_at, outcome_of, text_of_request};
 use crate::wire::Wire;
 use oauth2_http1::Bounds;
 use std::process::Abort;
@@ -127,19 +127,19 @@ const REQUESTS: &[(Request, &str)] = &[
 
 const REPLY: &[u8] = b"HTTP/1.1 204 No Content\r\n\r\n";
 
-fn writes(rt: &(impl Abort + AllocGlobal), request: Request, bytes: &str) {
+fn assert_written(rt: &(impl Abort + AllocGlobal), request: Request, bytes: &str) {
     let mut wire = Wire::new(REPLY, bytes.as_bytes());
     let outcome = outcome_of(rt, &mut wire, Bounds::default(), texts_of(request));
-    is_text(rt, outcome.text.as_str(), "HTTP/1.1 204\n\n", bytes);
-    is_so(rt, wire.is_written(), bytes);
+    assert_text_at(rt, outcome.text.as_str(), "HTTP/1.1 204\n\n", bytes);
+    assert_at(rt, wire.is_written(), bytes);
     // The kit's server reads one request with the same parts, and no byte after it.
-    is_text(rt, text_of_request(rt, bytes).as_str(), bytes, bytes);
+    assert_text_at(rt, text_of_request(rt, bytes).as_str(), bytes, bytes);
 }
 
 #[test]
 fn bytes_of_requests(rt: HostRuntime) {
     for (request, bytes) in REQUESTS {
-        writes(&rt, *request, bytes);
+        assert_written(&rt, *request, bytes);
     }
 }
 
@@ -186,16 +186,16 @@ const REFUSED: &[(Request, &str)] = &[
     ),
 ];
 
-fn refuses(rt: &(impl Abort + AllocGlobal), request: Request, wanted: &str) {
+fn assert_request_refused(rt: &(impl Abort + AllocGlobal), request: Request, wanted: &str) {
     let mut wire = Wire::new(REPLY, b"");
     let outcome = outcome_of(rt, &mut wire, Bounds::default(), texts_of(request));
-    is_text(rt, outcome.text.as_str(), wanted, request.1);
-    is_so(rt, !outcome.is_open && wire.calls == 0, request.1);
+    assert_text_at(rt, outcome.text.as_str(), wanted, request.1);
+    assert_at(rt, !outcome.is_open && wire.calls == 0, request.1);
 }
 
 #[test]
 fn requests_that_are_not_sent(rt: HostRuntime) {
     for (request, wanted) in REFUSED {
-        refuses(&rt, *request, wanted);
+        assert_request_refused(&rt, *request, wanted);
     }
 }

@@ -57,17 +57,17 @@ pub fn outcome_of(
 }
 
 /// Checks a condition for one row of a table. (A call is much cheaper to prove than the assertion.)
-pub fn is_so(rt: &impl Abort, is_so: bool, row: &str) {
+pub fn assert_at(rt: &impl Abort, is_so: bool, row: &str) {
     assert!(rt; is_so, "at {row}");
 }
 
 /// Checks a text for one row of a table.
-pub fn is_text(rt: &impl Abort, found: &str, wanted: &str, row: &str) {
+pub fn assert_text_at(rt: &impl Abort, found: &str, wanted: &str, row: &str) {
     assert!(rt; found == wanted, "at {row}: {found}");
 }
 
 /// Checks the text that a value displays.
-pub fn displays<T: Display>(rt: &(impl Abort + AllocGlobal), value: &T, wanted: &str) {
+pub fn assert_displayed_as<T: Display>(rt: &(impl Abort + AllocGlobal), value: &T, wanted: &str) {
     let text = format!(in rt.alloc(); "{value}").expect(rt, "a text");
-    is_text(rt, text.as_str(), wanted, wanted);
+    assert_text_at(rt, text.as_str(), wanted, wanted);
 }

@@ -1,6 +1,6 @@
 //! The texts of errors.
 
-use crate::support::displays;
+use crate::support::assert_displayed_as;
 use http1::chunked::ChunkError;
 use http1::framing::FramingError;
 use http1::{ReadError, WriteError};
@@ -69,10 +69,10 @@ const READ_ERRORS: &[(ReadError, &str)] = &[
 #[test]
 fn texts_of_errors(rt: HostRuntime) {
     for (fault, text) in REQUEST_FAULTS {
-        displays(&rt, &Error::Request(*fault), text);
+        assert_displayed_as(&rt, &Error::Request(*fault), text);
     }
     for (error, text) in READ_ERRORS {
-        displays(&rt, &Error::Reply(ReplyFault::Response(*error)), text);
+        assert_displayed_as(&rt, &Error::Reply(ReplyFault::Response(*error)), text);
     }
     let reset = io::Error::from(ErrorKind::ConnectionReset);
     let faults = [
@@ -96,10 +96,10 @@ fn texts_of_errors(rt: HostRuntime) {
         (Error::Reply(ReplyFault::Memory), "Out of memory"),
     ];
     for (error, text) in &faults {
-        displays(&rt, error, text);
+        assert_displayed_as(&rt, error, text);
     }
     let reset = io::Error::from(ErrorKind::ConnectionReset);
-    displays(
+    assert_displayed_as(
         &rt,
         &Error::Reply(ReplyFault::Read(reset)),
         "connection cannot be read",

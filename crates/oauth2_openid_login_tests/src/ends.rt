@@ -1,6 +1,6 @@
 //! Logins from their redirect to their ID token.
 
-use crate::support::{client, is_text, login, url};
+use crate::support::{assert_text, client, login, url};
 use jiff::Timestamp;
 use oauth2::basic::BasicErrorResponse;
 use oauth2::http::Response;
@@ -95,8 +95,8 @@ fn the_login_of_the_standard(rt: HostRuntime) {
     let end = ended(&rt, &mut http_client, STORED, REDIRECT_WITH_ISSUER, true)
         .ok()
         .expect(&rt, "a user");
-    is_text(&rt, end.id_token.claims().subject(), "248289761001");
-    is_text(
+    assert_text(&rt, end.id_token.claims().subject(), "248289761001");
+    assert_text(
         &rt,
         end.token_response.access_token().secret().as_str(),
         "SlAV32hkKG",
@@ -105,7 +105,7 @@ fn the_login_of_the_standard(rt: HostRuntime) {
         .token_response
         .refresh_token()
         .map_or("", |t| t.secret().as_str());
-    is_text(&rt, refresh_token, "8xLOxBtZp8");
+    assert_text(&rt, refresh_token, "8xLOxBtZp8");
     assert!(rt; end.access_token_hash == AccessTokenHash::Absent);
     let sent =
         "grant_type=authorization_code&code=SplxlOBeZQQYbYS6WxSbIA&code_verifier=v&client_id=s6BhdRkqt3";
@@ -146,9 +146,9 @@ fn line(rt: &(impl Abort + AllocGlobal), ended: Ended) -> String {
 }
 
 // A login that was stored as this ends in this line, if this is replied.
-fn ends_as(rt: &(impl Abort + AllocGlobal), stored: &str, body: &str, expected: &str) {
+fn assert_ended_as(rt: &(impl Abort + AllocGlobal), stored: &str, body: &str, expected: &str) {
     let ended = ended(rt, &mut answering(rt, body), stored, REDIRECT, false);
-    is_text(rt, line(rt, ended).as_str(), expected);
+    assert_text(rt, line(rt, ended).as_str(), expected);
 }
 
 #[test]
@@ -173,7 +173,7 @@ fn the_rules_hold_for_this_login(rt: HostRuntime) {
         ),
     ];
     for (stored, claims, expected) in rows {
-        ends_as(&rt, stored, response(&rt, claims).as_str(), expected);
+        assert_ended_as(&rt, stored, response(&rt, claims).as_str(), expected);
     }
 }
 
@@ -199,22 +199,22 @@ fn a_response_without_an_id_token(rt: HostRuntime) {
         ("{}", "Failed to parse server response"),
     ];
     for (body, expected) in rows {
-        ends_as(&rt, STORED, body, expected);
+        assert_ended_as(&rt, STORED, body, expected);
     }
 }
 
 // A login whose redirect is not its own, or does not tell its issuer, sends nothing.
-fn sends_nothing(rt: &(impl Abort + AllocGlobal), redirect: &str, expected: &str) {
+fn assert_nothing_sent(rt: &(impl Abort + AllocGlobal), redirect: &str, expected: &str) {
     let mut http_client = answering(rt, EXAMPLE);
     let ended = ended(rt, &mut http_client, STORED, redirect, true);
-    is_text(rt, line(rt, ended).as_str(), expected);
+    assert_text(rt, line(rt, ended).as_str(), expected);
     assert!(rt; http_client.bodies.is_empty());
 }
 
 #[test]
 fn a_redirect_without_a_code_of_the_login(rt: HostRuntime) {
-    sends_nothing(&rt, REDIRECT, "redirect has another issuer");
-    sends_nothing(
+    assert_nothing_sent(&rt, REDIRECT, "redirect has another issuer");
+    assert_nothing_sent(
         &rt,
         "https://client.example.org/cb?code=SplxlOBeZQQYbYS6WxSbIA&state=bf0ifjsldkj&iss=http%3A%2F%2Fserver.example.com",
         "redirect has another state",

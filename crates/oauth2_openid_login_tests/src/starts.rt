@@ -2,7 +2,7 @@
 
 ghost use Rattle.std.specs.Prelude.{◌≡◌, None};
 
-use crate::support::{client, is_stored_as, is_text, login, text};
+use crate::support::{assert_stored_as, assert_text, client, login, text};
 use oauth2::{ParseCause, ReadError, RedirectUrl, Scope, read_body};
 use oauth2_openid_login::{OpenIdClient, OpenIdLogin, OpenIdLoginRequest};
 use rand_pcg::Pcg32;
@@ -17,15 +17,15 @@ fn started<'a>(rt: &(impl Abort + AllocGlobal), client: &'a OpenIdClient) -> Ope
 }
 
 // A login has this URL, and is stored as this text.
-fn leads_to(
+fn assert_login(
     rt: &(impl Abort + AllocGlobal),
     request: OpenIdLoginRequest<'_>,
     url: &str,
     stored: &str,
 ) {
     let (led, login) = request.url(rt.alloc()).ok().expect(rt, "a URL");
-    is_text(rt, led.as_str(), url);
-    is_stored_as(rt, &login, stored);
+    assert_text(rt, led.as_str(), url);
+    assert_stored_as(rt, &login, stored);
 }
 
 // The state, the verifier and the nonce are those that a generator in Python draws.
@@ -34,8 +34,8 @@ fn a_login_is_started(rt: HostRuntime) {
     let client = client(&rt);
     let request = started(&rt, &client);
     let shown = format!(in rt.alloc(); "{request:?}").expect(&rt, "a text");
-    is_text(&rt, shown.as_str(), "OpenIdLoginRequest([redacted])");
-    leads_to(
+    assert_text(&rt, shown.as_str(), "OpenIdLoginRequest([redacted])");
+    assert_login(
         &rt,
         request,
         "https://server.example.com/authorize?response_type=code&client_id=s6BhdRkqt3\
@@ -62,7 +62,7 @@ fn a_login_is_started_with_more(rt: HostRuntime) {
         .set_max_age(alloc, Duration::from_millis(3_600_999))
         .expect(&rt, "room")
         .set_redirect_uri(&redirect);
-    leads_to(
+    assert_login(
         &rt,
         request,
         "https://server.example.com/authorize?response_type=code&client_id=s6BhdRkqt3\
@@ -74,14 +74,14 @@ fn a_login_is_started_with_more(rt: HostRuntime) {
 }
 
 // What is read of a text, and the member that is at fault.
-fn fault_of(rt: &(impl Abort + AllocGlobal), stored: &str, member: &str, cause: ParseCause) {
+fn assert_refused(rt: &(impl Abort + AllocGlobal), stored: &str, member: &str, cause: ParseCause) {
     let read: Result<OpenIdLogin, ReadError> = read_body(rt.alloc(), stored.as_bytes());
     match read {
         Err(ReadError::Fault(fault)) => {
-            is_text(rt, fault.member.as_str(), member);
+            assert_text(rt, fault.member.as_str(), member);
             assert!(rt; fault.cause == cause);
         }
-        _ => is_text(rt, "no fault", member),
+        _ => assert_text(rt, "no fault", member),
     }
 }
 
@@ -89,22 +89,22 @@ fn fault_of(rt: &(impl Abort + AllocGlobal), stored: &str, member: &str, cause: 
 fn a_login_is_stored(rt: HostRuntime) {
     let stored = r#"{"max_age":0,"nonce":"n","state":"s","verifier":"v"}"#;
     let login = login(&rt, stored);
-    is_stored_as(&rt, &login, stored);
+    assert_stored_as(&rt, &login, stored);
     let shown = format!(in rt.alloc(); "{login:?}").expect(&rt, "a text");
-    is_text(&rt, shown.as_str(), "OpenIdLogin([redacted])");
-    fault_of(
+    assert_text(&rt, shown.as_str(), "OpenIdLogin([redacted])");
+    assert_refused(
         &rt,
         r#"{"state":"s","verifier":"v"}"#,
         "nonce",
         ParseCause::Missing,
     );
-    fault_of(
+    assert_refused(
         &rt,
         r#"{"nonce":"n","verifier":"v"}"#,
         "state",
         ParseCause::Missing,
     );
-    fault_of(
+    assert_refused(
         &rt,
         r#"{"max_age":-1,"nonce":"n","state":"s","verifier":"v"}"#,
         "max_age",

@@ -11,7 +11,7 @@ pub(crate) fn text(rt: &(impl Abort + AllocGlobal), text: &str) -> String {
 }
 
 /// The texts are equal. (A call is much cheaper to prove than the assertion itself.)
-pub(crate) fn is_text(rt: &impl Abort, found: &str, expected: &str) {
+pub(crate) fn assert_text(rt: &impl Abort, found: &str, expected: &str) {
     assert_eq!(rt; found, expected);
 }
 
@@ -37,7 +37,7 @@ pub(crate) fn login(rt: &(impl Abort + AllocGlobal), stored: &str) -> OpenIdLogi
 }
 
 /// The login is stored as this.
-pub(crate) fn is_stored_as(rt: &(impl Abort + AllocGlobal), login: &OpenIdLogin, stored: &str) {
+pub(crate) fn assert_stored_as(rt: &(impl Abort + AllocGlobal), login: &OpenIdLogin, stored: &str) {
     let written = compact(rt.alloc(), login).ok().expect(rt, "a text");
-    is_text(rt, written.as_str(), stored);
+    assert_text(rt, written.as_str(), stored);
 }

@@ -1,6 +1,6 @@
 //! Tokens that meet each rule, and tokens that do not meet one.
 
-use crate::support::{ACCESS_TOKEN, APPENDIX_A2, is_text_at, read, text, token};
+use crate::support::{ACCESS_TOKEN, APPENDIX_A2, assert_text_at, read, text, token};
 use jiff::Timestamp;
 use oauth2_openid::{Expected, Nonce};
 use oauth2_types::{AccessToken, ClientId};
@@ -48,14 +48,14 @@ fn word(rt: &(impl Abort + AllocGlobal), token: &str, wanted: &Expected, second:
 }
 
 // A check of the token at that second returns this.
-fn is_checked_as(
+fn assert_checked_as(
     rt: &(impl Abort + AllocGlobal),
     token: &str,
     wanted: &Expected,
     second: i64,
     word_wanted: &str,
 ) {
-    is_text_at(
+    assert_text_at(
         rt,
         word(rt, token, wanted, second).as_str(),
         word_wanted,
@@ -64,7 +64,7 @@ fn is_checked_as(
 }
 
 // The same of section 2's claims, with this header and these members.
-fn is_row(
+fn assert_row(
     rt: &(impl Abort + AllocGlobal),
     wanted: &Expected,
     header: &str,
@@ -73,7 +73,7 @@ fn is_row(
 ) {
     let token = token(rt, header, claims(rt, more).as_str());
     let found = word(rt, token.as_str(), wanted, 1311281000);
-    is_text_at(rt, found.as_str(), word_wanted, more);
+    assert_text_at(rt, found.as_str(), word_wanted, more);
 }
 
 const RS256: &str = r#"{"alg":"RS256"}"#;
@@ -131,7 +131,7 @@ const CLAIMS: [(&str, &str); 33] = [
 fn names_the_rule_that_the_claims_break(rt: HostRuntime) {
     let wanted = expected(&rt);
     for (more, word_wanted) in CLAIMS {
-        is_row(&rt, &wanted, RS256, more, word_wanted);
+        assert_row(&rt, &wanted, RS256, more, word_wanted);
     }
 }
 
@@ -233,7 +233,7 @@ const HEADERS: [(&str, &str, &str); 22] = [
 fn names_the_rule_that_the_header_breaks(rt: HostRuntime) {
     let wanted = expected(&rt);
     for (header, more, word_wanted) in HEADERS {
-        is_row(&rt, &wanted, header, more, word_wanted);
+        assert_row(&rt, &wanted, header, more, word_wanted);
     }
 }
 
@@ -251,7 +251,7 @@ fn takes_the_registered_algorithm(rt: HostRuntime) {
     let mut wanted = expected(&rt);
     for (algorithm, header, word_wanted) in ALGORITHMS {
         wanted.algorithm = Some(text(&rt, algorithm));
-        is_row(&rt, &wanted, header, "", word_wanted);
+        assert_row(&rt, &wanted, header, "", word_wanted);
     }
 }
 
@@ -284,7 +284,7 @@ fn names_the_first_rule(rt: HostRuntime) {
     let mut more = text(&rt, BROKEN);
     for (header, mend, word_wanted) in ORDER {
         more.push_str(mend).expect(&rt, "members");
-        is_row(&rt, &wanted, header, more.as_str(), word_wanted);
+        assert_row(&rt, &wanted, header, more.as_str(), word_wanted);
     }
 }
 
@@ -319,7 +319,7 @@ fn takes_the_leeway_on_the_right_side(rt: HostRuntime) {
     for (leeway, max_age, second, word_wanted) in TIMES {
         wanted.leeway = Duration::from_secs(leeway);
         wanted.max_age = Some(Duration::from_secs(max_age));
-        is_checked_as(&rt, token.as_str(), &wanted, second, word_wanted);
+        assert_checked_as(&rt, token.as_str(), &wanted, second, word_wanted);
     }
 }
 
@@ -329,12 +329,12 @@ fn asks_for_the_nonce_that_was_sent(rt: HostRuntime) {
     let claims =
         r#"{"iss":"http://server.example.com","sub":"1","aud":"s6BhdRkqt3","exp":1000,"iat":900}"#;
     let no_nonce = token(&rt, RS256, claims);
-    is_checked_as(&rt, APPENDIX_A2, &wanted, 1311281000, "Absent");
-    is_checked_as(&rt, APPENDIX_A2, &wanted, 1311281970, "Expired");
-    is_checked_as(&rt, no_nonce.as_str(), &wanted, 950, "NoNonce");
+    assert_checked_as(&rt, APPENDIX_A2, &wanted, 1311281000, "Absent");
+    assert_checked_as(&rt, APPENDIX_A2, &wanted, 1311281970, "Expired");
+    assert_checked_as(&rt, no_nonce.as_str(), &wanted, 950, "NoNonce");
     wanted.nonce = None;
-    is_checked_as(&rt, APPENDIX_A2, &wanted, 1311281000, "NonceNotSent");
-    is_checked_as(&rt, no_nonce.as_str(), &wanted, 950, "Absent");
+    assert_checked_as(&rt, APPENDIX_A2, &wanted, 1311281000, "NonceNotSent");
+    assert_checked_as(&rt, no_nonce.as_str(), &wanted, 950, "Absent");
     wanted.max_age = Some(Duration::from_secs(100));
-    is_checked_as(&rt, no_nonce.as_str(), &wanted, 950, "NoAuthTime");
+    assert_checked_as(&rt, no_nonce.as_str(), &wanted, 950, "NoAuthTime");
 }

@@ -1,7 +1,8 @@
 //! Texts that are ID tokens, and texts that are none.
 
 use crate::support::{
-    APPENDIX_A2, is_debugged_as, is_displayed_as, is_text, is_text_at, read, text, token,
+    APPENDIX_A2, assert_debugged_as, assert_displayed_as, assert_text, assert_text_at, read, text,
+    token,
 };
 use jiff::Timestamp;
 use oauth2_codes::BasicTokenType;
@@ -25,13 +26,13 @@ fn line(rt: &(impl Abort + AllocGlobal), token: &str) -> String {
 }
 
 // A token reads to this line.
-fn reads_as(rt: &(impl Abort + AllocGlobal), token: &str, expected: &str, row: &str) {
-    is_text_at(rt, line(rt, token).as_str(), expected, row);
+fn assert_read_as(rt: &(impl Abort + AllocGlobal), token: &str, expected: &str, row: &str) {
+    assert_text_at(rt, line(rt, token).as_str(), expected, row);
 }
 
-fn is_header_of_the_standard(rt: &impl Abort, token: &IdToken) {
-    is_text(rt, token.header().algorithm(), "RS256");
-    is_text(rt, token.header().key_id().unwrap_or(""), "1e9gdk7");
+fn assert_header_of_the_standard(rt: &impl Abort, token: &IdToken) {
+    assert_text(rt, token.header().algorithm(), "RS256");
+    assert_text(rt, token.header().key_id().unwrap_or(""), "1e9gdk7");
 }
 
 fn sole_audience_of(claims: &IdTokenClaims) -> &str {
@@ -41,35 +42,35 @@ fn sole_audience_of(claims: &IdTokenClaims) -> &str {
     }
 }
 
-fn are_claims_of_the_standard(rt: &impl Abort, claims: &IdTokenClaims) {
-    is_text(rt, claims.issuer(), "http://server.example.com");
-    is_text(rt, claims.subject(), "248289761001");
-    is_text(rt, sole_audience_of(claims), "s6BhdRkqt3");
+fn assert_claims_of_the_standard(rt: &impl Abort, claims: &IdTokenClaims) {
+    assert_text(rt, claims.issuer(), "http://server.example.com");
+    assert_text(rt, claims.subject(), "248289761001");
+    assert_text(rt, sole_audience_of(claims), "s6BhdRkqt3");
     assert_eq!(rt; claims.expires_at().as_second(), 1311281970);
     assert_eq!(rt; claims.issued_at().as_second(), 1311280970);
 }
 
 // The claims that the token of appendix A.2 does not have.
-fn are_other_claims_absent(rt: &impl Abort, claims: &IdTokenClaims) {
-    is_text(rt, second_method_of(claims), "");
+fn assert_other_claims_absent(rt: &impl Abort, claims: &IdTokenClaims) {
+    assert_text(rt, second_method_of(claims), "");
     assert_eq!(rt; claims.auth_time(), None);
-    is_text(
+    assert_text(
         rt,
         claims.authentication_context_class().unwrap_or("none"),
         "none",
     );
-    is_text(rt, claims.authorized_party().unwrap_or("none"), "none");
-    is_text(rt, claims.access_token_hash().unwrap_or("none"), "none");
+    assert_text(rt, claims.authorized_party().unwrap_or("none"), "none");
+    assert_text(rt, claims.access_token_hash().unwrap_or("none"), "none");
 }
 
 #[test]
 fn reads_the_token_of_the_standard(rt: HostRuntime) {
     let token = read(&rt, APPENDIX_A2);
-    is_header_of_the_standard(&rt, &token);
-    are_claims_of_the_standard(&rt, token.claims());
-    are_other_claims_absent(&rt, token.claims());
-    is_displayed_as(&rt, token.other_header_members(), "{}");
-    is_displayed_as(
+    assert_header_of_the_standard(&rt, &token);
+    assert_claims_of_the_standard(&rt, token.claims());
+    assert_other_claims_absent(&rt, token.claims());
+    assert_displayed_as(&rt, token.other_header_members(), "{}");
+    assert_displayed_as(
         &rt,
         token.other_claims(),
         "{\"birthdate\":\"0000-10-31\",\"email\":\"janedoe@example.com\",\"family_name\":\"Doe\",\
@@ -81,8 +82,8 @@ fn reads_the_token_of_the_standard(rt: HostRuntime) {
 #[test]
 fn gives_the_text_back(rt: HostRuntime) {
     let token = read(&rt, APPENDIX_A2);
-    is_displayed_as(&rt, &token, APPENDIX_A2);
-    is_debugged_as(&rt, &token, "IdToken([redacted])");
+    assert_displayed_as(&rt, &token, APPENDIX_A2);
+    assert_debugged_as(&rt, &token, "IdToken([redacted])");
     assert_eq!(&rt; token.signature().len(), 256);
     assert_eq!(&rt; token.signed_part().len(), APPENDIX_A2.len() - 343);
 }
@@ -101,16 +102,16 @@ fn second_method_of(claims: &IdTokenClaims) -> &str {
     }
 }
 
-fn are_claims_of_a_login(rt: &impl Abort, claims: &IdTokenClaims) {
-    is_text(rt, nonce_of(claims), "n");
-    is_text(
+fn assert_claims_of_a_login(rt: &impl Abort, claims: &IdTokenClaims) {
+    assert_text(rt, nonce_of(claims), "n");
+    assert_text(
         rt,
         claims.authentication_context_class().unwrap_or(""),
         "urn:mace:incommon:iap:silver",
     );
-    is_text(rt, second_method_of(claims), "otp");
-    is_text(rt, claims.authorized_party().unwrap_or(""), "c");
-    is_text(rt, claims.access_token_hash().unwrap_or(""), "h");
+    assert_text(rt, second_method_of(claims), "otp");
+    assert_text(rt, claims.authorized_party().unwrap_or(""), "c");
+    assert_text(rt, claims.access_token_hash().unwrap_or(""), "h");
     assert_eq!(rt; claims.auth_time(), Timestamp::from_second(5).ok());
 }
 
@@ -119,7 +120,7 @@ fn reads_how_the_user_logged_in(rt: HostRuntime) {
     let claims = r#"{"iss":"i","sub":"s","aud":"c","exp":20,"iat":10,"auth_time":5,"nonce":"n",
         "acr":"urn:mace:incommon:iap:silver","amr":["pwd","otp"],"azp":"c","at_hash":"h"}"#;
     let token = read(&rt, token(&rt, HEADER, claims).as_str());
-    are_claims_of_a_login(&rt, token.claims());
+    assert_claims_of_a_login(&rt, token.claims());
 }
 
 // Claims, and what the token that has them reads to.
@@ -197,7 +198,7 @@ const PAYLOADS: [(&str, &str); 20] = [
 #[test]
 fn reads_claims(rt: HostRuntime) {
     for (claims, expected) in PAYLOADS {
-        reads_as(&rt, token(&rt, HEADER, claims).as_str(), expected, claims);
+        assert_read_as(&rt, token(&rt, HEADER, claims).as_str(), expected, claims);
     }
 }
 
@@ -216,7 +217,7 @@ const HEADERS: [(&str, &str); 5] = [
 #[test]
 fn reads_headers(rt: HostRuntime) {
     for (header, expected) in HEADERS {
-        reads_as(&rt, token(&rt, header, CLAIMS).as_str(), expected, header);
+        assert_read_as(&rt, token(&rt, header, CLAIMS).as_str(), expected, header);
     }
 }
 
@@ -246,14 +247,14 @@ const TEXTS: [(&str, &str); 13] = [
 #[test]
 fn reads_parts(rt: HostRuntime) {
     for (token, expected) in TEXTS {
-        reads_as(&rt, token, expected, token);
+        assert_read_as(&rt, token, expected, token);
     }
 }
 
 #[test]
 fn shows_why_a_token_is_refused(rt: HostRuntime) {
-    is_displayed_as(&rt, &ClaimsError::Expired, "the token has expired");
-    is_displayed_as(
+    assert_displayed_as(&rt, &ClaimsError::Expired, "the token has expired");
+    assert_displayed_as(
         &rt,
         &ClaimsError::OtherAccessToken,
         "the hash is that of another access token",
@@ -288,8 +289,8 @@ fn random_nonce(rt: &(impl Abort + AllocGlobal)) -> String {
 #[test]
 fn keeps_a_nonce_secret(rt: HostRuntime) {
     let nonce = Nonce::new(text(&rt, "n-0S6_WzA2Mj"));
-    is_debugged_as(&rt, &nonce, "Nonce([redacted])");
-    is_text(&rt, nonce.secret().as_str(), "n-0S6_WzA2Mj");
+    assert_debugged_as(&rt, &nonce, "Nonce([redacted])");
+    assert_text(&rt, nonce.secret().as_str(), "n-0S6_WzA2Mj");
     let copy = nonce.try_clone(rt.alloc()).expect(&rt, "a copy");
     assert!(&rt; copy == nonce);
     assert_eq!(&rt; random_nonce(&rt).len(), 22);
@@ -299,10 +300,10 @@ fn keeps_a_nonce_secret(rt: HostRuntime) {
 fn reads_a_token_response_with_an_id_token(rt: HostRuntime) {
     let body = r#"{"access_token":"SlAV32hkKG","token_type":"Bearer","expires_in":3600,
         "id_token":"a.b.c"}"#;
-    is_text(&rt, id_token_of(&rt, body).as_str(), "a.b.c");
+    assert_text(&rt, id_token_of(&rt, body).as_str(), "a.b.c");
     let no_token = r#"{"access_token":"SlAV32hkKG","token_type":"Bearer"}"#;
-    is_text(&rt, id_token_of(&rt, no_token).as_str(), "none");
+    assert_text(&rt, id_token_of(&rt, no_token).as_str(), "none");
     let token = IdTokenText::new(text(&rt, "a.b.c"));
-    is_debugged_as(&rt, &token, "IdTokenText([redacted])");
-    is_text(&rt, token.into_secret().as_str(), "a.b.c");
+    assert_debugged_as(&rt, &token, "IdTokenText([redacted])");
+    assert_text(&rt, token.into_secret().as_str(), "a.b.c");
 }

@@ -48,27 +48,31 @@ pub(crate) fn read(rt: &(impl Abort + AllocGlobal), token: &str) -> IdToken {
 }
 
 /// The texts are equal. (A call is much cheaper to prove than the assertion itself.)
-pub(crate) fn is_text(rt: &impl Abort, found: &str, expected: &str) {
+pub(crate) fn assert_text(rt: &impl Abort, found: &str, expected: &str) {
     assert_eq!(rt; found, expected);
 }
 
 /// The texts are equal, for one row of a table.
-pub(crate) fn is_text_at(rt: &impl Abort, found: &str, expected: &str, row: &str) {
+pub(crate) fn assert_text_at(rt: &impl Abort, found: &str, expected: &str, row: &str) {
     assert_eq!(rt; found, expected, "at {row}");
 }
 
 /// The value is shown as this text where it is debugged.
-pub(crate) fn is_debugged_as<T: Debug>(rt: &(impl Abort + AllocGlobal), value: &T, expected: &str) {
+pub(crate) fn assert_debugged_as<T: Debug>(
+    rt: &(impl Abort + AllocGlobal),
+    value: &T,
+    expected: &str,
+) {
     let shown = format!(in rt.alloc(); "{value:?}").expect(rt, "a debug text");
-    is_text(rt, shown.as_str(), expected);
+    assert_text(rt, shown.as_str(), expected);
 }
 
 /// The value is shown as this text.
-pub(crate) fn is_displayed_as<T: Display>(
+pub(crate) fn assert_displayed_as<T: Display>(
     rt: &(impl Abort + AllocGlobal),
     value: &T,
     expected: &str,
 ) {
     let shown = format!(in rt.alloc(); "{value}").expect(rt, "a text");
-    is_text(rt, shown.as_str(), expected);
+    assert_text(rt, shown.as_str(), expected);
 }

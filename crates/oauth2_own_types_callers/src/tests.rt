@@ -55,11 +55,11 @@ fn text(rt: &(impl Abort + AllocGlobal), text: &str) -> String {
 }
 
 // The two are equal. (A call costs a proof far less than the assertion would in its place.)
-fn is_equal<T: PartialEq + Debug + Drop>(rt: &impl Abort, found: T, wanted: T) {
+fn assert_equal<T: PartialEq + Debug + Drop>(rt: &impl Abort, found: T, wanted: T) {
     assert_eq!(rt; found, wanted);
 }
 
-fn is_text(rt: &impl Abort, found: &str, wanted: &str) {
+fn assert_text(rt: &impl Abort, found: &str, wanted: &str) {
     assert_eq!(rt; found, wanted);
 }
 
@@ -102,9 +102,9 @@ fn answering(rt: &(impl Abort + AllocGlobal), body: &str) -> Replying {
     Replying(Some(reply(rt, 200, body)))
 }
 
-fn is_displayed_as<T: Display>(rt: &(impl Abort + AllocGlobal), value: &T, wanted: &str) {
+fn assert_displayed_as<T: Display>(rt: &(impl Abort + AllocGlobal), value: &T, wanted: &str) {
     let shown = format!(in rt.alloc(); "{value}").expect(rt, "a text");
-    is_text(rt, shown.as_str(), wanted);
+    assert_text(rt, shown.as_str(), wanted);
 }
 
 // The token for a code, of a server that replies like this.
@@ -123,30 +123,30 @@ fn token(rt: &(impl Abort + AllocGlobal)) -> ColorfulTokenResponse {
     answer(rt, 200, TOKEN).expect(rt, "a token")
 }
 
-fn are_told(rt: &(impl Abort + AllocGlobal), fields: &ColorfulFields) {
-    is_equal(rt, fields.height, 12);
-    is_equal(rt, fields.shape.as_deref(), Some("round"));
+fn assert_fields(rt: &(impl Abort + AllocGlobal), fields: &ColorfulFields) {
+    assert_equal(rt, fields.height, 12);
+    assert_equal(rt, fields.shape.as_deref(), Some("round"));
 }
 
-fn tells(rt: &(impl Abort + AllocGlobal), token: &ColorfulTokenResponse) {
-    is_text(rt, token.access_token().secret().as_str(), "12/34");
+fn assert_token(rt: &(impl Abort + AllocGlobal), token: &ColorfulTokenResponse) {
+    assert_text(rt, token.access_token().secret().as_str(), "12/34");
     assert!(rt; *token.token_type() == ColorfulTokenType::Green);
-    are_told(rt, token.extra_fields());
+    assert_fields(rt, token.extra_fields());
 }
 
 #[test]
 fn token_with_a_color(rt: HostRuntime) {
     let token = token(&rt);
-    tells(&rt, &token);
+    assert_token(&rt, &token);
 }
 
 #[test]
 fn token_that_is_kept(rt: HostRuntime) {
     let token = token(&rt);
     let kept = stored_token(rt.alloc(), &token).expect(&rt, "a text");
-    is_text(&rt, kept.as_str(), TOKEN);
+    assert_text(&rt, kept.as_str(), TOKEN);
     let restored = restored_token(rt.alloc(), kept.as_str()).expect(&rt, "a token");
-    tells(&rt, &restored);
+    assert_token(&rt, &restored);
 }
 
 // The smallest response of the Rust crate's tests.
@@ -154,10 +154,10 @@ fn token_that_is_kept(rt: HostRuntime) {
 fn token_without_a_shape(rt: HostRuntime) {
     let body = r#"{"access_token":"12/34","height":10,"token_type":"green"}"#;
     let token = restored_token(rt.alloc(), body).expect(&rt, "a token");
-    is_equal(&rt, token.extra_fields().height, 10);
+    assert_equal(&rt, token.extra_fields().height, 10);
     assert!(rt; token.extra_fields().shape.is_none());
     let kept = stored_token(rt.alloc(), &token).expect(&rt, "a text");
-    is_text(&rt, kept.as_str(), body);
+    assert_text(&rt, kept.as_str(), body);
 }
 
 #[test]
@@ -165,16 +165,16 @@ fn extra_fields_are_written_beside(rt: HostRuntime) {
     let body = r#"{"access_token":"12/34","token_type":"GREEN","shape":"round","height":12}"#;
     let token = restored_token(rt.alloc(), body).expect(&rt, "a token");
     let kept = stored_token(rt.alloc(), &token).expect(&rt, "a text");
-    is_text(&rt, kept.as_str(), TOKEN);
+    assert_text(&rt, kept.as_str(), TOKEN);
 }
 
 // The text of a token does not read: the member at fault, and the cause.
-fn is_refused(rt: &(impl Abort + AllocGlobal), body: &str, member: &str, cause: ParseCause) {
+fn assert_refused(rt: &(impl Abort + AllocGlobal), body: &str, member: &str, cause: ParseCause) {
     let Err(ReadError::Fault(fault)) = restored_token(rt.alloc(), body) else {
         panic!(rt; "no fault");
     };
-    is_text(rt, fault.member.as_str(), member);
-    is_equal(rt, fault.cause, cause);
+    assert_text(rt, fault.member.as_str(), member);
+    assert_equal(rt, fault.cause, cause);
 }
 
 #[test]
@@ -196,7 +196,7 @@ fn extra_fields_are_read_last(rt: HostRuntime) {
             ParseCause::OutOfRange,
         ),
     ] {
-        is_refused(&rt, body, member, cause);
+        assert_refused(&rt, body, member, cause);
     }
 }
 
@@ -204,7 +204,7 @@ fn extra_fields_are_read_last(rt: HostRuntime) {
 fn token_that_is_read_again(rt: HostRuntime) {
     let token = token(&rt);
     let again = reread(rt.alloc(), &token).expect(&rt, "a token");
-    tells(&rt, &again);
+    assert_token(&rt, &again);
 }
 
 #[test]
@@ -214,7 +214,7 @@ fn error_code_of_ones_own(rt: HostRuntime) {
         panic!(rt; "no error response");
     };
     assert!(rt; *response.error() == ColorfulErrorResponseType::TooLight);
-    is_displayed_as(&rt, &response, "too_light: color is too light");
+    assert_displayed_as(&rt, &response, "too_light: color is too light");
 }
 
 fn custom_client(rt: &(impl Abort + AllocGlobal)) -> CustomErrorClient {
@@ -238,7 +238,7 @@ fn custom_answer(
 fn error_response_of_ones_own(rt: HostRuntime) {
     let answer = custom_answer(&rt, &custom_client(&rt));
     let error = answer.err().expect(&rt, "an error");
-    is_displayed_as(&rt, &error, "Server returned error response: non-compliant");
+    assert_displayed_as(&rt, &error, "Server returned error response: non-compliant");
 }
 
 fn revocation_request(
@@ -252,15 +252,15 @@ fn revocation_request(
         .expect(rt, "a request")
 }
 
-fn has_body(rt: &impl Abort, request: HttpRequest, body: &[u8]) {
-    is_equal(rt, request.body().as_slice(), body);
+fn assert_body(rt: &impl Abort, request: HttpRequest, body: &[u8]) {
+    assert_equal(rt, request.body().as_slice(), body);
 }
 
 #[test]
 fn revocation_of_a_red_token(rt: HostRuntime) {
     let token = ColorfulRevocableToken(text(&rt, "colorful_token_123"));
     let request = asked(&rt, |client| revocation_request(&rt, client, token));
-    has_body(
+    assert_body(
         &rt,
         request,
         b"token=colorful_token_123&token_type_hint=red_token".as_slice(),
@@ -268,12 +268,12 @@ fn revocation_of_a_red_token(rt: HostRuntime) {
 }
 
 // The answer is the token above.
-fn is_token<E: Debug + Drop>(
+fn assert_answer<E: Debug + Drop>(
     rt: &(impl Abort + AllocGlobal),
     answer: Result<ColorfulTokenResponse, E>,
 ) {
     let token = answer.expect(rt, "a token");
-    tells(rt, &token);
+    assert_token(rt, &token);
 }
 
 // The token for a refresh token, of a server that replies with the one above.
@@ -289,7 +289,7 @@ fn refreshed(
 fn token_for_a_refresh_token(rt: HostRuntime) {
     let refresh_token = RefreshToken::new(text(&rt, "ccc"));
     let answer = asked(&rt, |client| refreshed(&rt, client, &refresh_token));
-    is_token(&rt, answer);
+    assert_answer(&rt, answer);
 }
 
 // The token for a name and a password, of the same server.
@@ -313,7 +313,7 @@ fn token_for_a_name_and_a_password(rt: HostRuntime) {
     let username = ResourceOwnerUsername::new(text(&rt, "user"));
     let password = ResourceOwnerPassword::new(text(&rt, "pass"));
     let answer = asked(&rt, |client| logged_in(&rt, client, &username, &password));
-    is_token(&rt, answer);
+    assert_answer(&rt, answer);
 }
 
 // The client's own token, of the same server.
@@ -324,13 +324,13 @@ fn granted_to_the_client(rt: &(impl Abort + AllocGlobal), client: &ColorfulClien
 #[test]
 fn token_of_the_client(rt: HostRuntime) {
     let answer = asked(&rt, |client| granted_to_the_client(&rt, client));
-    is_token(&rt, answer);
+    assert_answer(&rt, answer);
 }
 
 // The value is written as this text.
-fn is_written_as(rt: &(impl Abort + AllocGlobal), value: Value, wanted: &str) {
+fn assert_written_as(rt: &(impl Abort + AllocGlobal), value: Value, wanted: &str) {
     let written = value.to_string(rt.alloc()).expect(rt, "a text");
-    is_text(rt, written.as_str(), wanted);
+    assert_text(rt, written.as_str(), wanted);
 }
 
 const ACTIVE: &str = r#"{"active":true,"height":12,"shape":"round","token_type":"green"}"#;
@@ -355,14 +355,14 @@ fn introspection_with_a_color(rt: HostRuntime) {
     let response = introspected(&rt);
     assert!(rt; response.active());
     assert!(rt; response.token_type() == Some(&ColorfulTokenType::Green));
-    are_told(&rt, response.extra_fields());
+    assert_fields(&rt, response.extra_fields());
 }
 
 #[test]
 fn introspection_that_is_kept(rt: HostRuntime) {
     let response = introspected(&rt);
     let value = introspection_value(rt.alloc(), &response).expect(&rt, "a value");
-    is_written_as(&rt, value, ACTIVE);
+    assert_written_as(&rt, value, ACTIVE);
 }
 
 const CODES: &str =
@@ -385,15 +385,15 @@ fn codes(rt: &(impl Abort + AllocGlobal)) -> DeviceAuthorizationResponse<Colorfu
 #[test]
 fn codes_of_a_device(rt: HostRuntime) {
     let codes = codes(&rt);
-    is_text(&rt, codes.user_code().secret().as_str(), "abcde");
-    are_told(&rt, codes.extra_fields());
+    assert_text(&rt, codes.user_code().secret().as_str(), "abcde");
+    assert_fields(&rt, codes.extra_fields());
 }
 
 #[test]
 fn codes_that_are_kept(rt: HostRuntime) {
     let codes = codes(&rt);
     let value = codes_value(rt.alloc(), &codes).expect(&rt, "a value");
-    is_written_as(&rt, value, CODES);
+    assert_written_as(&rt, value, CODES);
 }
 
 // A world whose clock stands still, and whose client hands out one reply.
@@ -431,7 +431,7 @@ fn polled(
 fn token_of_a_device(rt: HostRuntime) {
     let codes = restored_codes(&rt);
     let answer = asked(&rt, |client| polled(&rt, client, &codes));
-    is_token(&rt, answer);
+    assert_answer(&rt, answer);
 }
 
 #[test]
@@ -439,7 +439,7 @@ fn error_that_is_kept(rt: HostRuntime) {
     let description = Some(text(&rt, "color is too light"));
     let error = ColorfulErrorResponse::new(ColorfulErrorResponseType::TooLight, description, None);
     let value = error_value(rt.alloc(), &error).expect(&rt, "a value");
-    is_written_as(
+    assert_written_as(
         &rt,
         value,
         r#"{"error":"too_light","error_description":"color is too light"}"#,

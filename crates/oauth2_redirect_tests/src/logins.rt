@@ -169,7 +169,7 @@ fn a_login_whose_code_is_refused(rt: HostRuntime) {
 }
 
 // A login is stored as this text, and shown as that one.
-fn is_stored(rt: &(impl Abort + AllocGlobal), stored: &str, shown: &str) {
+fn assert_stored_and_shown(rt: &(impl Abort + AllocGlobal), stored: &str, shown: &str) {
     let login = login(rt, stored);
     let written = compact(rt.alloc(), &login).ok().expect(rt, "a text");
     assert_text(rt, written.as_str(), stored);
@@ -179,12 +179,12 @@ fn is_stored(rt: &(impl Abort + AllocGlobal), stored: &str, shown: &str) {
 
 #[test]
 fn a_login_is_stored(rt: HostRuntime) {
-    is_stored(
+    assert_stored_and_shown(
         &rt,
         STORED,
         "Login { state: CsrfToken([redacted]), verifier: PkceCodeVerifier([redacted]), redirect_uri: None }",
     );
-    is_stored(
+    assert_stored_and_shown(
         &rt,
         STORED_WITH_A_REDIRECT,
         "Login { state: CsrfToken([redacted]), verifier: PkceCodeVerifier([redacted]), redirect_uri: Some(RedirectUrl(\"https://app.example/cb?a=1\")) }",
@@ -200,7 +200,12 @@ fn started<'a>(rt: &(impl Abort + AllocGlobal), client: &'a LoginClient) -> Logi
 }
 
 // A login has this URL, and is stored as this text.
-fn leads_to(rt: &(impl Abort + AllocGlobal), request: LoginRequest<'_>, url: &str, stored: &str) {
+fn assert_login(
+    rt: &(impl Abort + AllocGlobal),
+    request: LoginRequest<'_>,
+    url: &str,
+    stored: &str,
+) {
     let (led, login) = request.url(rt.alloc()).ok().expect(rt, "a URL");
     let written = compact(rt.alloc(), &login).ok().expect(rt, "a text");
     assert_text(rt, led.as_str(), url);
@@ -213,7 +218,7 @@ fn a_login_is_started(rt: HostRuntime) {
     let request = started(&rt, &client)
         .add_extra_param("nonce".into(), "n1".into())
         .expect(&rt, "room");
-    leads_to(
+    assert_login(
         &rt,
         request,
         "https://as.example/auth?response_type=code&client_id=aaa&state=twJcoQn0R3swMx26k_LSgw&code_challenge=H7ZdcLcbjjOKQshuaEBh45jlXGBfQdZSXs7wHPjiPgQ&code_challenge_method=S256&scope=read&nonce=n1",
@@ -227,7 +232,7 @@ fn a_login_keeps_its_redirect_uri(rt: HostRuntime) {
     let redirect = RedirectUrl::new(rt.alloc(), text(&rt, "https://app.example/cb"))
         .ok()
         .expect(&rt, "a URL");
-    leads_to(
+    assert_login(
         &rt,
         started(&rt, &client).set_redirect_uri(&redirect),
         "https://as.example/auth?response_type=code&client_id=aaa&state=twJcoQn0R3swMx26k_LSgw&code_challenge=H7ZdcLcbjjOKQshuaEBh45jlXGBfQdZSXs7wHPjiPgQ&code_challenge_method=S256&redirect_uri=https%3A%2F%2Fapp.example%2Fcb&scope=read",

@@ -1,6 +1,6 @@
 //! Scopes and parameters that are encoded as they are added.
 
-use crate::support::{is_equal, text, url};
+use crate::support::{assert_equal, text, url};
 use oauth2::{AuthType, ClientId, HttpRequest, ParamBuffer, endpoint_request_encoded};
 use std::process::Abort;
 
@@ -35,14 +35,19 @@ fn request_of(rt: &(impl Abort + AllocGlobal), params: &ParamBuffer) -> HttpRequ
     .expect(rt, "a request")
 }
 
-fn sends(rt: &(impl Abort + AllocGlobal), added: &[Addition<'_>], has_scope: bool, body: &str) {
+fn assert_sent(
+    rt: &(impl Abort + AllocGlobal),
+    added: &[Addition<'_>],
+    has_scope: bool,
+    body: &str,
+) {
     let mut params = ParamBuffer::new(rt.alloc());
     for addition in added {
         add(rt, &mut params, *addition);
     }
-    is_equal(rt, params.has_scope(), has_scope);
+    assert_equal(rt, params.has_scope(), has_scope);
     let request = request_of(rt, &params);
-    is_equal(rt, request.body().as_slice(), body.as_bytes());
+    assert_equal(rt, request.body().as_slice(), body.as_bytes());
 }
 
 // What is added, whether there is a scope then, and the body.
@@ -72,6 +77,6 @@ const ROWS: [(&[Addition<'static>], bool, &str); 4] = [
 #[test]
 fn scopes_and_parameters(rt: HostRuntime) {
     for (additions, has_scope, body) in ROWS {
-        sends(&rt, additions, has_scope, body);
+        assert_sent(&rt, additions, has_scope, body);
     }
 }

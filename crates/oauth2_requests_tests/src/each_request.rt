@@ -1,7 +1,7 @@
 //! Each kind of request, and what it says of replies that no script can hold.
 
 use crate::replies::reply_of;
-use crate::support::{Replying, is_equal, is_text, shows, text};
+use crate::support::{Replying, assert_displayed_as, assert_equal, assert_text, text};
 use jiff::Timestamp;
 use oauth2::basic::{BasicClient, BasicRequestTokenError, BasicTokenResponse};
 use oauth2::{
@@ -75,12 +75,12 @@ fn scoped_refresh(
         .expect(rt, "a request")
 }
 
-fn has_body(rt: &impl Abort, request: HttpRequest, body: &str) {
-    is_equal(rt, request.body().as_slice(), body.as_bytes());
+fn assert_body(rt: &impl Abort, request: HttpRequest, body: &str) {
+    assert_equal(rt, request.body().as_slice(), body.as_bytes());
 }
 
-fn prepares_a_refresh(rt: &(impl Abort + AllocGlobal), client: &PostClient) {
-    has_body(
+fn assert_prepared_refresh(rt: &(impl Abort + AllocGlobal), client: &PostClient) {
+    assert_body(
         rt,
         scoped_refresh(rt, client, &refresh_token(rt)),
         "grant_type=refresh_token&refresh_token=r&scope=a",
@@ -116,7 +116,7 @@ fn handing_out(rt: &(impl Abort + AllocGlobal), reply: Reply<'_>) -> Replying {
 }
 
 // The answer is the wanted one; one that does not read holds the body's bytes.
-fn tells<T: Drop, E: Display + Drop>(
+fn assert_answer<T: Drop, E: Display + Drop>(
     rt: &(impl Abort + AllocGlobal),
     answer: Result<T, RequestTokenError<u8, E>>,
     body: &[u8],
@@ -125,16 +125,16 @@ fn tells<T: Drop, E: Display + Drop>(
     match (answer, wanted) {
         (Ok(_), Outcome::Accepted) => {}
         (Err(RequestTokenError::Parse(fault, bytes)), Outcome::NotJson) => {
-            is_text(rt, fault.member.as_str(), "");
-            is_equal(rt, fault.cause, ParseCause::NotJson);
-            is_equal(rt, bytes.as_slice(), body);
+            assert_text(rt, fault.member.as_str(), "");
+            assert_equal(rt, fault.cause, ParseCause::NotJson);
+            assert_equal(rt, bytes.as_slice(), body);
         }
-        (Err(error), Outcome::Shown(text)) => shows(rt, &error, text),
+        (Err(error), Outcome::Shown(text)) => assert_displayed_as(rt, &error, text),
         _ => panic!(rt; "another answer"),
     }
 }
 
-fn exchanges_a_code(
+fn assert_code_exchange(
     rt: &(impl Abort + AllocGlobal),
     client: &PostClient,
     reply: Reply<'_>,
@@ -143,10 +143,10 @@ fn exchanges_a_code(
     let code = AuthorizationCode::new(text(rt, "c"));
     let request = client.exchange_code(rt.alloc(), code);
     let answer = request.request(rt.alloc(), &mut handing_out(rt, reply));
-    tells(rt, answer, reply.body, wanted);
+    assert_answer(rt, answer, reply.body, wanted);
 }
 
-fn refreshes(
+fn assert_refresh(
     rt: &(impl Abort + AllocGlobal),
     client: &PostClient,
     reply: Reply<'_>,
@@ -155,10 +155,10 @@ fn refreshes(
     let token = refresh_token(rt);
     let request = client.exchange_refresh_token(rt.alloc(), &token);
     let answer = request.request(rt.alloc(), &mut handing_out(rt, reply));
-    tells(rt, answer, reply.body, wanted);
+    assert_answer(rt, answer, reply.body, wanted);
 }
 
-fn shows_a_password(
+fn assert_password_exchange(
     rt: &(impl Abort + AllocGlobal),
     client: &PostClient,
     reply: Reply<'_>,
@@ -168,10 +168,10 @@ fn shows_a_password(
     let password = ResourceOwnerPassword::new(text(rt, "p"));
     let request = client.exchange_password(rt.alloc(), &username, &password);
     let answer = request.request(rt.alloc(), &mut handing_out(rt, reply));
-    tells(rt, answer, reply.body, wanted);
+    assert_answer(rt, answer, reply.body, wanted);
 }
 
-fn shows_its_own_credentials(
+fn assert_client_credentials_exchange(
     rt: &(impl Abort + AllocGlobal),
     client: &PostClient,
     reply: Reply<'_>,
@@ -179,10 +179,10 @@ fn shows_its_own_credentials(
 ) {
     let request = client.exchange_client_credentials(rt.alloc());
     let answer = request.request(rt.alloc(), &mut handing_out(rt, reply));
-    tells(rt, answer, reply.body, wanted);
+    assert_answer(rt, answer, reply.body, wanted);
 }
 
-fn introspects(
+fn assert_introspection(
     rt: &(impl Abort + AllocGlobal),
     client: &PostClient,
     reply: Reply<'_>,
@@ -191,10 +191,10 @@ fn introspects(
     let token = access_token(rt);
     let request = client.introspect(rt.alloc(), &token);
     let answer = request.request(rt.alloc(), &mut handing_out(rt, reply));
-    tells(rt, answer, reply.body, wanted);
+    assert_answer(rt, answer, reply.body, wanted);
 }
 
-fn asks_for_codes(
+fn assert_device_codes(
     rt: &(impl Abort + AllocGlobal),
     client: &PostClient,
     reply: Reply<'_>,
@@ -203,11 +203,11 @@ fn asks_for_codes(
     let request = client.exchange_device_code(rt.alloc());
     let answer: Result<StandardDeviceAuthorizationResponse, BasicRequestTokenError<u8>> =
         request.request(rt.alloc(), &mut handing_out(rt, reply));
-    tells(rt, answer, reply.body, wanted);
+    assert_answer(rt, answer, reply.body, wanted);
 }
 
 // A poll of one request, whose clock stands still.
-fn polls_once(
+fn assert_one_poll(
     rt: &(impl Abort + AllocGlobal),
     client: &PostClient,
     device: &StandardDeviceAuthorizationResponse,
@@ -224,11 +224,11 @@ fn polls_once(
         None,
         1,
     );
-    tells(rt, answer, reply.body, wanted);
+    assert_answer(rt, answer, reply.body, wanted);
 }
 
 // Only status 200 is a success, whatever else the reply says.
-fn revokes(
+fn assert_revocation(
     rt: &(impl Abort + AllocGlobal),
     client: &PostClient,
     reply: Reply<'_>,
@@ -243,34 +243,34 @@ fn revokes(
     } else {
         wanted
     };
-    tells(rt, answer, reply.body, wanted);
+    assert_answer(rt, answer, reply.body, wanted);
 }
 
 // What the reply says where a caller sent the request.
-fn is_read(rt: &(impl Abort + AllocGlobal), reply: Reply<'_>, wanted: Outcome<'_>) {
+fn assert_read(rt: &(impl Abort + AllocGlobal), reply: Reply<'_>, wanted: Outcome<'_>) {
     let answer: Result<BasicTokenResponse, BasicRequestTokenError<u8>> = endpoint_response(
         rt.alloc(),
         made(rt, reply),
     );
-    tells(rt, answer, reply.body, wanted);
+    assert_answer(rt, answer, reply.body, wanted);
 }
 
 // Each kind of request answers so, and the same is read where a caller sent the request.
-fn answers(
+fn assert_answers(
     rt: &(impl Abort + AllocGlobal),
     client: &PostClient,
     reply: Reply<'_>,
     wanted: Outcome<'_>,
 ) {
-    exchanges_a_code(rt, client, reply, wanted);
-    refreshes(rt, client, reply, wanted);
-    shows_a_password(rt, client, reply, wanted);
-    shows_its_own_credentials(rt, client, reply, wanted);
-    introspects(rt, client, reply, wanted);
-    asks_for_codes(rt, client, reply, wanted);
-    polls_once(rt, client, &device(rt), reply, wanted);
-    revokes(rt, client, reply, wanted);
-    is_read(rt, reply, wanted);
+    assert_code_exchange(rt, client, reply, wanted);
+    assert_refresh(rt, client, reply, wanted);
+    assert_password_exchange(rt, client, reply, wanted);
+    assert_client_credentials_exchange(rt, client, reply, wanted);
+    assert_introspection(rt, client, reply, wanted);
+    assert_device_codes(rt, client, reply, wanted);
+    assert_one_poll(rt, client, &device(rt), reply, wanted);
+    assert_revocation(rt, client, reply, wanted);
+    assert_read(rt, reply, wanted);
 }
 
 // A reply with this body, and no Content-Type.
@@ -323,21 +323,21 @@ const TYPES: [(&[&[u8]], Outcome<'static>); 3] = [
     ),
 ];
 
-fn answers_in_each_row(rt: &(impl Abort + AllocGlobal), client: &PostClient) {
+fn assert_answers_in_each_row(rt: &(impl Abort + AllocGlobal), client: &PostClient) {
     for status in [200, 400, 500] {
         for body in [b"\xff".as_slice(), b"{\"error\":\"\xff\"}"] {
-            answers(rt, client, untyped(status, body), Outcome::NotJson);
+            assert_answers(rt, client, untyped(status, body), Outcome::NotJson);
         }
     }
     for (types, wanted) in TYPES {
-        answers(rt, client, success(types), wanted);
-        answers(rt, client, failure(types), INVALID_GRANT);
+        assert_answers(rt, client, success(types), wanted);
+        assert_answers(rt, client, failure(types), INVALID_GRANT);
     }
 }
 
 #[test]
 fn each_request(rt: HostRuntime) {
     let client = client(&rt);
-    prepares_a_refresh(&rt, &client);
-    answers_in_each_row(&rt, &client);
+    assert_prepared_refresh(&rt, &client);
+    assert_answers_in_each_row(&rt, &client);
 }

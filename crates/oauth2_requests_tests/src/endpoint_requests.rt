@@ -1,7 +1,7 @@
 //! Requests to an endpoint (RFC 6749, section 2.3.1): what is in their bodies, and how many
 //! headers they have.
 
-use crate::support::{is_equal, is_text, text, url};
+use crate::support::{assert_equal, assert_text, text, url};
 use oauth2::AuthType::{BasicAuth, RequestBody};
 use oauth2::{
     AuthType, ClientId, ClientSecret, HttpRequest, ParamText, RedirectRef, RedirectUrl, ReplyRule,
@@ -49,7 +49,7 @@ fn request_of(
 }
 
 // What the body has of the client, and how many headers there are.
-fn sends(
+fn assert_sent(
     rt: &(impl Abort + AllocGlobal),
     auth_type: AuthType,
     secret: Option<&ClientSecret>,
@@ -62,42 +62,42 @@ fn sends(
         &redirect_uri=https%3A%2F%2Fexample.com&x+y=%C3%A9%26%3D"
     )
     .expect(rt, "a body");
-    is_equal(rt, request.body().as_slice(), body.as_bytes());
-    is_equal(rt, request.headers().len(), headers);
+    assert_equal(rt, request.body().as_slice(), body.as_bytes());
+    assert_equal(rt, request.headers().len(), headers);
 }
 
 #[test]
 fn credentials_in_the_header_or_the_body(rt: HostRuntime) {
     let secret = ClientSecret::new(text(&rt, "bbb"));
-    sends(&rt, BasicAuth, Some(&secret), "", 3);
-    sends(&rt, BasicAuth, None, "&client_id=aaa", 2);
-    sends(
+    assert_sent(&rt, BasicAuth, Some(&secret), "", 3);
+    assert_sent(&rt, BasicAuth, None, "&client_id=aaa", 2);
+    assert_sent(
         &rt,
         RequestBody,
         Some(&secret),
         "&client_id=aaa&client_secret=bbb",
         2,
     );
-    sends(&rt, RequestBody, None, "&client_id=aaa", 2);
+    assert_sent(&rt, RequestBody, None, "&client_id=aaa", 2);
 }
 
-fn redirects_to(rt: &impl Abort, redirect: RedirectRef<'_>, wanted: &str) {
-    is_text(rt, redirect.redirect_url().as_str(), wanted);
+fn assert_redirect(rt: &impl Abort, redirect: RedirectRef<'_>, wanted: &str) {
+    assert_text(rt, redirect.redirect_url().as_str(), wanted);
 }
 
 #[test]
 fn redirects_are_borrowed_or_owned(rt: HostRuntime) {
     let url = redirect_url(&rt);
-    redirects_to(&rt, RedirectRef::from(&url), "https://example.com");
-    redirects_to(&rt, RedirectRef::from(url), "https://example.com");
+    assert_redirect(&rt, RedirectRef::from(&url), "https://example.com");
+    assert_redirect(&rt, RedirectRef::from(url), "https://example.com");
 }
 
 #[test]
 fn copies_of_settings(rt: HostRuntime) {
     let copy = RequestBody.try_clone(rt.alloc()).expect(&rt, "a copy");
-    is_equal(&rt, copy, RequestBody);
+    assert_equal(&rt, copy, RequestBody);
     for rule in [ReplyRule::Prefix, ReplyRule::MediaType] {
         let copy = rule.try_clone(rt.alloc()).expect(&rt, "a copy");
-        is_equal(&rt, copy, rule);
+        assert_equal(&rt, copy, rule);
     }
 }

@@ -1,6 +1,6 @@
 //! What a form writes for each byte (URL Standard, section 5.2).
 
-use crate::support::{is_equal, text, url};
+use crate::support::{assert_equal, text, url};
 use oauth2::{AuthType, ClientId, HttpRequest, ParamText, endpoint_request};
 use std::process::Abort;
 
@@ -26,10 +26,10 @@ fn request_of(
 }
 
 // A request with one extra parameter, of which the name is the text, sends this body.
-fn sends(rt: &(impl Abort + AllocGlobal), name: &str, body: &[u8]) {
+fn assert_sent(rt: &(impl Abort + AllocGlobal), name: &str, body: &[u8]) {
     let extra = [(ParamText::from(name), ParamText::from(""))];
     let request = request_of(rt, extra.as_slice());
-    is_equal(rt, request.body().as_slice(), body);
+    assert_equal(rt, request.body().as_slice(), body);
 }
 
 // The bytes that are no escapes: the ASCII letters and digits, `*`, `-`, `.` and `_`.
@@ -88,5 +88,5 @@ fn every_byte(rt: &(impl Abort + AllocGlobal)) -> String {
 fn every_byte_of_utf8(rt: HostRuntime) {
     let name = every_byte(&rt);
     let body = body_of(&rt, name.as_str());
-    sends(&rt, name.as_str(), body.as_bytes());
+    assert_sent(&rt, name.as_str(), body.as_bytes());
 }

@@ -1,7 +1,7 @@
 //! The sending of one request by a client, which is called once at most.
 
-use crate::replies::{JSON_FOO_REFUSED, RevocationError, TextResult, json_foo, says};
-use crate::support::{Replying, is_equal};
+use crate::replies::{JSON_FOO_REFUSED, RevocationError, TextResult, assert_text_result, json_foo};
+use crate::support::{Replying, assert_equal};
 use oauth2::http::{Request, Response};
 use oauth2::{
     FnClient, HttpRequest, HttpResponse, ReplyRule, RequestFault, send_once, send_once_status_only,
@@ -15,7 +15,7 @@ fn empty_request(rt: &impl AllocGlobal) -> HttpRequest {
 
 // What is said of one request by a rule, and how often the client is called, whose reply is a
 // token of the type `application/jsonfoo`.
-fn sends(
+fn assert_sent_once(
     rt: &(impl Abort + AllocGlobal),
     rule: ReplyRule,
     prepared: Result<HttpRequest, RequestFault>,
@@ -27,28 +27,28 @@ fn sends(
         calls: 0,
     };
     let answer: TextResult = send_once(rt.alloc(), rule, prepared, &mut client);
-    is_equal(rt, client.calls, calls);
-    says(rt, answer, wanted);
+    assert_equal(rt, client.calls, calls);
+    assert_text_result(rt, answer, wanted);
 }
 
 #[test]
 fn one_call_at_most(rt: HostRuntime) {
-    sends(&rt, ReplyRule::Prefix, Ok(empty_request(&rt)), "a token", 1);
-    sends(
+    assert_sent_once(&rt, ReplyRule::Prefix, Ok(empty_request(&rt)), "a token", 1);
+    assert_sent_once(
         &rt,
         ReplyRule::MediaType,
         Ok(empty_request(&rt)),
         JSON_FOO_REFUSED,
         1,
     );
-    sends(
+    assert_sent_once(
         &rt,
         ReplyRule::Prefix,
         Err(RequestFault::NotHttp),
         "Other error: failed to prepare request: endpoint URL is not an HTTP target",
         0,
     );
-    sends(
+    assert_sent_once(
         &rt,
         ReplyRule::Prefix,
         Err(RequestFault::Memory),
@@ -69,5 +69,5 @@ fn closures(rt: HostRuntime) {
     let answer: Result<(), RevocationError> = send_once_status_only(alloc, prepared, &mut client);
     assert!(rt; answer.is_ok());
     drop(client.into_inner());
-    is_equal(&rt, calls, 1);
+    assert_equal(&rt, calls, 1);
 }

@@ -1,6 +1,6 @@
 //! What replies say (RFC 6749, sections 5.1 and 5.2; RFC 7009, section 2.2).
 
-use crate::support::{is_text, shows};
+use crate::support::{assert_displayed_as, assert_text};
 use http_header::{CONTENT_TYPE, HeaderValue};
 use oauth2::basic::BasicRequestTokenError;
 use oauth2::http::response::Parts;
@@ -52,17 +52,17 @@ pub fn reply_of(
 }
 
 /// Checks what was read from a reply: its text, or the text of the error.
-pub fn says(rt: &(impl Abort + AllocGlobal), answer: TextResult, wanted: &str) {
+pub fn assert_text_result(rt: &(impl Abort + AllocGlobal), answer: TextResult, wanted: &str) {
     match answer {
-        Ok(text) => is_text(rt, text.as_str(), wanted),
-        Err(error) => shows(rt, &error, wanted),
+        Ok(text) => assert_text(rt, text.as_str(), wanted),
+        Err(error) => assert_displayed_as(rt, &error, wanted),
     }
 }
 
 // What is said of a reply whose body is a text.
-fn answers(rt: &(impl Abort + AllocGlobal), status: u16, types: &[&[u8]], wanted: &str) {
+fn assert_reply(rt: &(impl Abort + AllocGlobal), status: u16, types: &[&[u8]], wanted: &str) {
     let reply = reply_of(rt, status, types, b"\"a token\"");
-    says(rt, endpoint_response(rt.alloc(), reply), wanted);
+    assert_text_result(rt, endpoint_response(rt.alloc(), reply), wanted);
 }
 
 /// A text, with the type `application/jsonfoo`.
@@ -78,28 +78,28 @@ pub const JSON_FOO_REFUSED: &str =
 
 #[test]
 fn replies_that_a_caller_got(rt: HostRuntime) {
-    answers(&rt, 200, &[], "a token");
+    assert_reply(&rt, 200, &[], "a token");
     let types = [b"application/json".as_slice(), b"text/html".as_slice()];
-    answers(&rt, 200, &types, "a token");
+    assert_reply(&rt, 200, &types, "a token");
     let answer = endpoint_response_with(rt.alloc(), ReplyRule::MediaType, json_foo(&rt));
-    says(&rt, answer, JSON_FOO_REFUSED);
+    assert_text_result(&rt, answer, JSON_FOO_REFUSED);
 }
 
 // Checks what is read from a reply when only its status says whether the request succeeded.
-fn answers_by_status(rt: &(impl Abort + AllocGlobal), status: u16, body: &str, wanted: &str) {
+fn assert_reply_by_status(rt: &(impl Abort + AllocGlobal), status: u16, body: &str, wanted: &str) {
     let types = [b"application/octet-stream".as_slice()];
     let reply = reply_of(rt, status, &types, body.as_bytes());
     let answer: Result<(), RevocationError> = endpoint_response_status_only(rt.alloc(), reply);
     match answer {
-        Ok(()) => is_text(rt, "done", wanted),
-        Err(error) => shows(rt, &error, wanted),
+        Ok(()) => assert_text(rt, "done", wanted),
+        Err(error) => assert_displayed_as(rt, &error, wanted),
     }
 }
 
 #[test]
 fn status_alone(rt: HostRuntime) {
-    answers_by_status(&rt, 200, "\x01\x02\x03", "done");
-    answers_by_status(
+    assert_reply_by_status(&rt, 200, "\x01\x02\x03", "done");
+    assert_reply_by_status(
         &rt,
         400,
         "{\"error\":\"unsupported_token_type\",\"error_description\":\"stuff happened\"}",

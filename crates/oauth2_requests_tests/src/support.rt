@@ -31,21 +31,21 @@ pub fn url(rt: &(impl Abort + AllocGlobal), text: &str) -> Url {
 }
 
 /// Checks that the two are equal. (A call is much cheaper to prove than the assertion itself.)
-pub fn is_equal<T: PartialEq + Debug + Drop>(rt: &impl Abort, found: T, wanted: T) {
+pub fn assert_equal<T: PartialEq + Debug + Drop>(rt: &impl Abort, found: T, wanted: T) {
     assert_eq!(rt; found, wanted);
 }
 
 /// Checks a condition for one row of a table.
-pub fn is_so_at(rt: &impl Abort, is_so: bool, row: &str) {
+pub fn assert_at(rt: &impl Abort, is_so: bool, row: &str) {
     assert!(rt; is_so, "at {row}");
 }
 
 /// Checks the text that the value displays.
-pub fn shows<T: Display>(rt: &(impl Abort + AllocGlobal), value: &T, wanted: &str) {
+pub fn assert_displayed_as<T: Display>(rt: &(impl Abort + AllocGlobal), value: &T, wanted: &str) {
     let text = format!(in rt.alloc(); "{value}").expect(rt, "a text");
-    is_text(rt, text.as_str(), wanted);
+    assert_text(rt, text.as_str(), wanted);
 }
 
-pub fn is_text(rt: &impl Abort, found: &str, wanted: &str) {
+pub fn assert_text(rt: &impl Abort, found: &str, wanted: &str) {
     assert_eq!(rt; found, wanted);
 }

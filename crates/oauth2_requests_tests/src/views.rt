@@ -1,6 +1,6 @@
 //! What a server that only decodes reads of a request (RFC 6749, section 2.3.1).
 
-use crate::support::{is_equal, is_so_at, is_text, text};
+use crate::support::{assert_at, assert_equal, assert_text, text};
 use http_header::{AUTHORIZATION, HeaderValue};
 use oauth2::http::Request;
 use oauth2::{HttpRequest, ViewError, basic_header, server_view};
@@ -21,24 +21,24 @@ fn request_with(rt: &(impl Abort + AllocGlobal), value: HeaderValue) -> HttpRequ
 }
 
 // A server reads the two texts of a request with this header.
-fn reads(rt: &(impl Abort + AllocGlobal), value: HeaderValue, id: &str, secret: &str) {
+fn assert_credentials(rt: &(impl Abort + AllocGlobal), value: HeaderValue, id: &str, secret: &str) {
     let request = request_with(rt, value);
     let view = server_view(rt.alloc(), &request).expect(rt, "a view");
     let (read_id, read_secret) = view.basic.expect(rt, "credentials");
-    is_text(rt, read_id.as_str(), id);
-    is_text(rt, read_secret.as_str(), secret);
+    assert_text(rt, read_id.as_str(), id);
+    assert_text(rt, read_secret.as_str(), secret);
 }
 
 #[test]
 fn credentials_of_a_header(rt: HostRuntime) {
     let value = basic_header(rt.alloc(), "a:b", "c+d e").expect(&rt, "a header's value");
-    is_equal(
+    assert_equal(
         &rt,
         value.as_bytes(),
         b"Basic YSUzQWI6YyUyQmQrZQ==".as_slice(),
     );
-    reads(&rt, value, "a:b", "c+d e");
-    reads(&rt, header(&rt, "Basic YTpiOmM="), "a", "b:c");
+    assert_credentials(&rt, value, "a:b", "c+d e");
+    assert_credentials(&rt, header(&rt, "Basic YTpiOmM="), "a", "b:c");
 }
 
 #[test]
@@ -48,7 +48,7 @@ fn bad_credentials(rt: HostRuntime) {
         let fault = server_view(rt.alloc(), &request)
             .err()
             .expect(&rt, "a fault");
-        is_so_at(&rt, fault == ViewError::BadBasic, value);
+        assert_at(&rt, fault == ViewError::BadBasic, value);
     }
 }
 
@@ -67,5 +67,5 @@ fn pairs_of_a_body(rt: HostRuntime) {
     let body = text(&rt, "a&=b&&c==d&e=%zz").into_bytes();
     let view = server_view(rt.alloc(), &Request::new(rt.alloc(), body)).expect(&rt, "a view");
     let shown = lines(&rt, view.form.as_slice());
-    is_text(&rt, shown.as_str(), "a is \n is b\nc is =d\ne is %zz\n");
+    assert_text(&rt, shown.as_str(), "a is \n is b\nc is =d\ne is %zz\n");
 }

@@ -88,7 +88,11 @@ impl Write for FailingWriter {
     }
 }
 
-fn ends(rt: &impl Abort, ended: Result<RunStatus, RunFault>, wanted: Result<RunStatus, RunFault>) {
+fn assert_ended(
+    rt: &impl Abort,
+    ended: Result<RunStatus, RunFault>,
+    wanted: Result<RunStatus, RunFault>,
+) {
     assert_eq!(rt; ended, wanted);
 }
 
@@ -104,10 +108,10 @@ fn reads_fail(rt: HostRuntime) -> Result<(), Fail> {
         let mut written = Vec::new(rt.alloc());
         let result = run_script(rt.alloc(), &mut Source::new(&mut reader), &mut written);
         if reader.reads < at {
-            ends(&rt, result, Ok(RunStatus::Answered));
+            assert_ended(&rt, result, Ok(RunStatus::Answered));
             return Ok(());
         }
-        ends(&rt, result, Err(RunFault::Read));
+        assert_ended(&rt, result, Err(RunFault::Read));
         assert!(rt; reader.reads == at);
         assert!(rt; written.is_empty());
         at = at.saturating_add(1);
@@ -127,7 +131,7 @@ fn writes_fail(rt: HostRuntime) -> Result<(), Fail> {
             fails_at: at,
         };
         let result = run_script(rt.alloc(), &mut input, &mut writer);
-        ends(&rt, result, Err(RunFault::Write));
+        assert_ended(&rt, result, Err(RunFault::Write));
         assert!(rt; writer.writes == at);
     }
     Ok(())
@@ -144,7 +148,7 @@ fn writes_end(rt: HostRuntime) -> Result<(), Fail> {
         fails_at: whole.saturating_add(1),
     };
     let result = run_script(rt.alloc(), &mut input, &mut writer);
-    ends(&rt, result, Ok(RunStatus::Answered));
+    assert_ended(&rt, result, Ok(RunStatus::Answered));
     assert!(rt; writer.writes == whole);
     Ok(())
 }
@@ -168,7 +172,7 @@ fn nothing_is_taken(rt: HostRuntime) -> Result<(), Fail> {
     for input in [SCRIPT, "{}"] {
         let mut input = Source::new(input.as_bytes());
         let result = run_script(rt.alloc(), &mut input, &mut FullWriter);
-        ends(&rt, result, Err(RunFault::Write));
+        assert_ended(&rt, result, Err(RunFault::Write));
     }
     Ok(())
 }
@@ -197,7 +201,7 @@ fn flush_fails(rt: HostRuntime) -> Result<(), Fail> {
         taken: Vec::new(rt.alloc()),
     };
     let result = run_script(rt.alloc(), &mut input, &mut writer);
-    ends(&rt, result, Err(RunFault::Write));
+    assert_ended(&rt, result, Err(RunFault::Write));
     assert!(rt; writer.taken.as_slice() == LINES.as_bytes());
     Ok(())
 }
@@ -207,7 +211,7 @@ fn endless_input(rt: HostRuntime) -> Result<(), Fail> {
     let mut reader = EndlessReader { reads: 0 };
     let mut written = Vec::new(rt.alloc());
     let result = run_script(rt.alloc(), &mut Source::new(&mut reader), &mut written);
-    ends(&rt, result, Err(RunFault::Read));
+    assert_ended(&rt, result, Err(RunFault::Read));
     assert!(rt; reader.reads == 1_048_576);
     assert!(rt; written.is_empty());
     Ok(())
@@ -228,7 +232,7 @@ fn inputs_that_are_no_script(rt: HostRuntime) -> Result<(), Fail> {
         let mut written = Vec::new(rt.alloc());
         let mut input = Source::new(bytes);
         let result = run_script(rt.alloc(), &mut input, &mut written);
-        ends(&rt, result, Ok(RunStatus::BadScript));
+        assert_ended(&rt, result, Ok(RunStatus::BadScript));
         assert!(rt; written.as_slice() == b"bad script\n".as_slice());
     }
     Ok(())

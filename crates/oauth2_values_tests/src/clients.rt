@@ -1,6 +1,8 @@
 //! Clients: made, copied, and where a login leads.
 
-use crate::support::{is_debugged_as, is_debugged_in_lines, is_equal, is_text, text};
+use crate::support::{
+    assert_debugged_as, assert_debugged_in_lines, assert_equal, assert_text, text,
+};
 use oauth2::basic::BasicClient;
 use oauth2::{
     AuthUrl, AuthorizationRequest, Client, ClientId, ClientSecret, CsrfToken, EndpointMaybeSet,
@@ -34,17 +36,17 @@ fn client(rt: &(impl Abort + AllocGlobal)) -> CodeClient {
         .set_token_uri(token_url(rt))
 }
 
-fn tells(rt: &impl Abort, client: &CodeClient, rule: ReplyRule) {
-    is_text(rt, client.client_id().as_str(), "aaa");
-    is_text(rt, client.token_uri().as_str(), "https://example.com/token");
-    is_equal(rt, client.reply_rule(), rule);
+fn assert_client(rt: &impl Abort, client: &CodeClient, rule: ReplyRule) {
+    assert_text(rt, client.client_id().as_str(), "aaa");
+    assert_text(rt, client.token_uri().as_str(), "https://example.com/token");
+    assert_equal(rt, client.reply_rule(), rule);
 }
 
 // The client and its copy tell the same.
-fn copy_tells(rt: &(impl Abort + AllocGlobal), client: &CodeClient, rule: ReplyRule) {
-    tells(rt, client, rule);
+fn assert_client_and_copy(rt: &(impl Abort + AllocGlobal), client: &CodeClient, rule: ReplyRule) {
+    assert_client(rt, client, rule);
     let copy = client.try_clone(rt.alloc()).expect(rt, "a copy");
-    tells(rt, &copy, rule);
+    assert_client(rt, &copy, rule);
 }
 
 fn login<'a>(rt: &(impl Abort + AllocGlobal), client: &'a CodeClient) -> AuthorizationRequest<'a> {
@@ -52,35 +54,35 @@ fn login<'a>(rt: &(impl Abort + AllocGlobal), client: &'a CodeClient) -> Authori
     client.authorize_url(rt.alloc(), move || state)
 }
 
-fn leads_to(rt: &(impl Abort + AllocGlobal), request: AuthorizationRequest<'_>, url: &str) {
+fn assert_login_url(rt: &(impl Abort + AllocGlobal), request: AuthorizationRequest<'_>, url: &str) {
     let (made, state) = request.url(rt.alloc()).expect(rt, "a URL");
-    is_text(rt, made.as_str(), url);
-    is_text(rt, state.secret().as_str(), "csrf_token");
+    assert_text(rt, made.as_str(), url);
+    assert_text(rt, state.secret().as_str(), "csrf_token");
 }
 
-fn implicit_flow_leads_to(rt: &(impl Abort + AllocGlobal), client: &CodeClient, url: &str) {
+fn assert_implicit_flow_url(rt: &(impl Abort + AllocGlobal), client: &CodeClient, url: &str) {
     let request = login(rt, client).use_implicit_flow();
-    leads_to(rt, request, url);
+    assert_login_url(rt, request, url);
 }
 
 #[test]
 fn client_its_copies_and_its_implicit_flow(rt: HostRuntime) {
     let client = client(&rt);
-    copy_tells(&rt, &client, ReplyRule::Prefix);
-    implicit_flow_leads_to(
+    assert_client_and_copy(&rt, &client, ReplyRule::Prefix);
+    assert_implicit_flow_url(
         &rt,
         &client,
         "https://example.com/auth?response_type=token&client_id=aaa&state=csrf_token",
     );
     let client = client.set_reply_rule(ReplyRule::MediaType);
-    copy_tells(&rt, &client, ReplyRule::MediaType);
+    assert_client_and_copy(&rt, &client, ReplyRule::MediaType);
 }
 
 // As the Rust crate shows it, whose last field is `phantom` in place of `reply_rule`.
 #[test]
 fn client_in_debug(rt: HostRuntime) {
     let client = client(&rt);
-    is_debugged_as(
+    assert_debugged_as(
         &rt,
         &client,
         "Client { client_id: ClientId(\"aaa\"), client_secret: Some(ClientSecret([redacted])), \
@@ -89,7 +91,7 @@ fn client_in_debug(rt: HostRuntime) {
          introspection_url: None, revocation_url: None, device_authorization_url: None, \
          reply_rule: Prefix }",
     );
-    is_debugged_in_lines(
+    assert_debugged_in_lines(
         &rt,
         &client,
         "Client {\n    client_id: ClientId(\n        \"aaa\",\n    ),\n    \

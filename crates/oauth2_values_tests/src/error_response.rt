@@ -1,7 +1,8 @@
 //! Error codes and error responses (RFC 6749, section 5.2), and the body that holds one.
 
 use crate::support::{
-    copy_of, is_displayed_as, is_equal, is_fault, is_refused, is_text, is_written_as, read, text,
+    assert_displayed_as, assert_equal, assert_refused, assert_text, assert_written_as, copy_of,
+    is_fault, read, text,
 };
 use oauth2::basic::{BasicErrorResponse, BasicErrorResponseType};
 use oauth2::{
@@ -15,9 +16,9 @@ use std::process::Abort;
 fn codes_are_compared_with_case(rt: HostRuntime) {
     let error = read::<BasicErrorResponseType>(&rt, r#""Invalid_Client""#);
     let shown = format!(in rt.alloc(); "{error:?}").expect(&rt, "a text");
-    is_text(&rt, shown.as_str(), "Invalid_Client");
+    assert_text(&rt, shown.as_str(), "Invalid_Client");
     let extension = BasicErrorResponseType::Extension(text(&rt, "Invalid_Client"));
-    is_equal(&rt, error, extension);
+    assert_equal(&rt, error, extension);
 }
 
 #[test]
@@ -25,7 +26,7 @@ fn written_code_reads_as_its_own_variant(rt: HostRuntime) {
     let basic = BasicErrorResponseType::Extension(text(&rt, "slow_down"));
     let error = DeviceCodeErrorResponseType::Basic(basic);
     let written = compact(rt.alloc(), &error).expect(&rt, "a text");
-    is_text(&rt, written.as_str(), r#""slow_down""#);
+    assert_text(&rt, written.as_str(), r#""slow_down""#);
     let read = read::<DeviceCodeErrorResponseType>(&rt, written.as_str());
     assert!(rt; read == DeviceCodeErrorResponseType::SlowDown);
 }
@@ -33,21 +34,25 @@ fn written_code_reads_as_its_own_variant(rt: HostRuntime) {
 #[test]
 fn code_of_any_text(rt: HostRuntime) {
     let code = read::<TextErrorResponseType>(&rt, r#""Invalid_Client""#);
-    is_equal(&rt, copy_of(&rt, &code), code);
-    is_refused::<TextErrorResponseType>(&rt, "1", "", ParseCause::WrongType);
+    assert_equal(&rt, copy_of(&rt, &code), code);
+    assert_refused::<TextErrorResponseType>(&rt, "1", "", ParseCause::WrongType);
 }
 
 // What a caller that knows no more than the bound shows.
-fn is_shown_as<E: ErrorResponse>(rt: &(impl Abort + AllocGlobal), response: &E, wanted: &str) {
-    is_displayed_as(rt, response, wanted);
+fn assert_error_response<E: ErrorResponse>(
+    rt: &(impl Abort + AllocGlobal),
+    response: &E,
+    wanted: &str,
+) {
+    assert_displayed_as(rt, response, wanted);
 }
 
 #[test]
 fn response_with_a_code_of_any_text(rt: HostRuntime) {
     let written = r#"{"error":"too_many_requests","error_description":"wait"}"#;
     let response = read::<StandardErrorResponse<TextErrorResponseType>>(&rt, written);
-    is_shown_as(&rt, &response, "too_many_requests: wait");
-    is_written_as(&rt, &response, written);
+    assert_error_response(&rt, &response, "too_many_requests: wait");
+    assert_written_as(&rt, &response, written);
 }
 
 #[test]
@@ -59,8 +64,8 @@ fn error_response_is_written(rt: HostRuntime) {
         Some(text(&rt, "Invalid client_id")),
         Some(text(&rt, "https://example.com/errors/invalid_client")),
     );
-    is_written_as(&rt, &response, written);
-    is_equal(&rt, read::<BasicErrorResponse>(&rt, written), response);
+    assert_written_as(&rt, &response, written);
+    assert_equal(&rt, read::<BasicErrorResponse>(&rt, written), response);
 }
 
 #[test]
@@ -80,7 +85,7 @@ fn nested(rt: &(impl Abort + AllocGlobal), lists: usize) -> String {
 #[test]
 fn body_nests_to_127(rt: HostRuntime) {
     let read = read::<BasicErrorResponse>(&rt, nested(&rt, 126).as_str());
-    is_text(&rt, read.error().as_str(), "x");
+    assert_text(&rt, read.error().as_str(), "x");
     let deeper = nested(&rt, 127);
-    is_refused::<BasicErrorResponse>(&rt, deeper.as_str(), "", ParseCause::NotJson);
+    assert_refused::<BasicErrorResponse>(&rt, deeper.as_str(), "", ParseCause::NotJson);
 }

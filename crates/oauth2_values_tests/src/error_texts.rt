@@ -1,20 +1,20 @@
 //! What is shown of the errors of reading and writing.
 
-use crate::support::{is_displayed_as, text};
+use crate::support::{assert_displayed_as, text};
 use oauth2::{ParseCause, ParseFault, ReadError, WriteError};
 use std::error::Error;
 use std::process::Abort;
 
 // What a caller that knows no more than the bound shows.
-fn is_error<E: Error>(rt: &(impl Abort + AllocGlobal), error: &E, wanted: &str) {
-    is_displayed_as(rt, error, wanted);
+fn assert_error<E: Error>(rt: &(impl Abort + AllocGlobal), error: &E, wanted: &str) {
+    assert_displayed_as(rt, error, wanted);
 }
 
 // The cause is shown as this text, in a fault that names no member too.
-fn is_cause(rt: &(impl Abort + AllocGlobal), cause: ParseCause, wanted: &str) {
-    is_displayed_as(rt, &cause, wanted);
+fn assert_cause(rt: &(impl Abort + AllocGlobal), cause: ParseCause, wanted: &str) {
+    assert_displayed_as(rt, &cause, wanted);
     let member = text(rt, "");
-    is_displayed_as(rt, &ParseFault { member, cause }, wanted);
+    assert_displayed_as(rt, &ParseFault { member, cause }, wanted);
 }
 
 #[test]
@@ -30,17 +30,17 @@ fn texts_of_causes(rt: HostRuntime) {
         (ParseCause::BothNames, "under both of its names"),
         (ParseCause::Refused, "of another shape"),
     ] {
-        is_cause(&rt, cause, wanted);
+        assert_cause(&rt, cause, wanted);
     }
 }
 
 #[test]
 fn texts_of_read_errors(rt: HostRuntime) {
     let inner = ReadError::at(rt.alloc(), "expires_in", ParseCause::NotWhole);
-    is_error(&rt, &inner, "expires_in: not a whole number");
+    assert_error(&rt, &inner, "expires_in: not a whole number");
     let outer = inner.under(rt.alloc(), "outer");
-    is_error(&rt, &outer, "outer: not a whole number");
-    is_error(&rt, &ReadError::Memory, "out of memory");
+    assert_error(&rt, &outer, "outer: not a whole number");
+    assert_error(&rt, &ReadError::Memory, "out of memory");
 }
 
 #[test]
@@ -53,6 +53,6 @@ fn texts_of_write_errors(rt: HostRuntime) {
         ),
         (WriteError::Float, "an extra member holds a float"),
     ] {
-        is_error(&rt, &error, wanted);
+        assert_error(&rt, &error, wanted);
     }
 }

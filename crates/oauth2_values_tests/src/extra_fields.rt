@@ -1,6 +1,8 @@
 //! Responses with extra fields.
 
-use crate::support::{is_equal, is_not_written, is_refused, is_rewritten, read, text};
+use crate::support::{
+    assert_equal, assert_not_written, assert_refused, assert_rewritten, read, text,
+};
 use oauth2::basic::BasicTokenType;
 use oauth2::{
     AccessToken, DeviceAuthorizationResponse, ExtraFields, ParseCause, StandardTokenResponse,
@@ -13,8 +15,8 @@ type RawToken = StandardTokenResponse<ExtraFields, BasicTokenType>;
 #[test]
 fn members_left_are_extra_fields(rt: HostRuntime) {
     let token = r#"{"access_token":"t","id_token":"x","n":1,"token_type":"bearer"}"#;
-    is_rewritten::<RawToken>(&rt, token, token);
-    is_rewritten::<RawToken>(
+    assert_rewritten::<RawToken>(&rt, token, token);
+    assert_rewritten::<RawToken>(
         &rt,
         "{\"z\":1,\"token_type\":\"Bearer\",\"y\":{\"b\":[\"\\u0061\",{\"c\":null}],\"a\":-1},\
         \"access_token\":\"t\",\"z\":true}",
@@ -26,8 +28,8 @@ fn members_left_are_extra_fields(rt: HostRuntime) {
 fn extra_fields_of_a_device_response(rt: HostRuntime) {
     let written = "{\"device_code\":\"d\",\"expires_in\":1,\"interval\":5,\"user_code\":\"u\",\
         \"verification_uri\":\"https://v/\",\"z\":[]}";
-    is_rewritten::<DeviceAuthorizationResponse<ExtraFields>>(&rt, written, written);
-    is_rewritten::<DeviceAuthorizationResponse<ExtraFields>>(
+    assert_rewritten::<DeviceAuthorizationResponse<ExtraFields>>(&rt, written, written);
+    assert_rewritten::<DeviceAuthorizationResponse<ExtraFields>>(
         &rt,
         "{\"device_code\":\"d\",\"user_code\":\"u\",\"verification_url\":\"https://v/\",\
         \"expires_in\":1,\"z\":[]}",
@@ -38,12 +40,12 @@ fn extra_fields_of_a_device_response(rt: HostRuntime) {
 #[test]
 fn members_that_are_left(rt: HostRuntime) {
     let fields = read::<ExtraFields>(&rt, r#"{"id_token":"x","n":1}"#);
-    is_equal(&rt, fields.text("id_token"), Some("x"));
-    is_equal(&rt, fields.text("n"), None);
+    assert_equal(&rt, fields.text("id_token"), Some("x"));
+    assert_equal(&rt, fields.text("n"), None);
     let number = fields.get("n").expect(&rt, "a member");
-    is_equal(&rt, number.as_u64(), Some(1));
+    assert_equal(&rt, number.as_u64(), Some(1));
     assert!(rt; fields.get("m").is_none());
-    is_refused::<ExtraFields>(&rt, "[]", "", ParseCause::NotObject);
+    assert_refused::<ExtraFields>(&rt, "[]", "", ParseCause::NotObject);
 }
 
 // A token response with these extra fields.
@@ -62,6 +64,6 @@ fn clash_is_refused_before_a_float(rt: HostRuntime) {
         (r#"{"c":[{"d":1.5}]}"#, WriteError::Float),
         (r#"{"a":{"b":[1.5]},"scope":"x"}"#, WriteError::NameClash),
     ] {
-        is_not_written(&rt, with_raw(&rt, fields), refusal, fields);
+        assert_not_written(&rt, with_raw(&rt, fields), refusal, fields);
     }
 }

@@ -1,6 +1,6 @@
 //! The members of an introspection response (RFC 7662, section 2.2).
 
-use crate::support::{is_equal, is_written_as, scope_list, text};
+use crate::support::{assert_equal, assert_written_as, scope_list, text};
 use jiff::Timestamp;
 use oauth2::basic::{BasicTokenIntrospectionResponse, BasicTokenType};
 use oauth2::{ClientId, EmptyExtraTokenFields, TokenIntrospectionResponse};
@@ -26,10 +26,10 @@ fn times_are_set(rt: HostRuntime) {
     response.set_iat(Some(iat));
     response.set_nbf(Some(nbf));
     assert!(rt; !response.active());
-    is_equal(&rt, response.exp(), Some(exp));
-    is_equal(&rt, response.iat(), Some(iat));
-    is_equal(&rt, response.nbf(), Some(nbf));
-    is_written_as(
+    assert_equal(&rt, response.exp(), Some(exp));
+    assert_equal(&rt, response.iat(), Some(iat));
+    assert_equal(&rt, response.nbf(), Some(nbf));
+    assert_written_as(
         &rt,
         &response,
         r#"{"active":false,"exp":3,"iat":1,"nbf":-1}"#,
@@ -43,19 +43,19 @@ fn set_texts(rt: &(impl Abort + AllocGlobal), response: &mut BasicTokenIntrospec
     response.set_jti(Some(text(rt, "identifier")));
 }
 
-fn has_texts(rt: &impl Abort, response: &BasicTokenIntrospectionResponse) {
-    is_equal(rt, response.username(), Some("demo"));
-    is_equal(rt, response.sub(), Some("subject"));
-    is_equal(rt, response.iss(), Some("issuer"));
-    is_equal(rt, response.jti(), Some("identifier"));
+fn assert_texts(rt: &impl Abort, response: &BasicTokenIntrospectionResponse) {
+    assert_equal(rt, response.username(), Some("demo"));
+    assert_equal(rt, response.sub(), Some("subject"));
+    assert_equal(rt, response.iss(), Some("issuer"));
+    assert_equal(rt, response.jti(), Some("identifier"));
 }
 
 #[test]
 fn texts_are_set(rt: HostRuntime) {
     let mut response = active();
     set_texts(&rt, &mut response);
-    has_texts(&rt, &response);
-    is_written_as(
+    assert_texts(&rt, &response);
+    assert_written_as(
         &rt,
         &response,
         r#"{"active":true,"iss":"issuer","jti":"identifier","sub":"subject","username":"demo"}"#,
@@ -71,7 +71,7 @@ fn set_others(rt: &(impl Abort + AllocGlobal), response: &mut BasicTokenIntrospe
     response.set_extra_fields(EmptyExtraTokenFields {});
 }
 
-fn has_others(rt: &impl Abort, response: &BasicTokenIntrospectionResponse) {
+fn assert_others(rt: &impl Abort, response: &BasicTokenIntrospectionResponse) {
     assert!(rt; response.scopes().is_some() && response.aud().is_some());
     assert!(rt; response.client_id().is_some() && response.token_type().is_some());
     assert!(rt; *response.extra_fields() == EmptyExtraTokenFields {});
@@ -81,8 +81,8 @@ fn has_others(rt: &impl Abort, response: &BasicTokenIntrospectionResponse) {
 fn other_members_are_set(rt: HostRuntime) {
     let mut response = active();
     set_others(&rt, &mut response);
-    has_others(&rt, &response);
-    is_written_as(
+    assert_others(&rt, &response);
+    assert_written_as(
         &rt,
         &response,
         "{\"active\":true,\"aud\":[\"audience\"],\"client_id\":\"aaa\",\"scope\":\"read\",\

@@ -1,7 +1,7 @@
 //! The helpers for types of a user's own: lists in one text, audiences, codes and variants; and
 //! members that the types here do not need.
 
-use crate::support::{is_equal, is_fault, is_text, is_written_as, parsed, scope_list};
+use crate::support::{assert_equal, assert_text, assert_written_as, is_fault, parsed, scope_list};
 use jiff::Timestamp;
 use oauth2::basic::BasicTokenType;
 use oauth2::helpers::{
@@ -20,8 +20,8 @@ fn ascii_letters_are_lowered(rt: HostRuntime) {
         rt.alloc(),
         value,
     ).expect(&rt, "a token type");
-    is_text(&rt, read.as_str(), "Äb");
-    is_written_as(&rt, &read, r#""Äb""#);
+    assert_text(&rt, read.as_str(), "Äb");
+    assert_written_as(&rt, &read, r#""Äb""#);
 }
 
 // How many scopes the value reads to.
@@ -37,7 +37,7 @@ fn count_of(rt: &(impl Abort + AllocGlobal), value: Value) -> Option<usize> {
 }
 
 // The list is written as this text, which reads to so many scopes.
-fn is_split(
+fn assert_split(
     rt: &(impl Abort + AllocGlobal),
     scopes: Option<Vec<Scope>>,
     written: &str,
@@ -45,19 +45,19 @@ fn is_split(
 ) {
     let value = serialize_space_delimited_vec(rt.alloc(), &scopes).expect(rt, "a value");
     let text = value.to_string(rt.alloc()).expect(rt, "a text");
-    is_text(rt, text.as_str(), written);
-    is_equal(rt, count_of(rt, value), pieces);
+    assert_text(rt, text.as_str(), written);
+    assert_equal(rt, count_of(rt, value), pieces);
 }
 
 #[test]
 fn scopes_are_split_at_every_space(rt: HostRuntime) {
-    is_split(&rt, None, "null", None);
-    is_split(&rt, Some(Vec::new(rt.alloc())), r#""""#, Some(1));
-    is_split(&rt, Some(scope_list(&rt, "a b")), r#""a b""#, Some(2));
+    assert_split(&rt, None, "null", None);
+    assert_split(&rt, Some(Vec::new(rt.alloc())), r#""""#, Some(1));
+    assert_split(&rt, Some(scope_list(&rt, "a b")), r#""a b""#, Some(2));
 }
 
 // The text reads to an audience that is written as this one.
-fn audience_is_written_as(rt: &(impl Abort + AllocGlobal), text: &str, wanted: &str) {
+fn assert_audience_written_as(rt: &(impl Abort + AllocGlobal), text: &str, wanted: &str) {
     let list = deserialize_optional_string_or_vec_string(rt.alloc(), parsed(rt, text)).expect(
         rt, "a list",
     );
@@ -65,7 +65,7 @@ fn audience_is_written_as(rt: &(impl Abort + AllocGlobal), text: &str, wanted: &
         .expect(rt, "a value or none")
         .expect(rt, "a value");
     let written = value.to_string(rt.alloc()).expect(rt, "a text");
-    is_text(rt, written.as_str(), wanted);
+    assert_text(rt, written.as_str(), wanted);
 }
 
 #[test]
@@ -75,7 +75,7 @@ fn audience_is_a_text_or_a_list(rt: HostRuntime) {
         (r#"["a","b"]"#, r#"["a","b"]"#),
         ("[]", "[]"),
     ] {
-        audience_is_written_as(&rt, text, wanted);
+        assert_audience_written_as(&rt, text, wanted);
     }
     let mixed = deserialize_optional_string_or_vec_string(rt.alloc(), parsed(&rt, r#"["a",1]"#));
     assert!(rt; is_fault(mixed, "", ParseCause::WrongType));
@@ -95,15 +95,15 @@ impl VariantName for Plain {
 
 #[test]
 fn variants_have_names(rt: HostRuntime) {
-    is_text(&rt, variant_name(&Plain), "Plain");
+    assert_text(&rt, variant_name(&Plain), "Plain");
 }
 
 // The time is written as this second, and this second reads to a time.
-fn is_second(rt: &(impl Abort + AllocGlobal), nanosecond: i128, second: &str) {
+fn assert_second(rt: &(impl Abort + AllocGlobal), nanosecond: i128, second: &str) {
     let at = Timestamp::from_nanosecond(nanosecond).expect(rt, "a time");
     let value = members::time_value(Some(at)).expect(rt, "a value");
     let written = value.to_string(rt.alloc()).expect(rt, "a text");
-    is_text(rt, written.as_str(), second);
+    assert_text(rt, written.as_str(), second);
     let read = members::optional_time(rt.alloc(), "exp", Some(value)).expect(rt, "a time");
     assert!(rt; read.is_some());
 }
@@ -115,7 +115,7 @@ fn times_are_whole_seconds_rounded_down(rt: HostRuntime) {
         (500_000_000, "0"),
         (-1_000_000_000, "-1"),
     ] {
-        is_second(&rt, nanosecond, second);
+        assert_second(&rt, nanosecond, second);
     }
 }
 
@@ -124,9 +124,9 @@ fn times_are_whole_seconds_rounded_down(rt: HostRuntime) {
 fn members_that_are_not_null(rt: HostRuntime) {
     let word = Some(parsed(&rt, r#""x""#));
     let read = members::present::<String>(rt.alloc(), "c", word).expect(&rt, "a text or none");
-    is_equal(&rt, read.as_deref(), Some("x"));
+    assert_equal(&rt, read.as_deref(), Some("x"));
     let read = members::present::<String>(rt.alloc(), "c", None).expect(&rt, "a text or none");
-    is_equal(&rt, read.as_deref(), None);
+    assert_equal(&rt, read.as_deref(), None);
     let null = members::present::<String>(rt.alloc(), "c", Some(Value::Null));
     assert!(rt; is_fault(null, "c", ParseCause::WrongType));
 }

@@ -3,7 +3,8 @@
 ghost use Rattle.std.specs.Prelude.{codes};
 
 use crate::support::{
-    copy_is_kept, is_equal, is_kept, is_not_written, is_refused, is_rewritten, is_text, read, text,
+    assert_copy_kept, assert_equal, assert_kept, assert_not_written, assert_refused,
+    assert_rewritten, assert_text, read, text,
 };
 use oauth2::basic::BasicTokenType;
 use oauth2::{
@@ -75,17 +76,17 @@ fn named_members_are_told(rt: HostRuntime) {
         r#"{"n":1,"id_token":"x","ext_expires_in":7,"offline":true,"cnf":[]}"#,
     );
     let id_token = fields.value().expect(&rt, "a text");
-    is_text(&rt, id_token.as_str(), "x");
+    assert_text(&rt, id_token.as_str(), "x");
     let rest = fields.rest();
-    is_equal(&rt, rest.value(), Some(&7));
+    assert_equal(&rt, rest.value(), Some(&7));
     let rest = rest.rest();
-    is_equal(&rt, rest.value(), Some(&true));
+    assert_equal(&rt, rest.value(), Some(&true));
     let confirmation = rest.rest().value().expect(&rt, "a value");
     assert!(rt; confirmation.is_array());
 }
 
 // The lifetime is there, and no other member.
-fn is_lifetime_alone(rt: &impl Abort, fields: &IdentityFields) {
+fn assert_lifetime_alone(rt: &impl Abort, fields: &IdentityFields) {
     assert!(rt; fields.value().is_none());
     let rest = fields.rest();
     assert!(rt; rest.value().is_some());
@@ -100,7 +101,7 @@ fn absent_and_null_members_are_none(rt: HostRuntime) {
         r#"{"ext_expires_in":7}"#,
         r#"{"cnf":null,"ext_expires_in":7,"id_token":null,"offline":null}"#,
     ] {
-        is_lifetime_alone(&rt, &read::<IdentityFields>(&rt, body));
+        assert_lifetime_alone(&rt, &read::<IdentityFields>(&rt, body));
     }
 }
 
@@ -131,24 +132,24 @@ fn members_of_another_kind_are_refused(rt: HostRuntime) {
         ),
         ("[]", "", ParseCause::NotObject),
     ] {
-        is_refused::<IdentityFields>(&rt, body, member, cause);
+        assert_refused::<IdentityFields>(&rt, body, member, cause);
     }
 }
 
 // Responses with these fields are written with them. (Generic, so that what the fields are is
 // proved once, at the call, and not at each type of response.)
-fn identity_is_written<Fields: ExtraTokenFields + TryClone + Drop>(
+fn assert_identity_written<Fields: ExtraTokenFields + TryClone + Drop>(
     rt: &(impl Abort + AllocGlobal),
 ) {
     let whole = "{\"access_token\":\"t\",\"cnf\":[],\"ext_expires_in\":7,\"id_token\":\"x\",\
         \"offline\":true,\"token_type\":\"bearer\"}";
-    copy_is_kept::<StandardTokenResponse<Fields, BasicTokenType>>(rt, whole);
-    is_rewritten::<StandardTokenResponse<Fields, BasicTokenType>>(
+    assert_copy_kept::<StandardTokenResponse<Fields, BasicTokenType>>(rt, whole);
+    assert_rewritten::<StandardTokenResponse<Fields, BasicTokenType>>(
         rt,
         r#"{"access_token":"t","token_type":"bearer","n":1,"offline":null,"ext_expires_in":7}"#,
         r#"{"access_token":"t","ext_expires_in":7,"token_type":"bearer"}"#,
     );
-    is_kept::<StandardTokenIntrospectionResponse<Fields, BasicTokenType>>(
+    assert_kept::<StandardTokenIntrospectionResponse<Fields, BasicTokenType>>(
         rt,
         r#"{"active":true,"id_token":"x"}"#,
     );
@@ -156,8 +157,8 @@ fn identity_is_written<Fields: ExtraTokenFields + TryClone + Drop>(
 
 #[test]
 fn named_members_are_written(rt: HostRuntime) {
-    identity_is_written::<IdentityFields>(&rt);
-    is_kept::<DeviceAuthorizationResponse<DeviceFields>>(
+    assert_identity_written::<IdentityFields>(&rt);
+    assert_kept::<DeviceAuthorizationResponse<DeviceFields>>(
         &rt,
         "{\"cnf\":[],\"device_code\":\"d\",\"expires_in\":1,\"interval\":5,\"user_code\":\"u\",\
         \"verification_uri\":\"https://v/\"}",
@@ -168,5 +169,5 @@ fn named_members_are_written(rt: HostRuntime) {
 fn name_that_the_rest_writes_is_refused(rt: HostRuntime) {
     let rest = read::<ExtraFields>(&rt, r#"{"id_token":"y"}"#);
     let fields = WithMember::<IdToken, ExtraFields>::new(Some(text(&rt, "x")), rest);
-    is_not_written(&rt, fields, WriteError::NameClash, "id_token");
+    assert_not_written(&rt, fields, WriteError::NameClash, "id_token");
 }

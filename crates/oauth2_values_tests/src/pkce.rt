@@ -1,6 +1,6 @@
 //! Code challenges (RFC 7636), and the random texts of states and verifiers.
 
-use crate::support::{is_debugged_as, is_debugged_in_lines, is_text, text};
+use crate::support::{assert_debugged_as, assert_debugged_in_lines, assert_text, text};
 use oauth2::{CsrfToken, PkceCodeChallenge, PkceCodeChallengeMethod, PkceCodeVerifier, TryClone};
 use oauth2_refused_memory_values_tests::{Repeated, VERIFIER};
 use std::alloc::AllocError;
@@ -10,16 +10,16 @@ use std::process::Abort;
 const CHALLENGE: &str = "E9Melhoa2OwvFrEMTJguCHaoeK1t8URWbuGJSstw-cM";
 
 // The text, the method and the debug text of a challenge.
-fn is_challenge(
+fn assert_challenge(
     rt: &(impl Abort + AllocGlobal),
     challenge: &PkceCodeChallenge,
     text: &str,
     method: &str,
     debug: &str,
 ) {
-    is_text(rt, challenge.as_str(), text);
-    is_text(rt, challenge.method().as_str(), method);
-    is_debugged_as(rt, challenge, debug);
+    assert_text(rt, challenge.as_str(), text);
+    assert_text(rt, challenge.method().as_str(), method);
+    assert_debugged_as(rt, challenge, debug);
 }
 
 #[test]
@@ -30,7 +30,7 @@ fn challenge_by_sha256(rt: HostRuntime) {
         &rt,
         "a challenge",
     );
-    is_challenge(
+    assert_challenge(
         &rt,
         &challenge,
         CHALLENGE,
@@ -50,7 +50,7 @@ fn plain(rt: &(impl Abort + AllocGlobal), verifier: &PkceCodeVerifier) -> PkceCo
 #[test]
 fn plain_challenge(rt: HostRuntime) {
     let challenge = plain(&rt, &PkceCodeVerifier::new(text(&rt, VERIFIER)));
-    is_challenge(
+    assert_challenge(
         &rt,
         &challenge,
         VERIFIER,
@@ -65,7 +65,7 @@ fn plain_challenge(rt: HostRuntime) {
 #[test]
 fn plain_challenge_in_lines(rt: HostRuntime) {
     let method = PkceCodeChallengeMethod::new(text(&rt, "plain"));
-    is_debugged_in_lines(
+    assert_debugged_in_lines(
         &rt,
         &PkceCodeChallenge::from_parts(text(&rt, VERIFIER), method),
         "PkceCodeChallenge {\n    code_challenge: [redacted],\n\
@@ -73,15 +73,19 @@ fn plain_challenge_in_lines(rt: HostRuntime) {
     );
 }
 
-fn is_state(rt: &(impl Abort + AllocGlobal), made: Result<CsrfToken, AllocError>, wanted: &str) {
+fn assert_state(
+    rt: &(impl Abort + AllocGlobal),
+    made: Result<CsrfToken, AllocError>,
+    wanted: &str,
+) {
     let state = made.expect(rt, "a state");
-    is_text(rt, state.secret().as_str(), wanted);
+    assert_text(rt, state.secret().as_str(), wanted);
 }
 
 #[test]
 fn random_states(rt: HostRuntime) {
     let state = CsrfToken::new_random(rt.alloc(), &mut Repeated(0));
-    is_state(&rt, state, "AAAAAAAAAAAAAAAAAAAAAA");
+    assert_state(&rt, state, "AAAAAAAAAAAAAAAAAAAAAA");
     for (n, word, wanted) in [
         (0, 0, ""),
         (1, 0xff, "_w"),
@@ -89,7 +93,7 @@ fn random_states(rt: HostRuntime) {
         (3, 0xbe_effb, "----"),
     ] {
         let state = CsrfToken::new_random_len(rt.alloc(), &mut Repeated(word), n);
-        is_state(&rt, state, wanted);
+        assert_state(&rt, state, wanted);
     }
 }
 
@@ -102,39 +106,39 @@ const LONGEST: &str =
 const SHORTEST: &str = "AAAAAAAAAAAAAAAAAAAAAAAAAAAAAAAAAAAAAAAAAAA";
 
 // The texts of a challenge and of its verifier.
-fn is_pair(
+fn assert_pair(
     rt: &impl Abort,
     made: Result<(PkceCodeChallenge, PkceCodeVerifier), AllocError>,
     challenge: &str,
     verifier: &str,
 ) {
     let (made_challenge, made_verifier) = made.expect(rt, "a challenge and its verifier");
-    is_text(rt, made_challenge.as_str(), challenge);
-    is_text(rt, made_verifier.secret().as_str(), verifier);
+    assert_text(rt, made_challenge.as_str(), challenge);
+    assert_text(rt, made_verifier.secret().as_str(), verifier);
 }
 
 // The challenges by SHA-256 are those that Python's `hashlib` makes.
 #[test]
 fn random_challenges(rt: HostRuntime) {
     let longest = PkceCodeChallenge::new_random_sha256_len(rt.alloc(), &mut Repeated(0), 96);
-    is_pair(
+    assert_pair(
         &rt,
         longest,
         "tqw8wQOGMxx2XwTwQcFH0PJ48q7Y6qAh4tAFf8b2_54",
         LONGEST,
     );
     let shortest = PkceCodeChallenge::new_random_sha256(rt.alloc(), &mut Repeated(0));
-    is_pair(
+    assert_pair(
         &rt,
         shortest,
         "DwBzhbb51LfusnSGBa_hqYSgo7-j8BTQnip4TOnlzRo",
         SHORTEST,
     );
     let plain = PkceCodeChallenge::new_random_plain(rt.alloc(), &mut Repeated(0));
-    is_pair(&rt, plain, SHORTEST, SHORTEST);
+    assert_pair(&rt, plain, SHORTEST, SHORTEST);
 }
 
-fn has_length(rt: &(impl Abort + AllocGlobal), letter: &str, n: usize, is_valid: bool) {
+fn assert_length(rt: &(impl Abort + AllocGlobal), letter: &str, n: usize, is_valid: bool) {
     let text = letter.repeat(rt.alloc(), n).expect(rt, "a text");
     assert!(rt; PkceCodeVerifier::new(text).has_valid_length() == is_valid);
 }
@@ -149,6 +153,6 @@ fn valid_lengths(rt: HostRuntime) {
         ("é", 21, false),
         ("é", 22, true),
     ] {
-        has_length(&rt, letter, n, is_valid);
+        assert_length(&rt, letter, n, is_valid);
     }
 }

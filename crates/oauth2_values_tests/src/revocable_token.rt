@@ -1,21 +1,21 @@
 //! Tokens that can be revoked (RFC 7009, section 2.1).
 
-use crate::support::{is_text, text};
+use crate::support::{assert_text, text};
 use oauth2::helpers::variant_name;
 use oauth2::{AccessToken, RefreshToken, RevocableToken, StandardRevocableToken};
 use std::process::Abort;
 
 // The secret, the hint and the name of a token.
-fn tells(
+fn assert_token(
     rt: &impl Abort,
     token: &StandardRevocableToken,
     secret: &str,
     hint: &'static str,
     name: &str,
 ) {
-    is_text(rt, token.secret(), secret);
+    assert_text(rt, token.secret(), secret);
     assert!(rt; token.type_hint() == Some(hint));
-    is_text(rt, variant_name(token), name);
+    assert_text(rt, variant_name(token), name);
 }
 
 #[test]
@@ -24,8 +24,8 @@ fn access_tokens(rt: HostRuntime) {
     let token = StandardRevocableToken::from_access_token_ref(rt.alloc(), &access_token).expect(
         &rt, "a token",
     );
-    tells(&rt, &token, "a", "access_token", "AccessToken");
-    is_text(
+    assert_token(&rt, &token, "a", "access_token", "AccessToken");
+    assert_text(
         &rt,
         StandardRevocableToken::from(access_token).secret(),
         "a",
@@ -38,8 +38,8 @@ fn refresh_tokens(rt: HostRuntime) {
     let token = StandardRevocableToken::from_refresh_token_ref(rt.alloc(), &refresh_token).expect(
         &rt, "a token",
     );
-    tells(&rt, &token, "b", "refresh_token", "RefreshToken");
-    is_text(
+    assert_token(&rt, &token, "b", "refresh_token", "RefreshToken");
+    assert_text(
         &rt,
         StandardRevocableToken::from(refresh_token).secret(),
         "b",

@@ -2,7 +2,7 @@
 
 ghost use Rattle.std.specs.Prelude.{◌≡◌, IsTrue};
 
-use crate::support::{compares, is_debugged_in_lines, is_text, other, text, value};
+use crate::support::{assert_debugged_in_lines, assert_different, assert_text, other, text, value};
 use oauth2::{
     AccessToken, AuthorizationCode, ClientSecret, CsrfToken, DeviceCode, RefreshToken,
     ResourceOwnerPassword, TryClone, UserCode, VerificationUriComplete,
@@ -10,55 +10,55 @@ use oauth2::{
 
 #[test]
 fn secrets_are_hidden(rt: HostRuntime) {
-    compares(
+    assert_different(
         &rt,
         AccessToken::new(value(&rt)),
         AccessToken::new(other(&rt)),
         "AccessToken([redacted])",
     );
-    compares(
+    assert_different(
         &rt,
         AuthorizationCode::new(value(&rt)),
         AuthorizationCode::new(other(&rt)),
         "AuthorizationCode([redacted])",
     );
-    compares(
+    assert_different(
         &rt,
         ClientSecret::new(value(&rt)),
         ClientSecret::new(other(&rt)),
         "ClientSecret([redacted])",
     );
-    compares(
+    assert_different(
         &rt,
         CsrfToken::new(value(&rt)),
         CsrfToken::new(other(&rt)),
         "CsrfToken([redacted])",
     );
-    compares(
+    assert_different(
         &rt,
         DeviceCode::new(value(&rt)),
         DeviceCode::new(other(&rt)),
         "DeviceCode([redacted])",
     );
-    compares(
+    assert_different(
         &rt,
         RefreshToken::new(value(&rt)),
         RefreshToken::new(other(&rt)),
         "RefreshToken([redacted])",
     );
-    compares(
+    assert_different(
         &rt,
         ResourceOwnerPassword::new(value(&rt)),
         ResourceOwnerPassword::new(other(&rt)),
         "ResourceOwnerPassword([redacted])",
     );
-    compares(
+    assert_different(
         &rt,
         UserCode::new(value(&rt)),
         UserCode::new(other(&rt)),
         "UserCode([redacted])",
     );
-    compares(
+    assert_different(
         &rt,
         VerificationUriComplete::new(value(&rt)),
         VerificationUriComplete::new(other(&rt)),
@@ -69,9 +69,9 @@ fn secrets_are_hidden(rt: HostRuntime) {
 #[test]
 fn texts_of_secrets(rt: HostRuntime) {
     let secret = ClientSecret::new(text(&rt, "top_secret"));
-    is_debugged_in_lines(&rt, &secret, "ClientSecret([redacted])");
-    is_text(&rt, secret.secret().as_str(), "top_secret");
-    is_text(&rt, secret.into_secret().as_str(), "top_secret");
+    assert_debugged_in_lines(&rt, &secret, "ClientSecret([redacted])");
+    assert_text(&rt, secret.secret().as_str(), "top_secret");
+    assert_text(&rt, secret.into_secret().as_str(), "top_secret");
 }
 
 // Two secrets with the same text are equal.

@@ -34,36 +34,40 @@ pub fn read<T: FromJson>(rt: &(impl Abort + AllocGlobal), body: &str) -> T {
 }
 
 /// Checks that the two are equal. (A call is much cheaper to prove than the assertion itself.)
-pub fn is_equal<T: PartialEq + Debug + Drop>(rt: &impl Abort, found: T, wanted: T) {
+pub fn assert_equal<T: PartialEq + Debug + Drop>(rt: &impl Abort, found: T, wanted: T) {
     assert_eq!(rt; found, wanted);
 }
 
 /// The texts are equal.
-pub fn is_text(rt: &impl Abort, found: &str, wanted: &str) {
+pub fn assert_text(rt: &impl Abort, found: &str, wanted: &str) {
     assert_eq!(rt; found, wanted);
 }
 
 /// Checks a condition for one row of a table.
-pub fn is_so_at(rt: &impl Abort, is_so: bool, row: &str) {
+pub fn assert_at(rt: &impl Abort, is_so: bool, row: &str) {
     assert!(rt; is_so, "at {row}");
 }
 
 /// The value is shown as this text where it is debugged.
-pub fn is_debugged_as<T: Debug>(rt: &(impl Abort + AllocGlobal), value: &T, wanted: &str) {
+pub fn assert_debugged_as<T: Debug>(rt: &(impl Abort + AllocGlobal), value: &T, wanted: &str) {
     let shown = format!(in rt.alloc(); "{value:?}").expect(rt, "a debug text");
-    is_text(rt, shown.as_str(), wanted);
+    assert_text(rt, shown.as_str(), wanted);
 }
 
 /// The value is shown as this text where it is debugged in lines.
-pub fn is_debugged_in_lines<T: Debug>(rt: &(impl Abort + AllocGlobal), value: &T, wanted: &str) {
+pub fn assert_debugged_in_lines<T: Debug>(
+    rt: &(impl Abort + AllocGlobal),
+    value: &T,
+    wanted: &str,
+) {
     let shown = format!(in rt.alloc(); "{value:#?}").expect(rt, "a debug text");
-    is_text(rt, shown.as_str(), wanted);
+    assert_text(rt, shown.as_str(), wanted);
 }
 
 /// The value is shown as this text.
-pub fn is_displayed_as<T: Display>(rt: &(impl Abort + AllocGlobal), value: &T, wanted: &str) {
+pub fn assert_displayed_as<T: Display>(rt: &(impl Abort + AllocGlobal), value: &T, wanted: &str) {
     let shown = format!(in rt.alloc(); "{value}").expect(rt, "a text");
-    is_text(rt, shown.as_str(), wanted);
+    assert_text(rt, shown.as_str(), wanted);
 }
 
 fn hash_of<T: Hash>(value: &T) -> u64 {
@@ -73,13 +77,13 @@ fn hash_of<T: Hash>(value: &T) -> u64 {
 }
 
 /// Checks that a copy is equal and has the same hash.
-pub fn copies_alike<T: Debug + Eq + Hash + TryClone + Drop>(
+pub fn assert_copy_alike<T: Debug + Eq + Hash + TryClone + Drop>(
     rt: &(impl Abort + AllocGlobal),
     value: &T,
 ) {
     let copy = value.try_clone(rt.alloc()).expect(rt, "a copy");
     assert!(rt; copy == *value);
-    is_equal(rt, hash_of(&copy), hash_of(value));
+    assert_equal(rt, hash_of(&copy), hash_of(value));
 }
 
 /// The text of a value that is compared with another.
@@ -94,56 +98,56 @@ pub fn other(rt: &(impl Abort + AllocGlobal)) -> String {
 
 /// Checks two values with different texts: the debug text of the first, its copy, and that the two
 /// differ.
-pub fn compares<T: Debug + Eq + Hash + TryClone + Drop>(
+pub fn assert_different<T: Debug + Eq + Hash + TryClone + Drop>(
     rt: &(impl Abort + AllocGlobal),
     value: T,
     other: T,
     shown: &str,
 ) {
-    is_debugged_as(rt, &value, shown);
-    copies_alike(rt, &value);
+    assert_debugged_as(rt, &value, shown);
+    assert_copy_alike(rt, &value);
     assert!(rt; value != other);
 }
 
 /// The value is written as this text.
-pub fn is_written_as<T: ToJson>(rt: &(impl Abort + AllocGlobal), value: &T, wanted: &str) {
+pub fn assert_written_as<T: ToJson>(rt: &(impl Abort + AllocGlobal), value: &T, wanted: &str) {
     let json = compact(rt.alloc(), value).expect(rt, "a text");
-    is_text(rt, json.as_str(), wanted);
+    assert_text(rt, json.as_str(), wanted);
 }
 
 /// Checks that what is read from the body is written as this text.
-pub fn is_rewritten<T: FromJson + ToJson + Drop>(
+pub fn assert_rewritten<T: FromJson + ToJson + Drop>(
     rt: &(impl Abort + AllocGlobal),
     body: &str,
     wanted: &str,
 ) {
     let value = read::<T>(rt, body);
-    is_written_as(rt, &value, wanted);
+    assert_written_as(rt, &value, wanted);
 }
 
 /// Checks that what is read from the text is written as the same text.
-pub fn is_kept<T: FromJson + ToJson + Drop>(rt: &(impl Abort + AllocGlobal), text: &str) {
-    is_rewritten::<T>(rt, text, text);
+pub fn assert_kept<T: FromJson + ToJson + Drop>(rt: &(impl Abort + AllocGlobal), text: &str) {
+    assert_rewritten::<T>(rt, text, text);
 }
 
 /// Checks that a copy of what is read from the text is written as the same text.
-pub fn copy_is_kept<T: FromJson + ToJson + TryClone + Drop>(
+pub fn assert_copy_kept<T: FromJson + ToJson + TryClone + Drop>(
     rt: &(impl Abort + AllocGlobal),
     text: &str,
 ) {
     let value = read::<T>(rt, text);
-    is_written_as(rt, &copy_of(rt, &value), text);
+    assert_written_as(rt, &copy_of(rt, &value), text);
 }
 
 /// Checks that writing the value fails with this error, for one row of a table.
-pub fn is_not_written<T: ToJson + Drop>(
+pub fn assert_not_written<T: ToJson + Drop>(
     rt: &(impl Abort + AllocGlobal),
     value: T,
     refusal: WriteError,
     row: &str,
 ) {
     let refused = value.to_json(rt.alloc()).err();
-    is_so_at(rt, refused == Some(refusal), row);
+    assert_at(rt, refused == Some(refusal), row);
 }
 
 /// Whether reading returned this fault.
@@ -155,7 +159,7 @@ pub fn is_fault<T: Drop>(read: Result<T, ReadError>, member: &str, cause: ParseC
 }
 
 /// Checks that reading the body returns this fault.
-pub fn is_refused<T: FromJson + Drop>(
+pub fn assert_refused<T: FromJson + Drop>(
     rt: &(impl Abort + AllocGlobal),
     body: &str,
     member: &str,

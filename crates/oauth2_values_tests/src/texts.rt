@@ -1,6 +1,6 @@
 //! Texts that are no secrets: shown, compared, copied and taken apart.
 
-use crate::support::{compares, is_text, other, text, value};
+use crate::support::{assert_different, assert_text, other, text, value};
 use oauth2::{
     ClientId, PkceCodeChallengeMethod, ResourceOwnerUsername, ResponseType, Scope, TryClone,
 };
@@ -8,31 +8,31 @@ use std::convert::AsStr;
 
 #[test]
 fn plain_texts(rt: HostRuntime) {
-    compares(
+    assert_different(
         &rt,
         ClientId::new(value(&rt)),
         ClientId::new(other(&rt)),
         "ClientId(\"top_secret\")",
     );
-    compares(
+    assert_different(
         &rt,
         PkceCodeChallengeMethod::new(value(&rt)),
         PkceCodeChallengeMethod::new(other(&rt)),
         "PkceCodeChallengeMethod(\"top_secret\")",
     );
-    compares(
+    assert_different(
         &rt,
         ResourceOwnerUsername::new(value(&rt)),
         ResourceOwnerUsername::new(other(&rt)),
         "ResourceOwnerUsername(\"top_secret\")",
     );
-    compares(
+    assert_different(
         &rt,
         ResponseType::new(value(&rt)),
         ResponseType::new(other(&rt)),
         "ResponseType(\"top_secret\")",
     );
-    compares(
+    assert_different(
         &rt,
         Scope::new(value(&rt)),
         Scope::new(other(&rt)),
@@ -43,10 +43,10 @@ fn plain_texts(rt: HostRuntime) {
 #[test]
 fn parts_of_texts(rt: HostRuntime) {
     let id = ClientId::new(text(&rt, "b"));
-    is_text(&rt, id.as_str(), "b");
-    is_text(&rt, String::from(id).as_str(), "b");
+    assert_text(&rt, id.as_str(), "b");
+    assert_text(&rt, String::from(id).as_str(), "b");
     let scope = Scope::new(text(&rt, "c"));
-    is_text(&rt, AsStr::as_str(&scope), "c");
+    assert_text(&rt, AsStr::as_str(&scope), "c");
 }
 
 #[test]
@@ -55,5 +55,5 @@ fn copies_of_lists(rt: HostRuntime) {
     let list = Some(words).try_clone(rt.alloc()).expect(&rt, "a copy");
     let words = list.expect(&rt, "the list is gone");
     let joined = words.concat(rt.alloc()).expect(&rt, "a text");
-    is_text(&rt, joined.as_str(), "ab");
+    assert_text(&rt, joined.as_str(), "ab");
 }

@@ -1,6 +1,6 @@
 //! The members of a token response (RFC 6749, section 5.1).
 
-use crate::support::{is_equal, is_text, is_written_as, read, scope_list, text};
+use crate::support::{assert_equal, assert_text, assert_written_as, read, scope_list, text};
 use oauth2::basic::{BasicTokenResponse, BasicTokenType};
 use oauth2::{AccessToken, EmptyExtraTokenFields, RefreshToken, TokenResponse};
 use std::process::Abort;
@@ -29,10 +29,10 @@ fn set_tokens(rt: &(impl Abort + AllocGlobal), token: &mut BasicTokenResponse) {
 
 // What the getters say.
 fn has_members(rt: &impl Abort, token: &BasicTokenResponse) {
-    is_text(rt, token.access_token().secret().as_str(), "u");
+    assert_text(rt, token.access_token().secret().as_str(), "u");
     assert!(rt; *token.token_type() == BasicTokenType::Bearer);
     assert!(rt; token.refresh_token().is_some());
-    is_equal(rt, token.scopes().expect(rt, "scopes").len(), 1);
+    assert_equal(rt, token.scopes().expect(rt, "scopes").len(), 1);
     assert!(rt; *token.extra_fields() == EmptyExtraTokenFields {});
 }
 
@@ -43,7 +43,7 @@ fn token_response_is_set(rt: HostRuntime) {
     token.set_scopes(Some(scope_list(&rt, "read")));
     token.set_extra_fields(EmptyExtraTokenFields {});
     has_members(&rt, &token);
-    is_written_as(
+    assert_written_as(
         &rt,
         &token,
         r#"{"access_token":"u","refresh_token":"r","scope":"read","token_type":"bearer"}"#,

@@ -2,7 +2,9 @@
 
 ghost use Rattle.std.specs.Prelude.{IsTrue};
 
-use crate::support::{copies_alike, is_debugged_as, is_displayed_as, is_text, text};
+use crate::support::{
+    assert_copy_alike, assert_debugged_as, assert_displayed_as, assert_text, text,
+};
 use oauth2::url::{ParseError, Url};
 use oauth2::{
     AuthUrl, DeviceAuthorizationUrl, EndUserVerificationUrl, IntrospectionUrl, RedirectUrl,
@@ -27,7 +29,7 @@ fn parsed(rt: &(impl Abort + AllocGlobal)) -> Url {
 }
 
 // The texts of a URL, its copy, and its order below one that is made of what it parses to.
-fn compares<T: Debug + Display + Ord + Hash + TryClone + Drop, U: Fn(&T) -> &Url>(
+fn assert_ordered<T: Debug + Display + Ord + Hash + TryClone + Drop, U: Fn(&T) -> &Url>(
     rt: &(impl Abort + AllocGlobal),
     given: Result<T, ParseError>,
     parsed: Result<T, AllocError>,
@@ -38,10 +40,10 @@ fn compares<T: Debug + Display + Ord + Hash + TryClone + Drop, U: Fn(&T) -> &Url
 {
     let value = given.expect(rt, "a URL");
     let greater = parsed.expect(rt, "a URL");
-    is_displayed_as(rt, &value, GIVEN);
-    is_displayed_as(rt, &greater, PARSED);
-    is_debugged_as(rt, &value, debug);
-    copies_alike(rt, &value);
+    assert_displayed_as(rt, &value, GIVEN);
+    assert_displayed_as(rt, &greater, PARSED);
+    assert_debugged_as(rt, &value, debug);
+    assert_copy_alike(rt, &value);
     assert!(rt; *url(&value) == *url(&greater));
     assert!(rt; value != greater);
     assert!(rt; value < greater);
@@ -49,49 +51,49 @@ fn compares<T: Debug + Display + Ord + Hash + TryClone + Drop, U: Fn(&T) -> &Url
 
 #[test]
 fn urls_keep_their_texts(rt: HostRuntime) {
-    compares(
+    assert_ordered(
         &rt,
         AuthUrl::new(rt.alloc(), given(&rt)),
         AuthUrl::from_url(rt.alloc(), parsed(&rt)),
         AuthUrl::url,
         "AuthUrl(\"https://example.com\")",
     );
-    compares(
+    assert_ordered(
         &rt,
         DeviceAuthorizationUrl::new(rt.alloc(), given(&rt)),
         DeviceAuthorizationUrl::from_url(rt.alloc(), parsed(&rt)),
         DeviceAuthorizationUrl::url,
         "DeviceAuthorizationUrl(\"https://example.com\")",
     );
-    compares(
+    assert_ordered(
         &rt,
         EndUserVerificationUrl::new(rt.alloc(), given(&rt)),
         EndUserVerificationUrl::from_url(rt.alloc(), parsed(&rt)),
         EndUserVerificationUrl::url,
         "EndUserVerificationUrl(\"https://example.com\")",
     );
-    compares(
+    assert_ordered(
         &rt,
         IntrospectionUrl::new(rt.alloc(), given(&rt)),
         IntrospectionUrl::from_url(rt.alloc(), parsed(&rt)),
         IntrospectionUrl::url,
         "IntrospectionUrl(\"https://example.com\")",
     );
-    compares(
+    assert_ordered(
         &rt,
         RedirectUrl::new(rt.alloc(), given(&rt)),
         RedirectUrl::from_url(rt.alloc(), parsed(&rt)),
         RedirectUrl::url,
         "RedirectUrl(\"https://example.com\")",
     );
-    compares(
+    assert_ordered(
         &rt,
         RevocationUrl::new(rt.alloc(), given(&rt)),
         RevocationUrl::from_url(rt.alloc(), parsed(&rt)),
         RevocationUrl::url,
         "RevocationUrl(\"https://example.com\")",
     );
-    compares(
+    assert_ordered(
         &rt,
         TokenUrl::new(rt.alloc(), given(&rt)),
         TokenUrl::from_url(rt.alloc(), parsed(&rt)),
@@ -116,8 +118,8 @@ fn is_lawful<T: Ord>(a: &T, b: &T) -> bool
 #[test]
 fn kept_texts(rt: HostRuntime) {
     let redirect = RedirectUrl::new(rt.alloc(), given(&rt)).expect(&rt, "a URL");
-    is_text(&rt, redirect.as_str(), GIVEN);
-    is_text(&rt, redirect.url().as_str(), PARSED);
+    assert_text(&rt, redirect.as_str(), GIVEN);
+    assert_text(&rt, redirect.url().as_str(), PARSED);
     let same = redirect.try_clone(rt.alloc()).expect(&rt, "a copy");
     assert!(rt; is_lawful(&redirect, &same));
 }
