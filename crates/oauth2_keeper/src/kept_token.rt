@@ -39,6 +39,13 @@ impl KeptToken {
         nanosecond_after(now, margin) <= nanosecond_after(self.accepted_at, self.lifetime)
     }
 
+    // Whether its lifetime has not ended at a moment.
+    pub(crate) fn lasts(&self, now: Timestamp) -> bool
+        ensures { result ≡ is_good_at 0 now.nanosecond self.now }
+    {
+        now.as_nanosecond() <= nanosecond_after(self.accepted_at, self.lifetime)
+    }
+
     // The last moment at which the token is good, where it is one of `jiff`.
     pub(crate) fn good_until(&self, margin: Duration) -> Option<Timestamp>
         ensures variant { IsSome result

@@ -315,7 +315,7 @@ where
         ensures { result ≡ is_good_if_any 0 now.nanosecond self.now.token }
     {
         match &self.token {
-            Some(token) => token.is_good(Duration::from_secs(0), now),
+            Some(token) => token.lasts(now),
             None => false,
         }
     }
@@ -450,22 +450,49 @@ where
         ensures ready { C.is_ready http_client.new }
     {
         match &self.refresh_token {
-            Some(refresh_token) => {
-                let request = self.client.exchange_refresh_token(alloc, refresh_token);
-                let scope = self.refresh_scope.as_ref();
-                match with_refresh_params(alloc, request, scope, &self.extra_params) {
-                    Ok(request) => request.request(alloc, http_client),
-                    Err(AllocError) => Err(RequestTokenError::Memory { sent: false }),
-                }
-            }
-            None => {
-                let request = self.client.exchange_client_credentials(alloc);
-                let scope = self.scope.as_ref();
-                match with_client_params(alloc, request, scope, &self.extra_params) {
-                    Ok(request) => request.request(alloc, http_client),
-                    Err(AllocError) => Err(RequestTokenError::Memory { sent: false }),
-                }
-            }
+            Some(refresh_token) => self.ask_by_refresh_token(alloc, refresh_token, http_client),
+            None => self.ask_by_credentials(alloc, http_client),
+        }
+    }
+
+    // Asks by the refresh token that is kept.
+    fn ask_by_refresh_token<C: SyncHttpClient>(
+        &self,
+        alloc: Global,
+        refresh_token: &RefreshToken,
+        http_client: &mut C,
+    ) -> Result<TR, RequestTokenError<C::Error, TE>>
+        requires client { C.is_ready http_client.old }
+        requires token { self.now.refresh_token ≡ Some refresh_token.now }
+        ensures once { Renews (AsksOnce TR.meaning TE.meaning TR.reading TE.reading C.step)
+            self.now http_client.old result http_client.new }
+        ensures ready { C.is_ready http_client.new }
+    {
+        let request = self.client.exchange_refresh_token(alloc, refresh_token);
+        let scope = self.refresh_scope.as_ref();
+        match with_refresh_params(alloc, request, scope, &self.extra_params) {
+            Ok(request) => request.request(alloc, http_client),
+            Err(AllocError) => Err(RequestTokenError::Memory { sent: false }),
+        }
+    }
+
+    // Asks by the client's own credentials.
+    fn ask_by_credentials<C: SyncHttpClient>(
+        &self,
+        alloc: Global,
+        http_client: &mut C,
+    ) -> Result<TR, RequestTokenError<C::Error, TE>>
+        requires client { C.is_ready http_client.old }
+        requires token { self.now.refresh_token ≡ None }
+        ensures once { Renews (AsksOnce TR.meaning TE.meaning TR.reading TE.reading C.step)
+            self.now http_client.old result http_client.new }
+        ensures ready { C.is_ready http_client.new }
+    {
+        let request = self.client.exchange_client_credentials(alloc);
+        let scope = self.scope.as_ref();
+        match with_client_params(alloc, request, scope, &self.extra_params) {
+            Ok(request) => request.request(alloc, http_client),
+            Err(AllocError) => Err(RequestTokenError::Memory { sent: false }),
         }
     }
 
