@@ -3,7 +3,7 @@
 
 use anyhow::anyhow;
 use oauth2::http::Response;
-use oauth2::{HttpRequest, HttpResponse, SyncHttpClient};
+use oauth2::{AlwaysReady, HttpRequest, HttpResponse, SyncHttpClient};
 use std::alloc::Global;
 
 /// Hands out one reply after the other: a status, and a body of JSON.
@@ -35,4 +35,8 @@ impl SyncHttpClient for CannedClient<'_> {
         let body = String::from_str(self.alloc, body)?.into_bytes();
         Ok(Response::builder(self.alloc).status(status).body(body)?)
     }
+}
+
+impl AlwaysReady for CannedClient<'_> {
+    ghost always_ready = { λ _. tt };
 }

@@ -2,11 +2,11 @@
 
 use crate::canned_client::CannedClient;
 use jiff::Timestamp;
-use oauth2::basic::{BasicClient, BasicDeviceClient};
+use oauth2::basic::{BasicClient, BasicDeviceClient, BasicTokenResponse};
 use oauth2::url::ParseError;
 use oauth2::{
-    ClientId, DeviceAuthorizationUrl, DeviceCodeErrorResponseType, RequestTokenError, Scope,
-    StandardDeviceAuthorizationResponse, TokenResponse, TokenUrl,
+    ClientId, DeviceAuthorizationUrl, DeviceCodeErrorResponse, DeviceCodeErrorResponseType,
+    RequestTokenError, Scope, StandardDeviceAuthorizationResponse, TokenResponse, TokenUrl,
 };
 use std::alloc::Global;
 use std::thread;
@@ -23,8 +23,23 @@ fn client(alloc: Global) -> Result<BasicDeviceClient, ParseError> {
     )
 }
 
+type PollError = RequestTokenError<anyhow::Error, DeviceCodeErrorResponse>;
+
 const CODES: &str = r#"{"device_code":"d","user_code":"WDJB-MJHT","expires_in":60,"interval":1,
     "verification_uri":"https://as.example/go"}"#;
+
+/// A device code, and a code for the user.
+fn codes(
+    alloc: Global,
+    client: &BasicDeviceClient,
+    http_client: &mut CannedClient<'_>,
+) -> anyhow::Result<StandardDeviceAuthorizationResponse> {
+    let device = client
+        .exchange_device_code(alloc)
+        .add_scope(Scope::from_str(alloc, "read")?)?
+        .request(alloc, http_client)?;
+    Ok(device)
+}
 
 /// Polls by the system's clock, with at most 100 requests.
 fn poll(
@@ -32,40 +47,51 @@ fn poll(
     client: &BasicDeviceClient,
     http_client: &mut CannedClient<'_>,
     device: &StandardDeviceAuthorizationResponse,
-) -> anyhow::Result<()> {
-    let alloc = rt.alloc();
+) -> Result<BasicTokenResponse, PollError> {
     let mut sleep = |time: Duration| thread::sleep(rt, time);
-    let answer = client
-        .exchange_device_access_token(alloc, device)
+    client
+        .exchange_device_access_token(rt.alloc(), device)
         .set_time_fn(|| Timestamp::now(rt).unwrap_or(Timestamp::MAX))
-        .request(alloc, http_client, &mut sleep, None, 100);
-    match answer {
-        Ok(token) => println!(rt; "token: {}", token.access_token().secret())?,
-        Err(RequestTokenError::ServerResponse(error)) => match error.error() {
-            DeviceCodeErrorResponseType::AccessDenied => println!(rt; "the user said no")?,
-            DeviceCodeErrorResponseType::ExpiredToken => println!(rt; "the code is too old")?,
-            _ => println!(rt; "the server refused: {error}")?,
+        .request(rt.alloc(), http_client, &mut sleep, None, 100)
+}
+
+/// What to tell the user of an error.
+fn advice(error: &PollError) -> &'static str {
+    match error {
+        RequestTokenError::ServerResponse(response) => match response.error() {
+            DeviceCodeErrorResponseType::AccessDenied => "you said no",
+            DeviceCodeErrorResponseType::ExpiredToken => "the code is too old, start again",
+            _ => "report this",
         },
-        Err(error) => println!(rt; "{error}")?,
+        _ => "try again later",
+    }
+}
+
+/// Shows the user's code, and waits until it is entered.
+fn sign_in(
+    rt: &HostRuntime,
+    client: &BasicDeviceClient,
+    http_client: &mut CannedClient<'_>,
+    device: &StandardDeviceAuthorizationResponse,
+) -> anyhow::Result<()> {
+    println!(rt; "open {}", device.verification_uri().as_str())?;
+    println!(rt; "and enter the code {}", device.user_code().secret())?;
+    match poll(rt, client, http_client, device) {
+        Ok(token) => println!(rt; "token: {}", token.access_token().secret())?,
+        Err(error) => println!(rt; "{error}: {}", advice(&error))?,
     }
     Ok(())
 }
 
 fn run(rt: &HostRuntime, client: &BasicDeviceClient) -> anyhow::Result<()> {
-    let alloc = rt.alloc();
     let replies = [
         (200, CODES),
         (400, r#"{"error":"authorization_pending"}"#),
         (200, r#"{"access_token":"abc","token_type":"bearer"}"#),
     ];
-    let mut http_client = CannedClient::new(alloc, &replies);
-    let device: StandardDeviceAuthorizationResponse = client
-        .exchange_device_code(alloc)
-        .add_scope(Scope::from_str(alloc, "read")?)?
-        .request(alloc, &mut http_client)?;
-    println!(rt; "open {}", device.verification_uri().as_str())?;
-    println!(rt; "and enter the code {}", device.user_code().secret())?;
-    poll(rt, client, &mut http_client, &device)
+    let mut http_client = CannedClient::new(rt.alloc(), &replies);
+    let device = codes(rt.alloc(), client, &mut http_client)?;
+    sign_in(rt, client, &mut http_client, &device)
 }
 
 pub fn main(rt: HostRuntime) -> anyhow::Result<()> {

@@ -12,6 +12,7 @@ mod full_client;
 mod implicit;
 mod kept_token;
 mod login;
+mod openid;
 mod password;
 mod refresh;
 mod resource_server;
@@ -21,8 +22,9 @@ use anyhow::anyhow;
 use std::env;
 
 // The programs that run without an argument, in this order.
-const PROGRAMS: [&str; 11] = [
+const PROGRAMS: [&str; 12] = [
     "full_client",
+    "openid",
     "client_credentials",
     "password",
     "refresh",
@@ -45,6 +47,7 @@ fn run(rt: HostRuntime, name: &str) -> anyhow::Result<()> {
         "implicit" => implicit::main(rt),
         "kept_token" => kept_token::main(rt),
         "login" => login::main(rt),
+        "openid" => openid::main(rt),
         "password" => password::main(rt),
         "refresh" => refresh::main(rt),
         "resource_server" => resource_server::main(rt),

@@ -4,8 +4,8 @@
 use crate::canned_client::CannedClient;
 use oauth2::basic::{BasicClient, BasicTokenClient, BasicTokenResponse};
 use oauth2::url::ParseError;
-use oauth2::{ClientId, TokenResponse, TokenUrl, TryClone, compact, read_body};
-use std::alloc::Global;
+use oauth2::{ClientId, RefreshToken, TokenResponse, TokenUrl, TryClone, compact, read_body};
+use std::alloc::{AllocError, Global};
 
 const STORED: &str =
     r#"{"access_token":"abc","token_type":"bearer","expires_in":3600,"refresh_token":"def"}"#;
@@ -16,8 +16,19 @@ fn client(alloc: Global) -> Result<BasicTokenClient, ParseError> {
     Ok(BasicClient::new(id).set_token_uri(token_url))
 }
 
-/// The token response that takes the place of a stored one. A server may keep the refresh token as
-/// it was, and then its reply has none.
+/// Keeps the old refresh token, if the reply has none: the server then keeps it as it was.
+fn keep(
+    alloc: Global,
+    token: &mut BasicTokenResponse,
+    refresh_token: &RefreshToken,
+) -> Result<(), AllocError> {
+    if token.refresh_token().is_none() {
+        token.set_refresh_token(Some(refresh_token.try_clone(alloc)?));
+    }
+    Ok(())
+}
+
+/// The token response that takes the place of a stored one.
 fn renewed(
     alloc: Global,
     client: &BasicTokenClient,
@@ -30,9 +41,7 @@ fn renewed(
     let mut token = client
         .exchange_refresh_token(alloc, refresh_token)
         .request(alloc, http_client)?;
-    if token.refresh_token().is_none() {
-        token.set_refresh_token(Some(refresh_token.try_clone(alloc)?));
-    }
+    keep(alloc, &mut token, refresh_token)?;
     Ok(token)
 }
 
