@@ -6,6 +6,7 @@
 mod canned_client;
 mod client_credentials;
 mod device;
+mod discovery;
 mod error_codes;
 mod errors;
 mod full_client;
@@ -22,8 +23,9 @@ use anyhow::anyhow;
 use std::env;
 
 // The programs that run without an argument, in this order.
-const PROGRAMS: [&str; 12] = [
+const PROGRAMS: [&str; 13] = [
     "full_client",
+    "discovery",
     "openid",
     "client_credentials",
     "password",
@@ -41,6 +43,7 @@ fn run(rt: HostRuntime, name: &str) -> anyhow::Result<()> {
     match name {
         "client_credentials" => client_credentials::main(rt),
         "device" => device::main(rt),
+        "discovery" => discovery::main(rt),
         "error_codes" => error_codes::main(rt),
         "errors" => errors::main(rt),
         "full_client" => full_client::main(rt),
