@@ -1,5 +1,5 @@
 -- The end of a login with OpenID Connect (Core 1.0, 3.1.3).
-use Rattle.std.specs.Prelude.{◌≡◌, ℕ, ℤ, ◌⊎◌, List, ◌++◌, codes, false, true, Option, Some, None, option_map, Result, Ok, Err}
+use Rattle.std.specs.Prelude.{◌≡◌, ℕ, ℤ, ◌⊎◌, List, ◌++◌, codes, false, true, Option, Some, None, IsSome, option_map, Result, Ok, Err}
 use Rattle.serde_json.specs.Data.{Data}
 use Rattle.oauth2_json.specs.Reading.{Reading, fault_of}
 use Rattle.oauth2_wire.specs.OneShot.{HttpRequest}
@@ -42,7 +42,8 @@ id_token_reading text = option_map token_reading text
 
 module _ {D RE T : Type 0} where
   -- what comes of a token response: itself, with what its ID token reads to, if each rule holds; or
-  -- an error that tells the first thing that was wrong with the ID token, or that memory ran out
+  -- an error that tells the first thing that was wrong with the ID token, or that memory for reading
+  -- one ran out
   abbrev pub Judges : (D → List ℕ) → (D → Option (List ℕ)) → Expectation → ℤ → D → Result (OpenIdLoginEnd D) (OpenIdLoginError RE T) → Type 0
   Judges access_token id_token expected now response (Ok end) =
       (end.token_response ≡ response)
@@ -55,7 +56,7 @@ module _ {D RE T : Type 0} where
   Judges access_token id_token expected now response (Err (Claims error)) =
       (token : Token) × (id_token_reading (id_token response) ≡ Some (Ok token))
       × (token_checked expected (access_token response) now token ≡ Err error)
-  Judges access_token id_token expected now response (Err (Memory sent)) = sent ≡ true
+  Judges access_token id_token expected now response (Err (Memory sent)) = (sent ≡ true) × IsSome (id_token response)
 
 module _ {D A T E RE C : Type 0} where
   -- a login ends by a token response, which is what the one request for the code that the redirect
