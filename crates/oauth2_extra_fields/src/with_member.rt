@@ -15,7 +15,7 @@ ghost use Rattle.oauth2_extra_fields.specs.private.Written.{object_written};
 
 use crate::member_value::MemberValue;
 use oauth2_json::{FromJson, ReadError, ToJson, WriteError, members};
-use oauth2_replies::{ExtraDeviceAuthorizationFields, ExtraTokenFields};
+use oauth2_replies::{EmptyExtraTokenFields, ExtraDeviceAuthorizationFields, ExtraTokenFields};
 use oauth2_types::TryClone;
 use serde_json::Value;
 use std::alloc::{AllocError, Global};
@@ -35,9 +35,10 @@ pub trait NamedMember {
         ensures { result.now ≡ name };
 }
 
-/// Extra fields: the member that `M` names, which may be absent, and the rest.
+/// Extra fields: the member that `M` names, which may be absent, and the rest: none, unless a type
+/// is given for it.
 #[derive_where(Debug; Rest)]
-pub struct WithMember<M: NamedMember, Rest> {
+pub struct WithMember<M: NamedMember, Rest = EmptyExtraTokenFields> {
     value: Option<M::Value>,
     rest: Rest,
 }

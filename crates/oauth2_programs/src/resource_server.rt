@@ -9,9 +9,9 @@ use oauth2::basic::{
 };
 use oauth2::url::ParseError;
 use oauth2::{
-    AccessToken, Client, ClientId, ClientSecret, EmptyExtraTokenFields, EndpointNotSet,
-    EndpointSet, IntrospectionUrl, NamedMember, StandardRevocableToken,
-    StandardTokenIntrospectionResponse, TokenIntrospectionResponse, WithMember,
+    AccessToken, Client, ClientId, ClientSecret, EndpointNotSet, EndpointSet, IntrospectionUrl,
+    NamedMember, StandardRevocableToken, StandardTokenIntrospectionResponse,
+    TokenIntrospectionResponse, WithMember,
 };
 use std::alloc::Global;
 
@@ -28,7 +28,7 @@ impl NamedMember for Tenant {
     }
 }
 
-type TenantFields = WithMember<Tenant, EmptyExtraTokenFields>;
+type TenantFields = WithMember<Tenant>;
 
 type Introspection = StandardTokenIntrospectionResponse<TenantFields, BasicTokenType>;
 
