@@ -20,7 +20,7 @@ fn advice(error: &BasicRequestTokenError<anyhow::Error>) -> &'static str {
     match error {
         RequestTokenError::ServerResponse(response) => match response.error() {
             BasicErrorResponseType::InvalidGrant => "sign in again",
-            BasicErrorResponseType::InvalidClient => "mend the client's settings",
+            BasicErrorResponseType::InvalidClient => "correct the client's settings",
             _ => "report this",
         },
         RequestTokenError::Request(_) => "try again later",

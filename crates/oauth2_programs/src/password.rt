@@ -28,7 +28,6 @@ fn run(rt: &HostRuntime, client: &BasicTokenClient) -> anyhow::Result<()> {
     let token = client
         .exchange_password(alloc, &username, &password)
         .request(alloc, &mut http_client)?;
-    drop(http_client.into_inner());
     println!(rt; "token: {}", token.access_token().secret())?;
     println!(rt; "bytes sent: {sent}")?;
     Ok(())
