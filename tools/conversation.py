@@ -17,8 +17,8 @@ Event = collections.namedtuple('Event', 'kind value method authorization body', 
 Outcome = collections.namedtuple('Outcome', 'status answer reply url asked_at')
 
 
-def program_path():
-    """The program: the one that OAUTH2_PROGRAM names, else the proved one, else one that is not proved, which is said."""
+def program_path(tool='oauth2'):
+    """The program: the one that OAUTH2_PROGRAM names, else the proved one, else one that is not proved, which a tool says."""
     path = os.environ.get('OAUTH2_PROGRAM')
     if path and not os.access(path, os.X_OK):
         raise Stop('OAUTH2_PROGRAM names %s, which is no program' % path)
@@ -36,13 +36,13 @@ def program_path():
             why = 'the proved build here does not fit this checkout (docs/TOOL.md)' if is_carried else 'there is no program here'
             raise Stop('%s, and no kit to compile it: README.md names the kit; or OAUTH2_PROGRAM names a program' % why)
         noted.append(True)
-        say('tools/oauth2: the program is compiled now, once for this checkout, in about a minute; it is not proved, tools/prove does that')
+        say('tools/%s: the program is compiled now, once for this checkout, in about a minute; it is not proved, tools/prove does that' % tool)
     try:
         path = program.unproved(note)
     except (OSError, RuntimeError) as error:
         raise Stop('the program can not be compiled: %s' % error)
     if not noted:
-        say('tools/oauth2: the program that runs here is not proved; tools/prove makes one that is')
+        say('tools/%s: the program that runs here is not proved; tools/prove makes one that is' % tool)
     return path
 
 
