@@ -62,6 +62,10 @@ class Steps(unittest.TestCase):
         self.assertTrue(is_so, said)
         self.assertNotIn('tools/test', said)
 
+    def test_a_command_that_asks_for_the_secret(self):
+        is_so, said = taken('    $ printf "secret: " >&2; read -r it; echo "$it" # --ask-secret\n    bbb\n')
+        self.assertTrue(is_so, said)
+
     def test_another_output(self):
         is_so, said = taken('    $ echo one\n    two\n')
         self.assertFalse(is_so)
