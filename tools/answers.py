@@ -4,7 +4,8 @@ import os
 import re
 import sys
 
-from endings import ERROR_RESPONSE, Stop, say, status_of_fault
+import endings
+from endings import ERROR_RESPONSE, NO_ANSWER, Stop, status_of_fault
 
 OUTPUTS = {'json': 'the whole reply as one line of JSON', 'token': 'the access token alone',
            'header': 'the header of a request that has the token (RFC 6750, 2.1)'}
@@ -79,20 +80,45 @@ def whole(outcome):
     return with_others(text, (outcome.reply or {}).get('body', ''))
 
 
-def fault_of(outcome, hint='is the URL that of the endpoint?'):
-    """The fault of the program, with the HTTP status of the reply that it is about; and its exit status."""
-    text = outcome.answer.partition(' ')[2]
+def text_of(outcome):
+    """The text of a fault of the program."""
+    return json.JSONDecoder().raw_decode(outcome.answer.partition(' ')[2])[0]
+
+
+def error_in(outcome):
+    """The code of the error response that a reply is; None where it is none."""
+    found = dict(others((outcome.reply or {}).get('body', ''), ()))
+    return json.loads(found['error']) if 'error' in found else None
+
+
+NO_SECRET = 'no secret was sent: OAUTH2_CLIENT_SECRET, --client-secret-file or --ask-secret gives one'
+
+
+def fault_of(outcome, where='', hint='is the URL that of the endpoint?', has_secret=True):
+    """Why a command of the program has no answer, as one line, and its exit status. where says which setting has the URL."""
+    text, reply = outcome.answer.partition(' ')[2], outcome.reply or {}
     why, end = json.JSONDecoder().raw_decode(text)
-    status, reply, said = status_of_fault(why), outcome.reply or {}, why + text[end:]
-    if 'status' in reply:
-        said += ' (HTTP status %d)' % reply['status']
-        kind = reply.get('content_type')
-        if text.endswith((' NotJson', ' NotObject')) or 'response Content-Type' in why:
-            said += ': the reply is %s and not a JSON object; %s' % (kind or 'of no named type', hint)
-        more = others(reply['body'], OF_AN_ERROR) if why.startswith(ERROR_RESPONSE) else []
-        if more:
-            said += '; the reply also has ' + object_of(more)
-    return said, status
+    status, at = status_of_fault(why), (outcome.url or '') + where
+    if 'status' not in reply:
+        said = outcome.note if outcome.note and why == 'Request failed' else why + text[end:]
+        return said.replace(outcome.url, at, 1) if outcome.url else said, status
+    if outcome.note and not why.startswith((ERROR_RESPONSE, 'Out of memory')):
+        return outcome.note + where, status
+    if text.endswith((' NotJson', ' NotObject')) or 'response Content-Type' in why:
+        return '%s: %s%s' % (at, no_object(reply), '; ' * bool(hint) + hint), status
+    said = why + text[end:] + ' (HTTP status %d)' % reply['status']
+    if not why.startswith(ERROR_RESPONSE):
+        return '%s: %s' % (at, said), status
+    more = others(reply['body'], OF_AN_ERROR)
+    said += '; the reply also has ' + object_of(more) if more else ''
+    return said + ('; ' + NO_SECRET) * (status == endings.OF_CODE['invalid_client'] and not has_secret), status
+
+
+def no_object(reply):
+    """What a reply is that has no JSON object, or not as its type says."""
+    kind = reply.get('content_type') or 'of no named type'
+    said = 'the reply (HTTP status %d) is %s and not a JSON object' % (reply['status'], kind)
+    return said + ', or it is cut off' * (kind.startswith('application/json') and reply['body'].lstrip().startswith('{'))
 
 
 def in_form(text, output):
@@ -107,13 +133,25 @@ def in_form(text, output):
     return token if output == 'token' else 'Authorization: Bearer ' + token
 
 
+def need_output():
+    """Stops where standard output is closed, so that no token is got that nobody gets to see."""
+    if sys.stdout is None:
+        raise Stop('standard output is closed, so an answer could not be written: nothing was asked for')
+
+
+def put(text):
+    """Writes a text to standard output."""
+    rest = text.encode()
+    try:
+        while rest:
+            rest = rest[os.write(1, rest):]
+    except OSError as error:
+        raise Stop('the answer can not be written to standard output: %s' % error.strerror, NO_ANSWER)
+
+
 def write(text, output, is_secret):
     """Writes an answer to standard output, where a terminal gets a warning before a secret."""
-    line = in_form(text, output).encode() + b'\n'
-    if is_secret and sys.stdout.isatty():
-        say('what follows is secret: whoever has it can use it; clear the terminal after use (--show writes it without this line)')
-    try:
-        while line:
-            line = line[os.write(sys.stdout.fileno(), line):]
-    except OSError as error:
-        raise Stop('the answer can not be written to standard output: %s' % error.strerror)
+    line = in_form(text, output)
+    if is_secret and os.isatty(1):
+        endings.tell('what follows is secret: whoever has it can use it; clear the terminal after use (--show writes it without this line)')
+    put(line + '\n')

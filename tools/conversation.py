@@ -7,21 +7,23 @@ import time
 
 import program
 import repository
-from endings import FAULT, NO_ANSWER, NO_MEMORY, Stop, say
+import endings
+from endings import BAD_SETTING, FAULT, NO_ANSWER, NO_MEMORY, Stop
 from http_requests import reply_to
 
+LAST_READING = 253402207200  # that a script may have
 # What a line of the program says. Of a request, value is its URL; of another line, what follows its kind.
 Event = collections.namedtuple('Event', 'kind value method authorization body', defaults=(None, None, None))
 # What came of a command: the program's status, its answer, the last reply as the script has it (none where there was none), the URL of
-# the request for that, and when it was sent.
-Outcome = collections.namedtuple('Outcome', 'status answer reply url asked_at')
+# the request for that, when it was sent, and what only this tool knows of it: why there is no reply, or where it sends to.
+Outcome = collections.namedtuple('Outcome', 'status answer reply url asked_at note', defaults=(None,))
 
 
 def program_path(tool='oauth2'):
     """The program: the one that OAUTH2_PROGRAM names, else the proved one, else one that is not proved, which a tool says."""
     path = os.environ.get('OAUTH2_PROGRAM')
     if path and not os.access(path, os.X_OK):
-        raise Stop('OAUTH2_PROGRAM names %s, which is no program' % path)
+        raise Stop('OAUTH2_PROGRAM names %s, which is no program' % path, BAD_SETTING)
     if not path and program.is_proved():
         path = program.PROGRAM
         if not os.access(path, os.X_OK):
@@ -36,13 +38,13 @@ def program_path(tool='oauth2'):
             why = 'the proved build here does not fit this checkout (docs/TOOL.md)' if is_carried else 'there is no program here'
             raise Stop('%s, and no kit to compile it: README.md names the kit; or OAUTH2_PROGRAM names a program' % why)
         noted.append(True)
-        say('tools/%s: the program is compiled now, once for this checkout, in about a minute; it is not proved, tools/prove does that' % tool)
+        endings.note('the program is compiled now, once for this checkout, in about a minute; it is not proved, tools/prove does that', tool)
     try:
         path = program.unproved(note)
     except (OSError, RuntimeError) as error:
         raise Stop('the program can not be compiled: %s' % error)
     if not noted:
-        say('tools/%s: the program that runs here is not proved; tools/prove makes one that is' % tool)
+        endings.note('the program that runs here is not proved; tools/prove makes one that is', tool)
     return path
 
 
@@ -85,28 +87,42 @@ def next_of(events, replies, sleeps):
 
 def answered(path, script, limit):
     """Does what the program says until its answer stands: what came of it."""
-    script, sleeps, url, asked_at = dict(script, replies=[]), 0, None, int(time.time())
+    script, sleeps, url, asked_at, note = dict(script, replies=[]), 0, None, int(time.time()), None
     if script['command'] == 'device_poll':
         script['readings'] = [asked_at] * 2  # as the poll begins, and in its first round
     most = script['params'].get('max_polls')
     while True:
         if most:  # the next request and what follows it: the program makes no more of them than that
             script['params'] = dict(script['params'], max_polls=min(most, len(script['replies']) + 2))
-        status, events = ran(path, script)
-        event = next_of(events, len(script['replies']), sleeps)
-        if not event:
-            if status != 2:
-                raise Stop('%s ended with %d and no answer' % (path, status), status if status == NO_MEMORY else NO_ANSWER)
-            raise Stop(refused_setting(path, script), status)
+        event, status = step(path, script, sleeps)
+        if event.kind == 'sleep':
+            at = min(int(time.time() + float(event.value)), LAST_READING)
+            later = dict(script, readings=[*script['readings'], at])
+            then = step(path, later, sleeps + 1)
+            event, status = then if then[0].kind == 'answer' else (event, status)  # one that no reply decides needs no wait
         if event.kind == 'answer':
-            return Outcome(status, event.value, (script['replies'] or [None])[-1], url, asked_at)
+            return Outcome(status, event.value, (script['replies'] or [None])[-1], url, asked_at, note)
+        if note:
+            endings.tell(note)
         if event.kind == 'request':
             url, asked_at = event.value, int(time.time())
-            script['replies'].append(reply_to(event, limit))
+            reply, note = reply_to(event, limit)
+            script['replies'].append(reply)
         else:
             sleep(float(event.value))
-            sleeps += 1
+            sleeps, note = sleeps + 1, None
             script['readings'].append(int(time.time()))
+
+
+def step(path, script, sleeps):
+    """What has to be done next for a script, and the status of its run."""
+    status, events = ran(path, script)
+    event = next_of(events, len(script['replies']), sleeps)
+    if event:
+        return event, status
+    if status != BAD_SETTING:
+        raise Stop('%s ended with %d and no answer' % (path, status), status if status == NO_MEMORY else NO_ANSWER)
+    raise Stop(refused_setting(path, script), status)
 
 
 def refused_setting(path, script):
@@ -120,7 +136,7 @@ def refused_setting(path, script):
 
 
 def sleep(seconds):
-    say('waiting %g seconds' % seconds)
+    endings.note('waiting %g seconds' % seconds)
     end = time.monotonic() + seconds
     while time.monotonic() < end:
         time.sleep(min(end - time.monotonic(), 3600))

@@ -3,16 +3,17 @@ import json
 
 import answers
 import conversation
-from endings import BAD_SETTING, FAULT, NOT_DISCOVERED, Stop, say
+from endings import BAD_SETTING, FAULT, NOT_DISCOVERED, Stop
 from settings import ENDPOINTS, check_url, flag_of
 
 # The places of an issuer's metadata, in the order in which they are asked: RFC 8414, 3, and OpenID Connect Discovery 1.0, 4.
 PLACES = ('oauth-authorization-server', 'openid-configuration')
+ANOTHER = "metadata is another issuer's"
 
 
 def metadata_of(path, settings, limit):
     """The metadata of the issuer, by the names of RFC 8414, 2, as the program at this path reads them. Stops where no place has them."""
-    faults, issuer = [], settings['issuer']
+    faults, other, issuer = [], None, settings['issuer']
     for place in PLACES:
         params = {'issuer': issuer, 'well_known': place}
         outcome = conversation.answered(path, {'client': {'id': settings['client_id']}, 'command': 'metadata', 'params': params}, limit)
@@ -20,13 +21,23 @@ def metadata_of(path, settings, limit):
             return json.loads(outcome.answer.partition(' ')[2])
         if outcome.status != FAULT:
             raise Stop('%s ended with %d and no metadata' % (path, outcome.status), outcome.status)
-        fault, _ = answers.fault_of(outcome, 'is --issuer right?')
+        fault, _ = answers.fault_of(outcome, hint='')
         if not outcome.url:  # the text is no issuer, so no place was asked
             raise Stop('%s is "%s": %s' % (flag_of('issuer'), issuer, fault), BAD_SETTING)
-        faults.append('%s: %s' % (outcome.url, fault))
-    for fault in faults:
-        say(fault)
-    raise Stop('the endpoints of the issuer %s can not be discovered' % issuer, NOT_DISCOVERED)
+        if outcome.answer.endswith('"%s"' % ANOTHER):
+            other = other_issuer(outcome, issuer)
+        if outcome.reply.get('fail') and faults and faults[0].rpartition(': ')[2] == fault.rpartition(': ')[2]:
+            continue  # one cause, such as a host that is unknown
+        faults.append(fault)
+    raise Stop(other or 'the endpoints of the issuer %s can not be discovered (is --issuer right?): %s' % (issuer, '; '.join(faults)),
+               NOT_DISCOVERED)
+
+
+def other_issuer(outcome, issuer):
+    """What to do where metadata are another issuer's (RFC 8414, 3.3): not to use them, and to look at what was given."""
+    named = json.loads(outcome.reply['body'])['issuer']
+    return ('--issuer is "%s", and the metadata at %s name the issuer "%s", so they are not used: if that is the server that you mean, '
+            'give --issuer so, letter by letter' % (issuer, outcome.url, named))
 
 
 def endpoint(metadata, name):

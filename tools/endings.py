@@ -1,4 +1,7 @@
-"""What tools/oauth2 says on standard error, and with which status it ends; for the modules beside it."""
+"""What tools/oauth2 and tools/run say on standard error, and with which status tools/oauth2 ends; for the modules beside them."""
+import contextlib
+import errno
+import os
 import re
 import sys
 
@@ -10,6 +13,10 @@ OF_CODE = {'invalid_request': 10, 'invalid_client': 11, 'invalid_grant': 12, 'un
 ERROR_RESPONSE = 'Server returned error response: '
 
 
+DISK = (errno.ENOSPC, errno.EDQUOT, errno.EIO)
+quiet = False  # --quiet: no notes
+
+
 class Stop(Exception):
     """Why there is no answer of the program; with another status than 125 where one says more."""
 
@@ -19,8 +26,26 @@ class Stop(Exception):
 
 
 def say(text):
-    """Writes a line to standard error. What a server wrote can't steer the terminal."""
-    print(''.join(it if it.isprintable() else '?' for it in text), file=sys.stderr, flush=True)
+    """Writes a line to standard error, if that can be written. What a server wrote can't steer the terminal."""
+    line = ''.join(it if it.isprintable() else '?' for it in text) + '\n'
+    with contextlib.suppress(OSError):
+        os.write(2, line.encode(getattr(sys.stderr, 'encoding', None) or 'utf-8', 'backslashreplace'))
+
+
+def tell(text, tool='oauth2'):
+    """Says an error or a warning."""
+    say('tools/%s: %s' % (tool, text))
+
+
+def note(text, tool='oauth2'):
+    """Says what is good to know, and what --quiet leaves out."""
+    if not quiet:
+        tell(text, tool)
+
+
+def status_at(error):
+    """The status of a file that can't be used: that of a setting, unless it is the disk's fault."""
+    return NO_ANSWER if error.errno in DISK else BAD_SETTING
 
 
 def status_of(error):

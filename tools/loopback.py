@@ -9,7 +9,7 @@ import sys
 import threading
 import urllib.parse
 
-from endings import BAD_SETTING, Stop
+from endings import BAD_SETTING, Stop, tell
 from settings import LOOPBACK
 
 ADDRESSES = {'localhost': ('127.0.0.1', '::1'), '127.0.0.1': ('127.0.0.1',), '::1': ('::1',)}
@@ -96,9 +96,18 @@ class Listener:
             it.server_close()
 
 
+# Opens a URL; the status is 1 where no browser does.
+OPEN = 'import sys, webbrowser; sys.exit(not webbrowser.open(sys.argv[1]))'
+
+
 def open_browser(url):
-    """Opens a URL in a browser, where the environment has one. What that writes is not shown."""
+    """Opens a URL in a browser, where the environment has one, and tells where that fails. What that writes is not shown."""
     if url.startswith(('https://', 'http://')) and any(os.environ.get(it) for it in ('BROWSER', 'DISPLAY', 'WAYLAND_DISPLAY')):
         streams = dict.fromkeys(('stdin', 'stdout', 'stderr'), subprocess.DEVNULL)
         env = {name: value for name, value in os.environ.items() if not name.startswith('OAUTH2_')}  # no secret goes to the browser
-        subprocess.Popen([sys.executable, '-m', 'webbrowser', url], env=env, start_new_session=True, **streams)
+        run = subprocess.Popen([sys.executable, '-c', OPEN, url], env=env, start_new_session=True, **streams)
+
+        def watch():
+            if run.wait():
+                tell('the browser did not start, or ended with an error: open the address yourself')
+        threading.Thread(target=watch, daemon=True).start()

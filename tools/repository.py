@@ -116,8 +116,9 @@ def need_kit(tool):
         sys.exit(125)
 
 
-def parser_of(argparse, name, doc):
-    """A parser whose help is a tool's docstring: 'NAME ..: what it does.' and then the rest."""
+def parser_of(argparse, name, doc, kind=None, **more_settings):
+    """A parser whose help is a tool's docstring: 'NAME ..: what it does.' and then the rest; of this kind, if one is given."""
     about, _, more = doc.partition('\n\n')
-    return argparse.ArgumentParser(prog='tools/' + name, description=about.partition(': ')[2], epilog=more,
-                                   formatter_class=argparse.RawDescriptionHelpFormatter)
+    kind = kind or argparse.ArgumentParser
+    return kind(prog='tools/' + name, description=about.partition(': ')[2], epilog=more,
+                formatter_class=argparse.RawDescriptionHelpFormatter, **more_settings)

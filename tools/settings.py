@@ -1,4 +1,5 @@
 """The settings of tools/oauth2, from flags, environment and file, and its secrets; for that tool."""
+import contextlib
 import getpass
 import json
 import os
@@ -6,17 +7,17 @@ import stat
 import sys
 import urllib.parse
 
-from endings import BAD_SETTING, Stop, say
+from endings import BAD_SETTING, Stop, status_at, tell
 
 LOOPBACK = ('localhost', '127.0.0.1', '::1')
 URLS = {'auth_url': 'the authorization endpoint', 'token_url': 'the token endpoint', 'device_url': 'the device authorization endpoint',
         'introspection_url': 'the introspection endpoint', 'revocation_url': 'the revocation endpoint',
-        'redirect': 'where the server sends the user back'}
+        'redirect': 'where the server sends the user back (with --listen: http://127.0.0.1/ if not given)'}
 # The member of an issuer's metadata that has each endpoint (RFC 8414, 2; RFC 8628, 4).
 ENDPOINTS = {'auth_url': 'authorization_endpoint', 'token_url': 'token_endpoint', 'device_url': 'device_authorization_endpoint',
              'introspection_url': 'introspection_endpoint', 'revocation_url': 'revocation_endpoint'}
 # The settings that are texts, each with what it is.
-TEXTS = {'client_id': "the client's identifier", 'auth': 'where the secret goes: basic (a header, as unless said) or body',
+TEXTS = {'client_id': "the client's identifier", 'auth': 'where the secret goes: basic (a header; the default) or body',
          'issuer': 'the issuer, whose metadata names the endpoints that are not set (RFC 8414)',
          'id_token_issuer': 'the issuer of the ID token of --openid, if it is not --issuer', 'username': "the user's name", **URLS}
 NEEDED = {'login': ('auth_url', 'token_url', 'redirect'), 'token': ('token_url',), 'password': ('token_url', 'username'),
@@ -35,6 +36,17 @@ def flag_of(name):
     return '--' + name.replace('_', '-')
 
 
+# The flags that a user may look for, and what there is in their place: a flag is in the list of processes.
+OF_CLIENT = 'OAUTH2_CLIENT_SECRET, --client-secret-file FILE or --ask-secret'
+NO_FLAGS = {'--client-secret': OF_CLIENT, '--secret': OF_CLIENT, '--password': 'OAUTH2_PASSWORD or a line of standard input',
+            '--token': 'OAUTH2_TOKEN or a line of standard input', '--refresh-token': 'OAUTH2_REFRESH_TOKEN or a line of standard input'}
+# What each command sends itself, so that --extra may not: no parameter may come twice (RFC 6749, 3.1 and 3.2).
+TO_TOKEN = ('grant_type', 'client_secret')
+SENT = {'login': ('response_type', 'client_id', 'redirect_uri', 'state', 'code_challenge', 'code_challenge_method'), 'token': TO_TOKEN,
+        'password': (*TO_TOKEN, 'username', 'password'), 'refresh': (*TO_TOKEN, 'refresh_token'), 'device': TO_TOKEN,
+        'introspect': ('client_secret', 'token'), 'revoke': ('client_secret', 'token', 'token_type_hint')}
+
+
 def settings_of(given, kept):
     """The settings by name, from flags, environment and file; where those lack one, as the cache has kept it for the same issuer."""
     path, found = given.config or os.environ.get('OAUTH2_CONFIG'), {}
@@ -43,31 +55,72 @@ def settings_of(given, kept):
     for name in (*TEXTS, 'client_secret'):
         found[name] = getattr(given, name, None) or os.environ.get('OAUTH2_' + name.upper()) or found.get(name)
         if not isinstance(found[name], (str, type(None))):
-            raise Stop('%s: "%s" is no text' % (path, name))
+            raise Stop('%s: "%s" is no text' % (path, name), BAD_SETTING)
     for name in kept.keys() & TEXTS.keys():
         if name not in ENDPOINTS or found['issuer'] in (None, kept['issuer']):
             found[name] = found[name] or kept[name]
-    found['scopes'] = getattr(given, 'scope', None) or os.environ.get('OAUTH2_SCOPES', '').split() or found.get('scopes') or []
+    found['scopes'] = getattr(given, 'scope', None) or scopes_of_environment() or found.get('scopes') or []
     if not isinstance(found['scopes'], list) or not all(isinstance(it, str) for it in found['scopes']):
-        raise Stop('%s: "scopes" is no list of texts' % path)
+        raise Stop('%s: "scopes" is no list of texts' % path, BAD_SETTING)
     if getattr(given, 'openid', False):
         check_openid(found)
     if getattr(given, 'listen', None) is not None:
         found['redirect'] = found['redirect'] or 'http://127.0.0.1/'
-    check(given.command, found)
+    if given.client_secret_file:
+        found['client_secret'] = secret_in(given.client_secret_file)
+    elif os.environ.get('OAUTH2_CLIENT_SECRET') == '' and not found['client_secret'] and not given.ask_secret:
+        tell('OAUTH2_CLIENT_SECRET is empty, so no secret is sent')
+    check(given, found)
     return found
 
 
-def check(command, found):
-    """Stops where a setting that a command needs is missing, or is one that can't be used."""
-    missing = [name for name in ('client_id', *NEEDED[command]) if not found[name]]
-    for name in missing:
-        if not found['issuer'] or name not in ENDPOINTS:
-            raise Stop('%s is not set: give %s, OAUTH2_%s, or "%s" in the file that --config names%s'
-                       % (TEXTS[name], flag_of(name), name.upper(), name, '; or --issuer, to discover it' * (name in ENDPOINTS)))
-    for name in (*NEEDED[command], *['issuer'] * bool(missing)):
-        if name in URLS and name not in missing or name == 'issuer':
+def scopes_of_environment():
+    return (os.environ.get('OAUTH2_SCOPES') or os.environ.get('OAUTH2_SCOPE') or '').split()
+
+
+def secret_in(path):
+    """The secret that a file has, as one that is mounted. Its path is not shown, since it may be the secret by mistake."""
+    try:
+        with open(path, encoding='utf-8', newline='') as f:
+            text = f.read()
+    except OSError as error:
+        raise Stop('the file of --client-secret-file can not be read: %s' % error.strerror, status_at(error))
+    except ValueError:
+        raise Stop('the file of --client-secret-file is not UTF-8', BAD_SETTING)
+    text = text[:-1] if text.endswith('\n') else text
+    if not text:
+        raise Stop('the file of --client-secret-file is empty', BAD_SETTING)
+    return text
+
+
+def missing_of(command, found):
+    """What a command needs and no setting has, unless the issuer's metadata may have it."""
+    needed = [name for name in ('client_id', *NEEDED[command]) if not found[name]]
+    return [name for name in needed if not found['issuer'] or name not in ENDPOINTS]
+
+
+def check_complete(given, found, path=None):
+    """Stops where a setting that a command needs is missing. path is that of a cache that has no token yet."""
+    for name in missing_of(given.command, found):
+        first = 'there is no token in %s yet: sign in first, by tools/oauth2 login --cache; or ask for one here: ' % path
+        raise Stop('%s%s is not set: give %s, OAUTH2_%s, or "%s" in the file that --config names%s'
+                   % (first * bool(path and given.command in ('token', 'refresh')), TEXTS[name].partition(' (with')[0], flag_of(name),
+                      name.upper(), name, '; or --issuer, to discover it' * (name in ENDPOINTS)), BAD_SETTING)
+
+
+def check(given, found):
+    """Stops at a setting of a command that can't be used."""
+    needed = NEEDED[given.command]
+    for name in (*needed, *['issuer'] * any(not found[it] for it in needed)):
+        if found[name] and (name in URLS or name == 'issuer'):
             check_url(name, found[name], flag_of(name))
+    if found['auth'] not in (None, 'basic', 'body'):
+        raise Stop('--auth is "%s": it has to be basic or body' % found['auth'], BAD_SETTING)
+    sent = SENT[given.command] + ('scope',) * bool(found['scopes']) + ('nonce',) * bool(getattr(given, 'openid', False))
+    sent += ('max_age',) * (getattr(given, 'max_age', None) is not None)
+    for name, _ in given.extra or ():
+        if name in sent:
+            raise Stop('--extra %s: the tool sends that parameter itself' % name, BAD_SETTING)
 
 
 def check_openid(found):
@@ -75,7 +128,8 @@ def check_openid(found):
     if 'openid' not in found['scopes']:
         found['scopes'] = ['openid', *found['scopes']]
     if not (found['issuer'] or found['id_token_issuer']):
-        raise Stop('the issuer of the ID token is not set: give --issuer; or --id-token-issuer, if no endpoint is to be discovered')
+        raise Stop('the issuer of the ID token is not set: give --issuer; or --id-token-issuer, if no endpoint is to be discovered',
+                   BAD_SETTING)
 
 
 def check_url(name, text, label, status=BAD_SETTING):
@@ -87,9 +141,11 @@ def check_url(name, text, label, status=BAD_SETTING):
         is_url = False
     if not is_url or name != 'redirect' and url.scheme not in ('https', 'http'):
         raise Stop('%s is "%s", which is no URL: it has to be whole, as https://server.example/path' % (label, text), status)
-    if url.scheme == 'http' and url.hostname not in LOOPBACK and name not in ('redirect', 'auth_url'):
+    if url.scheme == 'http' and url.hostname not in LOOPBACK and name != 'redirect':
         raise Stop('%s is %s, where secrets would go unencrypted: give an https URL (http is taken for this machine alone)'
                    % (label, text), status)
+    if url.scheme == 'http' and name in ('revocation_url', ENDPOINTS['revocation_url']):
+        raise Stop('%s is %s: revocation takes https alone, also on this machine' % (label, text), status)
 
 
 def read_file(path):
@@ -97,15 +153,20 @@ def read_file(path):
     try:
         with open(path, encoding='utf-8') as f:
             found, mode = json.load(f), os.fstat(f.fileno()).st_mode
-    except (OSError, ValueError) as error:
-        raise Stop('%s can not be read as JSON: %s' % (path, error))
+    except FileNotFoundError:
+        raise Stop('the file of settings %s does not exist (--config, OAUTH2_CONFIG)' % path, BAD_SETTING)
+    except OSError as error:
+        raise Stop('the file of settings %s can not be read: %s' % (path, error.strerror), status_at(error))
+    except (ValueError, RecursionError) as error:
+        raise Stop('the file of settings %s can not be read as JSON: %s' % (path, error), BAD_SETTING)
     if not isinstance(found, dict):
-        raise Stop('%s has to hold one JSON object, as {"client_id": "..", "token_url": ".."}' % path)
+        raise Stop('%s has to hold one JSON object, as {"client_id": "..", "token_url": ".."}' % path, BAD_SETTING)
     unknown = found.keys() - TEXTS.keys() - {'client_secret', 'scopes'}
     if unknown:
-        raise Stop('%s: "%s" is no setting: there are client_secret, scopes, %s' % (path, sorted(unknown)[0], ', '.join(TEXTS)))
+        raise Stop('%s: "%s" is no setting: there are client_secret, scopes, %s' % (path, sorted(unknown)[0], ', '.join(TEXTS)),
+                   BAD_SETTING)
     if 'client_secret' in found and mode & (stat.S_IRGRP | stat.S_IROTH):
-        say('%s holds a secret, and others can read it: chmod 600 %s' % (path, path))
+        tell('%s holds a secret, and others can read it: chmod 600 %s' % (path, path))
     return found
 
 
@@ -113,10 +174,13 @@ def asked(variable, what):
     """A secret from the environment, or a line that is read: from a terminal without showing it."""
     if variable and os.environ.get(variable):
         return os.environ[variable]
-    if sys.stdin.isatty():
-        text = getpass.getpass(what + ': ', stream=sys.stderr)
-    else:
-        text = sys.stdin.readline().rstrip('\r\n')
+    text = ''
+    with contextlib.suppress(EOFError):
+        if sys.stdin.isatty():
+            text = getpass.getpass(what + ': ', stream=sys.stderr)
+        else:
+            text = sys.stdin.readline().rstrip('\r\n')
     if not text:
-        raise Stop('%s is missing: %sgive it as a line of standard input' % (what, variable + ' has it, or ' if variable else ''))
+        raise Stop('%s is missing: %sgive it as a line of standard input' % (what, variable + ' has it, or ' if variable else ''),
+                   BAD_SETTING)
     return text

@@ -7,7 +7,7 @@ import stat
 import tempfile
 
 import answers
-from endings import Stop, say
+from endings import BAD_SETTING, Stop, note, status_at
 
 FORMAT = 'cache of tools/oauth2, 1'
 # What the file has: of which request the token came, when, until when it is good, the reply, the refresh token that is newest, and who
@@ -30,7 +30,7 @@ def entry_in(text, path):
     except (ValueError, KeyError, TypeError, AttributeError, RecursionError):
         is_ours = False
     if not is_ours:
-        raise Stop('%s is no cache of this tool, so it is left as it is: name another file by --cache' % path)
+        raise Stop('%s is no cache of this tool, so it is left as it is: name another file by --cache' % path, BAD_SETTING)
     return found
 
 
@@ -47,10 +47,10 @@ class Cache:
             self.entry = entry_in(self.file.read(), self.path)
         except UnicodeDecodeError:
             self.__exit__()
-            raise Stop('%s is no cache of this tool, so it is left as it is: name another file by --cache' % self.path)
+            raise Stop('%s is no cache of this tool, so it is left as it is: name another file by --cache' % self.path, BAD_SETTING)
         except OSError as error:
             self.__exit__()
-            raise Stop('%s can not be used as a cache: %s' % (self.path, error.strerror))
+            raise Stop('%s can not be used as a cache: %s' % (self.path, error.strerror), status_at(error))
         except Stop:
             self.__exit__()
             raise
@@ -62,11 +62,12 @@ class Cache:
         try:
             found = os.fstat(file.fileno())
             if not stat.S_ISREG(found.st_mode) or found.st_uid != os.geteuid():
-                raise Stop('%s is no file of this user, so it is left as it is: name another by --cache' % self.path)
+                raise Stop('%s is no file of this user, so it is left as it is: name another by --cache' % self.path, BAD_SETTING)
             if found.st_mode & 0o077:
-                raise Stop('others can read or write %s, so it is left as it is: chmod 600 %s makes it usable' % (self.path, self.path))
+                raise Stop('others can read or write %s, so it is left as it is: chmod 600 %s makes it usable' % (self.path, self.path),
+                           BAD_SETTING)
             if not os.access(os.path.dirname(self.path), os.W_OK):
-                raise Stop('the folder of %s can not be written' % self.path)
+                raise Stop('the folder of %s can not be written' % self.path, BAD_SETTING)
             lock(file, self.path)
             if os.path.exists(self.path) and os.path.samestat(os.stat(self.path), os.fstat(file.fileno())):
                 self.file, file = file, None
@@ -78,6 +79,13 @@ class Cache:
         if self.file:
             self.file.close()
             self.file = None
+
+    def remove(self):
+        """Removes the file."""
+        try:
+            os.unlink(self.path)
+        except OSError as error:
+            raise Stop('%s could not be removed: %s' % (self.path, error.strerror))
 
     def write(self, entry):
         """Puts a new file in the place of the old one, whole or not at all. OSError if it can't be written."""
@@ -105,7 +113,7 @@ def lock(file, path):
     try:
         fcntl.flock(file, fcntl.LOCK_EX | fcntl.LOCK_NB)
     except BlockingIOError:
-        say('waiting for another run that uses %s' % path)
+        note('waiting for another run that uses %s' % path)
         fcntl.flock(file, fcntl.LOCK_EX)
 
 

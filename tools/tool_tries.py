@@ -153,6 +153,8 @@ def cache(tries):
     tries.row('cache: five runs at once', '%d new token%s for all' % (len(found), 's' * (len(found) > 1)),
               len(found) == 1 and second.get('access_token') not in found and '' not in found)
     tries.end('cache: renewed once more', start('--margin', '1000000'), '', 'access_token')
+    tries.end('cache: signed out', tries.start('revoke', '--cache', path, OAUTH2_CLIENT_ID=''), '', 'null')
+    tries.row('cache: the file once signed out', 'there' if os.path.exists(path) else 'removed', not os.path.exists(path))
 
 
 class Proxy:
@@ -194,8 +196,8 @@ def proxy(tries):
 BROKEN = [('500 with HTML', 500, {'Content-Type': 'text/html'}, b'<p>oops', r'HTTP status 500.*text/html and not a JSON object'),
           ('302', 302, {'Location': 'https://localhost/elsewhere'}, b'', r'HTTP status 302'),
           ('200 with an empty body', 200, {'Content-Type': 'application/json'}, b'', r'empty response body \(HTTP status 200\)'),
-          ('200 with HTML', 200, {'Content-Type': 'text/html'}, b'<p>hello', r'Content-Type.*HTTP status 200'),
-          ('a reply that never ends', 200, {'Content-Type': 'application/json'}, None, r'Request failed')]
+          ('200 with HTML', 200, {'Content-Type': 'text/html'}, b'<p>hello', r'HTTP status 200.*text/html and not a JSON object'),
+          ('a reply that never ends', 200, {'Content-Type': 'application/json'}, None, r'no whole reply within 2 seconds')]
 
 
 class BrokenHandler(http.server.BaseHTTPRequestHandler):

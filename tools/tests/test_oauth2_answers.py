@@ -66,6 +66,7 @@ class Answers(stand_in.Case):
         self.assertEqual(self.on_terminal('token', '--show')[1], '')
 
     def test_a_revocation_answers_null(self):
+        self.by_tls()
         status, out, _ = self.run_tool('revoke', OAUTH2_TOKEN='t')
         self.assertEqual((status, out), (0, 'null\n'))
 

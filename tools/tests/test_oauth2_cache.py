@@ -110,11 +110,11 @@ class Cache(stand_in.Case):
         self.assertEqual(self.token(command='password', OAUTH2_USERNAME='ann'), (0, 't1'))
         self.assertIn('--anew signs in anew', self.err)
         self.assertEqual(self.token('--anew', command='password', OAUTH2_USERNAME='ann', OAUTH2_PASSWORD='p'), (0, 't2'))
-        self.assertEqual(self.token(command='password', OAUTH2_USERNAME='bob'), (125, ''))
-        self.assertIn('another username ("ann")', self.err)
+        self.assertEqual(self.token(command='password', OAUTH2_USERNAME='bob'), (2, ''))
+        self.assertIn('another --username ("ann")', self.err)
 
     def test_what_another_run_has_put_there_meanwhile_stays(self):
-        for content, said in ('text', 'is no cache of this tool'), (None, 'keeps the token of another'):
+        for content, said in ('text', 'is no cache of this tool'), (None, 'keeps a token of another'):
             self.server.reply = self.next_token
             if os.path.exists(self.path):
                 os.unlink(self.path)
@@ -160,6 +160,31 @@ class Cache(stand_in.Case):
         self.assertEqual(self.token(command='refresh', OAUTH2_REFRESH_TOKEN='r7'), (0, 't8'))
         self.assertEqual(self.token('--margin', '3600'), (0, 't9'))
 
+    def test_a_login_without_its_endpoints_uses_a_good_token(self):
+        self.assertEqual(self.token('--username', 'ann', command='password', OAUTH2_PASSWORD='p'), (0, 't1'))
+        self.assertEqual(self.token(command='password', OAUTH2_TOKEN_URL=''), (0, 't1'))
+        os.unlink(self.path)
+        self.assertEqual(self.token(OAUTH2_CLIENT_ID=''), (2, ''))
+        self.assertIn('there is no token in %s yet: sign in first, by tools/oauth2 login --cache' % self.path, self.err)
+
+    def test_a_revocation_removes_the_file(self):
+        server = self.by_tls()
+        self.assertEqual(self.run_tool('revoke', '--cache', self.path)[0], 2)
+        for member, form in ({}, {'token': 'r1'}), ({'refresh_token': None}, {'token': 't2'}):
+            self.token()
+            self.change(**member)
+            server.reply = (503, {}, '')
+            status, _, err = self.run_tool('revoke', '--cache', self.path, OAUTH2_CLIENT_ID='')
+            self.assertEqual(status, 1)
+            self.assertIn('%s stays, since its token is not revoked' % self.path, err)
+            self.assertTrue(os.path.exists(self.path))
+            self.assertEqual(self.run_tool('revoke', '--cache', self.path, '--client-id', 'other')[0], 2)
+            server.reply = {}
+            self.assertEqual(self.run_tool('revoke', '--cache', self.path, '--quiet', OAUTH2_CLIENT_ID=''), (0, 'null\n', ''))
+            self.assertEqual(server.asked[-1][1], form)
+            self.assertFalse(os.path.exists(self.path))
+        self.assertEqual([it['params'].get('kind') for it in self.scripts() if it['command'] == 'revoke'][::4], ['refresh', 'access'])
+
     def test_two_runs_at_once_renew_once(self):
         self.sign_in()
         self.change(expires_at=int(time.time()) + 30)
@@ -182,11 +207,12 @@ class Cache(stand_in.Case):
     def test_the_token_of_another_is_refused_and_left(self):
         self.token('--scope', 'a', '--extra', 'x=y')
         before = self.kept()
-        for words, said in ((['--client-id', 'other'], 'another client_id ("aaa")'), (['--scope', 'b'], 'another scopes'),
-                            (['--extra', 'x=z'], 'another extra'), (['--token-url', 'https://other.example/'], 'another token_url')):
-            self.assertEqual(self.token(*words), (125, ''))
+        for words, said in ((['--client-id', 'other'], 'another --client-id ("aaa")'), (['--scope', 'b'], 'for other scopes (a)'),
+                            (['--extra', 'x=z'], 'with other --extra (x)'),
+                            (['--token-url', 'https://other.example/'], 'another --token-url')):
+            self.assertEqual(self.token(*words), (2, ''))
             self.assertIn(said, self.err)
-        self.assertEqual(self.token('--username', 'a', command='password', OAUTH2_PASSWORD='p'), (125, ''))
+        self.assertEqual(self.token('--username', 'a', command='password', OAUTH2_PASSWORD='p'), (2, ''))
         self.assertEqual(self.kept(), before)
         self.assertEqual(self.token('--scope', 'b', '--anew'), (0, 't2'))
         self.assertEqual(self.kept()['scopes'], ['b'])
@@ -197,7 +223,7 @@ class Cache(stand_in.Case):
                 f.write(content)
             os.chmod(self.path, 0o600)
             for words in [], ['--anew']:
-                self.assertEqual(self.token(*words), (125, ''))
+                self.assertEqual(self.token(*words), (2, ''))
                 self.assertIn('is no cache of this tool, so it is left as it is', self.err)
             with open(self.path, 'rb') as f:
                 self.assertEqual(f.read(), content)
@@ -209,24 +235,24 @@ class Cache(stand_in.Case):
         for member in ({'scopes': [1]}, {'scopes': 'a'}, {'extra': [1]}, {'extra': [['a', 1]]}, {'answer': '{}'}, {'answer': '['},
                        {'expires_at': '1'}, {'refresh_token': 1}, {'format': 'cache of tools/oauth2, 2'}, {'more': 1}):
             self.put(json.dumps({**before, **member}))
-            self.assertEqual(self.token(), (125, ''), member)
+            self.assertEqual(self.token(), (2, ''), member)
             self.assertIn('is no cache of this tool', self.err)
 
     def test_a_file_that_others_can_read_is_refused(self):
         self.token()
         os.chmod(self.path, 0o640)
-        self.assertEqual(self.token(), (125, ''))
+        self.assertEqual(self.token(), (2, ''))
         self.assertIn('chmod 600', self.err)
 
     def test_what_is_no_file(self):
         os.mkfifo(self.path)
-        self.assertEqual(self.token(), (125, ''))
+        self.assertEqual(self.token(), (2, ''))
         self.assertIn('is no file of this user', self.err)
         self.path = self.room
-        self.assertEqual(self.token(), (125, ''))
+        self.assertEqual(self.token(), (2, ''))
         self.assertIn('can not be used as a cache', self.err)
         self.path = os.path.join(self.room, 'none', 'cache')
-        self.assertEqual(self.token(), (125, ''))
+        self.assertEqual(self.token(), (2, ''))
 
     def test_an_empty_file_is_a_new_cache_and_a_link_stays(self):
         target = os.path.join(self.room, 'target')
@@ -276,7 +302,7 @@ class Whole(unittest.TestCase):
             ('client_id', 'issuer', 'token_url', 'auth', 'username', 'scopes')))
         entry = {'answer': '{}'}
         with mock.patch.object(token_cache, 'entry_of', return_value=entry), mock.patch.object(oauth2, 'write') as write, \
-                mock.patch.object(oauth2, 'say') as say:
+                mock.patch.object(oauth2, 'tell') as say:
             self.assertEqual(oauth2.keep(session, cache, outcome), endings.NOT_KEPT)
         write.assert_called_once_with(session, '{}')
         self.assertIn('/c could not be written (no space)', say.call_args.args[0])

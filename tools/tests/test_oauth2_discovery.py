@@ -49,7 +49,7 @@ class Case(stand_in.Case):
 class Endpoints(Case):
     def test_each_command_by_its_issuer(self):
         codes = {'device_code': 'd', 'user_code': 'U-1', 'verification_uri': 'https://as.example/d', 'expires_in': 60, 'interval': 0}
-        for words, env, wanted in ((['token'], {}, ['/token']), (['revoke'], {'OAUTH2_TOKEN': 't'}, ['/revocation']),
+        for words, env, wanted in ((['token'], {}, ['/token']),
                                    (['introspect'], {'OAUTH2_TOKEN': 't'}, ['/introspection']), (['device'], {}, ['/device', '/token']),
                                    (['password', '--username', 'ann'], {'OAUTH2_PASSWORD': 'p'}, ['/token']),
                                    (['refresh'], {'OAUTH2_REFRESH_TOKEN': 'r'}, ['/token'])):
@@ -61,6 +61,14 @@ class Endpoints(Case):
         self.server.looked_at, self.server.asked = [], []
         self.assertEqual(json.loads(self.logged_in('code=c')[1]), OK)
         self.assertEqual(self.paths(), ([FIRST], ['/token']))
+
+    def test_a_revocation_by_its_issuer(self):
+        server = self.by_tls()
+        self.env['OAUTH2_REVOCATION_URL'] = ''
+        self.assertEqual(self.run_tool('revoke', OAUTH2_TOKEN='t')[0], 6)  # http
+        self.publish(revocation_endpoint=server.url + '/revocation')
+        self.assertEqual(self.run_tool('revoke', OAUTH2_TOKEN='t')[0], 0)
+        self.assertEqual(server.asked[0][:2], ('/revocation', {'token': 't'}))
 
     def test_what_is_sent_for_metadata(self):
         self.run_tool('token', OAUTH2_CLIENT_SECRET='bbb')
@@ -105,10 +113,12 @@ class Endpoints(Case):
         self.server.documents = {SECOND: (200, {}, {'issuer': 'https://other.example'})}
         status, out, err = self.run_tool('token')
         self.assertEqual((status, out), (6, ''))
-        self.assertEqual(err, '%s: Failed to parse server response "error" Missing (HTTP status 404)\n'
-                              "%s: metadata is another issuer's (HTTP status 200)\n"
-                              'tools/oauth2: the endpoints of the issuer %s can not be discovered\n'
-                         % (self.issuer + FIRST, self.issuer + SECOND, self.issuer))
+        self.assertIn('tools/oauth2: --issuer is "%s", and the metadata at %s name the issuer "https://other.example", so they are not used'
+                      % (self.issuer, self.issuer + SECOND), err)
+        self.server.documents = {}
+        said = ': Failed to parse server response "error" Missing (HTTP status 404)'
+        self.assertEqual(self.run_tool('token')[2], 'tools/oauth2: the endpoints of the issuer %s can not be discovered '
+                         '(is --issuer right?): %s%s; %s%s\n' % (self.issuer, self.issuer + FIRST, said, self.issuer + SECOND, said))
         self.assertEqual(self.server.asked, [])
 
     def test_a_server_that_is_not_there(self):
@@ -118,8 +128,8 @@ class Endpoints(Case):
         self.assertIn('sends elsewhere to https://x.example/y (HTTP status 302), which is not followed: give the URL of the issuer', err)
         status, _, err = self.run_tool('token', '--issuer', 'http://127.0.0.1:1')
         self.assertEqual(status, 6)
-        self.assertIn('GET http://127.0.0.1:1%s: ' % FIRST, err)
-        self.assertIn('http://127.0.0.1:1%s: Request failed\n' % SECOND, err)
+        self.assertEqual(err, 'tools/oauth2: the endpoints of the issuer http://127.0.0.1:1 can not be discovered (is --issuer right?): '
+                              'GET http://127.0.0.1:1%s: Connection refused\n' % FIRST)
 
     def test_a_missing_member_is_named(self):
         self.publish(without=['device_authorization_endpoint'])
@@ -152,7 +162,7 @@ class Endpoints(Case):
 
     def test_without_an_issuer_a_missing_endpoint_says_so(self):
         status, _, err = self.run_tool('token', OAUTH2_ISSUER='')
-        self.assertEqual(status, 125)
+        self.assertEqual(status, 2)
         self.assertIn('the token endpoint is not set: give --token-url', err)
         self.assertIn('or --issuer, to discover it', err)
 
@@ -177,6 +187,8 @@ class Issuers(Case):
         self.env.update(OAUTH2_AUTH_URL=self.server.url + '/auth', OAUTH2_TOKEN_URL=self.server.url + '/token')
         self.assertEqual(self.ends(), [1, 0, 1, 1])
         self.assertEqual(self.server.looked_at, [])
+        for more, is_advised in ('', True), ('&iss=x', False):
+            self.assertEqual('leave --issuer out' in self.logged_in('code=c' + more)[2], is_advised)
 
     def test_errors_and_fragments(self):
         self.assertEqual(self.logged_in('error=access_denied')[0], 16)
@@ -233,8 +245,8 @@ class Cache(Case):
 
     def test_the_token_of_another_issuer_is_refused(self):
         self.token()
-        self.assertEqual(self.token('--issuer', 'https://other.example'), (125, '', 0))
-        self.assertIn('keeps the token of another issuer ("%s")' % self.issuer, self.err)
+        self.assertEqual(self.token('--issuer', 'https://other.example'), (2, '', 0))
+        self.assertIn('keeps a token of another --issuer ("%s")' % self.issuer, self.err)
         self.issuer += '/x'
         self.publish(FIRST + '/x')
         self.assertEqual(self.token('--issuer', self.issuer, '--anew'), (0, 't2', 1))
@@ -246,8 +258,8 @@ class Cache(Case):
         self.assertEqual(self.token(OAUTH2_ISSUER=''), (0, 't1', 0))
         self.assertEqual(self.token(), (0, 't1', 1))
         self.publish(token_endpoint=self.server.url + '/other')
-        self.assertEqual(self.token(), (125, '', 1))
-        self.assertIn('another token_url', self.err)
+        self.assertEqual(self.token(), (2, '', 1))
+        self.assertIn('another --token-url', self.err)
         self.publish()
         self.assertEqual(self.token('--margin', '3600'), (0, 't2', 1))
         self.assertEqual(self.token('--margin', '3600'), (0, 't3', 0))

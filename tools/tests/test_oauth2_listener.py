@@ -118,6 +118,12 @@ class Listener(stand_in.Case):
         run.communicate(timeout=60)
         self.assertEqual((run.returncode, os.path.exists(seen)), (125, False))
 
+    def test_a_browser_that_does_not_start_is_told(self):
+        for browser in '/bin/false', '/nonexistent':
+            run, _ = self.begun('--wait', '60', BROWSER=browser)
+            self.assertTrue(any('tools/oauth2: the browser did not start' in line for line in run.stderr))
+            run.kill()
+
 
 if __name__ == '__main__':
     unittest.main()

@@ -145,7 +145,7 @@ class Login(Case):
                                  (['--algorithm', 'x'], {}, '--algorithm goes with --openid'),
                                  (['--openid'], {'OAUTH2_ID_TOKEN_ISSUER': ''}, 'the issuer of the ID token is not set: give --issuer')):
             status, out, err = self.login(*words, OAUTH2_PROGRAM='/none', **env)
-            self.assertEqual((status, out), (125, ''))
+            self.assertEqual((status, out), (2, ''))
             self.assertIn(said, err)
 
     def test_a_program_that_does_not_know_the_command(self):
@@ -182,7 +182,7 @@ class Cache(Case):
         said = 'does not keep the token of a login with --openid at this issuer'
         self.login('--scope', 'openid', '--cache', self.path)
         status, out, err = self.again('--openid')
-        self.assertEqual((status, out), (125, ''))
+        self.assertEqual((status, out), (2, ''))
         self.assertIn(said, err)
         self.login('--openid', '--anew', '--cache', self.path)
         self.assertEqual(self.again('--openid')[0], 0)
