@@ -31,8 +31,8 @@ abbrev pub secret_text : Bool → Option (List ℕ) → Option (List ℕ)
 secret_text in_lines = option_text in_lines (λ _. Some (codes "ClientSecret([redacted])"))
 
 -- a URL is the text that was given, in quotes, behind the name of its type
-abbrev pub url_text : Bool → List ℕ → Option Addressed → Option (List ℕ)
-url_text in_lines name =
+abbrev pub url_debug_text : Bool → List ℕ → Option Addressed → Option (List ℕ)
+url_debug_text in_lines name =
     option_text in_lines (λ url. named_text in_lines (codes "        ") name (debug_str url.text))
 
 abbrev pub auth_type_text : AuthType → List ℕ
@@ -54,21 +54,21 @@ closing true = codes ",\n}"
 
 -- the settings, in the order and by the names of the Rust crate, and then the rule for replies; it
 -- says nothing where the identifier or a URL is not ASCII
-unfoldable pub client_text : Bool → Settings → Option (List ℕ)
-client_text in_lines client =
+unfoldable pub client_debug_text : Bool → Settings → Option (List ℕ)
+client_debug_text in_lines client =
     Some (opening in_lines)
     ++? named_text in_lines (codes "    ") (codes "ClientId") (debug_str client.client_id)
     ++? field_text in_lines (codes "client_secret") (secret_text in_lines client.client_secret)
-    ++? field_text in_lines (codes "auth_url") (url_text in_lines (codes "AuthUrl") client.auth_url)
+    ++? field_text in_lines (codes "auth_url") (url_debug_text in_lines (codes "AuthUrl") client.auth_url)
     ++? field_text in_lines (codes "auth_type") (Some (auth_type_text client.auth_type))
-    ++? field_text in_lines (codes "token_url") (url_text in_lines (codes "TokenUrl") client.token_url)
+    ++? field_text in_lines (codes "token_url") (url_debug_text in_lines (codes "TokenUrl") client.token_url)
     ++? field_text in_lines (codes "redirect_url")
-    (url_text in_lines (codes "RedirectUrl") client.redirect_url)
+    (url_debug_text in_lines (codes "RedirectUrl") client.redirect_url)
     ++? field_text in_lines (codes "introspection_url")
-    (url_text in_lines (codes "IntrospectionUrl") client.introspection_url)
+    (url_debug_text in_lines (codes "IntrospectionUrl") client.introspection_url)
     ++? field_text in_lines (codes "revocation_url")
-    (url_text in_lines (codes "RevocationUrl") client.revocation_url)
+    (url_debug_text in_lines (codes "RevocationUrl") client.revocation_url)
     ++? field_text in_lines (codes "device_authorization_url")
-    (url_text in_lines (codes "DeviceAuthorizationUrl") client.device_authorization_url)
+    (url_debug_text in_lines (codes "DeviceAuthorizationUrl") client.device_authorization_url)
     ++? field_text in_lines (codes "reply_rule") (Some (reply_rule_text client.reply_rule))
     ++? Some (closing in_lines)

@@ -674,17 +674,17 @@ where
     ghost use Rattle.std.specs.Prelude.{false};
     ghost use Rattle.std.specs.Fmt.{DisplaysOnOk, DisplaysStyledOnOk};
     ghost use Rattle.std.specs.Fmt.{formatter_spec, spec_alternate};
-    ghost use Rattle.oauth2.specs.ClientText.{client_text};
+    ghost use Rattle.oauth2.specs.ClientText.{client_debug_text};
 
-    ghost debug_output = { client_text false };
+    ghost debug_output = { client_debug_text false };
 
     #[tactic(auto, using(crate::proofs::ClientTextLaws::displays_of_styled))]
     fn fmt<W: fmt::Write>(&self, f: &mut fmt::Formatter<W>) -> fmt::Result
         ensures writes { DisplaysOnOk W.write_str_gives f.old result
-            (client_text false self.now) f.new }
+            (client_debug_text false self.now) f.new }
         // Whatever options the formatter has, as under `{:#?}`.
         ensures styled { DisplaysStyledOnOk W.write_str_gives f.old result
-            (client_text (spec_alternate (formatter_spec f.old)) self.now) f.new }
+            (client_debug_text (spec_alternate (formatter_spec f.old)) self.now) f.new }
     {
         let in_lines = f.alternate();
         write_display(

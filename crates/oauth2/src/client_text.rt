@@ -4,7 +4,7 @@ ghost use Rattle.std.specs.Prelude.{◌≡◌, ℕ, List, Some, codes};
 ghost use Rattle.std.specs.Fmt.{debug_str};
 ghost use Rattle.oauth2.specs.ClientText.{
   auth_type_text,
-  client_text,
+  client_debug_text,
   closing,
   field_text,
   named_text,
@@ -205,7 +205,7 @@ pub(crate) struct ClientText<'a> {
 }
 
 impl fmt::Display for ClientText<'_> {
-    ghost output = { λ x. client_text x.in_lines (record {
+    ghost output = { λ x. client_debug_text x.in_lines (record {
       client_id = x.parts.now.client_id;
       client_secret = x.parts.now.client_secret;
       auth_type = x.parts.now.auth_type;
@@ -218,7 +218,7 @@ impl fmt::Display for ClientText<'_> {
       token_url = x.endpoints.now.token_url;
     }) };
 
-    #[tactic(auto, unfolding(crate::specs::ClientText::client_text))]
+    #[tactic(auto, unfolding(crate::specs::ClientText::client_debug_text))]
     fn fmt<W: fmt::Write>(&self, f: &mut fmt::Formatter<W>) -> fmt::Result {
         let (lines, parts, ends) = (self.in_lines, self.parts, self.endpoints);
         let opening = opening(lines);

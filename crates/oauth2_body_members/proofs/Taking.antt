@@ -17,7 +17,7 @@ use Rattle.oauth2_json.specs.Puts.{is_before, in_order}
 use Rattle.oauth2_json.proofs.Objects.{apart, same_text, pass_put, without-absent}
 use Rattle.oauth2_json.proofs.Order.{put-order}
 use Rattle.oauth2_body_members.specs.private.Taken.{blank_at}
-use Rattle.oauth2_body_members.specs.Object.{put_each, entry_of, members_in}
+use Rattle.oauth2_body_members.specs.Object.{put_each, entry_of, list_members}
 use Rattle.oauth2_body_members.specs.declared.member.Member.{Member}
 use Rattle.serde_json.specs.declared.value.Value.{Value}
 
@@ -138,7 +138,7 @@ swept k (m ∷ list) ms h =
     ∙ swept k list (put_some m.name.now (option_map view m.value) ms) (some-order m.name.now (option_map view m.value) ms h)
 
 -- what is left once each member of that name is none
-pub members_in-blanked : (k : List ℕ) (list : List Member) → members_in (blanked k list) ≡ without k (members_in list)
+pub members_in-blanked : (k : List ℕ) (list : List Member) → list_members (blanked k list) ≡ without k (list_members list)
 members_in-blanked k list = swept k list no_members refl
 
 later_later : (a b c : Option Data) → later_or a (later_or b c) ≡ later_or (later_or a b) c
@@ -161,7 +161,7 @@ or_none None = refl
 or_none (Some d) = refl
 
 -- the last value of that name is the one that is found
-pub last_value-is : (k : List ℕ) (list : List Member) → last_value k (map entry_of list) ≡ get_member k (members_in list)
+pub last_value-is : (k : List ℕ) (list : List Member) → last_value k (map entry_of list) ≡ get_member k (list_members list)
 last_value-is k list = sym (found_in k (map entry_of list) no_members ∙ or_none _)
 
 pub last_value-append : (k : List ℕ) (es : List (List ℕ × Option Data)) (e : List ℕ × Option Data) → last_value k (es ++ e ∷ []) ≡ later_or (cond (bytes_eq e.0 k) e.1 None) (last_value k es)

@@ -15,7 +15,7 @@ use Rattle.oauth2_json.specs.Reading.{Reading, ErrsAs, whole}
 use Rattle.oauth2_json.specs.declared.read.ReadError.{ReadError}
 use Rattle.oauth2_json.specs.declared.read.ReadError.TheVariants as errors
 use Rattle.oauth2_json.specs.declared.read.ParseCause.TheVariants as cause
-use Rattle.oauth2_body_members.specs.Object.{put_each, entry_of, members_in}
+use Rattle.oauth2_body_members.specs.Object.{put_each, entry_of, list_members}
 use Rattle.oauth2_body_members.specs.private.Texts.{or_not_json, at_end}
 use Rattle.oauth2_body_members.specs.declared.member.Member.{Member}
 
@@ -99,9 +99,9 @@ pub put_each-append : (es : List (List ℕ × Option Data)) (e : List ℕ × Opt
 put_each-append [] e ms = refl
 put_each-append (f ∷ es) e ms = put_each-append es e (put_some f.0 f.1 ms)
 
-pub members_in-push : (list : List Member) (m : Member) (d : Data) → option_map view m.value ≡ Some d → members_in (list ++ m ∷ []) ≡ put m.name.now d (members_in list)
+pub members_in-push : (list : List Member) (m : Member) (d : Data) → option_map view m.value ≡ Some d → list_members (list ++ m ∷ []) ≡ put m.name.now d (list_members list)
 members_in-push list m d is =
-    ap (λ es. put_each es no_members) (map-append entry_of list (m ∷ [])) ∙ put_each-append (map entry_of list) (entry_of m) no_members ∙ ap (λ o. put_some m.name.now o (members_in list)) is
+    ap (λ es. put_each es no_members) (map-append entry_of list (m ∷ [])) ∙ put_each-append (map entry_of list) (entry_of m) no_members ∙ ap (λ o. put_some m.name.now o (list_members list)) is
 
 -- a text that opens an object is read to its brace
 pub opened : (text : List ℕ) (ts : List Token) → tokens text ≡ Token.begin_object ∷ ts

@@ -20,12 +20,12 @@ put_each (e ∷ es) ms = put_each es (put_some e.0 e.1 ms)
 abbrev pub entry_of : Member → List ℕ × Option Data
 entry_of m = (m.name.now, option_map view m.value)
 
-abbrev pub members_in : List Member → Members
-members_in list = put_each (map entry_of list) no_members
+abbrev pub list_members : List Member → Members
+list_members list = put_each (map entry_of list) no_members
 
 abbrev pub source_members : Source → Members
 source_members (Map m) = members_view m.entries
-source_members (Listed list) = members_in list.items
+source_members (Listed list) = list_members list.items
 
 unfoldable pub object_members : Object → Members
 object_members o = source_members o.source

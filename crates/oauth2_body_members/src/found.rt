@@ -5,7 +5,7 @@ ghost use Rattle.json.specs.Value.{value_view};
 ghost use Rattle.serde_json.specs.Read.{of_json};
 ghost use Rattle.serde_json.specs.View.{view};
 ghost use Rattle.oauth2_json.specs.Reading.{ReadsAs};
-ghost use Rattle.oauth2_body_members.specs.Object.{members_in};
+ghost use Rattle.oauth2_body_members.specs.Object.{list_members};
 ghost use Rattle.oauth2_body_members.specs.private.Found.{held_view, found_members};
 ghost use Rattle.oauth2_body_members.specs.private.Texts.{or_not_json};
 
@@ -70,7 +70,7 @@ pub(crate) fn members<'a>(
     alloc: Global,
     found: Vec<Found<'a>>,
 ) -> Result<Vec<Member<'a>>, AllocError>
-    ensures { IfOk result (λ list. members_in list.items ≡ found_members found.entry.items) }
+    ensures { IfOk result (λ list. list_members list.items ≡ found_members found.entry.items) }
 {
     let mut list = Vec::with_capacity(alloc, found.len())?;
     for member in found {

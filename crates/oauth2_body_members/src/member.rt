@@ -5,7 +5,7 @@ ghost use Rattle.std.specs.Str.{bytes_eq};
 ghost use Rattle.serde_json.specs.Find.{get_member};
 ghost use Rattle.serde_json.specs.View.{view, members_view};
 ghost use Rattle.oauth2_json.specs.Members.{without};
-ghost use Rattle.oauth2_body_members.specs.Object.{members_in};
+ghost use Rattle.oauth2_body_members.specs.Object.{list_members};
 ghost use Rattle.oauth2_body_members.specs.private.Taken.{blank_at};
 
 use serde_json::{Map, Value};
@@ -20,8 +20,8 @@ pub(crate) struct Member<'a> {
 
 // Takes each member of that name; gives the last one.
 pub(crate) fn take(list: &mut Vec<Member<'_>>, name: &str) -> Option<Value>
-    ensures found { option_map view result ≡ get_member name.now (members_in list.old.items) }
-    ensures rest { members_in list.new.items ≡ without name.now (members_in list.old.items) }
+    ensures found { option_map view result ≡ get_member name.now (list_members list.old.items) }
+    ensures rest { list_members list.new.items ≡ without name.now (list_members list.old.items) }
 {
     let mut found = None;
     for index in 0..list.len() {
@@ -46,7 +46,7 @@ fn take_value(member: &mut Member<'_>, name: &str) -> Option<Value>
 
 // The members that are left, in a map.
 pub(crate) fn map_of(alloc: Global, list: Vec<Member<'_>>) -> Result<Map<String, Value>, AllocError>
-    ensures { IfOk result (λ m. members_view m.entries ≡ members_in list.entry.items) }
+    ensures { IfOk result (λ m. members_view m.entries ≡ list_members list.entry.items) }
 {
     let mut map = Map::new(alloc);
     for member in list {

@@ -25,7 +25,7 @@ ghost use Rattle.oauth2_redirect.specs.End.{EndsLogin};
 ghost use Rattle.oauth2_redirect.specs.Query.{sole_text};
 ghost use Rattle.oauth2_redirect.specs.Redirect.{answer, is_state};
 ghost use Rattle.oauth2_openid.specs.Seen.{token_of};
-ghost use Rattle.oauth2_openid.specs.Token.{Token, TokenFault};
+ghost use Rattle.oauth2_openid.specs.Token.{DecodedToken, TokenFault};
 ghost use Rattle.oauth2_openid.specs.TokenRules.{Holds, token_checked};
 ghost use Rattle.oauth2_openid_login.specs.End.{fault_told, id_token_reading};
 ghost use Rattle.oauth2_openid_login.specs.Provider.{expected_of, redirect_issuer};
@@ -116,7 +116,7 @@ pub fn finish_login<C: SyncHttpClient>(
         × IsAnsweredBy ⟦<OpenIdTokenResponse as FromJson>⟧.reading
         ⟦<BasicErrorResponse as FromJson>⟧.reading C.step
         client.now login.login code http_client.old response http_client.new
-        × (token : Token) × (id_token_reading response.extra_fields.value ≡ Some (Ok token))
+        × (token : DecodedToken) × (id_token_reading response.extra_fields.value ≡ Some (Ok token))
         × (token_checked (expected_of provider.now client.now login) response.access_token
         now.nanosecond token ≡ Err error) }
     ensures unread { (error : _) → result ≡ Err (OpenIdLoginError.Read error) → (code : List ℕ)

@@ -4,7 +4,7 @@ use Rattle.serde_json.specs.Data.{Data, Members, string, object, no_members}
 use Rattle.serde_json.specs.Find.{get_member}
 use Rattle.oauth2_json.specs.Reading.{Reading, read_then, ◌⊛◌}
 use Rattle.oauth2_json.specs.Writing.{Writing, write_then}
-use Rattle.oauth2_json.specs.Members.{members_of_object, needed, optional}
+use Rattle.oauth2_json.specs.Members.{members_of_object, needed_member, optional_member}
 use Rattle.oauth2_json.specs.Puts.{Row, put_all}
 use Rattle.oauth2_json.specs.Values.{text}
 use Rattle.oauth2_codes.specs.declared.error_response.StandardErrorResponse.{StandardErrorResponse}
@@ -14,21 +14,21 @@ pub record ErrorParts (T : Type 0) : Type 0 where
   pub description : Option (List ℕ)
   pub uri : Option (List ℕ)
 
-abbrev pub parts : {T : Type 0} → T → Option (List ℕ) → Option (List ℕ) → ErrorParts T
-parts e d u = record { error = e; description = d; uri = u }
+abbrev pub parts_of_error : {T : Type 0} → T → Option (List ℕ) → Option (List ℕ) → ErrorParts T
+parts_of_error e d u = record { error = e; description = d; uri = u }
 
 -- a response without where its texts lie in memory, its code seen by f
 abbrev pub parts_of : {T M : Type 0} → (T → M) → StandardErrorResponse T → ErrorParts M
 parts_of f r =
-    parts (f r.error) (option_map string_bytes r.error_description) (option_map string_bytes r.error_uri)
+    parts_of_error (f r.error) (option_map string_bytes r.error_description) (option_map string_bytes r.error_uri)
 
 -- other members are ignored
 abbrev pub error_row : {T : Type 0} → (Data → Reading T) → Members → Reading (ErrorParts T)
 error_row code ms =
-    Ok parts
-    ⊛ needed code (codes "error") (get_member (codes "error") ms)
-    ⊛ optional text (codes "error_description") (get_member (codes "error_description") ms)
-    ⊛ optional text (codes "error_uri") (get_member (codes "error_uri") ms)
+    Ok parts_of_error
+    ⊛ needed_member code (codes "error") (get_member (codes "error") ms)
+    ⊛ optional_member text (codes "error_description") (get_member (codes "error_description") ms)
+    ⊛ optional_member text (codes "error_uri") (get_member (codes "error_uri") ms)
 
 abbrev pub error_reading : {T : Type 0} → (Data → Reading T) → Data → Reading (ErrorParts T)
 error_reading code d = read_then (members_of_object d) (error_row code)

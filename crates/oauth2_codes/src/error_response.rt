@@ -27,7 +27,7 @@ pub struct StandardErrorResponse<T> {
 
 impl<T> StandardErrorResponse<T> {
     ghost use Rattle.std.specs.Prelude.{◌≡◌, option_map, option_copied, string_bytes};
-    ghost use Rattle.oauth2_codes.specs.ErrorResponse.{parts, parts_of};
+    ghost use Rattle.oauth2_codes.specs.ErrorResponse.{parts_of_error, parts_of};
 
     /// An error response of these parts.
     pub fn new(
@@ -36,7 +36,7 @@ impl<T> StandardErrorResponse<T> {
         error_uri: Option<String>,
     ) -> StandardErrorResponse<T>
         ensures { parts_of (λ t. t) result
-            ≡ parts error (option_map string_bytes error_description)
+            ≡ parts_of_error error (option_map string_bytes error_description)
             (option_map string_bytes error_uri) }
     {
         StandardErrorResponse {

@@ -12,7 +12,7 @@ use Rattle.oauth2_wire.specs.ConfigurationError.{IsInsecureUrl, IsMissingUrl}
 use Rattle.oauth2_wire.specs.declared.error.ConfigurationError.{ConfigurationError}
 use Rattle.oauth2_wire.specs.declared.error.ConfigurationError.TheVariants.{MissingUrl, InsecureUrl}
 use Rattle.oauth2_commands.specs.private.Results.{configuration_output}
-use Rattle.oauth2_commands.specs.private.Added.{Prints, Adds}
+use Rattle.oauth2_commands.specs.private.Added.{AddsOutput, Adds}
 use Rattle.oauth2_commands.specs.declared.status.RunStatus.{RunStatus}
 
 missing_is : (name : List ℕ) (e : ConfigurationError) → IsMissingUrl name e → configuration_output e ≡ missing name
@@ -25,9 +25,9 @@ insecure_is name (InsecureUrl given) h = ap insecure h
 
 -- there is no endpoint of this name
 pub missing_told : (name : List ℕ) (IsOut : Addressed → Output → Type 0) (url : Option Addressed) (old new : List ℕ) (s : RunStatus) (e : ConfigurationError)
-    → IfSome url (λ _. ⊥) → IfNone url (IsMissingUrl name e) → Prints old new s (configuration_output e) → Adds old new s (WithEndpoint name IsOut url)
+    → IfSome url (λ _. ⊥) → IfNone url (IsMissingUrl name e) → AddsOutput old new s (configuration_output e) → Adds old new s (WithEndpoint name IsOut url)
 missing_told name IsOut (Some url) old new s e h m p = absurd h
-missing_told name IsOut None old new s e h m p = let told : Prints old new s (missing name) = rw (missing_is name e m) at p in (missing name, refl, told.0, told.1)
+missing_told name IsOut None old new s e h m p = let told : AddsOutput old new s (missing name) = rw (missing_is name e m) at p in (missing name, refl, told.0, told.1)
 
 -- what is shown of a request, from what `start` makes of the endpoint and `give` adds
 pub command_told : {R : Type 0} (name : List ℕ) (IsOut : R → Output → Type 0) (start : Addressed → R) (give : R → R) (made : Addressed → R) (old new : List ℕ) (s : RunStatus)
@@ -48,13 +48,13 @@ https_or_not url = https_by url (bytes_eq url.url.scheme (codes "https")) refl
 -- there is no `https` endpoint of this name
 pub refusal_told : (name : List ℕ) (IsOut : Addressed → Output → Type 0) (url : Option Addressed) (old new : List ℕ) (s : RunStatus) (e : ConfigurationError)
     → IfSome url (λ u. IsHttps u → ⊥) → IfSome url (λ u. ¬ (IsHttps u) → IsInsecureUrl name e) → IfNone url (IsMissingUrl name e)
-    → Prints old new s (configuration_output e) → Adds old new s (WithEndpoint name (WithHttps name IsOut) url)
+    → AddsOutput old new s (configuration_output e) → Adds old new s (WithEndpoint name (WithHttps name IsOut) url)
 refusal_told name IsOut None old new s e secure is_insecure is_missing p = missing_told name (WithHttps name IsOut) None old new s e tt is_missing p
 refusal_told name IsOut (Some u) old new s e secure is_insecure is_missing p = go (https_or_not u)
   where
     go : (IsHttps u ⊎ (¬ (IsHttps u))) → Adds old new s (WithEndpoint name (WithHttps name IsOut) (Some u))
     go (inl https) = absurd (secure https)
-    go (inr other) = let told : Prints old new s (insecure name) = rw (insecure_is name e (is_insecure other)) at p in (insecure name, inr (other, refl), told.0, told.1)
+    go (inr other) = let told : AddsOutput old new s (insecure name) = rw (insecure_is name e (is_insecure other)) at p in (insecure name, inr (other, refl), told.0, told.1)
 
 -- what is shown of a request to an `https` endpoint
 pub https_told : {R : Type 0} (name : List ℕ) (IsOut : R → Output → Type 0) (start : Addressed → R) (give : R → R) (made : Addressed → R) (old new : List ℕ) (s : RunStatus)

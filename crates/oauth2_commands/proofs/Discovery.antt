@@ -9,14 +9,14 @@ use Rattle.oauth2_metadata.specs.declared.issuer.IssuerError.TheVariants.{NotUrl
 use Rattle.oauth2_script.specs.MetadataParams.{MetadataParams}
 use Rattle.oauth2_script.specs.Replies.{Reply}
 use Rattle.oauth2_commands.specs.Metadata.{IsDiscovered, IsMetadataOutput, metadata_output, place}
-use Rattle.oauth2_commands.specs.Out.{Output, failed}
-use Rattle.oauth2_commands.specs.private.Added.{Adds, Prints}
+use Rattle.oauth2_commands.specs.Out.{Output, failure_output}
+use Rattle.oauth2_commands.specs.private.Added.{Adds, AddsOutput}
 use Rattle.oauth2_commands.specs.private.Discovery.{MetadataSeen, discovery_output, metadata_meaning}
-use Rattle.oauth2_commands.specs.private.Results.{Fault, end_output, error_seen}
+use Rattle.oauth2_commands.specs.private.Results.{ShownFault, end_output, error_seen}
 use Rattle.oauth2_commands.specs.declared.status.RunStatus.{RunStatus}
 
 -- metadata is shown by whether it names the issuer
-pub checked_shown : (issuer : List ℕ) (outcome : Result MetadataSeen Fault)
+pub checked_shown : (issuer : List ℕ) (outcome : Result MetadataSeen ShownFault)
     → discovery_output (checked issuer outcome) ≡ end_output error_seen (λ m. metadata_output issuer (metadata_meaning m)) outcome
 checked_shown issuer (Err fault) = refl
 checked_shown issuer (Ok m) = by_test (bytes_eq m.issuer issuer) refl
@@ -31,13 +31,13 @@ module _ (client : Settings) (p : MetadataParams) (replies : List Reply) (old ne
 
   -- a text that is no issuer
   pub issuer_refused : (error : IssuerError) → IsAsked (place p.well_known) p.issuer (Err error) → ¬ (IsOutOfRoom error)
-      → Prints old new s (failed (issuer_error_text error)) → Adds old new s IsOutput
+      → AddsOutput old new s (failure_output (issuer_error_text error)) → Adds old new s IsOutput
   issuer_refused error (inl (inl (is, cause, parsed))) room printed =
-      let told : Prints old new s (failed (issuer_error_text NotUrl)) = rw is at printed in
-      (failed (issuer_error_text NotUrl), rw parsed refl, told.0, told.1)
+      let told : AddsOutput old new s (failure_output (issuer_error_text NotUrl)) = rw is at printed in
+      (failure_output (issuer_error_text NotUrl), rw parsed refl, told.0, told.1)
   issuer_refused error (inl (inr out)) room printed = absurd (room out)
   issuer_refused error (inr (url, parsed, inl refused)) room printed =
-      (failed (issuer_error_text error), rw (parsed, refused) refl, printed.0, printed.1)
+      (failure_output (issuer_error_text error), rw (parsed, refused) refl, printed.0, printed.1)
   issuer_refused error (inr (url, parsed, inr (accepted, out))) room printed = absurd (room out)
 
   -- a request with the rule of the client

@@ -22,9 +22,9 @@ use Rattle.oauth2_commands.specs.Exchange.{answer_output, reply_output, IsSent, 
 use Rattle.oauth2_commands.specs.Metadata.{get_lines}
 use Rattle.oauth2_world.specs.Lines.{basic_line, pair_lines, expected_lines, authorization_text}
 use Rattle.oauth2_world.specs.RequestLines.{read_lines, view_lines, request_lines}
-use Rattle.oauth2_commands.specs.Out.{Output, answered, failed, starved, after}
-use Rattle.oauth2_commands.specs.private.Added.{Prints, Adds}
-use Rattle.oauth2_world.specs.Replay.{Replays, ReplaysOrStarves, replied, replies_of}
+use Rattle.oauth2_commands.specs.Out.{Output, success_output, failure_output, no_memory_output, after}
+use Rattle.oauth2_commands.specs.private.Added.{AddsOutput, Adds}
+use Rattle.oauth2_world.specs.Replay.{Replays, ReplaysOrStarves, reply_seen, client_replies}
 use Rattle.oauth2_script.specs.Replies.{Reply}
 use Rattle.oauth2_world.specs.Replies.{next_reply}
 use Rattle.oauth2_commands.specs.private.Results.{end_output}
@@ -87,7 +87,7 @@ module _ {D A T E : Type 0} (meaning : D → A) (error_meaning : T → E) (shown
   judged view (Err (Memory sent)) h = inr (sent, refl)
   judged view (Err (Request e)) h = absurd h
 
-  answered_by : (replies : List Reply) (answer : Result HttpResponse NoReply) (result : Result D (RequestTokenError NoReply T)) → replied answer ≡ next_reply replies
+  answered_by : (replies : List Reply) (answer : Result HttpResponse NoReply) (result : Result D (RequestTokenError NoReply T)) → reply_seen answer ≡ next_reply replies
       → AnswersTo meaning error_meaning (λ reply. says (reply_of reply)) answer result
       → IsJudged result (reply_output shown text says (next_reply replies))
   answered_by replies (Ok reply) result e h = rw (← e) (judged (reply_of reply) result h)
@@ -98,17 +98,17 @@ module _ {D A T E : Type 0} (meaning : D → A) (error_meaning : T → E) (shown
       (shown_by : (v : RequestView) → IsRequest v → Spells (serialize url) v.target × (request_lines v ≡ lines_of (uri_text v.target)))
       (old new : ScriptedClient) (lines : List ℕ) (s : RunStatus) where
     abbrev IsOutput : Output → Type 0
-    IsOutput o = IsRequestShown shown text says lines_of url (replies_of old) o
+    IsOutput o = IsRequestShown shown text says lines_of url (client_replies old) o
 
-    ends_by : (target : List ℕ) (result : Result D (RequestTokenError NoReply T)) → IsJudged result (reply_output shown text says (next_reply (replies_of old)))
-        → IsSent shown text says lines_of (replies_of old) (Some target) (after (lines_of target) (output_of result))
+    ends_by : (target : List ℕ) (result : Result D (RequestTokenError NoReply T)) → IsJudged result (reply_output shown text says (next_reply (client_replies old)))
+        → IsSent shown text says lines_of (client_replies old) (Some target) (after (lines_of target) (output_of result))
     ends_by target result (inl same) = inl (ap (after (lines_of target)) same)
     ends_by target result (inr (was_sent, e)) = inr (ap (λ (r : Result D (RequestTokenError NoReply T)). after (lines_of target) (output_of r)) e)
 
     -- one call
     sent : (request : HttpRequest) → IsRequest (view_of request) → (answer : Result HttpResponse NoReply) → Replays old request answer new
-        → (result : Result D (RequestTokenError NoReply T)) → IsJudged result (reply_output shown text says (next_reply (replies_of old)))
-        → Prints (string_bytes new.lines) lines s (output_of result) → Adds (string_bytes old.lines) lines s IsOutput
+        → (result : Result D (RequestTokenError NoReply T)) → IsJudged result (reply_output shown text says (next_reply (client_replies old)))
+        → AddsOutput (string_bytes new.lines) lines s (output_of result) → Adds (string_bytes old.lines) lines s IsOutput
     sent request is answer replays result judged (printed, ended) =
         let target = uri_text (view_of request).target in
         let o = after (lines_of target) (output_of result) in
@@ -118,26 +118,26 @@ module _ {D A T E : Type 0} (meaning : D → A) (error_meaning : T → E) (shown
         (o, inr (Some target, ((view_of request).target, view.0, refl), ends_by target result judged), all, ended)
 
     -- no call, for want of memory
-    unsent : (result : Result D (RequestTokenError NoReply T)) → string_bytes new.lines ≡ string_bytes old.lines → output_of result ≡ starved
-        → Prints (string_bytes new.lines) lines s (output_of result) → Adds (string_bytes old.lines) lines s IsOutput
+    unsent : (result : Result D (RequestTokenError NoReply T)) → string_bytes new.lines ≡ string_bytes old.lines → output_of result ≡ no_memory_output
+        → AddsOutput (string_bytes new.lines) lines s (output_of result) → Adds (string_bytes old.lines) lines s IsOutput
     unsent result same is (printed, ended) =
-        let all : lines ≡ string_bytes old.lines ++ starved.lines = rw (printed, same, is) refl in
-        (starved, inl refl, all, ended ∙ ap (λ (x : Output). x.status) is)
+        let all : lines ≡ string_bytes old.lines ++ no_memory_output.lines = rw (printed, same, is) refl in
+        (no_memory_output, inl refl, all, ended ∙ ap (λ (x : Output). x.status) is)
 
     not_http : (result : Result D (RequestTokenError NoReply T)) → AnswersUnsent fault.NotHttp result → SpellsNone (serialize url) → string_bytes new.lines ≡ string_bytes old.lines
-        → Prints (string_bytes new.lines) lines s (output_of result) → Adds (string_bytes old.lines) lines s IsOutput
+        → AddsOutput (string_bytes new.lines) lines s (output_of result) → Adds (string_bytes old.lines) lines s IsOutput
     not_http (Ok answer) h none same p = absurd h
     not_http (Err (ServerResponse e)) h none same p = absurd h
     not_http (Err (Request e)) h none same p = absurd h
     not_http (Err (Parse f body)) h none same p = absurd h
     not_http (Err (Other given)) h none same (printed, ended) =
-        let o = failed (other_text not_http_text) in
+        let o = failure_output (other_text not_http_text) in
         let all : lines ≡ string_bytes old.lines ++ o.lines = rw (printed, same, h) refl in
         (o, inr (None, none, refl), all, ended)
     not_http (Err (Memory was_sent)) h none same p = unsent (Err (Memory was_sent)) same refl p
 
     unfed : (result : Result D (RequestTokenError NoReply T)) → AnswersUnsent fault.Memory result → string_bytes new.lines ≡ string_bytes old.lines
-        → Prints (string_bytes new.lines) lines s (output_of result) → Adds (string_bytes old.lines) lines s IsOutput
+        → AddsOutput (string_bytes new.lines) lines s (output_of result) → Adds (string_bytes old.lines) lines s IsOutput
     unfed (Ok answer) h same p = absurd h
     unfed (Err (ServerResponse e)) h same p = absurd h
     unfed (Err (Request e)) h same p = absurd h
@@ -147,10 +147,10 @@ module _ {D A T E : Type 0} (meaning : D → A) (error_meaning : T → E) (shown
 
     pub request_told : (result : Result D (RequestTokenError NoReply T))
         → OneShot meaning error_meaning ReplaysOrStarves (λ reply. says (reply_of reply)) (λ request. IsRequest (view_of request)) (SpellsNone (serialize url)) old result new
-        → new.is_starved ≡ false → Prints (string_bytes new.lines) lines s (output_of result) → Adds (string_bytes old.lines) lines s IsOutput
+        → new.is_starved ≡ false → AddsOutput (string_bytes new.lines) lines s (output_of result) → Adds (string_bytes old.lines) lines s IsOutput
     request_told result (inl (request, is, (answer, inl out, answers))) fed p = cc
     request_told result (inl (request, is, (answer, inr replays, answers))) fed p =
-        sent request is answer replays result (answered_by (replies_of old) answer result replays.answers answers) p
+        sent request is answer replays result (answered_by (client_replies old) answer result replays.answers answers) p
     request_told result (inr (inl (h, none), same)) fed p = not_http result h none (ap (λ (x : ScriptedClient). string_bytes x.lines) same) p
     request_told result (inr (inr h, same)) fed p = unfed result h (ap (λ (x : ScriptedClient). string_bytes x.lines) same) p
 
@@ -158,8 +158,8 @@ module _ {D A T E : Type 0} (meaning : D → A) (error_meaning : T → E) (shown
 module _ {D A T E : Type 0} (meaning : D → A) (error_meaning : T → E) (json : A → List ℕ) (text : E → List ℕ) (says : ReplyView → Answer A E) where
   pub exchange_told : (c : Configuration) (endpoint : Addressed) (old new : ScriptedClient) (lines : List ℕ) (s : RunStatus) (result : Result D (RequestTokenError NoReply T))
       → Asks meaning error_meaning says c endpoint old result new → new.is_starved ≡ false
-      → Prints (string_bytes new.lines) lines s (end_output (λ e. text (error_meaning e)) (λ d. answered (json (meaning d))) result)
-      → Adds (string_bytes old.lines) lines s (IsExchange json text says c endpoint (replies_of old))
+      → AddsOutput (string_bytes new.lines) lines s (end_output (λ e. text (error_meaning e)) (λ d. success_output (json (meaning d))) result)
+      → Adds (string_bytes old.lines) lines s (IsExchange json text says c endpoint (client_replies old))
   exchange_told c endpoint =
-      request_told meaning error_meaning (λ a. answered (json a)) text says (IsRequestOf c (serialize endpoint.url)) (expected_lines c) endpoint.url
+      request_told meaning error_meaning (λ a. success_output (json a)) text says (IsRequestOf c (serialize endpoint.url)) (expected_lines c) endpoint.url
       (λ v is. (is.target, request_lines-expected c (serialize endpoint.url) v is))

@@ -21,7 +21,7 @@ use Rattle.oauth2_wire.specs.Reply.{HttpResponse, reply_of, ShowsAnswer}
 use Rattle.oauth2_wire.specs.Request.{IsRequestOf, view_of}
 use Rattle.oauth2_wire.specs.declared.error.RequestTokenError.TheVariants.{ServerResponse, Request, Parse, Other, Memory}
 use Rattle.oauth2_wire.specs.declared.request.RequestFault.TheVariants as fault
-use Rattle.oauth2_keeper.specs.Keeper.{Keeper, AcceptedToken, quiet, accepted, failed, is_good, accept, renewal, Calls}
+use Rattle.oauth2_keeper.specs.Keeper.{Keeper, AcceptedToken, quiet, accepted, failed, is_good, accept, renewal, KeeperCalls}
 use Rattle.oauth2_keeper.specs.Patience.{Patient, counts, is_waiting_for, is_held_back, lasts, called, failed_call, IsUntil, PatientCalls}
 use Rattle.oauth2_keeper.specs.declared.patient_keeper.PatientError.{PatientError}
 use Rattle.oauth2_keeper.specs.declared.patient_keeper.PatientError.TheVariants as patient_error
@@ -31,14 +31,14 @@ use Rattle.oauth2_script.specs.KeeperParams.{KeeperParams}
 use Rattle.oauth2_script.specs.Replies.{Reply}
 use Rattle.oauth2_commands.specs.Client.{WithEndpoint, WithToken, missing}
 use Rattle.oauth2_commands.specs.Exchange.{BasicToken, other_text, token_answer}
-use Rattle.oauth2_commands.specs.Keeper.{Standing, is_early, end_text, waiting, IsCall, IsRenewal, IsSentAt, AreCalls, IsKeeperOutput, kept_after_reply, renewal_output, both, joined, nothing}
-use Rattle.oauth2_world.specs.Lines.{expected_lines, quoted}
-use Rattle.oauth2_commands.specs.Out.{Output, after, answered, failed as shown_fault, starved}
-use Rattle.oauth2_commands.specs.private.Added.{Adds, Prints}
+use Rattle.oauth2_commands.specs.Keeper.{Standing, is_early, end_text, waiting, IsCall, IsRenewal, IsSentAt, AreCalls, IsKeeperOutput, kept_after_reply, renewal_output, both, both_outputs, nothing}
+use Rattle.oauth2_world.specs.Lines.{expected_lines, quotation}
+use Rattle.oauth2_commands.specs.Out.{Output, after, success_output, failure_output as shown_fault, no_memory_output}
+use Rattle.oauth2_commands.specs.private.Added.{Adds, AddsOutput}
 use Rattle.oauth2_commands.specs.private.Asked.{AsksForToken}
 use Rattle.oauth2_commands.specs.private.Kept.{standing, end_of_wait, patient_standing, wait_after, told_by, AreKept, ShowsCall, ShowsError}
-use Rattle.oauth2_world.specs.Replay.{Replays, replies_of}
-use Rattle.oauth2_commands.specs.private.Results.{Fault, ErrorResponse, TokenSeen, token_meaning, error_seen, fault_output}
+use Rattle.oauth2_world.specs.Replay.{Replays, client_replies}
+use Rattle.oauth2_commands.specs.private.Results.{ShownFault, ErrorResponse, TokenSeen, token_meaning, error_seen, fault_output}
 use Rattle.oauth2_world.specs.Replies.{next_reply, later_replies}
 use Rattle.oauth2_world.specs.declared.replay.NoReply.{NoReply}
 use Rattle.oauth2_world.specs.declared.replay.ScriptedClient.{ScriptedClient}
@@ -61,26 +61,26 @@ wait_from retry_after now = option_map (λ wait. now +ℤ pos wait) retry_after
 module _ (retry_after : Option ℕ) (keeper kept : Keeper) (until later : Option ℤ) (now : ℤ) (before mid : ScriptedClient) (lines : List ℕ) (s : RunStatus) where
   -- what is told of one call
   abbrev Told : Type 0
-  Told = (before.is_starved ≡ false) × ((o : Output) × IsCall retry_after (standing keeper until before) now o (standing kept later mid) × Prints (string_bytes before.lines) lines s o)
+  Told = (before.is_starved ≡ false) × ((o : Output) × IsCall retry_after (standing keeper until before) now o (standing kept later mid) × AddsOutput (string_bytes before.lines) lines s o)
 
   -- the kept token is shown
   pub shown : IsTrue (is_good keeper now) → mid ≡ before → kept ≡ keeper → later ≡ until → mid.is_starved ≡ false
-      → IsSomeAnd kept.token (λ token. Prints (string_bytes mid.lines) lines s (answered (quoted token.access_token))) → Told
+      → IsSomeAnd kept.token (λ token. AddsOutput (string_bytes mid.lines) lines s (success_output (quotation token.access_token))) → Told
   shown good same is waits fed prints = go kept.token refl
     where
       go : (t : Option AcceptedToken) → kept.token ≡ t → Told
-      go None e = let none : IsSomeAnd None (λ (token : AcceptedToken). Prints (string_bytes mid.lines) lines s (answered (quoted token.access_token))) = rw e at prints in absurd none
+      go None e = let none : IsSomeAnd None (λ (token : AcceptedToken). AddsOutput (string_bytes mid.lines) lines s (success_output (quotation token.access_token))) = rw e at prints in absurd none
       go (Some token) e =
-          let p : Prints (string_bytes mid.lines) lines s (answered (quoted token.access_token)) = rw e at prints in
+          let p : AddsOutput (string_bytes mid.lines) lines s (success_output (quotation token.access_token)) = rw e at prints in
           let there : keeper.token ≡ Some token = ap (λ (k : Keeper). k.token) (sym is) ∙ e in
-          let all : lines ≡ string_bytes before.lines ++ (answered (quoted token.access_token)).lines =
-          p.0 ∙ ap (λ (c : ScriptedClient). string_bytes c.lines ++ (answered (quoted token.access_token)).lines) same in
-          (ap (λ (c : ScriptedClient). c.is_starved) (sym same) ∙ fed, (answered (quoted token.access_token), inl (good, rw there refl, rw (is, waits, same) refl), (all, p.1)))
+          let all : lines ≡ string_bytes before.lines ++ (success_output (quotation token.access_token)).lines =
+          p.0 ∙ ap (λ (c : ScriptedClient). string_bytes c.lines ++ (success_output (quotation token.access_token)).lines) same in
+          (ap (λ (c : ScriptedClient). c.is_starved) (sym same) ∙ fed, (success_output (quotation token.access_token), inl (good, rw there refl, rw (is, waits, same) refl), (all, p.1)))
 
   module _ (stale : is_good keeper now ≡ false) where
     -- it waits
     pub waited : (end : ℤ) → until ≡ Some end → is_early now until ≡ true → mid ≡ before → kept ≡ keeper → later ≡ until → mid.is_starved ≡ false
-        → Prints (string_bytes mid.lines) lines s (waiting end) → Told
+        → AddsOutput (string_bytes mid.lines) lines s (waiting end) → Told
     waited end is_until early same is waits fed p =
         let all : lines ≡ string_bytes before.lines ++ (waiting end).lines = p.0 ∙ ap (λ (c : ScriptedClient). string_bytes c.lines ++ (waiting end).lines) same in
         (ap (λ (c : ScriptedClient). c.is_starved) (sym same) ∙ fed, (waiting end, inr (inl (stale, early, rw is_until refl, rw (is, waits, same) refl)), (all, p.1)))
@@ -88,16 +88,16 @@ module _ (retry_after : Option ℕ) (keeper kept : Keeper) (until later : Option
     module _ (free : is_early now until ≡ false) (endpoint : Addressed) (there : keeper.client.token_url ≡ Some endpoint) (fed : mid.is_starved ≡ false) where
       -- no request is made
       unsent : (o : Output) → mid ≡ before → kept ≡ keeper → later ≡ until → IsRenewal retry_after (standing keeper until before) now o (standing keeper until before)
-          → Prints (string_bytes mid.lines) lines s o → Told
+          → AddsOutput (string_bytes mid.lines) lines s o → Told
       unsent o same is waits renewed p =
           let all : lines ≡ string_bytes before.lines ++ o.lines = p.0 ∙ ap (λ (c : ScriptedClient). string_bytes c.lines ++ o.lines) same in
           (ap (λ (c : ScriptedClient). c.is_starved) (sym same) ∙ fed, (o, inr (inr (stale, free, rw (is, waits, same) renewed)), (all, p.1)))
 
-      pub starved_before : mid ≡ before → kept ≡ keeper → later ≡ until → Prints (string_bytes mid.lines) lines s starved → Told
-      starved_before same is waits p = unsent starved same is waits (inl (refl, refl)) p
+      pub starved_before : mid ≡ before → kept ≡ keeper → later ≡ until → AddsOutput (string_bytes mid.lines) lines s no_memory_output → Told
+      starved_before same is waits p = unsent no_memory_output same is waits (inl (refl, refl)) p
 
       pub no_target : SpellsNone (serialize endpoint.url) → mid ≡ before → kept ≡ keeper → later ≡ until
-          → Prints (string_bytes mid.lines) lines s (shown_fault (other_text not_http_text)) → Told
+          → AddsOutput (string_bytes mid.lines) lines s (shown_fault (other_text not_http_text)) → Told
       no_target none same is waits p = unsent (shown_fault (other_text not_http_text)) same is waits (inr (endpoint, there, (None, none, (refl, refl)))) p
 
       module _ (request : HttpRequest) (is : IsRequestOf (renewal keeper) (serialize endpoint.url) (view_of request)) (answer : Result HttpResponse NoReply) (replays : Replays before request answer mid) where
@@ -110,14 +110,14 @@ module _ (retry_after : Option ℕ) (keeper kept : Keeper) (until later : Option
 
         -- a request is made, and this is shown behind it
         sent_with : (end : Output) (k : Keeper) (u : Option ℤ) → kept ≡ k → later ≡ u
-            → IsSentAt retry_after (standing keeper until before) now (Some target) (after request_lines end) (record { keeper = k; waits_until = u; replies = later_replies (replies_of before) })
-            → Prints (string_bytes mid.lines) lines s end → Told
+            → IsSentAt retry_after (standing keeper until before) now (Some target) (after request_lines end) (record { keeper = k; waits_until = u; replies = later_replies (client_replies before) })
+            → AddsOutput (string_bytes mid.lines) lines s end → Told
         sent_with end k u same waits at p =
             let sends : string_bytes mid.lines ≡ string_bytes before.lines ++ request_lines =
             replays.prints ∙ ap (λ (t : List ℕ). string_bytes before.lines ++ t) (request_lines-expected (renewal keeper) (serialize endpoint.url) (view_of request) is) in
             let all : lines ≡ string_bytes before.lines ++ (request_lines ++ end.lines) =
             p.0 ∙ ap (λ (t : List ℕ). t ++ end.lines) sends ∙ append_assoc (string_bytes before.lines) request_lines end.lines in
-            let stands : standing kept later mid ≡ record { keeper = k; waits_until = u; replies = later_replies (replies_of before) } = rw (same, waits, replays.goes_on) refl in
+            let stands : standing kept later mid ≡ record { keeper = k; waits_until = u; replies = later_replies (client_replies before) } = rw (same, waits, replays.goes_on) refl in
             let kept_at : IsSentAt retry_after (standing keeper until before) now (Some target) (after request_lines end) (standing kept later mid) =
             subst (λ (w : Standing). IsSentAt retry_after (standing keeper until before) now (Some target) (after request_lines end) w) (sym stands) at in (
               sym replays.is_fed ∙ fed,
@@ -125,15 +125,15 @@ module _ (retry_after : Option ℕ) (keeper kept : Keeper) (until later : Option
             )
 
         -- the reply is shown, and what it gives is kept
-        pub replied_to : (end : Output) → renewal_output keeper.client.reply_rule (replies_of before) ≡ end
-            → (k : Keeper) (u : Option ℤ) → record (kept_after_reply retry_after (standing keeper until before) now (next_reply (replies_of before))) { replies = later_replies (replies_of before) }
-            ≡ record { keeper = k; waits_until = u; replies = later_replies (replies_of before) }
-            → kept ≡ k → later ≡ u → Prints (string_bytes mid.lines) lines s end → Told
+        pub replied_to : (end : Output) → renewal_output keeper.client.reply_rule (client_replies before) ≡ end
+            → (k : Keeper) (u : Option ℤ) → record (kept_after_reply retry_after (standing keeper until before) now (next_reply (client_replies before))) { replies = later_replies (client_replies before) }
+            ≡ record { keeper = k; waits_until = u; replies = later_replies (client_replies before) }
+            → kept ≡ k → later ≡ u → AddsOutput (string_bytes mid.lines) lines s end → Told
         replied_to end shows k u gives same waits p = sent_with end k u same waits (inl (ap (after request_lines) (sym shows), sym gives)) p
 
         -- memory ran out behind the request
-        pub starved_behind : kept ≡ keeper → later ≡ wait_from retry_after now → Prints (string_bytes mid.lines) lines s starved → Told
-        starved_behind same waits p = sent_with starved keeper (wait_from retry_after now) same waits (inr (refl, refl)) p
+        pub starved_behind : kept ≡ keeper → later ≡ wait_from retry_after now → AddsOutput (string_bytes mid.lines) lines s no_memory_output → Told
+        starved_behind same waits p = sent_with no_memory_output keeper (wait_from retry_after now) same waits (inr (refl, refl)) p
 
 -- ---- one call
 
@@ -142,23 +142,23 @@ module _ (retry_after : Option ℕ) (keeper kept : Keeper) (until later : Option
   IsTold = Told retry_after keeper kept until later now before mid lines s
 
   -- the wait after a fault
-  abbrev IsWaitAfter : Fault → Type 0
+  abbrev IsWaitAfter : ShownFault → Type 0
   IsWaitAfter error = later ≡ wait_after retry_after until now false (Err error)
 
-  begins : (error : Fault) → counts error ≡ true → IsWaitAfter error → later ≡ wait_from retry_after now
+  begins : (error : ShownFault) → counts error ≡ true → IsWaitAfter error → later ≡ wait_from retry_after now
   begins error is waits = waits ∙ if-true (counts error) (wait_from retry_after now) until is
 
-  goes_on : (error : Fault) → counts error ≡ false → IsWaitAfter error → later ≡ until
+  goes_on : (error : ShownFault) → counts error ≡ false → IsWaitAfter error → later ≡ until
   goes_on error is waits = waits ∙ if-false (counts error) (wait_from retry_after now) until is
 
   module _ (stale : is_good keeper now ≡ false) (free : is_early now until ≡ false) (endpoint : Addressed) (there : keeper.client.token_url ≡ Some endpoint) where
     -- the request's reply is accepted
     accepted_told : (reply : TokenSeen) → AsksForToken keeper.client.reply_rule (renewal keeper) endpoint before (Ok reply) mid → kept ≡ accept keeper now (told_by reply) → later ≡ None
-        → Prints (string_bytes mid.lines) lines s (answered (quoted reply.access_token)) → IsTold
+        → AddsOutput (string_bytes mid.lines) lines s (success_output (quotation reply.access_token)) → IsTold
     accepted_told reply (inl (request, is, (answer, inl out, answers))) same waits p = cc
     accepted_told reply (inl (request, is, (Ok response, inr replays, answers))) same waits p =
-        let next : next_reply (replies_of before) ≡ Some (reply_of response) = sym replays.answers in
-        replied_to retry_after keeper kept until later now before mid lines s stale free endpoint there fed request is (Ok response) replays (answered (quoted reply.access_token))
+        let next : next_reply (client_replies before) ≡ Some (reply_of response) = sym replays.answers in
+        replied_to retry_after keeper kept until later now before mid lines s stale free endpoint there fed request is (Ok response) replays (success_output (quotation reply.access_token))
         (rw (next, answers) refl) (accept keeper now (told_by reply)) None (rw (next, answers) refl) same waits p
     accepted_told reply (inl (request, is, (Err error, inr replays, answers))) same waits p = cc
     accepted_told reply (inr (inl (unsent, none), stays)) same waits p = absurd unsent
@@ -166,26 +166,26 @@ module _ (retry_after : Option ℕ) (keeper kept : Keeper) (until later : Option
 
     -- what is told of a reply that is no token
     refused_by : (request : HttpRequest) → IsRequestOf (renewal keeper) (serialize endpoint.url) (view_of request) → (response : HttpResponse) → Replays before request (Ok response) mid
-        → (error : Fault) → ShowsAnswer {D = TokenSeen} token_meaning (parts_of error_code) (token_answer keeper.client.reply_rule (reply_of response)) (Err error) → kept ≡ keeper
-        → later ≡ wait_from retry_after now → Prints (string_bytes mid.lines) lines s (fault_output error_seen error) → IsTold
+        → (error : ShownFault) → ShowsAnswer {D = TokenSeen} token_meaning (parts_of error_code) (token_answer keeper.client.reply_rule (reply_of response)) (Err error) → kept ≡ keeper
+        → later ≡ wait_from retry_after now → AddsOutput (string_bytes mid.lines) lines s (fault_output error_seen error) → IsTold
     refused_by request is response replays (ServerResponse e) shows same waits p =
-        let next : next_reply (replies_of before) ≡ Some (reply_of response) = sym replays.answers in
+        let next : next_reply (client_replies before) ≡ Some (reply_of response) = sym replays.answers in
         replied_to retry_after keeper kept until later now before mid lines s stale free endpoint there fed request is (Ok response) replays (fault_output error_seen (ServerResponse e))
         (rw (next, shows) refl) keeper (wait_from retry_after now) (rw (next, shows) refl) same waits p
     refused_by request is response replays (Request e) shows same waits p = absurd shows
     refused_by request is response replays (Parse f body) shows same waits p =
-        let next : next_reply (replies_of before) ≡ Some (reply_of response) = sym replays.answers in
+        let next : next_reply (client_replies before) ≡ Some (reply_of response) = sym replays.answers in
         replied_to retry_after keeper kept until later now before mid lines s stale free endpoint there fed request is (Ok response) replays (fault_output error_seen (Parse f body))
         (rw (next, shows) refl) keeper (wait_from retry_after now) (rw (next, shows) refl) same waits p
     refused_by request is response replays (Other given) shows same waits p =
-        let next : next_reply (replies_of before) ≡ Some (reply_of response) = sym replays.answers in
+        let next : next_reply (client_replies before) ≡ Some (reply_of response) = sym replays.answers in
         replied_to retry_after keeper kept until later now before mid lines s stale free endpoint there fed request is (Ok response) replays (fault_output error_seen (Other given))
         (rw (next, shows) refl) keeper (wait_from retry_after now) (rw (next, shows) refl) same waits p
     refused_by request is response replays (Memory sent) shows same waits p =
         starved_behind retry_after keeper kept until later now before mid lines s stale free endpoint there fed request is (Ok response) replays same waits p
 
-    not_http_told : (error : Fault) → AnswersUnsent {D = TokenSeen} fault.NotHttp (Err error) → SpellsNone (serialize endpoint.url) → mid ≡ before → kept ≡ keeper → later ≡ until
-        → Prints (string_bytes mid.lines) lines s (fault_output error_seen error) → IsTold
+    not_http_told : (error : ShownFault) → AnswersUnsent {D = TokenSeen} fault.NotHttp (Err error) → SpellsNone (serialize endpoint.url) → mid ≡ before → kept ≡ keeper → later ≡ until
+        → AddsOutput (string_bytes mid.lines) lines s (fault_output error_seen error) → IsTold
     not_http_told (ServerResponse e) h none stays same waits p = absurd h
     not_http_told (Request e) h none stays same waits p = absurd h
     not_http_told (Parse f body) h none stays same waits p = absurd h
@@ -193,8 +193,8 @@ module _ (retry_after : Option ℕ) (keeper kept : Keeper) (until later : Option
         no_target retry_after keeper kept until later now before mid lines s stale free endpoint there fed none stays same waits (rw h at p)
     not_http_told (Memory sent) h none stays same waits p = starved_before retry_after keeper kept until later now before mid lines s stale free endpoint there fed stays same waits p
 
-    unfed_told : (error : Fault) → AnswersUnsent {D = TokenSeen} fault.Memory (Err error) → mid ≡ before → kept ≡ keeper → later ≡ until
-        → Prints (string_bytes mid.lines) lines s (fault_output error_seen error) → IsTold
+    unfed_told : (error : ShownFault) → AnswersUnsent {D = TokenSeen} fault.Memory (Err error) → mid ≡ before → kept ≡ keeper → later ≡ until
+        → AddsOutput (string_bytes mid.lines) lines s (fault_output error_seen error) → IsTold
     unfed_told (ServerResponse e) h stays same waits p = absurd h
     unfed_told (Request e) h stays same waits p = absurd h
     unfed_told (Parse f body) h stays same waits p = absurd h
@@ -202,8 +202,8 @@ module _ (retry_after : Option ℕ) (keeper kept : Keeper) (until later : Option
     unfed_told (Memory sent) h stays same waits p = starved_before retry_after keeper kept until later now before mid lines s stale free endpoint there fed stays same waits p
 
     -- the request failed
-    failed_told : (error : Fault) → AsksForToken keeper.client.reply_rule (renewal keeper) endpoint before (Err error) mid → kept ≡ keeper → IsWaitAfter error
-        → Prints (string_bytes mid.lines) lines s (fault_output error_seen error) → IsTold
+    failed_told : (error : ShownFault) → AsksForToken keeper.client.reply_rule (renewal keeper) endpoint before (Err error) mid → kept ≡ keeper → IsWaitAfter error
+        → AddsOutput (string_bytes mid.lines) lines s (fault_output error_seen error) → IsTold
     failed_told error (inl (request, is, (answer, inl out, answers))) same waits p = cc
     failed_told error (inl (request, is, (Ok response, inr replays, answers))) same waits p =
         let is_counted : counts error ≡ true =
@@ -211,9 +211,9 @@ module _ (retry_after : Option ℕ) (keeper kept : Keeper) (until later : Option
         (of_reply BasicToken (ErrorParts ErrorCode) keeper.client.reply_rule (token_reading any_object token_code_reading) (error_reading error_code_reading) (reply_of response)) error answers in
         refused_by request is response replays error answers same (begins error is_counted waits) p
     failed_told error (inl (request, is, (Err e, inr replays, answers))) same waits p =
-        let next : next_reply (replies_of before) ≡ None = sym replays.answers in
+        let next : next_reply (client_replies before) ≡ None = sym replays.answers in
         let h : error ≡ Request e = cc in
-        let q : Prints (string_bytes mid.lines) lines s (fault_output error_seen (Request e)) = rw h at p in
+        let q : AddsOutput (string_bytes mid.lines) lines s (fault_output error_seen (Request e)) = rw h at p in
         let later_waits : later ≡ wait_from retry_after now = rw h at waits in
         replied_to retry_after keeper kept until later now before mid lines s stale free endpoint there fed request is (Err e) replays (fault_output error_seen (Request e))
         (rw next refl) keeper (wait_from retry_after now) (rw next refl) same later_waits q
@@ -222,7 +222,7 @@ module _ (retry_after : Option ℕ) (keeper kept : Keeper) (until later : Option
 
     -- memory ran out while the reply was copied
     copy_refused_told : (reply : TokenSeen) → AsksForToken keeper.client.reply_rule (renewal keeper) endpoint before (Ok reply) mid → kept ≡ keeper → later ≡ wait_from retry_after now
-        → Prints (string_bytes mid.lines) lines s starved → IsTold
+        → AddsOutput (string_bytes mid.lines) lines s no_memory_output → IsTold
     copy_refused_told reply (inl (request, is, (answer, inl out, answers))) same waits p = cc
     copy_refused_told reply (inl (request, is, (answer, inr replays, answers))) same waits p =
         starved_behind retry_after keeper kept until later now before mid lines s stale free endpoint there fed request is answer replays same waits p
@@ -230,14 +230,14 @@ module _ (retry_after : Option ℕ) (keeper kept : Keeper) (until later : Option
     copy_refused_told reply (inr (inr unsent, stays)) same waits p = absurd unsent
 
   -- a call that nothing holds back
-  pub call_told : (result : Result Unit Fault) → Calls AsksForToken told_by keeper now before result mid kept → later ≡ wait_after retry_after until now (is_good keeper now) result
+  pub call_told : (result : Result Unit ShownFault) → KeeperCalls AsksForToken told_by keeper now before result mid kept → later ≡ wait_after retry_after until now (is_good keeper now) result
       → (is_good keeper now ≡ false → is_early now until ≡ false) → ShowsCall (string_bytes mid.lines) lines s kept result → IsTold
   call_told (Ok done) (quiet, (good, same, stays), is) waits free p =
       shown retry_after keeper kept until later now before mid lines s good stays is (waits ∙ if-true (is_good keeper now) until None good) fed p
   call_told (Err error) (quiet, (good, same, stays), is) waits free p = cc
   call_told (Ok done) (accepted given, (stale, same, (reply, told, (endpoint, there, asked))), is) waits free p =
       let e : kept ≡ accept keeper now (told_by reply) = is ∙ ap (accept keeper now) told in
-      let q : Prints (string_bytes mid.lines) lines s (answered (quoted reply.access_token)) = rw e at p in
+      let q : AddsOutput (string_bytes mid.lines) lines s (success_output (quotation reply.access_token)) = rw e at p in
       accepted_told stale (free stale) endpoint there reply asked e (waits ∙ if-false (is_good keeper now) until None stale) q
   call_told (Err error) (accepted given, (stale, same, rest), is) waits free p = cc
   call_told (Ok done) (failed, (stale, (error, same, fails)), is) waits free p = cc
@@ -246,7 +246,7 @@ module _ (retry_after : Option ℕ) (keeper kept : Keeper) (until later : Option
       failed_told stale (free stale) endpoint there error (rw h asked) is waits p
   call_told (Err error) (failed, (stale, (e, same, inr (memory, (reply, (endpoint, there, asked))))), is) waits free p =
       let h : error ≡ Memory true = cc in
-      let q : Prints (string_bytes mid.lines) lines s starved = rw h at p in
+      let q : AddsOutput (string_bytes mid.lines) lines s no_memory_output = rw h at p in
       let later_waits : later ≡ wait_from retry_after now = rw h at waits in
       copy_refused_told stale (free stale) endpoint there reply asked is later_waits q
 
@@ -255,7 +255,7 @@ no_wait : (b : Bool) (wait : Option ℤ) → wait ≡ (if b then wait else wait)
 no_wait true wait = refl
 no_wait false wait = refl
 
-pub never_waits : (now : ℤ) (good : Bool) (result : Result Unit Fault) → None ≡ wait_after None None now good result
+pub never_waits : (now : ℤ) (good : Bool) (result : Result Unit ShownFault) → None ≡ wait_after None None now good result
 never_waits now good (Ok done) = no_wait good None
 never_waits now good (Err error) = no_wait (counts error) None
 
@@ -313,13 +313,13 @@ module _ (patient : Patient) (now : ℤ) (before mid : ScriptedClient) (lines : 
   abbrev IsPatientTold : Patient → Type 0
   IsPatientTold kept =
       (before.is_starved ≡ false)
-      × ((o : Output) × IsCall (Some patient.wait) (patient_standing patient before) now o (patient_standing kept mid) × Prints (string_bytes before.lines) lines s o)
+      × ((o : Output) × IsCall (Some patient.wait) (patient_standing patient before) now o (patient_standing kept mid) × AddsOutput (string_bytes before.lines) lines s o)
 
   free_if : is_held_back patient now ≡ false → is_good patient.keeper now ≡ false → is_early now until ≡ false
   free_if free stale = early_is patient.wait now patient.failed_at ∙ free_to_ask (is_good patient.keeper now) (is_waiting_for patient.wait now patient.failed_at) free stale
 
   pub got_told : (kept : Patient) → PatientCalls AsksForToken told_by patient now before (Ok tt) mid kept
-      → IsSomeAnd kept.keeper.token (λ token. Prints (string_bytes mid.lines) lines s (answered (quoted token.access_token))) → IsPatientTold kept
+      → IsSomeAnd kept.keeper.token (λ token. AddsOutput (string_bytes mid.lines) lines s (success_output (quotation token.access_token))) → IsPatientTold kept
   got_told kept (inl (free, calls, is)) p =
       let told =
       call_told (Some patient.wait) patient.keeper kept.keeper until (end_of_wait patient.wait (called patient now kept.keeper).failed_at) now before mid lines s fed (Ok tt) calls
@@ -327,8 +327,8 @@ module _ (patient : Patient) (now : ℤ) (before mid : ScriptedClient) (lines : 
       subst IsPatientTold (sym is) told
   got_told kept (inr (held, same, is)) p = absurd (none-lasts (is_held_back patient now) patient.until_end _ hands_out_none held)
 
-  fault_told : (kept : Patient) (error : Fault) → PatientCalls AsksForToken told_by patient now before (Err (patient_error.Request error)) mid kept
-      → Prints (string_bytes mid.lines) lines s (fault_output error_seen error) → IsPatientTold kept
+  fault_told : (kept : Patient) (error : ShownFault) → PatientCalls AsksForToken told_by patient now before (Err (patient_error.Request error)) mid kept
+      → AddsOutput (string_bytes mid.lines) lines s (fault_output error_seen error) → IsPatientTold kept
   fault_told kept error (free, calls, is) p =
       let told =
       call_told (Some patient.wait) patient.keeper patient.keeper until (end_of_wait patient.wait (failed_call patient now error).failed_at) now before mid lines s fed (Err error) calls
@@ -337,7 +337,7 @@ module _ (patient : Patient) (now : ℤ) (before mid : ScriptedClient) (lines : 
 
   waited_told : (failed_at : Option ℤ) → patient.failed_at ≡ failed_at → IsTrue (is_held_back patient now) → (ends : Option Timestamp)
       → IsSomeAnd failed_at (λ moment. IsUntil (moment +ℤ pos patient.wait) ends) → mid ≡ before
-      → ((end : ℤ) → IsUntil end ends → Prints (string_bytes mid.lines) lines s (waiting end)) → IsPatientTold patient
+      → ((end : ℤ) → IsUntil end ends → AddsOutput (string_bytes mid.lines) lines s (waiting end)) → IsPatientTold patient
   waited_told None e held ends is same p = absurd is
   waited_told (Some moment) e held ends is same p =
       let parts = both-true (not (is_good patient.keeper now)) (is_waiting_for patient.wait now patient.failed_at) held in
@@ -345,7 +345,7 @@ module _ (patient : Patient) (now : ℤ) (before mid : ScriptedClient) (lines : 
       (ap (end_of_wait patient.wait) e) (early_is patient.wait now patient.failed_at ∙ parts.1) same refl refl fed (p (moment +ℤ pos patient.wait) is)
 
   wait_told : (kept : Patient) (ends : Option Timestamp) → PatientCalls AsksForToken told_by patient now before (Err (patient_error.Waits ends)) mid kept
-      → ((end : ℤ) → IsUntil end ends → Prints (string_bytes mid.lines) lines s (waiting end)) → IsPatientTold kept
+      → ((end : ℤ) → IsUntil end ends → AddsOutput (string_bytes mid.lines) lines s (waiting end)) → IsPatientTold kept
   wait_told kept ends (held, is_until, same, is) p =
       subst IsPatientTold (sym is) (waited_told patient.failed_at refl (both-true (is_held_back patient now) (not (lasts patient now)) held).0 ends is_until same p)
 
@@ -366,36 +366,36 @@ both-answered status.Answered = refl
 both-answered status.Fault = refl
 both-answered status.BadScript = refl
 
-joined-assoc : (a b c : Output) → joined (joined a b) c ≡ joined a (joined b c)
+joined-assoc : (a b c : Output) → both_outputs (both_outputs a b) c ≡ both_outputs a (both_outputs b c)
 joined-assoc a b c = rw (append_assoc a.lines b.lines c.lines, both-assoc a.status b.status c.status) refl
 
-joined-nothing : (a : Output) → joined a nothing ≡ a
+joined-nothing : (a : Output) → both_outputs a nothing ≡ a
 joined-nothing a = rw (append-nil a.lines, both-answered a.status) refl
 
 -- one more call
 pub one_more : (retry_after : Option ℕ) (before middle kept : Standing) (moments : List ℤ) (now : ℤ) (o last : Output) → AreCalls retry_after before moments o middle
-    → IsCall retry_after middle now last kept → AreCalls retry_after before (moments ++ now ∷ []) (joined o last) kept
+    → IsCall retry_after middle now last kept → AreCalls retry_after before (moments ++ now ∷ []) (both_outputs o last) kept
 one_more retry_after before middle kept [] now o last (is, same) call =
     (last, kept, nothing, rw (← same) call, (refl, refl), rw is (sym (joined-nothing last)))
 one_more retry_after before middle kept (m ∷ moments) now o last (first, next, rest, call', calls, is) call =
-    (first, next, joined rest last, call', one_more retry_after next middle kept moments now rest last calls call, rw is (joined-assoc first rest last))
+    (first, next, both_outputs rest last, call', one_more retry_after next middle kept moments now rest last calls call, rw is (joined-assoc first rest last))
 
 -- the token that was got is the kept one
-pub kept_shown : (kept : Option AcceptedToken) (text old new : List ℕ) (s : RunStatus) → option_map (λ token. token.access_token) kept ≡ Some text → Prints old new s (answered (quoted text))
-    → IsSomeAnd kept (λ token. Prints old new s (answered (quoted token.access_token)))
+pub kept_shown : (kept : Option AcceptedToken) (text old new : List ℕ) (s : RunStatus) → option_map (λ token. token.access_token) kept ≡ Some text → AddsOutput old new s (success_output (quotation text))
+    → IsSomeAnd kept (λ token. AddsOutput old new s (success_output (quotation token.access_token)))
 kept_shown None text old new s is p = cc
 kept_shown (Some token) text old new s is p = let e : token.access_token ≡ text = cc in rw e p
 
 -- one more of a list of moments
 pub calls_more : (retry_after : Option ℕ) (before middle kept : Standing) (readings : List Timestamp) (i : ℕ) (item : Timestamp) → i < length readings → item ≡ get_or readings i item
     → (old mid new : List ℕ) (s later : RunStatus)
-    → ((o : Output) × AreCalls retry_after before (map (λ t. t.nanosecond) (take i readings)) o middle × Prints old mid s o)
-    → ((o : Output) × IsCall retry_after middle item.nanosecond o kept × Prints mid new later o)
-    → (o : Output) × AreCalls retry_after before (map (λ t. t.nanosecond) (take (i + 1) readings)) o kept × Prints old new (both s later) o
+    → ((o : Output) × AreCalls retry_after before (map (λ t. t.nanosecond) (take i readings)) o middle × AddsOutput old mid s o)
+    → ((o : Output) × IsCall retry_after middle item.nanosecond o kept × AddsOutput mid new later o)
+    → (o : Output) × AreCalls retry_after before (map (λ t. t.nanosecond) (take (i + 1) readings)) o kept × AddsOutput old new (both s later) o
 calls_more retry_after before middle kept readings i item lt is old mid new s later so_far call =
     let more : map (λ (t : Timestamp). t.nanosecond) (take (i + 1) readings) ≡ map (λ (t : Timestamp). t.nanosecond) (take i readings) ++ item.nanosecond ∷ [] =
     map_more (λ (t : Timestamp). t.nanosecond) readings i item lt ∙ ap (λ (t : Timestamp). map (λ (t : Timestamp). t.nanosecond) (take i readings) ++ t.nanosecond ∷ []) (sym is) in
-    let o = joined so_far.0 call.0 in
+    let o = both_outputs so_far.0 call.0 in
     let calls : AreCalls retry_after before (map (λ (t : Timestamp). t.nanosecond) (take i readings) ++ item.nanosecond ∷ []) o kept =
     one_more retry_after before middle kept (map (λ (t : Timestamp). t.nanosecond) (take i readings)) item.nanosecond so_far.0 call.0 so_far.1 call.1 in
     let lines : new ≡ old ++ (so_far.0.lines ++ call.0.lines) = call.2.0 ∙ ap (λ (t : List ℕ). t ++ call.0.lines) so_far.2.0 ∙ append_assoc old so_far.0.lines call.0.lines in
@@ -413,6 +413,6 @@ keeper_told client made url there is p moments replies old new s adds =
     subst (λ (o : Option Addressed). Adds old new s (WithToken (λ url o. AreKept client p moments replies o) o)) (sym there) own
 
 -- there is no endpoint of this name
-pub unset_told : (name : List ℕ) (IsOut : Addressed → Output → Type 0) (url : Option Addressed) → url ≡ None → (old new : List ℕ) (s : RunStatus) → Prints old new s (missing name) → Adds old new s (WithEndpoint name IsOut url)
+pub unset_told : (name : List ℕ) (IsOut : Addressed → Output → Type 0) (url : Option Addressed) → url ≡ None → (old new : List ℕ) (s : RunStatus) → AddsOutput old new s (missing name) → Adds old new s (WithEndpoint name IsOut url)
 unset_told name IsOut url none old new s printed =
     subst (λ (u : Option Addressed). Adds old new s (WithEndpoint name IsOut u)) (sym none) (missing name, refl, printed.0, printed.1)

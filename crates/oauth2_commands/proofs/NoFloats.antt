@@ -12,10 +12,10 @@ use Rattle.oauth2_json.specs.Members.{put_some}
 use Rattle.oauth2_json.specs.Puts.{Row, put_all}
 use Rattle.oauth2_json.specs.Values.{text_items}
 use Rattle.oauth2_introspection.specs.Instants.{second_data, second_of}
-use Rattle.oauth2_json.specs.Words.{joined}
+use Rattle.oauth2_json.specs.Words.{joined_words}
 use Rattle.oauth2_replies.specs.Device.{own_rows as device_rows}
 use Rattle.oauth2_introspection.specs.Introspection.{own_rows as introspection_rows}
-use Rattle.oauth2_metadata.specs.Metadata.{own_rows as metadata_rows, endpoint_rows, supported_rows, auth_method_rows, signing_algorithm_rows, page_rows, service_rows}
+use Rattle.oauth2_metadata.specs.Metadata.{metadata_rows, endpoint_rows, supported_rows, auth_method_rows, signing_algorithm_rows, page_rows, service_rows}
 use Rattle.oauth2_metadata.specs.Metadata.{EndpointMembers, SupportedMembers, AuthMethodMembers, SigningAlgorithmMembers, PageMembers, ServiceMembers}
 use Rattle.oauth2_openid.specs.Claims.{Claims}
 use Rattle.oauth2_openid.specs.declared.access_token_hash.AccessTokenHash.{AccessTokenHash}
@@ -95,7 +95,7 @@ pub token_data-no_float : (r : BasicToken) → has_float (token_data r) ≡ fals
 unfolding token_data
 token_data-no_float r =
     let free : AreFree (token_rows (string (token_code_text r.token_type)) r) =
-    (refl, (refl, (numbers_free r.expires_in, (texts_free (λ s. s) r.refresh_token, (texts_free joined r.scopes, tt))))) in
+    (refl, (refl, (numbers_free r.expires_in, (texts_free (λ s. s) r.refresh_token, (texts_free joined_words r.scopes, tt))))) in
     put_all-no_float (token_rows (string (token_code_text r.token_type)) r) no_members free refl
 
 pub device_data-no_float : (r : BasicDevice) → has_float (device_data r) ≡ false
@@ -111,7 +111,7 @@ introspection_data-no_float r =
     let free : AreFree rows = (
       refl,
       (
-        texts_free joined r.scopes,
+        texts_free joined_words r.scopes,
         (
           texts_free (λ s. s) r.client_id,
           (

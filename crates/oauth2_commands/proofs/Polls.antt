@@ -24,10 +24,10 @@ use Rattle.oauth2_world.specs.Clock.{reading_of, readings_of}
 use Rattle.oauth2_commands.specs.DevicePoll.{calls_of, last_call, poll_answer, class_of_call, AreLinesOf, device_error_display, shown_at, IsPolled}
 use Rattle.oauth2_commands.specs.Exchange.{BasicToken, other_text, token_json}
 use Rattle.oauth2_world.specs.Lines.{expected_lines, sleep_line}
-use Rattle.oauth2_commands.specs.Out.{Output, after, answered, failed, starved}
+use Rattle.oauth2_commands.specs.Out.{Output, after, success_output, failure_output, no_memory_output}
 use Rattle.oauth2_world.specs.Replies.{next_reply}
-use Rattle.oauth2_commands.specs.private.Added.{Prints as PrintsOutput, Adds}
-use Rattle.oauth2_world.specs.Replay.{ReplaysOrStarves, replied, replies_of}
+use Rattle.oauth2_commands.specs.private.Added.{AddsOutput as PrintsOutput, Adds}
+use Rattle.oauth2_world.specs.Replay.{ReplaysOrStarves, reply_seen, client_replies}
 use Rattle.oauth2_commands.specs.private.Results.{TokenSeen, token_meaning}
 use Rattle.oauth2_world.specs.World.{Reads, Sends, Prints, Sleeps}
 use Rattle.oauth2_world.specs.declared.replay.NoReply.{NoReply}
@@ -40,21 +40,21 @@ use Rattle.oauth2_commands.proofs.Results.{DeviceFault, poll_output}
 abbrev says : ReplyRule → HttpResponse → Answer BasicToken DeviceError
 says rule = device_answer rule (token_reading any_object token_code_reading)
 
-class_told : (rule : ReplyRule) (a : Result HttpResponse NoReply) → class_of (says rule) a ≡ class_of_call rule (replied a)
+class_told : (rule : ReplyRule) (a : Result HttpResponse NoReply) → class_of (says rule) a ≡ class_of_call rule (reply_seen a)
 class_told rule (Ok reply) = refl
 class_told rule (Err e) = refl
 
 abbrev last_said : Option (Result HttpResponse NoReply) → Option ReplyView
 last_said None = None
-last_said (Some a) = replied a
+last_said (Some a) = reply_seen a
 
 -- what the calls of a world that was not refused memory tell
 record Told (r : DeviceToken) (w : ScriptedWorld) (e : List (Event NoReply)) (v : ScriptedWorld) : Type 0 where
   is_fed : w.http_client.is_starved ≡ false
   shows : readings_in (plain (says r.base.reply_rule) e) ≡ readings_of w.clock (length (readings_in (plain (says r.base.reply_rule) e)))
-  answers : answers_in (plain (says r.base.reply_rule) e) ≡ map (class_of_call r.base.reply_rule) (calls_of (replies_of w.http_client) (length (answers_in (plain (says r.base.reply_rule) e))))
+  answers : answers_in (plain (says r.base.reply_rule) e) ≡ map (class_of_call r.base.reply_rule) (calls_of (client_replies w.http_client) (length (answers_in (plain (says r.base.reply_rule) e))))
   last : (before : Option (Result HttpResponse NoReply)) → last_said (last_reply before e)
-      ≡ last_call (last_said before) (calls_of (replies_of w.http_client) (length (answers_in (plain (says r.base.reply_rule) e))))
+      ≡ last_call (last_said before) (calls_of (client_replies w.http_client) (length (answers_in (plain (says r.base.reply_rule) e))))
   lines : List ℕ
   are_lines : AreLinesOf (device_token_configuration r) (serialize r.token_url.url) (plain (says r.base.reply_rule) e) lines
   added : string_bytes v.http_client.lines ≡ string_bytes w.http_client.lines ++ lines
@@ -88,13 +88,13 @@ module _ (r : DeviceToken) where
         go (inr replays) =
             let target = uri_text (view_of q).target in
             let c = device_token_configuration r in
-            let means : class_of (says r.base.reply_rule) a ≡ class_of_call r.base.reply_rule (next_reply (replies_of w.http_client)) = class_told r.base.reply_rule a ∙ ap (class_of_call r.base.reply_rule) replays.answers in
+            let means : class_of (says r.base.reply_rule) a ≡ class_of_call r.base.reply_rule (next_reply (client_replies w.http_client)) = class_told r.base.reply_rule a ∙ ap (class_of_call r.base.reply_rule) replays.answers in
             let sent : string_bytes u.http_client.lines ≡ string_bytes w.http_client.lines ++ expected_lines c target =
             rw (← request_lines-expected c (serialize r.token_url.url) (view_of q) is) replays.prints in
             record {
               is_fed = sym replays.is_fed ∙ k.is_fed;
               shows = rw sends.clock at k.shows;
-              answers = rw means (ap (λ rest. class_of_call r.base.reply_rule (next_reply (replies_of w.http_client)) ∷ rest) (rw replays.goes_on at k.answers));
+              answers = rw means (ap (λ rest. class_of_call r.base.reply_rule (next_reply (client_replies w.http_client)) ∷ rest) (rw replays.goes_on at k.answers));
               last = λ before. rw (replays.goes_on, replays.answers) at (k.last (Some a));
               lines = expected_lines c target ++ k.lines;
               are_lines = (target, k.lines, ((view_of q).target, is.target, refl), k.are_lines, refl);
@@ -139,12 +139,12 @@ module _ (r : DeviceToken) where
 
 -- ---- the end
 
-says_other : (text : List ℕ) (result : Result TokenSeen DeviceFault) → IsErrAnd result (SaysOther text) → poll_output result ≡ failed (other_text text)
+says_other : (text : List ℕ) (result : Result TokenSeen DeviceFault) → IsErrAnd result (SaysOther text) → poll_output result ≡ failure_output (other_text text)
 says_other text (Ok token) h = absurd h
 says_other text (Err (ServerResponse e)) h = absurd h
 says_other text (Err (Request e)) h = absurd h
 says_other text (Err (Parse f body)) h = absurd h
-says_other text (Err (Other said)) h = ap (λ (t : List ℕ). failed (other_text t)) h
+says_other text (Err (Other said)) h = ap (λ (t : List ℕ). failure_output (other_text t)) h
 says_other text (Err (Memory sent)) h = absurd h
 
 says_expired : (rule : ReplyRule) (n : ℕ) (calls : List (Option ReplyView)) (result : Result TokenSeen DeviceFault) → IsErrAnd result SaysExpired → poll_output result ≡ shown_at rule (Late n) calls
@@ -158,33 +158,33 @@ says_expired rule n calls (Err (Memory sent)) h = absurd h
 -- the answer that fits an end, or want of memory there
 at_end : (rule : ReplyRule) (ending : Ending) (e : List (Event NoReply)) (result : Result TokenSeen DeviceFault) (calls : List (Option ReplyView))
     → last_said (last_reply None e) ≡ last_call None calls → IsAnswerAt token_meaning (says rule) ending e result
-    → (poll_output result ≡ shown_at rule ending calls) ⊎ (poll_output result ≡ starved)
+    → (poll_output result ≡ shown_at rule ending calls) ⊎ (poll_output result ≡ no_memory_output)
 at_end rule TooLong e result calls last h = inl (says_other (codes "failed to convert the timeout") result h)
 at_end rule OutOfRange e result calls last h = inl (says_other (codes "failed to calculate timeout") result h)
 at_end rule (Late n) e result calls last h = inl (says_expired rule n calls result h)
 at_end rule (Limited n) e result calls last h = inl (says_other (codes "polling limit reached") result h)
 at_end rule (Decided n) e result calls last (reply, is, shows) =
     let said : last_call None calls ≡ Some (reply_of reply) = sym last ∙ ap last_said is in
-    elim (judged token_meaning device_error (λ token. answered (token_json token)) device_error_display (poll_answer rule) (reply_of reply) result shows) [
+    elim (judged token_meaning device_error (λ token. success_output (token_json token)) device_error_display (poll_answer rule) (reply_of reply) result shows) [
       | inl same ↦ inl (rw said same)
       | inr (sent, memory) ↦ inr (ap poll_output memory)
     ]
 
 module _ (r : DeviceToken) (timeout max_polls : ℕ) (w : ScriptedWorld) (e : List (Event NoReply)) (v : ScriptedWorld) (lines : List ℕ) (s : RunStatus) (result : Result TokenSeen DeviceFault) where
   abbrev IsOutput : Output → Type 0
-  IsOutput o = IsPolled r timeout max_polls w.clock (replies_of w.http_client) o
+  IsOutput o = IsPolled r timeout max_polls w.clock (client_replies w.http_client) o
 
   abbrev calls : List (Option ReplyView)
-  calls = calls_of (replies_of w.http_client) (length (answers_in (plain (says r.base.reply_rule) e)))
+  calls = calls_of (client_replies w.http_client) (length (answers_in (plain (says r.base.reply_rule) e)))
 
   -- these events, and this end
   polled : (k : Told r w e v) (o : Output) (done : IsTraceOf (input_of r timeout max_polls (plain (says r.base.reply_rule) e)) (plain (says r.base.reply_rule) e))
       → (((done.rest ≡ []) × (o ≡ after k.lines (shown_at r.base.reply_rule done.ending calls)))
-      ⊎ ((o ≡ after k.lines starved)
+      ⊎ ((o ≡ after k.lines no_memory_output)
       ⊎ (SpellsNone (serialize r.token_url.url)
       × ((start moment : _) × (plain (says r.base.reply_rule) e ≡ trace.Reading start ∷ trace.Reading moment ∷ []))
       × (¬ (trace.IsLate (input_of r timeout max_polls (plain (says r.base.reply_rule) e)) 1))
-      × (o ≡ after k.lines (failed (other_text not_http_text)))))) → IsOutput o
+      × (o ≡ after k.lines (failure_output (other_text not_http_text)))))) → IsOutput o
   polled k o done end =
       record {
         events = plain (says r.base.reply_rule) e;

@@ -1,17 +1,17 @@
 -- What a run shows of a redirect.
 use Rattle.std.proofs.Common.{◌≡◌, ℕ, List, Result, refl}
 use Rattle.std.specs.Prelude.{IfSome}
-use Rattle.oauth2_redirect.specs.Redirect.{Refusal, TellsRefusal, redirect_error_text}
+use Rattle.oauth2_redirect.specs.Redirect.{RedirectRefusal, TellsRefusal, redirect_error_text}
 use Rattle.oauth2_redirect.specs.declared.redirect.RedirectError.{RedirectError}
 use Rattle.oauth2_redirect.specs.declared.redirect.RedirectError.TheVariants as errors
 use Rattle.oauth2_commands.specs.Exchange.{error_display}
-use Rattle.oauth2_commands.specs.Out.{failed}
+use Rattle.oauth2_commands.specs.Out.{failure_output}
 use Rattle.oauth2_commands.specs.Redirect.{shown_answer}
-use Rattle.oauth2_commands.specs.private.Added.{Prints}
+use Rattle.oauth2_commands.specs.private.Added.{AddsOutput}
 use Rattle.oauth2_commands.specs.declared.status.RunStatus.{RunStatus}
 
-pub refusal_shown : (e : RedirectError) (told : Result (List ℕ) Refusal) (old new : List ℕ) (s : RunStatus) → (e ≡ errors.Memory → ⊥) → TellsRefusal e told
-    → IfSome (redirect_error_text e) (λ text. Prints old new s (failed text)) → Prints old new s (shown_answer told)
+pub refusal_shown : (e : RedirectError) (told : Result (List ℕ) RedirectRefusal) (old new : List ℕ) (s : RunStatus) → (e ≡ errors.Memory → ⊥) → TellsRefusal e told
+    → IfSome (redirect_error_text e) (λ text. AddsOutput old new s (failure_output text)) → AddsOutput old new s (shown_answer told)
 unfolding error_display
 refusal_shown errors.OtherState told old new s other tells shown = rw tells shown
 refusal_shown errors.OtherIssuer told old new s other tells shown = rw tells shown

@@ -15,7 +15,7 @@ use Rattle.oauth2_codes.specs.declared.token_type.BasicTokenType.{BasicTokenType
 use Rattle.oauth2_replies.specs.Device.{DeviceAuthorization, device_seen, device_writing}
 use Rattle.oauth2_replies.specs.declared.device.EmptyExtraDeviceAuthorizationFields.{EmptyExtraDeviceAuthorizationFields}
 use Rattle.oauth2_introspection.specs.Introspection.{Introspection, introspection_seen, introspection_writing}
-use Rattle.oauth2_metadata.specs.Metadata.{metadata_writing, own_names, own_rows}
+use Rattle.oauth2_metadata.specs.Metadata.{metadata_writing, metadata_names, metadata_rows}
 use Rattle.oauth2_replies.specs.Token.{token_writing}
 use Rattle.oauth2_replies.specs.declared.token.EmptyExtraTokenFields.{EmptyExtraTokenFields}
 use Rattle.oauth2_wire.specs.Display.{configuration_text, fault_text}
@@ -29,9 +29,9 @@ use Rattle.oauth2_commands.specs.DevicePoll.{device_error_display}
 use Rattle.oauth2_commands.specs.Introspect.{BasicIntrospection, introspection_data}
 use Rattle.oauth2_commands.specs.Metadata.{metadata_data}
 use Rattle.oauth2_commands.specs.private.Discovery.{MetadataSeen, metadata_meaning}
-use Rattle.oauth2_commands.specs.Out.{Output, answered, failed}
+use Rattle.oauth2_commands.specs.Out.{Output, success_output, failure_output}
 use Rattle.oauth2_world.specs.Lines.{fault_line}
-use Rattle.oauth2_commands.specs.private.Added.{Prints}
+use Rattle.oauth2_commands.specs.private.Added.{AddsOutput}
 use Rattle.oauth2_commands.specs.private.Results.{configuration_output, end_output, fault_output, TokenSeen, token_meaning}
 use Rattle.oauth2_commands.specs.private.Results.{ErrorResponse, error_seen, RevocationErrorResponse, revocation_error_seen}
 use Rattle.oauth2_world.specs.declared.replay.NoReply.{NoReply}
@@ -41,21 +41,21 @@ use Rattle.oauth2_commands.specs.declared.status.RunStatus.TheVariants as status
 
 -- an error that has a text
 pub error_shown : (o : Option (List ℕ)) (shown old new : List ℕ) → IfSome o (λ text. shown ≡ text) → new ≡ old ++ fault_line shown
-    → IfSome o (λ text. Prints old new status.Fault (failed text))
+    → IfSome o (λ text. AddsOutput old new status.Fault (failure_output text))
 error_shown None shown old new told printed = tt
 error_shown (Some text) shown old new told printed = (rw (← told) printed, refl)
 
 module _ {T : Type 0} (display : T → Option (List ℕ)) (text : T → List ℕ) (shows : (e : T) → display e ≡ Some (text e)) where
   pub fault_shown : (fault : RequestTokenError NoReply T) (old new : List ℕ) (s : RunStatus) → ((f : ParseFault) (body : Vec ℕ Global) → fault ≡ Parse f body → ⊥)
-      → IfSome (fault_text display fault) (λ text. Prints old new s (failed text)) → Prints old new s (fault_output text fault)
+      → IfSome (fault_text display fault) (λ text. AddsOutput old new s (failure_output text)) → AddsOutput old new s (fault_output text fault)
   fault_shown (ServerResponse e) old new s other told = rw (shows e) at told
   fault_shown (Request e) old new s other told = told
   fault_shown (Parse f body) old new s other told = absurd (other f body refl)
   fault_shown (Other given) old new s other told = told
   fault_shown (Memory sent) old new s other told = told
 
-pub configuration_shown : (e : ConfigurationError) (old new : List ℕ) (s : RunStatus) → IfSome (configuration_text e) (λ text. Prints old new s (failed text))
-    → Prints old new s (configuration_output e)
+pub configuration_shown : (e : ConfigurationError) (old new : List ℕ) (s : RunStatus) → IfSome (configuration_text e) (λ text. AddsOutput old new s (failure_output text))
+    → AddsOutput old new s (configuration_output e)
 configuration_shown (MissingUrl name) old new s told = told
 configuration_shown (InsecureUrl name) old new s told = told
 
@@ -83,7 +83,7 @@ abbrev pub device_error_seen : DeviceErrorResponse → List ℕ
 device_error_seen e = device_error_display (parts_of device_error_code e)
 
 abbrev pub poll_output : Result TokenSeen DeviceFault → Output
-poll_output result = end_output device_error_seen (λ t. answered (token_json (token_meaning t))) result
+poll_output result = end_output device_error_seen (λ t. success_output (token_json (token_meaning t))) result
 
 -- what is written of a response without extra fields
 abbrev token_written : TokenSeen → Writing
@@ -108,7 +108,7 @@ abbrev metadata_written : MetadataSeen → Writing
 metadata_written m = metadata_writing (λ _. Ok (object no_members)) m
 
 pub metadata_written-data : (m : MetadataSeen) → metadata_written m ≡ Ok (metadata_data (metadata_meaning m))
-unfolding metadata_data own_names own_rows
+unfolding metadata_data metadata_names metadata_rows
 metadata_written-data m = refl
 
 abbrev device_written : DeviceSeen → Writing

@@ -7,8 +7,8 @@ use Rattle.oauth2_form.specs.Query.{ExtendsQuery}
 use Rattle.oauth2_wire.specs.Expected.{optional_pair}
 use Rattle.oauth2.specs.Settings.{Settings}
 use Rattle.oauth2_commands.specs.Client.{WithEndpoint, given_or}
-use Rattle.oauth2_world.specs.Lines.{line, quoted}
-use Rattle.oauth2_commands.specs.Out.{Output, answered, after}
+use Rattle.oauth2_world.specs.Lines.{line, quotation}
+use Rattle.oauth2_commands.specs.Out.{Output, success_output, after}
 use Rattle.oauth2_script.specs.AuthorizeParams.{AuthorizeParams}
 
 -- a nonce goes before the extra parameters (OpenID Connect Core 1.0, 3.1.2.1)
@@ -25,12 +25,12 @@ authorization client p url = record {
 }
 
 unfoldable pub url_line : List ℕ → List ℕ
-url_line text = line (codes "url " ++ quoted text)
+url_line text = line (codes "url " ++ quotation text)
 
 -- the endpoint's URL with these pairs, and the state
 abbrev pub IsUrlShown : Authorization → Output → Type 0
 IsUrlShown r o =
-    (url : Parts) × ExtendsQuery r.auth_url.url url (query_pairs r) × (o ≡ after (url_line (serialize url)) (answered (quoted r.state)))
+    (url : Parts) × ExtendsQuery r.auth_url.url url (query_pairs r) × (o ≡ after (url_line (serialize url)) (success_output (quotation r.state)))
 
 abbrev pub IsAuthorizeOutput : Settings → AuthorizeParams → Output → Type 0
 IsAuthorizeOutput client p o =

@@ -11,7 +11,7 @@ use Rattle.oauth2_script.specs.declared.client_part.Auth.{Auth}
 use Rattle.oauth2_script.specs.declared.client_part.Auth.TheVariants.{Basic, Body}
 use Rattle.oauth2_script.specs.declared.client_part.Rule.{Rule}
 use Rattle.oauth2_script.specs.declared.client_part.Rule.TheVariants.{Prefix, MediaType}
-use Rattle.oauth2_commands.specs.Out.{Output, failed}
+use Rattle.oauth2_commands.specs.Out.{Output, failure_output}
 
 abbrev pub auth_type_of : Auth → AuthType
 auth_type_of Basic = BasicAuth
@@ -36,7 +36,7 @@ settings_of c = record {
 }
 
 abbrev pub missing : List ℕ → Output
-missing name = failed (codes "No " ++ name ++ codes " endpoint URL specified")
+missing name = failure_output (codes "No " ++ name ++ codes " endpoint URL specified")
 
 -- what is shown with an endpoint, or that there is none of this name
 abbrev pub WithEndpoint : List ℕ → (Addressed → Output → Type 0) → Option Addressed → Output → Type 0

@@ -4,7 +4,7 @@ use Rattle.http_uri.specs.Uri.{SpellsNone}
 use Rattle.url.specs.Parts.{serialize}
 use Rattle.oauth2_codes.specs.Codes.{token_code_reading}
 use Rattle.oauth2_codes.specs.ErrorCodes.{DeviceErrorCode, expired_token, device_error_code_text, device_error_code_reading}
-use Rattle.oauth2_codes.specs.ErrorResponse.{ErrorParts, parts, error_reading}
+use Rattle.oauth2_codes.specs.ErrorResponse.{ErrorParts, parts_of_error, error_reading}
 use Rattle.oauth2_replies.specs.Kept.{any_object}
 use Rattle.oauth2_replies.specs.Token.{token_reading}
 use Rattle.oauth2_urls.specs.Addressed.{Addressed}
@@ -15,7 +15,7 @@ use Rattle.oauth2_wire.specs.Reply.{Answer, ReplyView, answer_of}
 use Rattle.oauth2_poll.specs.declared.device_poll.PollAnswer.{PollAnswer}
 use Rattle.oauth2_poll.specs.declared.device_poll.PollAnswer.TheVariants.{Failed}
 use Rattle.oauth2_poll.specs.Laws.{IsTraceOf}
-use Rattle.oauth2_poll.specs.Trace.{Event, Reading, Asked, Answered, Slept, Ending, TooLong, OutOfRange, Late, Decided, Limited, IsLate, readings_in, answers_in}
+use Rattle.oauth2_poll.specs.Trace.{TraceEvent, Reading, Asked, Answered, Slept, Ending, TooLong, OutOfRange, Late, Decided, Limited, IsLate, readings_in, answers_in}
 use Rattle.oauth2_device.specs.DeviceToken.{DeviceToken, seconds, device_token_configuration}
 use Rattle.oauth2_device.specs.Poll.{class_of_answer, input_of}
 use Rattle.oauth2.specs.NewRequest.{base_of}
@@ -24,7 +24,7 @@ use Rattle.oauth2_commands.specs.Client.{WithToken}
 use Rattle.oauth2_world.specs.Clock.{Clock, readings_of}
 use Rattle.oauth2_commands.specs.Exchange.{BasicToken, IsTarget, error_display, other_text, refused_text, reply_output, token_json}
 use Rattle.oauth2_world.specs.Lines.{expected_lines, sleep_line}
-use Rattle.oauth2_commands.specs.Out.{Output, after, answered, failed, starved}
+use Rattle.oauth2_commands.specs.Out.{Output, after, success_output, failure_output, no_memory_output}
 use Rattle.oauth2_world.specs.Replies.{next_reply, later_replies}
 use Rattle.oauth2_script.specs.DevicePollParams.{DevicePollParams}
 use Rattle.oauth2_script.specs.Replies.{Reply}
@@ -68,7 +68,7 @@ class_of_call rule (Some reply) = class_of_answer (poll_answer rule reply)
 -- ---- what is shown
 
 -- the lines of these events: each request goes to a target of the URL's text
-abbrev pub AreLinesOf : Configuration → List ℕ → List Event → List ℕ → Type 0
+abbrev pub AreLinesOf : Configuration → List ℕ → List TraceEvent → List ℕ → Type 0
 AreLinesOf c url [] lines = lines ≡ []
 AreLinesOf c url (Reading t ∷ events) lines = AreLinesOf c url events lines
 AreLinesOf c url (Asked ∷ events) lines =
@@ -82,17 +82,17 @@ device_error_display e = error_display device_error_code_text e
 
 -- the answer at an end, after these calls
 abbrev pub shown_at : ReplyRule → Ending → List (Option ReplyView) → Output
-shown_at rule TooLong calls = failed (other_text (codes "failed to convert the timeout"))
-shown_at rule OutOfRange calls = failed (other_text (codes "failed to calculate timeout"))
+shown_at rule TooLong calls = failure_output (other_text (codes "failed to convert the timeout"))
+shown_at rule OutOfRange calls = failure_output (other_text (codes "failed to calculate timeout"))
 shown_at rule (Late n) calls =
-    failed (refused_text (device_error_display (parts expired_token (Some (codes "This device code has expired.")) None)))
-shown_at rule (Decided n) calls = reply_output (λ token. answered (token_json token)) device_error_display (poll_answer rule) (last_call None calls)
-shown_at rule (Limited n) calls = failed (other_text (codes "polling limit reached"))
+    failure_output (refused_text (device_error_display (parts_of_error expired_token (Some (codes "This device code has expired.")) None)))
+shown_at rule (Decided n) calls = reply_output (λ token. success_output (token_json token)) device_error_display (poll_answer rule) (last_call None calls)
+shown_at rule (Limited n) calls = failure_output (other_text (codes "polling limit reached"))
 
 -- a poll with a clock and the replies of a client: its events are those of the poll with what the
 -- clock showed and the client answered
 pub record IsPolled (r : DeviceToken) (timeout max_polls : ℕ) (clock : Clock) (replies : List Reply) (o : Output) : Type 0 where
-  pub events : List Event
+  pub events : List TraceEvent
   pub shows : readings_in events ≡ readings_of clock (length (readings_in events))
   pub calls : List (Option ReplyView)
   pub are_calls : calls ≡ calls_of replies (length (answers_in events))
@@ -104,11 +104,11 @@ pub record IsPolled (r : DeviceToken) (timeout max_polls : ℕ) (clock : Clock) 
   -- the endpoint is no HTTP target, which shows at the first request
   pub end : (
       ((done.rest ≡ []) × (o ≡ after lines (shown_at r.base.reply_rule done.ending calls)))
-      ⊎ ((o ≡ after lines starved)
+      ⊎ ((o ≡ after lines no_memory_output)
       ⊎ (SpellsNone (serialize r.token_url.url)
       × ((start moment : ℤ) × (events ≡ Reading start ∷ Reading moment ∷ []))
       × (¬ (IsLate (input_of r timeout max_polls events) 1))
-      × (o ≡ after lines (failed (other_text not_http_text)))))
+      × (o ≡ after lines (failure_output (other_text not_http_text)))))
       )
 
 abbrev pub IsDevicePollOutput : Settings → DevicePollParams → Clock → List Reply → Output → Type 0

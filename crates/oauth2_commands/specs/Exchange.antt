@@ -19,8 +19,8 @@ use Rattle.oauth2_wire.specs.declared.content_type.ReplyRule.{ReplyRule}
 use Rattle.oauth2_wire.specs.Expected.{Configuration}
 use Rattle.oauth2_wire.specs.OneShot.{not_http_text}
 use Rattle.oauth2_wire.specs.Reply.{Answer, accepted, refused, unread, other, ReplyView, answer_of}
-use Rattle.oauth2_world.specs.Lines.{line, quoted, expected_lines}
-use Rattle.oauth2_commands.specs.Out.{Output, answered, failed, starved, after}
+use Rattle.oauth2_world.specs.Lines.{line, quotation, expected_lines}
+use Rattle.oauth2_commands.specs.Out.{Output, success_output, failure_output, no_memory_output, after}
 use Rattle.oauth2_script.specs.Replies.{Reply}
 use Rattle.oauth2_world.specs.Replies.{next_reply}
 use Rattle.oauth2_commands.specs.declared.status.RunStatus.TheVariants as status
@@ -47,7 +47,7 @@ cause_name cause.Refused = codes "Refused"
 -- the member at fault and its cause, behind the display
 unfoldable pub unread_line : List ℕ → List ℕ → List ℕ
 unread_line member cause =
-    line (codes "answer fault" ++ codes " " ++ quoted (codes "Failed to parse server response") ++ codes " " ++ quoted member ++ codes " " ++ cause)
+    line (codes "answer fault" ++ codes " " ++ quotation (codes "Failed to parse server response") ++ codes " " ++ quotation member ++ codes " " ++ cause)
 
 abbrev pub not_read : Fault → Output
 not_read fault = record { lines = unread_line fault.member (cause_name fault.cause); status = status.Fault }
@@ -61,30 +61,30 @@ other_text text = codes "Other error: " ++ text
 module _ {A E : Type 0} (shown : A → Output) (text : E → List ℕ) where
   abbrev pub answer_output : Answer A E → Output
   answer_output (accepted a) = shown a
-  answer_output (refused e) = failed (refused_text (text e))
+  answer_output (refused e) = failure_output (refused_text (text e))
   answer_output (unread fault body) = not_read fault
-  answer_output (other said) = failed (other_text said)
+  answer_output (other said) = failure_output (other_text said)
 
   -- a failure of the client, or what its reply says
   abbrev pub reply_output : (ReplyView → Answer A E) → Option ReplyView → Output
-  reply_output says None = failed (codes "Request failed")
+  reply_output says None = failure_output (codes "Request failed")
   reply_output says (Some reply) = answer_output (says reply)
 
   -- of a request to this target: its lines, and what the reply says or that memory ran out behind
   -- the request; none is made where the URL has no target
   abbrev pub IsSent : (ReplyView → Answer A E) → (List ℕ → List ℕ) → List Reply → Option (List ℕ) → Output → Type 0
-  IsSent says lines replies None o = o ≡ failed (other_text not_http_text)
+  IsSent says lines replies None o = o ≡ failure_output (other_text not_http_text)
   IsSent says lines replies (Some target) o =
-      (o ≡ after (lines target) (reply_output says (next_reply replies))) ⊎ (o ≡ after (lines target) starved)
+      (o ≡ after (lines target) (reply_output says (next_reply replies))) ⊎ (o ≡ after (lines target) no_memory_output)
 
   -- a request with these lines and its answer, unless memory ran out before the request was made
   abbrev pub IsRequestShown : (ReplyView → Answer A E) → (List ℕ → List ℕ) → Parts → List Reply → Output → Type 0
   IsRequestShown says lines url replies o =
-      (o ≡ starved) ⊎ ((target : Option (List ℕ)) × IsTarget (serialize url) target × IsSent says lines replies target o)
+      (o ≡ no_memory_output) ⊎ ((target : Option (List ℕ)) × IsTarget (serialize url) target × IsSent says lines replies target o)
 
 -- a request that a configuration asks for, and its answer as JSON
 abbrev pub IsExchange : {A E : Type 0} → (A → List ℕ) → (E → List ℕ) → (ReplyView → Answer A E) → Configuration → Addressed → List Reply → Output → Type 0
-IsExchange json text says c endpoint = IsRequestShown (λ a. answered (json a)) text says (expected_lines c) endpoint.url
+IsExchange json text says c endpoint = IsRequestShown (λ a. success_output (json a)) text says (expected_lines c) endpoint.url
 
 -- the text of an error response whose code is written as `code`
 unfoldable pub error_display : {C : Type 0} → (C → List ℕ) → ErrorParts C → List ℕ

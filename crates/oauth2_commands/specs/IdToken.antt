@@ -9,19 +9,19 @@ use Rattle.oauth2_json.specs.Puts.{Row, put_all}
 use Rattle.oauth2_json.specs.Values.{text_items}
 use Rattle.oauth2_openid.specs.Claims.{Claims, Expectation}
 use Rattle.oauth2_openid.specs.ErrorTexts.{claims_error_text, part_text}
-use Rattle.oauth2_openid.specs.Reading.{token_reading}
-use Rattle.oauth2_openid.specs.Token.{Token, TokenFault, TokenReading, not_three_parts, not_base64, at_fault}
+use Rattle.oauth2_openid.specs.Reading.{compact_token_reading}
+use Rattle.oauth2_openid.specs.Token.{DecodedToken, TokenFault, TokenReading, not_three_parts, not_base64, at_fault}
 use Rattle.oauth2_openid.specs.TokenRules.{token_checked}
 use Rattle.oauth2_openid.specs.declared.access_token_hash.AccessTokenHash.{AccessTokenHash}
 use Rattle.oauth2_openid.specs.declared.access_token_hash.AccessTokenHash.TheVariants.{Absent, Matches, NotChecked}
 use Rattle.oauth2_openid.specs.declared.claims_error.ClaimsError.{ClaimsError}
 use Rattle.oauth2_world.specs.Clock.{Clock, reading_of}
-use Rattle.oauth2_commands.specs.Out.{Output, answered, failed}
+use Rattle.oauth2_commands.specs.Out.{Output, success_output, failure_output}
 use Rattle.oauth2_script.specs.IdTokenParams.{IdTokenParams}
 
 -- what the client of a script expects of an ID token
-abbrev pub expectation : Settings → IdTokenParams → Expectation
-expectation client p = record {
+abbrev pub params_expectation : Settings → IdTokenParams → Expectation
+params_expectation client p = record {
   issuer = p.issuer;
   client = client.client_id;
   algorithm = p.algorithm;
@@ -69,8 +69,8 @@ checked_json hash c = compact_text (checked_data hash c)
 
 -- each rule of 3.1.3.7 holds, or the first that does not is named
 abbrev pub verdict_output : Claims → Result AccessTokenHash ClaimsError → Output
-verdict_output c (Ok hash) = answered (checked_json hash c)
-verdict_output c (Err broken) = failed (claims_error_text broken)
+verdict_output c (Ok hash) = success_output (checked_json hash c)
+verdict_output c (Err broken) = failure_output (claims_error_text broken)
 
 -- why a text is no ID token (RFC 7515, 7.1; section 2)
 abbrev pub token_fault_text : TokenFault → List ℕ
@@ -79,16 +79,16 @@ token_fault_text (not_base64 part) = part_text part ++ codes ": not base64url"
 token_fault_text (at_fault part fault) = part_text part ++ codes ": " ++ parse_fault_text fault
 
 -- what a text reads to is shown so, or why it is no ID token
-abbrev pub reading_output : (Token → Output) → TokenReading Token → Output
+abbrev pub reading_output : (DecodedToken → Output) → TokenReading DecodedToken → Output
 reading_output shown (Ok token) = shown token
-reading_output shown (Err fault) = failed (token_fault_text fault)
+reading_output shown (Err fault) = failure_output (token_fault_text fault)
 
 -- the rules for a token that came with this access token, at this moment
-unfoldable pub token_output : Expectation → List ℕ → ℤ → Token → Output
+unfoldable pub token_output : Expectation → List ℕ → ℤ → DecodedToken → Output
 token_output expected access_token now token =
     verdict_output token.claims.own (token_checked expected access_token now token)
 
 -- the moment is what the clock shows when it is read once
 abbrev pub IsIdTokenOutput : Settings → IdTokenParams → Clock → Output → Type 0
 IsIdTokenOutput client p clock o =
-    o ≡ reading_output (token_output (expectation client p) p.access_token (reading_of clock)) (token_reading p.id_token)
+    o ≡ reading_output (token_output (params_expectation client p) p.access_token (reading_of clock)) (compact_token_reading p.id_token)

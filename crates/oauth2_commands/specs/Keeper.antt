@@ -14,8 +14,8 @@ use Rattle.oauth2.specs.Settings.{Settings}
 use Rattle.oauth2_keeper.specs.Keeper.{Keeper, Given, is_good, accept, renewal}
 use Rattle.oauth2_commands.specs.Client.{WithToken}
 use Rattle.oauth2_commands.specs.Exchange.{BasicToken, IsTarget, error_display, other_text, reply_output, token_answer}
-use Rattle.oauth2_world.specs.Lines.{line, expected_lines, quoted}
-use Rattle.oauth2_commands.specs.Out.{Output, after, answered, failed, starved}
+use Rattle.oauth2_world.specs.Lines.{line, expected_lines, quotation}
+use Rattle.oauth2_commands.specs.Out.{Output, after, success_output, failure_output, no_memory_output}
 use Rattle.oauth2_world.specs.Replies.{next_reply, later_replies}
 use Rattle.oauth2_commands.specs.declared.status.RunStatus.{RunStatus}
 use Rattle.oauth2_commands.specs.declared.status.RunStatus.TheVariants as status
@@ -59,7 +59,7 @@ waiting until = record { lines = wait_line (end_text until); status = status.Fau
 -- what the next reply says; of a token its text is shown
 abbrev pub renewal_output : ReplyRule → List Reply → Output
 renewal_output rule replies =
-    reply_output (λ token. answered (quoted token.access_token)) (error_display error_code_text) (token_answer rule) (next_reply replies)
+    reply_output (λ token. success_output (quotation token.access_token)) (error_display error_code_text) (token_answer rule) (next_reply replies)
 
 -- with `retry_after`, a request that failed is followed by a wait
 module _ (retry_after : Option ℕ) where
@@ -80,17 +80,17 @@ module _ (retry_after : Option ℕ) where
   -- of a request to this target: its lines, and what the reply says or that memory ran out behind
   -- the request, when nothing of the reply is kept; none is made where the URL has no target
   abbrev pub IsSentAt : Standing → ℤ → Option (List ℕ) → Output → Standing → Type 0
-  IsSentAt before now None o kept = (o ≡ failed (other_text not_http_text)) × (kept ≡ before)
+  IsSentAt before now None o kept = (o ≡ failure_output (other_text not_http_text)) × (kept ≡ before)
   IsSentAt before now (Some target) o kept =
       ((o ≡ after (expected_lines (renewal before.keeper) target) (renewal_output before.keeper.client.reply_rule before.replies))
       × (kept ≡ record (kept_after_reply before now (next_reply before.replies)) { replies = later_replies before.replies }))
-      ⊎ ((o ≡ after (expected_lines (renewal before.keeper) target) starved)
+      ⊎ ((o ≡ after (expected_lines (renewal before.keeper) target) no_memory_output)
       × (kept ≡ record (after_failure before now) { replies = later_replies before.replies }))
 
   -- another token is asked for, unless memory ran out before the request was made
   abbrev pub IsRenewal : Standing → ℤ → Output → Standing → Type 0
   IsRenewal before now o kept =
-      ((o ≡ starved) × (kept ≡ before))
+      ((o ≡ no_memory_output) × (kept ≡ before))
       ⊎ ((endpoint : Addressed) × (before.keeper.client.token_url ≡ Some endpoint)
       × ((target : Option (List ℕ)) × IsTarget (serialize endpoint.url) target × IsSentAt before now target o kept))
 
@@ -98,7 +98,7 @@ module _ (retry_after : Option ℕ) where
   abbrev pub IsCall : Standing → ℤ → Output → Standing → Type 0
   IsCall before now o kept =
       (IsTrue (is_good before.keeper now)
-      × IsSomeAnd before.keeper.token (λ token. o ≡ answered (quoted token.access_token)) × (kept ≡ before))
+      × IsSomeAnd before.keeper.token (λ token. o ≡ success_output (quotation token.access_token)) × (kept ≡ before))
       ⊎ ((is_good before.keeper now ≡ false) × IsTrue (is_early now before.waits_until)
       × IsSomeAnd before.waits_until (λ until. o ≡ waiting until) × (kept ≡ before))
       ⊎ ((is_good before.keeper now ≡ false) × (is_early now before.waits_until ≡ false) × IsRenewal before now o kept)
@@ -114,15 +114,15 @@ both status.BadScript later = status.BadScript
 abbrev pub nothing : Output
 nothing = record { lines = []; status = status.Answered }
 
-abbrev pub joined : Output → Output → Output
-joined first rest = record { lines = first.lines ++ rest.lines; status = both first.status rest.status }
+abbrev pub both_outputs : Output → Output → Output
+both_outputs first rest = record { lines = first.lines ++ rest.lines; status = both first.status rest.status }
 
 -- a call at each of these moments, in turn
 abbrev pub AreCalls : Option ℕ → Standing → List ℤ → Output → Standing → Type 0
 AreCalls retry_after before [] o kept = (o ≡ nothing) × (kept ≡ before)
 AreCalls retry_after before (now ∷ moments) o kept =
     (first : Output) × (middle : Standing) × (rest : Output)
-    × IsCall retry_after before now first middle × AreCalls retry_after middle moments rest kept × (o ≡ joined first rest)
+    × IsCall retry_after before now first middle × AreCalls retry_after middle moments rest kept × (o ≡ both_outputs first rest)
 
 -- the scopes are those of the client's own credentials; a refresh token is sent with none
 abbrev pub new_keeper : Settings → KeeperParams → Keeper

@@ -8,8 +8,8 @@ use Rattle.oauth2.specs.Settings.{Settings}
 use Rattle.oauth2_codes.specs.ErrorCodes.{ErrorCode, error_code_text, error_code_reading}
 use Rattle.oauth2_codes.specs.ErrorResponse.{ErrorParts, error_reading}
 use Rattle.oauth2_json.specs.Puts.{put_all}
-use Rattle.oauth2_metadata.specs.Issuer.{issuer_error_text, metadata_place, openid_place, refusal}
-use Rattle.oauth2_metadata.specs.Metadata.{Metadata, metadata_reading, own_rows}
+use Rattle.oauth2_metadata.specs.Issuer.{issuer_error_text, metadata_place, openid_place, issuer_refusal}
+use Rattle.oauth2_metadata.specs.Metadata.{Metadata, metadata_reading, metadata_rows}
 use Rattle.oauth2_metadata.specs.declared.issuer.IssuerError.{IssuerError}
 use Rattle.oauth2_metadata.specs.declared.issuer.IssuerError.TheVariants.{NotUrl}
 use Rattle.oauth2_replies.specs.Kept.{any_object}
@@ -17,7 +17,7 @@ use Rattle.oauth2_wire.specs.declared.content_type.ReplyRule.{ReplyRule}
 use Rattle.oauth2_wire.specs.Reply.{Answer, ReplyView, answer_of}
 use Rattle.oauth2_world.specs.Lines.{request_line, authorization_line, body_line, basic_line}
 use Rattle.oauth2_commands.specs.Exchange.{IsRequestShown, error_display}
-use Rattle.oauth2_commands.specs.Out.{Output, answered, failed}
+use Rattle.oauth2_commands.specs.Out.{Output, success_output, failure_output}
 use Rattle.oauth2_script.specs.MetadataParams.{MetadataParams}
 use Rattle.oauth2_script.specs.Replies.{Reply}
 use Rattle.oauth2_script.specs.declared.metadata_params.WellKnown.{WellKnown}
@@ -36,7 +36,7 @@ abbrev pub BasicMetadata : Type 0
 BasicMetadata = Metadata (Unit {0})
 
 unfoldable pub metadata_data : BasicMetadata → Data
-metadata_data m = object (put_all (own_rows m) no_members)
+metadata_data m = object (put_all (metadata_rows m) no_members)
 
 -- metadata as compact JSON
 unfoldable pub metadata_json : BasicMetadata → List ℕ
@@ -45,7 +45,7 @@ metadata_json m = compact_text (metadata_data m)
 -- it counts where it names the issuer, byte for byte (RFC 8414, 3.3)
 abbrev pub metadata_output : List ℕ → BasicMetadata → Output
 metadata_output issuer m =
-    if bytes_eq m.issuer issuer then answered (metadata_json m) else failed (codes "metadata is another issuer's")
+    if bytes_eq m.issuer issuer then success_output (metadata_json m) else failure_output (codes "metadata is another issuer's")
 
 abbrev pub metadata_answer : ReplyRule → ReplyView → Answer BasicMetadata (ErrorParts ErrorCode)
 metadata_answer rule = answer_of rule (metadata_reading any_object) (error_reading error_code_reading)
@@ -56,11 +56,11 @@ IsDiscovered rule issuer = IsRequestShown (metadata_output issuer) (error_displa
 -- a URL that is an issuer has its metadata at that place, and any other is refused
 abbrev pub IsIssuerOutput : ReplyRule → MetadataParams → List Reply → Parts → Option IssuerError → Output → Type 0
 IsIssuerOutput rule p replies url None o = IsDiscovered rule p.issuer (place p.well_known url) replies o
-IsIssuerOutput rule p replies url (Some error) o = o ≡ failed (issuer_error_text error)
+IsIssuerOutput rule p replies url (Some error) o = o ≡ failure_output (issuer_error_text error)
 
 abbrev pub IsUrlOutput : ReplyRule → MetadataParams → List Reply → Parsed Parts → Output → Type 0
-IsUrlOutput rule p replies (Ok url) o = IsIssuerOutput rule p replies url (refusal url) o
-IsUrlOutput rule p replies (Err cause) o = o ≡ failed (issuer_error_text NotUrl)
+IsUrlOutput rule p replies (Ok url) o = IsIssuerOutput rule p replies url (issuer_refusal url) o
+IsUrlOutput rule p replies (Err cause) o = o ≡ failure_output (issuer_error_text NotUrl)
 
 -- the client's other settings do not count
 abbrev pub IsMetadataOutput : Settings → MetadataParams → List Reply → Output → Type 0

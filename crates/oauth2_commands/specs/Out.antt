@@ -8,15 +8,15 @@ pub record Output : Type 0 where
   pub lines : List ℕ
   pub status : RunStatus
 
-abbrev pub answered : List ℕ → Output
-answered json = record { lines = answer_line json; status = status.Answered }
+abbrev pub success_output : List ℕ → Output
+success_output json = record { lines = answer_line json; status = status.Answered }
 
-abbrev pub failed : List ℕ → Output
-failed text = record { lines = fault_line text; status = status.Fault }
+abbrev pub failure_output : List ℕ → Output
+failure_output text = record { lines = fault_line text; status = status.Fault }
 
 -- memory ran out inside a call of the client
-abbrev pub starved : Output
-starved = failed (codes "Out of memory")
+abbrev pub no_memory_output : Output
+no_memory_output = failure_output (codes "Out of memory")
 
 abbrev pub after : List ℕ → Output → Output
 after lines o = record { lines = lines ++ o.lines; status = o.status }

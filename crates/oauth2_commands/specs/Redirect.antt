@@ -2,25 +2,25 @@
 use Rattle.std.specs.Prelude.{◌≡◌, ℕ, List, Result, Ok, Err, codes}
 use Rattle.oauth2_codes.specs.AuthorizationCodes.{authorization_error_code_text}
 use Rattle.oauth2_form.specs.Query.{query_form}
-use Rattle.oauth2_redirect.specs.Redirect.{Refusal, other_state, other_issuer, refused, no_code, answer}
-use Rattle.oauth2_world.specs.Lines.{quoted}
+use Rattle.oauth2_redirect.specs.Redirect.{RedirectRefusal, other_state, other_issuer, refused, no_code, answer}
+use Rattle.oauth2_world.specs.Lines.{quotation}
 use Rattle.oauth2_commands.specs.Exchange.{error_display}
-use Rattle.oauth2_commands.specs.Out.{Output, answered, failed}
+use Rattle.oauth2_commands.specs.Out.{Output, success_output, failure_output}
 use Rattle.oauth2_script.specs.RedirectParams.{RedirectParams}
 
 -- why there is no code; an error of the server is shown with its description and its page
-abbrev pub refusal_text : Refusal → List ℕ
+abbrev pub refusal_text : RedirectRefusal → List ℕ
 refusal_text other_state = codes "redirect has another state"
 refusal_text other_issuer = codes "redirect has another issuer"
 refusal_text (refused error) = error_display authorization_error_code_text error
 refusal_text no_code = codes "redirect has no code"
 
-abbrev pub shown_answer : Result (List ℕ) Refusal → Output
-shown_answer (Ok code) = answered (quoted code)
-shown_answer (Err why) = failed (refusal_text why)
+abbrev pub shown_answer : Result (List ℕ) RedirectRefusal → Output
+shown_answer (Ok code) = success_output (quotation code)
+shown_answer (Err why) = failure_output (refusal_text why)
 
 -- what the redirect says to a client whose login has this state and expects this issuer, if any
-abbrev pub redirect_answer : RedirectParams → Result (List ℕ) Refusal
+abbrev pub redirect_answer : RedirectParams → Result (List ℕ) RedirectRefusal
 redirect_answer p = answer p.state p.issuer (query_form p.redirect.url)
 
 abbrev pub IsRedirectOutput : RedirectParams → Output → Type 0

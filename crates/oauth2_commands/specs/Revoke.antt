@@ -10,7 +10,7 @@ use Rattle.oauth2.specs.Settings.{Settings}
 use Rattle.oauth2_requests.specs.TokenRevocation.{TokenRevocation, revocation_configuration}
 use Rattle.oauth2_commands.specs.Client.{WithEndpoint}
 use Rattle.oauth2_commands.specs.Exchange.{IsExchange, error_display}
-use Rattle.oauth2_commands.specs.Out.{Output, failed}
+use Rattle.oauth2_commands.specs.Out.{Output, failure_output}
 use Rattle.oauth2_script.specs.RevokeParams.{RevokeParams}
 use Rattle.oauth2_script.specs.Replies.{Reply}
 use Rattle.oauth2_script.specs.declared.revoke_params.TokenKind.{TokenKind}
@@ -37,7 +37,7 @@ abbrev pub IsRevoked : Configuration → Addressed → List Reply → Output →
 IsRevoked = IsExchange (λ done. codes "null") (error_display revocation_error_code_text) revocation_answer
 
 abbrev pub insecure : List ℕ → Output
-insecure name = failed (codes "Scheme for " ++ name ++ codes " endpoint URL must be HTTPS")
+insecure name = failure_output (codes "Scheme for " ++ name ++ codes " endpoint URL must be HTTPS")
 
 -- what is shown with an `https` endpoint, or that the one of this name is none
 abbrev pub WithHttps : List ℕ → (Addressed → Output → Type 0) → Addressed → Output → Type 0

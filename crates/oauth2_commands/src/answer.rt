@@ -5,9 +5,9 @@ ghost use Rattle.std.specs.Prelude.{IfOk, OnOk, IsOkAnd, IfSome};
 ghost use Rattle.serde_json.specs.Data.{Data};
 ghost use Rattle.serde_json.specs.Written.{compact_text, has_float};
 ghost use Rattle.oauth2_commands.specs.Exchange.{cause_name, unread_line};
-ghost use Rattle.oauth2_commands.specs.Out.{answered, failed};
+ghost use Rattle.oauth2_commands.specs.Out.{success_output, failure_output};
 ghost use Rattle.oauth2_world.specs.Lines.{line};
-ghost use Rattle.oauth2_commands.specs.private.Added.{Prints};
+ghost use Rattle.oauth2_commands.specs.private.Added.{AddsOutput};
 ghost use Rattle.oauth2_commands.specs.private.Results.{configuration_output, end_output};
 ghost use Rattle.oauth2_commands.specs.private.Results.{fault_output, revocation_output};
 
@@ -98,7 +98,8 @@ pub fn show_error_text<E: Display>(
     error: &E,
 ) -> Result<RunStatus, AllocError>
     ensures { IfOk result (λ status. IfSome (E.output error.now) (λ text.
-        Prints (string_bytes lines.old) (string_bytes lines.new) status (failed text))) }
+        AddsOutput (string_bytes lines.old) (string_bytes lines.new) status
+        (failure_output text))) }
 {
     let text = error.to_string(alloc)?;
     print_fault(alloc, lines, text.as_str())?;
@@ -112,7 +113,7 @@ pub fn show_fault<T: Display>(
     fault: &RequestTokenError<NoReply, T>,
 ) -> Result<RunStatus, AllocError>
     ensures { IfOk result (λ status. (text : T → List ℕ) → ((e : T) → T.output e ≡ Some (text e))
-        → Prints (string_bytes lines.old) (string_bytes lines.new) status
+        → AddsOutput (string_bytes lines.old) (string_bytes lines.new) status
         (fault_output text fault.now)) }
 {
     if let RequestTokenError::Parse(fault, _) = fault {
@@ -145,8 +146,8 @@ pub fn show_answer<A: ToJson>(
 ) -> Result<RunStatus, AllocError>
     requires { IsOkAnd (A.writing answer.now) (λ d. has_float d ≡ false) }
     ensures { IfOk result (λ status. (d : Data) → A.writing answer.now ≡ Ok d
-        → Prints (string_bytes lines.old) (string_bytes lines.new) status
-        (answered (compact_text d))) }
+        → AddsOutput (string_bytes lines.old) (string_bytes lines.new) status
+        (success_output (compact_text d))) }
 {
     let json = json_of(alloc, answer)?;
     print_answer(lines, json.as_str())?;
@@ -162,8 +163,8 @@ pub fn show_end<A: ToJson, T: Display>(
     requires { (a : A) → IsOkAnd (A.writing a) (λ d. has_float d ≡ false) }
     ensures { IfOk result (λ status. (value : A → Data) → ((a : A) → A.writing a ≡ Ok (value a))
         → (text : T → List ℕ) → ((e : T) → T.output e ≡ Some (text e))
-        → Prints (string_bytes lines.old) (string_bytes lines.new) status
-        (end_output text (λ a. answered (compact_text (value a))) end.now)) }
+        → AddsOutput (string_bytes lines.old) (string_bytes lines.new) status
+        (end_output text (λ a. success_output (compact_text (value a))) end.now)) }
 {
     match end {
         Ok(answer) => show_answer(alloc, lines, answer),
@@ -177,7 +178,7 @@ pub fn show_revocation(
     lines: &mut String,
     end: &Result<(), RevocationFault>,
 ) -> Result<RunStatus, AllocError>
-    ensures { IfOk result (λ status. Prints (string_bytes lines.old) (string_bytes lines.new)
+    ensures { IfOk result (λ status. AddsOutput (string_bytes lines.old) (string_bytes lines.new)
         status (revocation_output end.now)) }
 {
     match end {
@@ -195,7 +196,7 @@ pub fn show_configuration_error(
     lines: &mut String,
     error: &ConfigurationError,
 ) -> Result<RunStatus, AllocError>
-    ensures { IfOk result (λ status. Prints (string_bytes lines.old) (string_bytes lines.new)
+    ensures { IfOk result (λ status. AddsOutput (string_bytes lines.old) (string_bytes lines.new)
         status (configuration_output error.now)) }
 {
     show_error_text(alloc, lines, error)

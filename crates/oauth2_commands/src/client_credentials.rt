@@ -3,7 +3,7 @@
 ghost use Rattle.std.specs.Prelude.{◌≡◌, false, string_bytes, IfOk};
 ghost use Rattle.oauth2_commands.specs.ClientCredentials as spec;
 ghost use Rattle.oauth2_commands.specs.private.Added.{Adds};
-ghost use Rattle.oauth2_world.specs.Replay.{replies_of};
+ghost use Rattle.oauth2_world.specs.Replay.{client_replies};
 ghost use Rattle.oauth2_script.specs.Views.{client_credentials_view};
 
 use crate::answer::{Fault, show_configuration_error};
@@ -73,7 +73,7 @@ pub fn run_client_credentials(
     ensures { IfOk result (λ status. http_client.new.is_starved ≡ false
         → Adds (string_bytes http_client.old.lines) (string_bytes http_client.new.lines) status
         (spec.IsClientCredentialsOutput client.now (client_credentials_view params)
-        (replies_of http_client.old))) }
+        (client_replies http_client.old))) }
 {
     match client.exchange_client_credentials(alloc) {
         Ok(request) => {

@@ -3,7 +3,7 @@
 ghost use Rattle.std.specs.Prelude.{◌≡◌, false, string_bytes, IfOk};
 ghost use Rattle.oauth2_commands.specs.Code as spec;
 ghost use Rattle.oauth2_commands.specs.private.Added.{Adds};
-ghost use Rattle.oauth2_world.specs.Replay.{replies_of};
+ghost use Rattle.oauth2_world.specs.Replay.{client_replies};
 ghost use Rattle.oauth2_script.specs.Views.{code_view};
 ghost use Rattle.oauth2_commands.specs.Client.{given_or};
 
@@ -90,7 +90,7 @@ pub fn run_code(
 ) -> Result<RunStatus, AllocError>
     ensures { IfOk result (λ status. http_client.new.is_starved ≡ false
         → Adds (string_bytes http_client.old.lines) (string_bytes http_client.new.lines) status
-        (spec.IsCodeOutput client.now (code_view params) (replies_of http_client.old))) }
+        (spec.IsCodeOutput client.now (code_view params) (client_replies http_client.old))) }
 {
     match client.exchange_code(alloc, params.code) {
         Ok(request) => {

@@ -2,7 +2,7 @@
 
 ghost use Rattle.std.specs.Prelude.{◌≡◌, false, string_bytes, IfOk};
 ghost use Rattle.oauth2_commands.specs.private.Added.{Adds};
-ghost use Rattle.oauth2_world.specs.Replay.{replies_of};
+ghost use Rattle.oauth2_world.specs.Replay.{client_replies};
 ghost use Rattle.oauth2_commands.specs.Run.{IsCommandOutput};
 ghost use Rattle.oauth2_script.specs.Views.{command_view};
 
@@ -35,7 +35,7 @@ pub fn run_command(
     ensures { IfOk result (λ status. world.new.http_client.is_starved ≡ false
         → Adds (string_bytes world.old.http_client.lines)
         (string_bytes world.new.http_client.lines) status
-        (IsCommandOutput client.now world.old.clock (replies_of world.old.http_client)
+        (IsCommandOutput client.now world.old.clock (client_replies world.old.http_client)
         (command_view command))) }
 {
     let http_client = &mut world.http_client;

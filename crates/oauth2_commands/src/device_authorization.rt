@@ -4,7 +4,7 @@ ghost use Rattle.std.specs.Prelude.{◌≡◌, false, string_bytes, IfOk};
 ghost use Rattle.oauth2_requests.specs.DeviceAuthorization.{device_authorization_configuration};
 ghost use Rattle.oauth2_commands.specs.DeviceAuthorization as spec;
 ghost use Rattle.oauth2_commands.specs.private.Added.{Adds};
-ghost use Rattle.oauth2_world.specs.Replay.{replies_of};
+ghost use Rattle.oauth2_world.specs.Replay.{client_replies};
 ghost use Rattle.oauth2_script.specs.Views.{device_authorization_view};
 
 use crate::answer::{Fault, show_configuration_error, show_end};
@@ -51,7 +51,7 @@ fn ask(
         → Adds (string_bytes http_client.old.lines) (string_bytes http_client.new.lines) status
         (spec.IsDeviceAuthorized request.entry.base.reply_rule
         (device_authorization_configuration request.entry)
-        request.entry.device_authorization_url (replies_of http_client.old))) }
+        request.entry.device_authorization_url (client_replies http_client.old))) }
 {
     let end: Result<StandardDeviceAuthorizationResponse, Fault> = request.request(
         alloc,
@@ -70,7 +70,7 @@ pub fn run_device_authorization(
     ensures { IfOk result (λ status. http_client.new.is_starved ≡ false
         → Adds (string_bytes http_client.old.lines) (string_bytes http_client.new.lines) status
         (spec.IsDeviceAuthorizationOutput client.now (device_authorization_view params)
-        (replies_of http_client.old))) }
+        (client_replies http_client.old))) }
 {
     match client.exchange_device_code(alloc) {
         Ok(request) => {

@@ -6,7 +6,7 @@ ghost use Rattle.std.specs.Int.NonZero.{non_zero_u64_get};
 ghost use Rattle.oauth2_device.specs.Poll.{timeout_of};
 ghost use Rattle.oauth2_commands.specs.DevicePoll as spec;
 ghost use Rattle.oauth2_commands.specs.private.Added.{Adds};
-ghost use Rattle.oauth2_world.specs.Replay.{replies_of};
+ghost use Rattle.oauth2_world.specs.Replay.{client_replies};
 ghost use Rattle.oauth2_script.specs.Views.{device_poll_view};
 
 use crate::answer::{show_configuration_error, show_end};
@@ -72,7 +72,7 @@ fn poll(
         → Adds (string_bytes world.old.http_client.lines)
         (string_bytes world.new.http_client.lines) status
         (spec.IsPolled request.entry.request (timeout_of request.entry.request timeout)
-        (non_zero_u64_get max_polls) world.old.clock (replies_of world.old.http_client))) }
+        (non_zero_u64_get max_polls) world.old.clock (client_replies world.old.http_client))) }
 {
     let end = request.poll_with(alloc, world, timeout, max_polls.get());
     show_end(alloc, &mut world.http_client.lines, &end)
@@ -89,7 +89,7 @@ pub fn run_device_poll(
         → Adds (string_bytes world.old.http_client.lines)
         (string_bytes world.new.http_client.lines) status
         (spec.IsDevicePollOutput client.now (device_poll_view params) world.old.clock
-        (replies_of world.old.http_client))) }
+        (client_replies world.old.http_client))) }
 {
     let device = params.device;
     match client.exchange_device_access_token(alloc, &device) {

@@ -3,9 +3,9 @@
 ghost use Rattle.std.specs.Prelude.{◌≡◌, IfOk, option_map, string_bytes};
 ghost use Rattle.oauth2_commands.specs.IdToken as spec;
 ghost use Rattle.oauth2_commands.specs.Out.{Output};
-ghost use Rattle.oauth2_commands.specs.private.Added.{Adds, Prints};
+ghost use Rattle.oauth2_commands.specs.private.Added.{Adds, AddsOutput};
 ghost use Rattle.oauth2_openid.specs.Seen.{token_of};
-ghost use Rattle.oauth2_openid.specs.Token.{Token, TokenErrsAs, TokenReading};
+ghost use Rattle.oauth2_openid.specs.Token.{DecodedToken, TokenErrsAs, TokenReading};
 ghost use Rattle.oauth2_openid.specs.TokenRules.{token_checked};
 ghost use Rattle.oauth2_script.specs.Views.{id_token_view};
 
@@ -40,7 +40,8 @@ fn check(
     now: Timestamp,
 ) -> Result<Result<AccessTokenHash, ClaimsError>, AllocError>
     ensures { IfOk result (λ verdict. verdict
-        ≡ token_checked (spec.expectation client.now (id_token_view params)) params.access_token
+        ≡ token_checked (spec.params_expectation client.now (id_token_view params))
+        params.access_token
         now.nanosecond (token_of token.now)) }
 {
     let expected = Expected {
@@ -60,7 +61,7 @@ fn show_verdict(
     claims: &IdTokenClaims,
     verdict: Result<AccessTokenHash, ClaimsError>,
 ) -> Result<RunStatus, AllocError>
-    ensures { IfOk result (λ status. Prints (string_bytes lines.old) (string_bytes lines.new)
+    ensures { IfOk result (λ status. AddsOutput (string_bytes lines.old) (string_bytes lines.new)
         status (spec.verdict_output claims.now verdict)) }
 {
     match verdict {
@@ -75,9 +76,10 @@ fn show_read_error(
     lines: &mut String,
     error: &IdTokenReadError,
 ) -> Result<RunStatus, AllocError>
-    ensures { IfOk result (λ status. (shown : Token → Output) (read : TokenReading Token)
+    ensures { IfOk result (λ status.
+        (shown : DecodedToken → Output) (read : TokenReading DecodedToken)
         → TokenErrsAs error.now read
-        → Prints (string_bytes lines.old) (string_bytes lines.new) status
+        → AddsOutput (string_bytes lines.old) (string_bytes lines.new) status
         (spec.reading_output shown read)) }
 {
     if let IdTokenReadError::Memory = error {

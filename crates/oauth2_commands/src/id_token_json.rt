@@ -7,7 +7,7 @@ ghost use Rattle.serde_json.specs.View.{view, items_view, members_view};
 ghost use Rattle.oauth2_json.specs.Puts.{put_all};
 ghost use Rattle.oauth2_json.specs.Values.{text_items};
 ghost use Rattle.oauth2_commands.specs.IdToken.{checked_data, claims_data, hash_name};
-ghost use Rattle.oauth2_commands.specs.private.ClaimRows.{bindings_rows, login_rows};
+ghost use Rattle.oauth2_commands.specs.private.ClaimRows.{bindings_rows, sign_in_rows};
 ghost use Rattle.oauth2_commands.specs.private.ClaimRows.{names_rows, times_rows};
 
 use oauth2::{ToJson, WriteError};
@@ -116,7 +116,7 @@ fn put_login(
     members: &mut Map<String, Value>,
 ) -> Result<(), AllocError>
     ensures { IfOk result (λ _. members_view members.new.entries
-        ≡ put_all (login_rows claims.now) (members_view members.old.entries)) }
+        ≡ put_all (sign_in_rows claims.now) (members_view members.old.entries)) }
 {
     let methods = methods_value(alloc, claims.authentication_methods())?;
     members::put_some(members, alloc, "amr", methods)?;

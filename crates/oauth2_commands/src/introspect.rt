@@ -5,7 +5,7 @@ ghost use Rattle.oauth2_requests.specs.TokenIntrospection.{introspection_configu
 ghost use Rattle.oauth2_commands.specs.Client.{given_or};
 ghost use Rattle.oauth2_commands.specs.Introspect as spec;
 ghost use Rattle.oauth2_commands.specs.private.Added.{Adds};
-ghost use Rattle.oauth2_world.specs.Replay.{replies_of};
+ghost use Rattle.oauth2_world.specs.Replay.{client_replies};
 ghost use Rattle.oauth2_script.specs.Views.{introspect_view};
 
 use crate::answer::{show_configuration_error, show_end};
@@ -63,7 +63,7 @@ fn ask(
         → Adds (string_bytes http_client.old.lines) (string_bytes http_client.new.lines) status
         (spec.IsIntrospected request.entry.base.reply_rule
         (introspection_configuration request.entry)
-        request.entry.introspection_url (replies_of http_client.old))) }
+        request.entry.introspection_url (client_replies http_client.old))) }
 {
     let end = request.request(alloc, http_client);
     show_end(alloc, &mut http_client.lines, &end)
@@ -79,7 +79,7 @@ pub fn run_introspect(
     ensures { IfOk result (λ status. http_client.new.is_starved ≡ false
         → Adds (string_bytes http_client.old.lines) (string_bytes http_client.new.lines) status
         (spec.IsIntrospectOutput client.now (introspect_view params)
-        (replies_of http_client.old))) }
+        (client_replies http_client.old))) }
 {
     let token = params.token;
     match client.introspect(alloc, &token) {

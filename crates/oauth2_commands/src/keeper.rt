@@ -5,10 +5,10 @@ ghost use Rattle.std.specs.Prelude.{IfOk, map};
 ghost use Rattle.oauth2_commands.specs.Keeper as spec;
 ghost use Rattle.oauth2_commands.specs.Client.{missing};
 ghost use Rattle.oauth2_commands.specs.Out.{Output};
-ghost use Rattle.oauth2_commands.specs.private.Added.{Adds, Prints};
+ghost use Rattle.oauth2_commands.specs.private.Added.{Adds, AddsOutput};
 ghost use Rattle.oauth2_commands.specs.private.Kept.{standing_of, WaitsFor, AreKept};
 ghost use Rattle.oauth2_wire.specs.ServerView.{pair_texts};
-ghost use Rattle.oauth2_world.specs.Replay.{replies_of};
+ghost use Rattle.oauth2_world.specs.Replay.{client_replies};
 ghost use Rattle.oauth2_script.specs.Views.{keeper_view};
 
 use crate::answer::show_configuration_error;
@@ -54,7 +54,7 @@ fn show_calls(
         → http_client.new.is_starved ≡ false
         → (o : Output) × spec.AreCalls wait (standing_of keeper.old http_client.old)
         (map (λ t. t.nanosecond) readings.now) o (standing_of keeper.new http_client.new)
-        × Prints (string_bytes http_client.old.lines) (string_bytes http_client.new.lines)
+        × AddsOutput (string_bytes http_client.old.lines) (string_bytes http_client.new.lines)
         status o) }
 {
     let mut status = RunStatus::Answered;
@@ -108,7 +108,7 @@ fn show_new_keeper(
     ensures { IfOk result (λ status. http_client.new.is_starved ≡ false
         → Adds (string_bytes http_client.old.lines) (string_bytes http_client.new.lines) status
         (AreKept client.now (keeper_view params) (map (λ t. t.nanosecond) readings.now)
-        (replies_of http_client.old))) }
+        (client_replies http_client.old))) }
 {
     let KeeperParams {
         margin,
@@ -127,7 +127,7 @@ fn show_new_keeper(
 
 // The client has no token endpoint.
 fn show_no_endpoint(alloc: Global, lines: &mut String) -> Result<RunStatus, AllocError>
-    ensures { IfOk result (λ status. Prints (string_bytes lines.old) (string_bytes lines.new)
+    ensures { IfOk result (λ status. AddsOutput (string_bytes lines.old) (string_bytes lines.new)
         status (missing (codes "token"))) }
 {
     let error = ConfigurationError::MissingUrl("token");
@@ -145,7 +145,7 @@ pub fn run_keeper(
     ensures { IfOk result (λ status. http_client.new.is_starved ≡ false
         → Adds (string_bytes http_client.old.lines) (string_bytes http_client.new.lines) status
         (spec.IsKeeperOutput client.now (keeper_view params) (map (λ t. t.nanosecond) readings.now)
-        (replies_of http_client.old))) }
+        (client_replies http_client.old))) }
 {
     match client.token_uri() {
         Some(token_url) => {

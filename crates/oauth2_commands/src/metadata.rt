@@ -2,14 +2,14 @@
 
 ghost use Rattle.std.specs.Prelude.{◌≡◌, false, string_bytes, IfOk};
 ghost use Rattle.oauth2_commands.specs.Metadata as spec;
-ghost use Rattle.oauth2_commands.specs.Out.{failed};
-ghost use Rattle.oauth2_commands.specs.private.Added.{Adds, Prints};
+ghost use Rattle.oauth2_commands.specs.Out.{failure_output};
+ghost use Rattle.oauth2_commands.specs.private.Added.{Adds, AddsOutput};
 ghost use Rattle.oauth2_commands.specs.private.Discovery.{discovery_output};
 ghost use Rattle.oauth2_commands.specs.private.Discovery.{metadata_error_output};
 ghost use Rattle.oauth2_metadata.specs.Issuer.{IsOutOfRoom, issuer_error_text};
 ghost use Rattle.oauth2_metadata.specs.Request.{IsAsked};
 ghost use Rattle.oauth2_script.specs.Views.{metadata_view};
-ghost use Rattle.oauth2_world.specs.Replay.{replies_of};
+ghost use Rattle.oauth2_world.specs.Replay.{client_replies};
 
 use crate::answer::{show_answer, show_error_text, show_fault};
 use crate::client::ScriptClient;
@@ -39,8 +39,8 @@ fn show_issuer_error(
     error: IssuerError,
 ) -> Result<RunStatus, AllocError>
     ensures { IfOk result (λ status. ¬ (IsOutOfRoom error)
-        × Prints (string_bytes lines.old) (string_bytes lines.new) status
-        (failed (issuer_error_text error))) }
+        × AddsOutput (string_bytes lines.old) (string_bytes lines.new) status
+        (failure_output (issuer_error_text error))) }
 {
     match error {
         IssuerError::Memory | IssuerError::TooLong => Err(AllocError),
@@ -54,7 +54,7 @@ fn show_metadata_error(
     lines: &mut String,
     error: &MetadataError<NoReply>,
 ) -> Result<RunStatus, AllocError>
-    ensures { IfOk result (λ status. Prints (string_bytes lines.old) (string_bytes lines.new)
+    ensures { IfOk result (λ status. AddsOutput (string_bytes lines.old) (string_bytes lines.new)
         status (metadata_error_output error.now)) }
 {
     match error {
@@ -68,7 +68,7 @@ fn show_metadata(
     lines: &mut String,
     end: &Result<Metadata, MetadataError<NoReply>>,
 ) -> Result<RunStatus, AllocError>
-    ensures { IfOk result (λ status. Prints (string_bytes lines.old) (string_bytes lines.new)
+    ensures { IfOk result (λ status. AddsOutput (string_bytes lines.old) (string_bytes lines.new)
         status (discovery_output end.now)) }
 {
     match end {
@@ -86,7 +86,7 @@ fn ask(
     ensures { IfOk result (λ status. http_client.new.is_starved ≡ false
         → Adds (string_bytes http_client.old.lines) (string_bytes http_client.new.lines) status
         (spec.IsDiscovered request.reply_rule request.issuer request.url
-        (replies_of http_client.old))) }
+        (client_replies http_client.old))) }
 {
     let end = request.request(alloc, http_client);
     show_metadata(alloc, &mut http_client.lines, &end)
@@ -101,7 +101,8 @@ pub fn run_metadata(
 ) -> Result<RunStatus, AllocError>
     ensures { IfOk result (λ status. http_client.new.is_starved ≡ false
         → Adds (string_bytes http_client.old.lines) (string_bytes http_client.new.lines) status
-        (spec.IsMetadataOutput client.now (metadata_view params) (replies_of http_client.old))) }
+        (spec.IsMetadataOutput client.now (metadata_view params)
+        (client_replies http_client.old))) }
 {
     let rule = client.reply_rule();
     match request_of(alloc, params) {

@@ -4,7 +4,7 @@
 ghost use Rattle.std.specs.Prelude.{◌≡◌, false, string_bytes, IfOk};
 ghost use Rattle.oauth2_commands.specs.Password as spec;
 ghost use Rattle.oauth2_commands.specs.private.Added.{Adds};
-ghost use Rattle.oauth2_world.specs.Replay.{replies_of};
+ghost use Rattle.oauth2_world.specs.Replay.{client_replies};
 ghost use Rattle.oauth2_script.specs.Views.{password_view};
 
 use crate::answer::{Fault, show_configuration_error};
@@ -65,7 +65,8 @@ pub fn run_password(
 ) -> Result<RunStatus, AllocError>
     ensures { IfOk result (λ status. http_client.new.is_starved ≡ false
         → Adds (string_bytes http_client.old.lines) (string_bytes http_client.new.lines) status
-        (spec.IsPasswordOutput client.now (password_view params) (replies_of http_client.old))) }
+        (spec.IsPasswordOutput client.now (password_view params)
+        (client_replies http_client.old))) }
 {
     let username = params.username;
     let password = params.password;

@@ -1,12 +1,12 @@
 //! The command `redirect`: what the redirect says by which a user comes back.
 
 ghost use Rattle.std.specs.Prelude.{ℕ, List, Result, string_bytes, IfOk};
-ghost use Rattle.oauth2_commands.specs.Out.{answered};
+ghost use Rattle.oauth2_commands.specs.Out.{success_output};
 ghost use Rattle.oauth2_commands.specs.Redirect as spec;
-ghost use Rattle.oauth2_commands.specs.private.Added.{Adds, Prints};
-ghost use Rattle.oauth2_redirect.specs.Redirect.{Refusal, Tells, TellsRefusal};
+ghost use Rattle.oauth2_commands.specs.private.Added.{Adds, AddsOutput};
+ghost use Rattle.oauth2_redirect.specs.Redirect.{RedirectRefusal, Tells, TellsRefusal};
 ghost use Rattle.oauth2_script.specs.Views.{redirect_view};
-ghost use Rattle.oauth2_world.specs.Lines.{quoted};
+ghost use Rattle.oauth2_world.specs.Lines.{quotation};
 
 use crate::answer::show_error_text;
 use crate::status::RunStatus;
@@ -28,8 +28,8 @@ fn show_code(
     lines: &mut String,
     code: &AuthorizationCode,
 ) -> Result<RunStatus, AllocError>
-    ensures { IfOk result (λ status. Prints (string_bytes lines.old) (string_bytes lines.new)
-        status (answered (quoted code.now))) }
+    ensures { IfOk result (λ status. AddsOutput (string_bytes lines.old) (string_bytes lines.new)
+        status (success_output (quotation code.now))) }
 {
     let json = quoted(alloc, code.secret().as_str())?;
     print_answer(lines, json.as_str())?;
@@ -42,9 +42,9 @@ fn show_refusal(
     lines: &mut String,
     error: &RedirectError,
 ) -> Result<RunStatus, AllocError>
-    ensures { IfOk result (λ status. (told : Result (List ℕ) Refusal)
+    ensures { IfOk result (λ status. (told : Result (List ℕ) RedirectRefusal)
         → TellsRefusal error.now told
-        → Prints (string_bytes lines.old) (string_bytes lines.new) status
+        → AddsOutput (string_bytes lines.old) (string_bytes lines.new) status
         (spec.shown_answer told)) }
 {
     if let RedirectError::Memory = error {

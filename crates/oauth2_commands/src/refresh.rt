@@ -3,7 +3,7 @@
 ghost use Rattle.std.specs.Prelude.{◌≡◌, false, string_bytes, IfOk};
 ghost use Rattle.oauth2_commands.specs.Refresh as spec;
 ghost use Rattle.oauth2_commands.specs.private.Added.{Adds};
-ghost use Rattle.oauth2_world.specs.Replay.{replies_of};
+ghost use Rattle.oauth2_world.specs.Replay.{client_replies};
 ghost use Rattle.oauth2_script.specs.Views.{refresh_view};
 
 use crate::answer::{Fault, show_configuration_error};
@@ -64,7 +64,7 @@ pub fn run_refresh(
 ) -> Result<RunStatus, AllocError>
     ensures { IfOk result (λ status. http_client.new.is_starved ≡ false
         → Adds (string_bytes http_client.old.lines) (string_bytes http_client.new.lines) status
-        (spec.IsRefreshOutput client.now (refresh_view params) (replies_of http_client.old))) }
+        (spec.IsRefreshOutput client.now (refresh_view params) (client_replies http_client.old))) }
 {
     let refresh_token = params.refresh_token;
     match client.exchange_refresh_token(alloc, &refresh_token) {

@@ -5,7 +5,7 @@ ghost use Rattle.oauth2_replies.specs.Revocable.{hint_of, secret_of};
 ghost use Rattle.oauth2_requests.specs.TokenRevocation.{revocation_configuration};
 ghost use Rattle.oauth2_commands.specs.Revoke as spec;
 ghost use Rattle.oauth2_commands.specs.private.Added.{Adds};
-ghost use Rattle.oauth2_world.specs.Replay.{replies_of};
+ghost use Rattle.oauth2_world.specs.Replay.{client_replies};
 ghost use Rattle.oauth2_script.specs.Views.{revoke_view};
 
 use crate::answer::{show_configuration_error, show_revocation};
@@ -57,7 +57,7 @@ fn ask(
     ensures { IfOk result (λ status. http_client.new.is_starved ≡ false
         → Adds (string_bytes http_client.old.lines) (string_bytes http_client.new.lines) status
         (spec.IsRevoked (revocation_configuration request.entry) request.entry.revocation_url
-        (replies_of http_client.old))) }
+        (client_replies http_client.old))) }
 {
     let end = request.request(alloc, http_client);
     show_revocation(alloc, &mut http_client.lines, &end)
@@ -72,7 +72,7 @@ pub fn run_revoke(
 ) -> Result<RunStatus, AllocError>
     ensures { IfOk result (λ status. http_client.new.is_starved ≡ false
         → Adds (string_bytes http_client.old.lines) (string_bytes http_client.new.lines) status
-        (spec.IsRevokeOutput client.now (revoke_view params) (replies_of http_client.old))) }
+        (spec.IsRevokeOutput client.now (revoke_view params) (client_replies http_client.old))) }
 {
     match client.revoke_token(alloc, token_of(params.token, params.kind)) {
         Ok(request) => {

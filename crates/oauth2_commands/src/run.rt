@@ -8,7 +8,7 @@ ghost use Rattle.oauth2_commands.specs.Input.{Calls};
 ghost use Rattle.oauth2_commands.specs.Run.{IsCommandOutput, IsScriptOutput, IsOutputOf};
 ghost use Rattle.oauth2_commands.specs.private.Added.{Adds};
 ghost use Rattle.oauth2_script.specs.Views.{client_view, command_view, script_view};
-ghost use Rattle.oauth2_world.specs.Replay.{replies_of};
+ghost use Rattle.oauth2_world.specs.Replay.{client_replies};
 
 use crate::client::client_of;
 use crate::command::run_command;
@@ -30,7 +30,7 @@ fn run_by(
         → Adds (string_bytes world.old.http_client.lines)
         (string_bytes world.new.http_client.lines) status
         (IsCommandOutput (settings_of (client_view client)) world.old.clock
-        (replies_of world.old.http_client) (command_view command))) }
+        (client_replies world.old.http_client) (command_view command))) }
 {
     run_command(alloc, &client_of(client), command, world)
 }

@@ -5,10 +5,10 @@ ghost use Rattle.std.specs.Prelude.{◌++◌, string_bytes, IfOk, OnOk};
 ghost use Rattle.std.specs.Duration.{as_nanos};
 ghost use Rattle.oauth2_keeper.specs.Patience.{IsUntil, Patient};
 ghost use Rattle.oauth2_commands.specs.Keeper.{IsCall, end_text, wait_line, waiting};
-ghost use Rattle.oauth2_commands.specs.Out.{Output, answered};
-ghost use Rattle.oauth2_commands.specs.private.Added.{Prints};
+ghost use Rattle.oauth2_commands.specs.Out.{Output, success_output};
+ghost use Rattle.oauth2_commands.specs.private.Added.{AddsOutput};
 ghost use Rattle.oauth2_commands.specs.private.Kept as spec;
-ghost use Rattle.oauth2_world.specs.Lines.{quoted};
+ghost use Rattle.oauth2_world.specs.Lines.{quotation};
 ghost use Rattle.oauth2_world.specs.declared.replay.ScriptedClient.{ScriptedClient};
 
 use crate::answer::show_fault;
@@ -73,8 +73,8 @@ fn show_kept(
     lines: &mut String,
     token: &AccessToken,
 ) -> Result<RunStatus, AllocError>
-    ensures { IfOk result (λ status. Prints (string_bytes lines.old) (string_bytes lines.new)
-        status (answered (quoted token.now))) }
+    ensures { IfOk result (λ status. AddsOutput (string_bytes lines.old) (string_bytes lines.new)
+        status (success_output (quotation token.now))) }
 {
     let json = quoted(alloc, token.secret().as_str())?;
     print_answer(lines, json.as_str())?;
@@ -106,7 +106,7 @@ fn show_wait(
     until: Option<Timestamp>,
 ) -> Result<RunStatus, AllocError>
     ensures { IfOk result (λ status. (end : ℤ) → IsUntil end until
-        → Prints (string_bytes lines.old) (string_bytes lines.new) status (waiting end)) }
+        → AddsOutput (string_bytes lines.old) (string_bytes lines.new) status (waiting end)) }
 {
     let end = end_text(alloc, until)?;
     print_wait(lines, end.as_str())?;
@@ -139,7 +139,7 @@ fn show_plain_call(
         → (http_client.old.is_starved ≡ false)
         × ((o : Output) × IsCall None (spec.standing keeper.old None http_client.old)
         now.nanosecond o (spec.standing keeper.new None http_client.new)
-        × Prints (string_bytes http_client.old.lines) (string_bytes http_client.new.lines)
+        × AddsOutput (string_bytes http_client.old.lines) (string_bytes http_client.new.lines)
         status o)) }
 {
     match keeper.keep_good(alloc, now, http_client) {
@@ -162,7 +162,7 @@ fn show_waiting_call(
         × ((o : Output) × IsCall (Some keeper.old.wait)
         (spec.patient_standing keeper.old http_client.old) now.nanosecond o
         (spec.patient_standing keeper.new http_client.new)
-        × Prints (string_bytes http_client.old.lines) (string_bytes http_client.new.lines)
+        × AddsOutput (string_bytes http_client.old.lines) (string_bytes http_client.new.lines)
         status o)) }
 {
     match keeper.keep_good(alloc, now, http_client) {
@@ -187,7 +187,7 @@ pub fn show_call(
         → http_client.new.is_starved ≡ false → (http_client.old.is_starved ≡ false)
         × ((o : Output) × IsCall wait (spec.standing_of keeper.old http_client.old)
         now.nanosecond o (spec.standing_of keeper.new http_client.new)
-        × Prints (string_bytes http_client.old.lines) (string_bytes http_client.new.lines)
+        × AddsOutput (string_bytes http_client.old.lines) (string_bytes http_client.new.lines)
         status o)) }
 {
     match keeper {

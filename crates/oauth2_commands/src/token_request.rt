@@ -3,7 +3,7 @@
 ghost use Rattle.std.specs.Prelude.{◌≡◌, false, string_bytes, IfOk};
 ghost use Rattle.oauth2_commands.specs.Exchange.{IsTokenExchange};
 ghost use Rattle.oauth2_commands.specs.private.Added.{Adds};
-ghost use Rattle.oauth2_world.specs.Replay.{replies_of};
+ghost use Rattle.oauth2_world.specs.Replay.{client_replies};
 
 use crate::answer::{Fault, show_end};
 use crate::status::RunStatus;
@@ -42,7 +42,7 @@ pub fn exchange<T: TokenRequest + Drop>(
     ensures { IfOk result (λ status. http_client.new.is_starved ≡ false
         → Adds (string_bytes http_client.old.lines) (string_bytes http_client.new.lines) status
         (IsTokenExchange (T.reply_rule request) (T.configuration request) (T.endpoint request)
-        (replies_of http_client.old))) }
+        (client_replies http_client.old))) }
 {
     let end = request.send(alloc, http_client);
     show_end(alloc, &mut http_client.lines, &end)

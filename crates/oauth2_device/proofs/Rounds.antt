@@ -8,7 +8,7 @@ use Rattle.oauth2_poll.specs.declared.device_poll.PollAnswer.TheVariants.{Decidi
 use Rattle.oauth2_poll.specs.declared.device_poll.PollStep.{PollStep}
 use Rattle.oauth2_poll.specs.declared.device_poll.PollStep.TheVariants as step
 use Rattle.oauth2_poll.specs.State.{PollState}
-use Rattle.oauth2_poll.specs.Step.{answered, action_of, action_after}
+use Rattle.oauth2_poll.specs.Step.{state_after, action_of, action_after}
 use Rattle.oauth2_poll.proofs.Steps.{sleep_step, limit_step}
 use Rattle.oauth2_wire.specs.declared.request.RequestFault.{RequestFault}
 use Rattle.oauth2_wire.specs.declared.request.RequestFault.TheVariants as fault
@@ -17,7 +17,7 @@ use Rattle.oauth2_wire.specs.Reply.{HttpResponse, Answer}
 use Rattle.oauth2_device.specs.declared.verdict.Verdict.TheVariants.{Again, Decided}
 use Rattle.oauth2_device.specs.Events.{Reading, Sent, Slept}
 use Rattle.oauth2_device.specs.Poll.{DeviceError, PollError, SaysOther, SaysExpired, class_of}
-use Rattle.oauth2_device.specs.private.Round.{OrMemory, IsUnprepared, IsJudged, EndsUnsent, EndsSent, GoesOn, IsTurn}
+use Rattle.oauth2_device.specs.private.Round.{OrMemory, IsUnprepared, IsJudged, EndsUnsent, EndsSent, RoundGoesOn, IsTurn}
 
 module _ {D A RE : Type 0} (meaning : D → A) (says : HttpResponse → Answer A DeviceError) (N : Type 0) (poll : PollState) (sent : Bool) (t : Timestamp) where
   pub late : (error : PollError RE) → poll.deadline <ℤ t.nanosecond → OrMemory SaysExpired sent error → EndsUnsent meaning says N poll sent (Reading t ∷ []) error
@@ -45,7 +45,7 @@ module _ {D A RE : Type 0} (meaning : D → A) (says : HttpResponse → Answer A
         open_answer : class_of says a ≢ Deciding
         open_answer e = said.1 (sym said.0 ∙ e)
 
-        pub goes_on : (d : Duration) (after : PollState) → s ≡ step.Sleep d → after ≡ answered poll answer → GoesOn {D = D} meaning says poll (Reading t ∷ Sent q a ∷ Slept d ∷ []) after
+        pub goes_on : (d : Duration) (after : PollState) → s ≡ step.Sleep d → after ≡ state_after poll answer → RoundGoesOn {D = D} meaning says poll (Reading t ∷ Sent q a ∷ Slept d ∷ []) after
         goes_on d after is state =
             let k = sleep_step poll answer s d said.1 action is in
             record {
@@ -57,7 +57,7 @@ module _ {D A RE : Type 0} (meaning : D → A) (says : HttpResponse → Answer A
               in_time = before;
               open_answer = open_answer;
               more = k.0;
-              after_is = state ∙ ap (answered poll) (sym said.0);
+              after_is = state ∙ ap (state_after poll) (sym said.0);
               sleep_is = k.1 ∙ ap (λ (x : PollState). x.interval) (sym state);
             }
 

@@ -13,9 +13,9 @@ use Rattle.oauth2_json.specs.Reading.{Reading as JsonReading}
 use Rattle.oauth2_poll.specs.declared.device_poll.PollAnswer.{PollAnswer}
 use Rattle.oauth2_poll.specs.declared.device_poll.PollAnswer.TheVariants.{Deciding}
 use Rattle.oauth2_poll.specs.State.{PollState}
-use Rattle.oauth2_poll.specs.Step.{TimeoutFits, answered}
+use Rattle.oauth2_poll.specs.Step.{TimeoutFits, state_after}
 use Rattle.oauth2_poll.specs.Trace as trace
-use Rattle.oauth2_poll.specs.Trace.{PollInput, Ending, IsEnding, planned, readings_in, answers_in, TooLong, OutOfRange, Late, Decided, Limited}
+use Rattle.oauth2_poll.specs.Trace.{PollInput, Ending, IsEnding, poll_events, readings_in, answers_in, TooLong, OutOfRange, Late, Decided, Limited}
 use Rattle.oauth2_poll.specs.Laws.{IsTraceOf}
 use Rattle.oauth2_poll.proofs.Open.{IsOpen, reached, late, not_late, open_start, late_plan, decided_plan, open_next}
 use Rattle.oauth2_poll.proofs.Extend.{more, open_more, readings_in-append, answers_in-append}
@@ -33,7 +33,7 @@ use Rattle.oauth2_device.specs.private.Round.{OrMemory, IsDecision, EndsUnsent, 
 use Rattle.oauth2_device.proofs.LeadsFacts.{EachRequest-append, none_sent, has_request-unsent, has_request-sent, last_reply-append}
 
 -- the input grows with the events
-input-append : (r : DeviceToken) (timeout max_polls : ℕ) (xs ys : List trace.Event) → input_of r timeout max_polls (xs ++ ys) ≡ more (input_of r timeout max_polls xs) (readings_in ys) (answers_in ys)
+input-append : (r : DeviceToken) (timeout max_polls : ℕ) (xs ys : List trace.TraceEvent) → input_of r timeout max_polls (xs ++ ys) ≡ more (input_of r timeout max_polls xs) (readings_in ys) (answers_in ys)
 input-append r timeout max_polls xs ys = rw (readings_in-append xs ys, answers_in-append xs ys) refl
 
 -- the endpoint is no HTTP target
@@ -47,9 +47,9 @@ no_request r none request is = none _ _ _ is.target
 module _ {A : Type 0} (says : HttpResponse → Answer A DeviceError) where
   pub plain-append : {RE : Type 0} (e f : List (Event RE)) → plain says (e ++ f) ≡ plain says e ++ plain says f
   plain-append [] f = refl
-  plain-append (Reading t ∷ e) f = ap (λ (l : List trace.Event). trace.Reading t.nanosecond ∷ l) (plain-append e f)
-  plain-append (Sent r a ∷ e) f = ap (λ (l : List trace.Event). trace.Asked ∷ trace.Answered (class_of says a) ∷ l) (plain-append e f)
-  plain-append (Slept d ∷ e) f = ap (λ (l : List trace.Event). trace.Slept (as_nanos d) ∷ l) (plain-append e f)
+  plain-append (Reading t ∷ e) f = ap (λ (l : List trace.TraceEvent). trace.Reading t.nanosecond ∷ l) (plain-append e f)
+  plain-append (Sent r a ∷ e) f = ap (λ (l : List trace.TraceEvent). trace.Asked ∷ trace.Answered (class_of says a) ∷ l) (plain-append e f)
+  plain-append (Slept d ∷ e) f = ap (λ (l : List trace.TraceEvent). trace.Slept (as_nanos d) ∷ l) (plain-append e f)
 
   no_answers : {RE : Type 0} (e : List (Event RE)) → has_request e ≡ false → length (answers_in (plain says e)) ≡ 0
   no_answers [] h = refl
@@ -73,7 +73,7 @@ module _ {D A RE : Type 0} (meaning : D → A) (says : HttpResponse → Answer A
   Ended e result = IsPoll meaning says (NotHttp r) (input_of r timeout max_polls (plain says e)) e result
 
   -- the whole plan was carried out
-  abbrev whole : (p : PollInput) (e : List (Event RE)) (end : Ending) → IsEnding p end → map Some (plain says e) ≡ planned p end → IsTraceOf p (plain says e)
+  abbrev whole : (p : PollInput) (e : List (Event RE)) (end : Ending) → IsEnding p end → map Some (plain says e) ≡ poll_events p end → IsTraceOf p (plain says e)
   whole p e end is h = record { ending = end; is_ending = is; rest = []; is = sym h ∙ sym (append-nil (map Some (plain says e))) }
 
   -- an answer of an end, or want of memory there
@@ -113,14 +113,14 @@ module _ {D A RE : Type 0} (meaning : D → A) (says : HttpResponse → Answer A
     abbrev k : ℕ
     k = length (answers_in (plain says e))
 
-    grown : (ys : List trace.Event) → IsOpen (input_of r timeout max_polls (plain says e ++ ys)) k (plain says e) poll
+    grown : (ys : List trace.TraceEvent) → IsOpen (input_of r timeout max_polls (plain says e ++ ys)) k (plain says e) poll
     grown ys = rw (input-append r timeout max_polls (plain says e) ys) (open_more (input_of r timeout max_polls (plain says e)) (readings_in ys) (answers_in ys) k (plain says e) poll s.is_open)
 
-    reading_here : (t : ℤ) (ys : List trace.Event) → slice_get (input_of r timeout max_polls (plain says e ++ trace.Reading t ∷ ys)).readings (suc k) ≡ Some t
+    reading_here : (t : ℤ) (ys : List trace.TraceEvent) → slice_get (input_of r timeout max_polls (plain says e ++ trace.Reading t ∷ ys)).readings (suc k) ≡ Some t
     reading_here t ys =
         rw (← s.counts, readings_in-append (plain says e) (trace.Reading t ∷ ys)) (slice_get-append_here (readings_in (plain says e)) t (readings_in ys))
 
-    answer_here : (t : ℤ) (a : PollAnswer) (ys : List trace.Event) → slice_get (input_of r timeout max_polls (plain says e ++ trace.Reading t ∷ trace.Asked ∷ trace.Answered a ∷ ys)).answers k ≡ Some a
+    answer_here : (t : ℤ) (a : PollAnswer) (ys : List trace.TraceEvent) → slice_get (input_of r timeout max_polls (plain says e ++ trace.Reading t ∷ trace.Asked ∷ trace.Answered a ∷ ys)).answers k ≡ Some a
     answer_here t a ys =
         rw (answers_in-append (plain says e) (trace.Reading t ∷ trace.Asked ∷ trace.Answered a ∷ ys)) (slice_get-append_here (answers_in (plain says e)) a (answers_in ys))
 
@@ -221,7 +221,7 @@ module _ {D A RE : Type 0} (meaning : D → A) (says : HttpResponse → Answer A
               answer = says_so;
             })
 
-        next : (d : Duration) (after : PollState) → IsDeviceRequest r q → class_of says a ≢ Deciding → poll.polls_left ≢ 1 → after ≡ answered poll (class_of says a) → as_nanos d ≡ after.interval → SoFar (e ++ Reading t ∷ Sent q a ∷ Slept d ∷ []) after true
+        next : (d : Duration) (after : PollState) → IsDeviceRequest r q → class_of says a ≢ Deciding → poll.polls_left ≢ 1 → after ≡ state_after poll (class_of says a) → as_nanos d ≡ after.interval → SoFar (e ++ Reading t ∷ Sent q a ∷ Slept d ∷ []) after true
         next d after request no_decision more_left is is_length =
             let all : List (Event RE) = Reading t ∷ Sent q a ∷ Slept d ∷ [] in
             let o = grown (plain says all) in
@@ -231,10 +231,10 @@ module _ {D A RE : Type 0} (meaning : D → A) (says : HttpResponse → Answer A
             let pa = plain-append says e all in
             let answers : length (answers_in (plain says (e ++ all))) ≡ suc k = rw (pa, answers_in-append (plain says e) (plain says all), length-append) (omega arith) in
             let readings : length (readings_in (plain says (e ++ all))) ≡ suc (suc k) = rw (pa, readings_in-append (plain says e) (plain says all), length-append, s.counts) (omega arith) in
-            let lasts : (answered poll (class_of says a)).interval ≡ as_nanos d = sym (is_length ∙ ap (λ (x : PollState). x.interval) is) in
+            let lasts : (state_after poll (class_of says a)).interval ≡ as_nanos d = sym (is_length ∙ ap (λ (x : PollState). x.interval) is) in
             rw is (record {
               requests = EachRequest-append _ e all s.requests (request, tt);
-              is_open = rw (answers, pa) (subst (λ (x : ℕ). IsOpen (input_of r timeout max_polls (plain says e ++ plain says all)) (suc k) (plain says e ++ trace.Reading t.nanosecond ∷ trace.Asked ∷ trace.Answered (class_of says a) ∷ trace.Slept x ∷ []) (answered poll (class_of says a))) lasts n);
+              is_open = rw (answers, pa) (subst (λ (x : ℕ). IsOpen (input_of r timeout max_polls (plain says e ++ plain says all)) (suc k) (plain says e ++ trace.Reading t.nanosecond ∷ trace.Asked ∷ trace.Answered (class_of says a) ∷ trace.Slept x ∷ []) (state_after poll (class_of says a))) lasts n);
               counts = readings ∙ ap suc (sym answers);
               sent_is = has_request-sent e all refl;
             })

@@ -10,7 +10,7 @@ use Rattle.url.specs.Parts.{serialize}
 use Rattle.oauth2_codes.specs.declared.device_error.DeviceCodeErrorResponseType.{DeviceCodeErrorResponseType}
 use Rattle.oauth2_codes.specs.declared.error_response.StandardErrorResponse.{StandardErrorResponse}
 use Rattle.oauth2_codes.specs.ErrorCodes.{DeviceErrorCode, authorization_pending, slow_down, access_denied, expired_token, basic, device_error_code, device_error_code_reading}
-use Rattle.oauth2_codes.specs.ErrorResponse.{ErrorParts, parts, parts_of, error_reading}
+use Rattle.oauth2_codes.specs.ErrorResponse.{ErrorParts, parts_of_error, parts_of, error_reading}
 use Rattle.oauth2_json.specs.Reading.{Reading as JsonReading}
 use Rattle.oauth2_poll.specs.declared.device_poll.PollAnswer.{PollAnswer}
 use Rattle.oauth2_poll.specs.declared.device_poll.PollAnswer.TheVariants.{Failed, Pending, SlowDown, Deciding}
@@ -68,7 +68,7 @@ SaysOther text error = ⊥
 -- the error is the server's that the code has expired
 abbrev pub SaysExpired : {RE : Type 0} → PollError RE → Type 0
 SaysExpired (token.ServerResponse error) =
-    device_error error ≡ parts expired_token (Some (codes "This device code has expired.")) None
+    device_error error ≡ parts_of_error expired_token (Some (codes "This device code has expired.")) None
 SaysExpired error = ⊥
 
 -- the request of a device, at its endpoint
@@ -81,7 +81,7 @@ abbrev pub timeout_of : DeviceToken → Option Duration → ℕ
 timeout_of r timeout = unwrap_or (option_map as_nanos timeout) r.expires_in
 
 -- the poll that saw these events
-abbrev pub input_of : DeviceToken → ℕ → ℕ → List trace.Event → PollInput
+abbrev pub input_of : DeviceToken → ℕ → ℕ → List trace.TraceEvent → PollInput
 input_of r timeout max_polls events = record {
   timeout = timeout;
   interval = r.interval;
@@ -98,7 +98,7 @@ module _ {A : Type 0} (says : HttpResponse → Answer A DeviceError) where
   class_of (Ok reply) = class_of_answer (says reply)
 
   -- the events by their numbers
-  abbrev pub plain : {RE : Type 0} → List (Event RE) → List trace.Event
+  abbrev pub plain : {RE : Type 0} → List (Event RE) → List trace.TraceEvent
   plain [] = []
   plain (Reading t ∷ e) = trace.Reading t.nanosecond ∷ plain e
   plain (Sent r a ∷ e) = trace.Asked ∷ trace.Answered (class_of a) ∷ plain e

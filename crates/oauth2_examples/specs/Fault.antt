@@ -3,9 +3,9 @@ use Rattle.std.specs.Prelude.{ℕ}
 use Rattle.oauth2_examples.specs.declared.over_connection.fault.Fault.{Fault}
 
 -- 2 where the settings are wrong, so that nothing was asked, and else 1
-abbrev pub status_of : Fault → ℕ
-status_of (Fault.Setting error) = 2
-status_of (Fault.Unreadable name) = 2
-status_of (Fault.Unwritable name) = 1
-status_of (Fault.Unanswered told) = 1
-status_of Fault.Memory = 1
+abbrev pub fault_exit_status : Fault → ℕ
+fault_exit_status (Fault.Setting error) = 2
+fault_exit_status (Fault.Unreadable name) = 2
+fault_exit_status (Fault.Unwritable name) = 1
+fault_exit_status (Fault.Unanswered told) = 1
+fault_exit_status Fault.Memory = 1

@@ -3,12 +3,12 @@ use Rattle.std.proofs.Common.{◌≡◌, ℕ, List, [], ◌∷◌, Option, Some,
 use Rattle.serde_json.specs.Data.{Data, null, boolean, number, string, array, object}
 use Rattle.oauth2_json.specs.Reading.{Reading}
 use Rattle.oauth2_json.specs.Writing.{Writing, write_then}
-use Rattle.oauth2_json.specs.Members.{beside, optional, put_some}
+use Rattle.oauth2_json.specs.Members.{beside, optional_member, put_some}
 use Rattle.oauth2_json.proofs.Objects.{absent_first, beside_taken, find_some, without-some}
 use Rattle.oauth2_replies.specs.Kept.{AreFieldsKept}
 use Rattle.oauth2_extra_fields.specs.Fields.{MemberAndRest, with_member_seen, with_member_reading, with_member_writing, IsNotNull, IsValueKept}
 
-found_again : {A : Type 0} (kind : Data → Reading A) (name : List ℕ) (a : A) (d : Data) → IsNotNull d → kind d ≡ Ok a → optional kind name (Some d) ≡ Ok (Some a)
+found_again : {A : Type 0} (kind : Data → Reading A) (name : List ℕ) (a : A) (d : Data) → IsNotNull d → kind d ≡ Ok a → optional_member kind name (Some d) ≡ Ok (Some a)
 found_again kind name a null h back = absurd h
 found_again kind name a (boolean b) h back = rw back refl
 found_again kind name a (number n) h back = rw back refl
@@ -17,7 +17,7 @@ found_again kind name a (array ds) h back = rw back refl
 found_again kind name a (object ms) h back = rw back refl
 
 pub value_again : {T A : Type 0} (kind : Data → Reading A) (meaning : T → A) (written : T → Data) (name : List ℕ) (value : Option T)
-    → ((t : T) → kind (written t) ≡ Ok (meaning t)) → IsValueKept written value → optional kind name (option_map written value) ≡ Ok (option_map meaning value)
+    → ((t : T) → kind (written t) ≡ Ok (meaning t)) → IsValueKept written value → optional_member kind name (option_map written value) ≡ Ok (option_map meaning value)
 value_again kind meaning written name None back h = refl
 value_again kind meaning written name (Some t) back h = found_again kind name (meaning t) (written t) h (back t)
 

@@ -4,7 +4,7 @@ use Rattle.serde_json.specs.Data.{Data, null, boolean, number, string, array, ob
 use Rattle.serde_json.specs.Find.{get_member}
 use Rattle.oauth2_json.specs.Reading.{Reading, read_then, ◌⊛◌}
 use Rattle.oauth2_json.specs.Writing.{Writing, write_then}
-use Rattle.oauth2_json.specs.Members.{members_of_object, optional, without, put_some, beside}
+use Rattle.oauth2_json.specs.Members.{members_of_object, optional_member, without, put_some, beside}
 
 -- the value of the named member, where it is there, and the other fields
 pub record MemberAndRest (T E : Type 0) : Type 0 where
@@ -21,7 +21,7 @@ with_member_seen f g fields = member_and_rest (option_map f fields.value) (g fie
 -- of an object: the member, which may be absent or null, and then the rest of the members left
 abbrev pub with_member_reading : {A F : Type 0} → List ℕ → (Data → Reading A) → (Data → Reading F) → Data → Reading (MemberAndRest A F)
 with_member_reading name kind rest d = read_then (members_of_object d) (λ ms.
-    Ok member_and_rest ⊛ optional kind name (get_member name ms) ⊛ rest (object (without name ms)))
+    Ok member_and_rest ⊛ optional_member kind name (get_member name ms) ⊛ rest (object (without name ms)))
 
 -- the member where it is there, beside the rest, which must not write that name
 abbrev pub with_member_writing : {T E : Type 0} → List ℕ → (T → Data) → (E → Writing) → MemberAndRest T E → Writing

@@ -17,7 +17,7 @@ pub trait MemberValue: fmt::Debug + Drop + Sized {
     ghost use Rattle.serde_json.specs.Data.{Data};
     ghost use Rattle.serde_json.specs.View.{view};
     ghost use Rattle.oauth2_json.specs.Reading.{Reading, ReadsAs};
-    ghost use Rattle.oauth2_json.specs.Members.{optional};
+    ghost use Rattle.oauth2_json.specs.Members.{optional_member};
 
     /// What contracts see of a value, wherever it lies in memory.
     ghost Meaning: { Type 0 };
@@ -37,7 +37,7 @@ pub trait MemberValue: fmt::Debug + Drop + Sized {
         found: Option<Value>,
     ) -> Result<Option<Self>, ReadError>
         ensures { ReadsAs (option_map meaning) result
-            (optional reading name.now (option_map view found)) };
+            (optional_member reading name.now (option_map view found)) };
 
     /// The JSON value of a member that may be absent.
     fn member_value(alloc: Global, value: &Option<Self>) -> Result<Option<Value>, AllocError>

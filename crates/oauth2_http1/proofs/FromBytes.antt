@@ -28,7 +28,7 @@ use Rattle.oauth2_http1.specs.Origin.{Place}
 use Rattle.oauth2_http1.specs.Message.{sent_fields}
 use Rattle.oauth2_http1.specs.Reply.{Terms, IsResponseOf, GivesReply}
 use Rattle.oauth2_http1.specs.Client.{Writes, Exchanges, CannotSend, NoReply, reply_terms}
-use Rattle.oauth2_http1.specs.FromBytes.{view_of_reply, BeginsWith, CannotPost, Sends, Replied, NotReplied, FromBytes}
+use Rattle.oauth2_http1.specs.FromBytes.{view_of_reply, BeginsWith, CannotPost, SendsBytes, Replied, NotReplied, FromBytes}
 use Rattle.oauth2_http1.proofs.Carried.{carried, unframed}
 use Rattle.oauth2_http1.proofs.Replies.{reply_unique}
 
@@ -121,7 +121,7 @@ module _ {C S E D A T X : Type 0} (opens : C → Place → Result S E → C → 
 
   sends : (request : HttpRequest) (sent : S) → IsRequestOf c text (view_of request)
       → Writes opens contents remaining before.connect request sent after.connect → after.bounds ≡ before.bounds
-      → Sends opens contents remaining c text before sent after
+      → SendsBytes opens contents remaining c text before sent after
   sends request sent is writes bounds = record {
     request = request;
     is = is;

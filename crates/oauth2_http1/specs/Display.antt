@@ -13,33 +13,33 @@ use Rattle.oauth2_http1.specs.declared.fault.ReplyFault.TheVariants as reply
 use Rattle.oauth2_http1.specs.declared.over.NoConnection.{NoConnection}
 
 -- the text of why HTTP/1.1 cannot carry a request
-abbrev pub write_error_text : WriteError → List ℕ
-write_error_text Write.InvalidStartLine = codes "no request line has this method and this target"
-write_error_text Write.InvalidHeader = codes "no field has this name and this value"
-write_error_text Write.Host = codes "it has a Host field of its own"
-write_error_text e = codes "its fields do not fit its body"
+abbrev pub http1_write_error_text : WriteError → List ℕ
+http1_write_error_text Write.InvalidStartLine = codes "no request line has this method and this target"
+http1_write_error_text Write.InvalidHeader = codes "no field has this name and this value"
+http1_write_error_text Write.Host = codes "it has a Host field of its own"
+http1_write_error_text e = codes "its fields do not fit its body"
 
 -- the text of why a request is not sent
-abbrev pub request_fault_text : RequestFault → Option (List ℕ)
-request_fault_text request.NoOrigin = Some (codes "request has no http or https target")
-request_fault_text request.OwnFraming = Some (codes "request frames its body itself")
-request_fault_text request.Connect = Some (codes "request asks for a tunnel")
-request_fault_text (request.Refused e) = Some (codes "request cannot be sent: " ++ write_error_text e)
-request_fault_text request.Memory = Some (codes "Out of memory")
+abbrev pub http1_request_fault_text : RequestFault → Option (List ℕ)
+http1_request_fault_text request.NoOrigin = Some (codes "request has no http or https target")
+http1_request_fault_text request.OwnFraming = Some (codes "request frames its body itself")
+http1_request_fault_text request.Connect = Some (codes "request asks for a tunnel")
+http1_request_fault_text (request.Refused e) = Some (codes "request cannot be sent: " ++ http1_write_error_text e)
+http1_request_fault_text request.Memory = Some (codes "Out of memory")
 
 -- the text of why a stream begins with no reply
-abbrev pub read_error_text : ReadError → List ℕ
-read_error_text (Read.Parse e) = codes "its head or its trailers do not parse"
-read_error_text Read.BareLineFeed = codes "a line ends in a line feed alone"
-read_error_text Read.TooLarge = codes "its head or its trailers are longer than the limit"
-read_error_text (Read.Framing e) = codes "its fields give its body no one end"
-read_error_text (Read.Chunk e) = codes "a chunk of its body does not parse"
-read_error_text Read.UnexpectedEof = codes "the connection closed before its end"
-read_error_text e = codes "it was not asked for"
+abbrev pub http1_read_error_text : ReadError → List ℕ
+http1_read_error_text (Read.Parse e) = codes "its head or its trailers do not parse"
+http1_read_error_text Read.BareLineFeed = codes "a line ends in a line feed alone"
+http1_read_error_text Read.TooLarge = codes "its head or its trailers are longer than the limit"
+http1_read_error_text (Read.Framing e) = codes "its fields give its body no one end"
+http1_read_error_text (Read.Chunk e) = codes "a chunk of its body does not parse"
+http1_read_error_text Read.UnexpectedEof = codes "the connection closed before its end"
+http1_read_error_text e = codes "it was not asked for"
 
 -- the text of why a reply is not read
 abbrev pub reply_fault_text : ReplyFault → Option (List ℕ)
-reply_fault_text (reply.Response e) = Some (codes "reply cannot be read: " ++ read_error_text e)
+reply_fault_text (reply.Response e) = Some (codes "reply cannot be read: " ++ http1_read_error_text e)
 reply_fault_text reply.TooLong = Some (codes "body of the reply is longer than the bound")
 reply_fault_text reply.TooManyReads = Some (codes "reply takes more reads than the bound")
 reply_fault_text reply.Fields = Some (codes "reply has a field that no map of headers holds")
@@ -47,11 +47,11 @@ reply_fault_text (reply.Read e) = Some (codes "connection cannot be read")
 reply_fault_text reply.Memory = Some (codes "Out of memory")
 
 -- the text of an error of a call, where that of the connector's error is `text`
-abbrev pub error_text : {E : Type 0} → (E → Option (List ℕ)) → Http1Error E → Option (List ℕ)
-error_text text (error.Request fault) = request_fault_text fault
-error_text text (error.Connect e) = option_map (λ bytes. codes "no connection: " ++ bytes) (text e)
-error_text text (error.Write e) = Some (codes "connection cannot be written")
-error_text text (error.Reply fault) = reply_fault_text fault
+abbrev pub http1_error_text : {E : Type 0} → (E → Option (List ℕ)) → Http1Error E → Option (List ℕ)
+http1_error_text text (error.Request fault) = http1_request_fault_text fault
+http1_error_text text (error.Connect e) = option_map (λ bytes. codes "no connection: " ++ bytes) (text e)
+http1_error_text text (error.Write e) = Some (codes "connection cannot be written")
+http1_error_text text (error.Reply fault) = reply_fault_text fault
 
 -- the text of a connection that was handed out before
 abbrev pub no_connection_text : NoConnection → Option (List ℕ)

@@ -49,7 +49,7 @@ module _ {C S E : Type 0} (opens : C → Place → Result S E → C → Type 0) 
     (c : Configuration) (text : List ℕ) where
   -- the configuration's request to the endpoint was written, whole and once, on one connection, which was opened to the place
   -- that the endpoint names; a server reads the bytes as this request, in no other way (RFC 9112, 3 and 6; RFC 6749, 2.3.1)
-  pub record Sends (before : Http1Client C) (sent : S) (after : Http1Client C) : Type 0 where
+  pub record SendsBytes (before : Http1Client C) (sent : S) (after : Http1Client C) : Type 0 where
     pub request : HttpRequest
     pub is : IsRequestOf c text (view_of request)
     pub writes : Writes opens contents remaining before.connect request sent after.connect
@@ -59,7 +59,7 @@ module _ {C S E : Type 0} (opens : C → Place → Result S E → C → Type 0) 
   -- it was sent, and this is said of the reply that the bytes begin with which came
   pub record Replied (before after : Http1Client C) (Says : ReplyView → Type 0) : Type 0 where
     pub sent : S
-    pub sends : Sends before sent after
+    pub sends : SendsBytes before sent after
     pub view : ReplyView
     pub says : Says view
     pub within : length view.body ≤ before.bounds.max_body
@@ -76,7 +76,7 @@ module _ {C S E : Type 0} (opens : C → Place → Result S E → C → Type 0) 
       (after.bounds ≡ before.bounds) × (request : HttpRequest) × IsRequestOf c text (view_of request)
       × (opened : S) × Opens opens contents remaining before.connect request (Ok opened) after.connect × CanSend request
   NotReplied before (http.Reply fault) after =
-      (sent : S) × Sends before sent after × NoReply fault before.bounds (codes "POST") (remaining sent)
+      (sent : S) × SendsBytes before sent after × NoReply fault before.bounds (codes "POST") (remaining sent)
 
   module _ {D A T X : Type 0} (meaning : D → A) (error_meaning : T → X) (says : ReplyView → Answer A X) where
     -- by the result: a value (RFC 6749, 5.1), an error response (5.2) and a fault are what the reply says that came; the other

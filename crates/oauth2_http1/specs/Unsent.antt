@@ -15,13 +15,13 @@ use Rattle.oauth2_http1.specs.Origin.{Place, origin_form}
 use Rattle.oauth2_http1.specs.Message.{body_size, sent_fields}
 
 -- a refusal of the kit's client as a fault
-abbrev pub fault_of : WriteError → RequestFault
-fault_of OutOfMemory = Fault.Memory
-fault_of e = Fault.Refused e
+abbrev pub fault_of_write_error : WriteError → RequestFault
+fault_of_write_error OutOfMemory = Fault.Memory
+fault_of_write_error e = Fault.Refused e
 
 -- why the kit's client writes no head with these parts: two `Host` fields, no request line, or no field (RFC 9112, 3, 3.2 and 5)
-abbrev pub refusal : List ℕ → List ℕ → List Header → List ℕ → Option WriteError
-refusal method target fields body =
+abbrev pub write_error : List ℕ → List ℕ → List Header → List ℕ → Option WriteError
+write_error method target fields body =
     plan_refusal (plan_fields (method_kind method) (body_size method body) fields) (is_request_line method target 1) fields
 
 -- why no bytes were made of a request with these parts
@@ -29,7 +29,7 @@ abbrev pub Unsent : RequestFault → List ℕ → List ℕ → List Header → L
 Unsent Fault.NoOrigin method target fields body = ⊥
 Unsent Fault.OwnFraming method target fields body = IsTrue (states_framing (known_fields fields))
 Unsent Fault.Connect method target fields body = IsTrue (is_connect (method_kind method))
-Unsent (Fault.Refused e) method target fields body = refusal method target fields body ≡ Some e
+Unsent (Fault.Refused e) method target fields body = write_error method target fields body ≡ Some e
 Unsent Fault.Memory method target fields body = ⊤
 
 -- why no bytes were made of a request to a place

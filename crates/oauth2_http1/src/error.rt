@@ -18,11 +18,11 @@ pub enum Http1Error<E> {
 }
 
 impl<E: fmt::Display> fmt::Display for Http1Error<E> {
-    ghost use Rattle.oauth2_http1.specs.Display.{error_text};
+    ghost use Rattle.oauth2_http1.specs.Display.{http1_error_text};
 
-    ghost output = { error_text E.output };
+    ghost output = { http1_error_text E.output };
 
-    ghost styled_output = { λ error _. error_text E.output error };
+    ghost styled_output = { λ error _. http1_error_text E.output error };
 
     fn fmt<W: fmt::Write>(&self, f: &mut fmt::Formatter<W>) -> fmt::Result {
         match self {

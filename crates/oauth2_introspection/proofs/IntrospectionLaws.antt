@@ -4,10 +4,10 @@ use Rattle.serde_json.specs.Data.{Data, Members, boolean, string, array, object}
 use Rattle.serde_json.specs.Find.{get_member}
 use Rattle.oauth2_json.specs.Reading.{Reading, ◌⊛◌}
 use Rattle.oauth2_json.specs.Writing.{Writing, write_then}
-use Rattle.oauth2_json.specs.Members.{members_of_object, present, others, clashes, beside, optional_writing}
-use Rattle.oauth2_json.specs.Values.{lowered, text_items}
+use Rattle.oauth2_json.specs.Members.{members_of_object, present_member, others, clashes, beside, optional_writing}
+use Rattle.oauth2_json.specs.Values.{lowercase_reading, text_items}
 use Rattle.oauth2_introspection.specs.Instants.{second_data, IsWholeSeconds}
-use Rattle.oauth2_json.specs.Words.{joined}
+use Rattle.oauth2_json.specs.Words.{joined_words}
 use Rattle.oauth2_json.specs.Puts.{put_all}
 use Rattle.oauth2_json.proofs.Puts.{found, rest}
 use Rattle.oauth2_json.proofs.Objects.{get_member-others, beside_taken, optional-text}
@@ -77,18 +77,18 @@ kept_rows er tr b all kept k any = read_in_turn er tr (object kept) kept refl �
 
 -- a token type that may be absent, written and read
 type_back : {T M : Type 0} (tr : Data → Reading M) (tm : T → M) (tw : T → Writing) (name : List ℕ) (o : Option T) → IfSome o (IsTypeKept tr tm tw)
-    → (v : Option Data) × (optional_writing tw o ≡ Ok v) × (present (lowered tr) name v ≡ Ok (option_map tm o))
+    → (v : Option Data) × (optional_writing tw o ≡ Ok v) × (present_member (lowercase_reading tr) name v ≡ Ok (option_map tm o))
 type_back tr tm tw name None k = (None, refl, refl)
 type_back tr tm tw name (Some t) k = (Some (string k.type_text), (rw k.written refl), rw (k.lowered, k.back) refl)
 
 -- what was put beside the extra members is found again
 pub introspection_again : {E T : Type 0} (er : Data → Reading E) (tr : Data → Reading T) (tv : Option Data) (r : Introspection E T) (ms : Members)
-    → clashes own_names ms ≡ false → present (lowered tr) (codes "token_type") tv ≡ Ok r.token_type → AreScopesKept r.scopes → AreInstants r → IfSome r.exp IsWholeSeconds → IfSome r.iat IsWholeSeconds → IfSome r.nbf IsWholeSeconds → er (object ms) ≡ Ok r.extra_fields
+    → clashes own_names ms ≡ false → present_member (lowercase_reading tr) (codes "token_type") tv ≡ Ok r.token_type → AreScopesKept r.scopes → AreInstants r → IfSome r.exp IsWholeSeconds → IfSome r.iat IsWholeSeconds → IfSome r.nbf IsWholeSeconds → er (object ms) ≡ Ok r.extra_fields
     → introspection_row er tr (put_all (own_rows tv r) ms) ≡ Ok r
 introspection_again er tr tv r ms free type_kept scopes in_range exp iat nbf again =
     let rs = own_rows tv r in
     let in_active : get_member (codes "active") (put_all rs ms) ≡ Some (boolean r.active) = found (codes "active") rs ms refl free in
-    let in_scope : get_member (codes "scope") (put_all rs ms) ≡ option_map (λ ps. string (joined ps)) r.scopes = found (codes "scope") rs ms refl free in
+    let in_scope : get_member (codes "scope") (put_all rs ms) ≡ option_map (λ ps. string (joined_words ps)) r.scopes = found (codes "scope") rs ms refl free in
     let in_client_id : get_member (codes "client_id") (put_all rs ms) ≡ option_map string r.client_id = found (codes "client_id") rs ms refl free in
     let in_username : get_member (codes "username") (put_all rs ms) ≡ option_map string r.username = found (codes "username") rs ms refl free in
     let in_token_type : get_member (codes "token_type") (put_all rs ms) ≡ tv = found (codes "token_type") rs ms refl free in

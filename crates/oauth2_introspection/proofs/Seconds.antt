@@ -4,7 +4,7 @@ use Rattle.serde_json.specs.Find.{of_integer}
 use Rattle.jiff.specs.Words.{IsTimestampNanos}
 use Rattle.jiff.proofs.SpanFacts.{signed_arith}
 use Rattle.jiff_core.specs.declared.timestamp.Timestamp.{Timestamp}
-use Rattle.oauth2_json.specs.Members.{optional}
+use Rattle.oauth2_json.specs.Members.{optional_member}
 use Rattle.oauth2_introspection.specs.Instants.{instant, instant_at, instant_of, is_instant, second_of, second_data, IsWholeSeconds}
 
 pub whole_seconds_stay : (z : ℤ) → second_of (z *ℤ pos 1_000_000_000) ≡ z
@@ -31,10 +31,10 @@ within n h =
     rw (low, high) refl
 
 pub optional-time : (name : List ℕ) (o : Option Timestamp) → IfSome (option_map (λ t. t.nanosecond) o) IsWholeSeconds
-    → optional instant name (option_map second_data (option_map (λ t. t.nanosecond) o)) ≡ Ok (option_map (λ t. t.nanosecond) o)
+    → optional_member instant name (option_map second_data (option_map (λ t. t.nanosecond) o)) ≡ Ok (option_map (λ t. t.nanosecond) o)
 optional-time name None w = refl
 optional-time name (Some t) w = rw (integer (second_of t.nanosecond), second_of-whole t.nanosecond w, within t.nanosecond t.in_range) refl
 
-pub optional-instant : (name : List ℕ) (o : Option ℤ) → IfSome o (λ n. is_instant n ≡ true) → IfSome o IsWholeSeconds → optional instant name (option_map second_data o) ≡ Ok o
+pub optional-instant : (name : List ℕ) (o : Option ℤ) → IfSome o (λ n. is_instant n ≡ true) → IfSome o IsWholeSeconds → optional_member instant name (option_map second_data o) ≡ Ok o
 optional-instant name None r w = refl
 optional-instant name (Some n) r w = rw (integer (second_of n), second_of-whole n w, r) refl

@@ -4,10 +4,10 @@ use Rattle.serde_json.specs.Data.{Data, Members, boolean, string, array, object}
 use Rattle.serde_json.specs.Find.{get_member}
 use Rattle.oauth2_json.specs.Reading.{Reading, read_then, ◌⊛◌}
 use Rattle.oauth2_json.specs.Writing.{Writing, write_then}
-use Rattle.oauth2_json.specs.Members.{members_of_object, needed, optional, present, others, beside, optional_writing}
-use Rattle.oauth2_json.specs.Values.{text, flag, lowered, spaced, texts, text_items}
+use Rattle.oauth2_json.specs.Members.{members_of_object, needed_member, optional_member, present_member, others, beside, optional_writing}
+use Rattle.oauth2_json.specs.Values.{text, flag, lowercase_reading, words_reading, texts, text_items}
 use Rattle.oauth2_introspection.specs.Instants.{instant, second_data, IsWholeSeconds}
-use Rattle.oauth2_json.specs.Words.{joined}
+use Rattle.oauth2_json.specs.Words.{joined_words}
 use Rattle.oauth2_json.specs.Puts.{Row, put_all}
 use Rattle.oauth2_replies.specs.Kept.{IsTypeKept, AreFieldsKept, AreScopesKept}
 
@@ -60,18 +60,18 @@ abbrev pub introspection_rows : {E T : Type 0} → (Data → Reading E) → (Dat
     → Members → Reading (Introspection E T)
 introspection_rows extra_fields token_type a s c u t e i n b d o j rest =
     Ok introspection
-    ⊛ needed flag (codes "active") a
-    ⊛ optional (spaced text) (codes "scope") s
-    ⊛ optional text (codes "client_id") c
-    ⊛ optional text (codes "username") u
-    ⊛ present (lowered token_type) (codes "token_type") t
-    ⊛ optional instant (codes "exp") e
-    ⊛ optional instant (codes "iat") i
-    ⊛ optional instant (codes "nbf") n
-    ⊛ optional text (codes "sub") b
-    ⊛ optional texts (codes "aud") d
-    ⊛ optional text (codes "iss") o
-    ⊛ optional text (codes "jti") j
+    ⊛ needed_member flag (codes "active") a
+    ⊛ optional_member (words_reading text) (codes "scope") s
+    ⊛ optional_member text (codes "client_id") c
+    ⊛ optional_member text (codes "username") u
+    ⊛ present_member (lowercase_reading token_type) (codes "token_type") t
+    ⊛ optional_member instant (codes "exp") e
+    ⊛ optional_member instant (codes "iat") i
+    ⊛ optional_member instant (codes "nbf") n
+    ⊛ optional_member text (codes "sub") b
+    ⊛ optional_member texts (codes "aud") d
+    ⊛ optional_member text (codes "iss") o
+    ⊛ optional_member text (codes "jti") j
     ⊛ extra_fields (object rest)
 
 abbrev pub introspection_row : {E T : Type 0} → (Data → Reading E) → (Data → Reading T) → Members → Reading (Introspection E T)
@@ -98,7 +98,7 @@ introspection_reading extra_fields token_type d = read_then (members_of_object d
 abbrev pub own_rows : {E T : Type 0} → Option Data → Introspection E T → List Row
 own_rows token_type r =
     (codes "active", Some (boolean r.active))
-    ∷ (codes "scope", option_map (λ scopes. string (joined scopes)) r.scopes)
+    ∷ (codes "scope", option_map (λ scopes. string (joined_words scopes)) r.scopes)
     ∷ (codes "client_id", option_map string r.client_id)
     ∷ (codes "username", option_map string r.username)
     ∷ (codes "token_type", token_type)

@@ -3,7 +3,7 @@
 ghost use Rattle.std.specs.Prelude.{◌≡◌, ℕ, ℤ, List, Ok, IfSome, option_map};
 ghost use Rattle.serde_json.specs.View.{view};
 ghost use Rattle.oauth2_json.specs.Reading.{ReadsAs};
-ghost use Rattle.oauth2_json.specs.Members.{needed, optional};
+ghost use Rattle.oauth2_json.specs.Members.{needed_member, optional_member};
 ghost use Rattle.oauth2_introspection.specs.Instants.{
   instant,
   instant_at,
@@ -61,7 +61,7 @@ pub fn optional_time(
     found: Option<Value>,
 ) -> Result<Option<Timestamp>, ReadError>
     ensures { ReadsAs (option_map (λ t. t.nanosecond)) result
-        (optional instant name.now (option_map view found)) }
+        (optional_member instant name.now (option_map view found)) }
 {
     match members::optional::<Instant>(alloc, name, found)? {
         Some(Instant(at)) => Ok(Some(at)),
@@ -73,7 +73,7 @@ pub fn optional_time(
 /// `optional_time`, and `Missing` and `WrongType` where it is absent or null.
 pub fn needed_time(alloc: Global, name: &str, found: Option<Value>) -> Result<Timestamp, ReadError>
     ensures { ReadsAs (λ t. t.nanosecond) result
-        (needed instant name.now (option_map view found)) }
+        (needed_member instant name.now (option_map view found)) }
 {
     let Instant(at) = members::needed::<Instant>(alloc, name, found)?;
     Ok(at)
@@ -92,7 +92,8 @@ pub fn time_value(at: Option<Timestamp>) -> Option<Value>
         ≡ option_map second_data (option_map (λ t. t.nanosecond) at) }
     ensures reads_back { (name : List ℕ)
         → IfSome (option_map (λ t. t.nanosecond) at) IsWholeSeconds
-        → optional instant name (option_map view result) ≡ Ok (option_map (λ t. t.nanosecond) at) }
+        → optional_member instant name (option_map view result)
+        ≡ Ok (option_map (λ t. t.nanosecond) at) }
 {
     match at {
         Some(at) => Some(Value::from(second_of(at))),

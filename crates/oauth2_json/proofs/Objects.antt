@@ -13,7 +13,7 @@ use Rattle.serde_json.specs.Written.{members_have_float}
 use Rattle.serde_json.specs.View.{view, members_view}
 use Rattle.serde_json.specs.declared.value.Value.{Value}
 use Rattle.serde_json.proofs.Views.{Entry, view-lookup, get_member-put, get_member-put_other}
-use Rattle.oauth2_json.specs.Members.{without, others, put_some, optional, clashes, beside}
+use Rattle.oauth2_json.specs.Members.{without, others, put_some, optional_member, clashes, beside}
 use Rattle.oauth2_json.specs.Values.{text, whole_number}
 use Rattle.oauth2_json.specs.Writing.{Writing, WritesAs, write_then, name_clash, float}
 use Rattle.oauth2_json.specs.declared.write.WriteError.{WriteError}
@@ -106,7 +106,7 @@ without-some k (Some d) ms h = without-put k d ms h
 
 -- ---- optional members read back
 
-pub optional-text : (name : List ℕ) (o : Option (List ℕ)) → optional text name (option_map string o) ≡ Ok o
+pub optional-text : (name : List ℕ) (o : Option (List ℕ)) → optional_member text name (option_map string o) ≡ Ok o
 optional-text name None = refl
 optional-text name (Some s) = refl
 
@@ -146,6 +146,6 @@ taken_if false false ms f d h = (refl, cc)
 pub beside_taken : (own : List (List ℕ)) (ms : Members) (f : Members → Data) (d : Data) → write_then (beside own (object ms)) (λ m. Ok (f m)) ≡ Ok d → (clashes own ms ≡ false) × (f ms ≡ d)
 beside_taken own ms f d h = taken_if (clashes own ms) (members_have_float ms) ms f d h
 
-pub optional-number : (name : List ℕ) (o : Option ℕ) → optional whole_number name (option_map (λ n. number (unsigned n)) o) ≡ Ok o
+pub optional-number : (name : List ℕ) (o : Option ℕ) → optional_member whole_number name (option_map (λ n. number (unsigned n)) o) ≡ Ok o
 optional-number name None = refl
 optional-number name (Some n) = refl

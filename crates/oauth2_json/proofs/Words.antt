@@ -6,12 +6,12 @@ use Rattle.std.proofs.lemmas.Option.{MatchOption-at_some, MatchOption-at_none}
 use Rattle.std.proofs.lemmas.Str.Pattern.{IsSplitOnceResult, split_parts}
 use Rattle.serde_json.specs.Data.{Data, string}
 use Rattle.oauth2_json.specs.Reading.{Reading, Fault, fault_of, ErrsAs, at_member, ◌⊛◌}
-use Rattle.oauth2_json.specs.Values.{each, spaced, text}
-use Rattle.oauth2_json.specs.Members.{optional, some_of}
+use Rattle.oauth2_json.specs.Values.{each_word, words_reading, text}
+use Rattle.oauth2_json.specs.Members.{optional_member, some_of}
 use Rattle.oauth2_json.specs.Helpers.{nullable, words_data}
 use Rattle.oauth2_json.specs.declared.read.ReadError.{ReadError}
 use Rattle.oauth2_json.specs.declared.read.ReadError.TheVariants as errors
-use Rattle.oauth2_json.specs.Words.{onto_first, pieces, joined, has_no_space, are_words}
+use Rattle.oauth2_json.specs.Words.{onto_first, pieces, joined_words, has_no_space, are_words}
 use Rattle.oauth2_json.specs.private.Words.{each_after_space, lead}
 
 no_space : (x : List ℕ) → ((i : ℕ) → i < length x → get_or x i 0 ≢ 32) → has_no_space x ≡ true
@@ -55,11 +55,11 @@ turn (Ok later) done a = ap Ok (append_assoc done (a ∷ []) later)
 turn (Err e) done a = refl
 
 pub each_turn : {A : Type 0} (kind : Data → Reading A) (done : List A) (x : List ℕ) (ps : List (List ℕ)) (a : A) → at_member [] (kind (string x)) ≡ Ok a
-    → in_front (done ++ a ∷ []) (each kind ps) ≡ in_front done (each kind (x ∷ ps))
-each_turn kind done x ps a e = rw e (turn (each kind ps) done a)
+    → in_front (done ++ a ∷ []) (each_word kind ps) ≡ in_front done (each_word kind (x ∷ ps))
+each_turn kind done x ps a e = rw e (turn (each_word kind ps) done a)
 
 pub each_fault : {A : Type 0} (kind : Data → Reading A) (done : List A) (x : List ℕ) (ps : List (List ℕ)) (f : Fault) → at_member [] (kind (string x)) ≡ Err f
-    → in_front done (each kind (x ∷ ps)) ≡ Err f
+    → in_front done (each_word kind (x ∷ ps)) ≡ Err f
 each_fault kind done x ps f e = rw e refl
 
 pub some_parts : (bs : List ℕ) (r : Option (Bor (List ℕ) × Bor (List ℕ))) (x y : Bor (List ℕ)) → IsSplitOnceResult 32 bs r → r ≡ Some (x, y) → pieces bs ≡ x.now ∷ pieces y.now
@@ -75,13 +75,13 @@ later_shorter bs r x y h is =
 pub none_parts : (bs : List ℕ) (r : Option (Bor (List ℕ) × Bor (List ℕ))) → IsSplitOnceResult 32 bs r → r ≡ None → pieces bs ≡ bs ∷ []
 none_parts bs r h is = pieces_end bs (MatchOption-at_none _ _ is (split_parts 32 bs r h (omega arith)))
 
-pub ends_with_fault : {A : Type 0} (e : ReadError) (kind : Data → Reading A) (done : List A) (x : List ℕ) (ps qs : List (List ℕ)) (all : Reading (List A)) → ErrsAs e (at_member [] (kind (string x))) → qs ≡ x ∷ ps → in_front done (each kind qs) ≡ all → ErrsAs e all
+pub ends_with_fault : {A : Type 0} (e : ReadError) (kind : Data → Reading A) (done : List A) (x : List ℕ) (ps qs : List (List ℕ)) (all : Reading (List A)) → ErrsAs e (at_member [] (kind (string x))) → qs ≡ x ∷ ps → in_front done (each_word kind qs) ≡ all → ErrsAs e all
 ends_with_fault errors.Memory kind done x ps qs all h is e = tt
 ends_with_fault (errors.Fault f) kind done x ps qs all h is e = sym e ∙ rw is (each_fault kind done x ps (fault_of f) h)
 
 -- ---- the laws of words
 
-pub joined-after : (p : List ℕ) (qs : List (List ℕ)) → p ++ each_after_space qs ≡ joined (p ∷ qs)
+pub joined-after : (p : List ℕ) (qs : List (List ℕ)) → p ++ each_after_space qs ≡ joined_words (p ∷ qs)
 joined-after p [] = append-nil p
 joined-after p (q ∷ qs) = ap (λ r. p ++ 32 ∷ r) (joined-after q qs)
 
@@ -90,12 +90,12 @@ both true b h = (refl, h)
 both false b h = (h, cc)
 
 -- a list of words is read back
-pub pieces-joined : (ps : List (List ℕ)) → are_words ps ≡ true → pieces (joined ps) ≡ ps
+pub pieces-joined : (ps : List (List ℕ)) → are_words ps ≡ true → pieces (joined_words ps) ≡ ps
 pieces-joined [] h = cc
 pieces-joined (p ∷ []) h = pieces-last p (both _ _ h).0
 pieces-joined (p ∷ q ∷ ps) h =
     let h' = both _ _ h in
-    pieces-split p (joined (q ∷ ps)) h'.0 ∙ ap (λ r. p ∷ r) (pieces-joined (q ∷ ps) h'.1)
+    pieces-split p (joined_words (q ∷ ps)) h'.0 ∙ ap (λ r. p ∷ r) (pieces-joined (q ∷ ps) h'.1)
 
 onto_words : (b : Bool) (c : ℕ) (ps : List (List ℕ)) → b ≡ eqb c 32 → are_words ps ≡ true → are_words (cond b ([] ∷ ps) (onto_first c ps)) ≡ true
 onto_words true c [] e h = refl
@@ -108,31 +108,31 @@ pieces-words [] = refl
 pieces-words (c ∷ cs) = onto_words (eqb c 32) c (pieces cs) refl (pieces-words cs)
 
 -- and nothing else is
-pub words_only : (ps : List (List ℕ)) → pieces (joined ps) ≡ ps → are_words ps ≡ true
-words_only ps e = rw e at (pieces-words (joined ps))
+pub words_only : (ps : List (List ℕ)) → pieces (joined_words ps) ≡ ps → are_words ps ≡ true
+words_only ps e = rw e at (pieces-words (joined_words ps))
 
 eqb_yes : (a b : ℕ) → eqb a b ≡ true → a ≡ b
 eqb_yes a b h = elim (eqb_tells a b) [ inl w ↦ w.1 | inr w ↦ cc (h, w.0) ]
 
-join_onto : (b : Bool) (c : ℕ) (ps : List (List ℕ)) → b ≡ eqb c 32 → are_words ps ≡ true → joined (cond b ([] ∷ ps) (onto_first c ps)) ≡ c ∷ joined ps
+join_onto : (b : Bool) (c : ℕ) (ps : List (List ℕ)) → b ≡ eqb c 32 → are_words ps ≡ true → joined_words (cond b ([] ∷ ps) (onto_first c ps)) ≡ c ∷ joined_words ps
 join_onto true c [] e h = cc
-join_onto true c (p ∷ ps) e h = ap (λ d. d ∷ joined (p ∷ ps)) (sym (eqb_yes c 32 (sym e)))
+join_onto true c (p ∷ ps) e h = ap (λ d. d ∷ joined_words (p ∷ ps)) (sym (eqb_yes c 32 (sym e)))
 join_onto false c [] e h = refl
 join_onto false c (p ∷ []) e h = refl
 join_onto false c (p ∷ q ∷ ps) e h = refl
 
 -- the text is the one of its pieces
-pub joined-pieces : (s : List ℕ) → joined (pieces s) ≡ s
+pub joined-pieces : (s : List ℕ) → joined_words (pieces s) ≡ s
 joined-pieces [] = refl
 joined-pieces (c ∷ cs) = join_onto (eqb c 32) c (pieces cs) refl (pieces-words cs) ∙ ap (λ r. c ∷ r) (joined-pieces cs)
 
 -- texts are read as themselves
-pub each-text : (ps : List (List ℕ)) → each text ps ≡ Ok ps
+pub each-text : (ps : List (List ℕ)) → each_word text ps ≡ Ok ps
 each-text [] = refl
 each-text (p ∷ ps) = rw (each-text ps)
 
 abbrev pub still : Bool → List (List ℕ) → List ℕ
-still is_first ps = cond is_first (joined ps) (each_after_space ps)
+still is_first ps = cond is_first (joined_words ps) (each_after_space ps)
 
 pub still_word : (b : Bool) (t p : List ℕ) (ps : List (List ℕ)) → (t ++ lead b p) ++ still false ps ≡ t ++ still b (p ∷ ps)
 still_word true t p ps = append_assoc t p _ ∙ ap (λ r. t ++ r) (joined-after p ps)
@@ -146,17 +146,17 @@ pub ruleset words_facts = (still_word, still-nil)
 
 -- ---- lists that may be absent
 
-pub optional-words : (name : List ℕ) (o : Option (List (List ℕ))) → IfSome o (λ ps. IsTrue (are_words ps)) → optional (spaced text) name (option_map (λ ps. string (joined ps)) o) ≡ Ok o
+pub optional-words : (name : List ℕ) (o : Option (List (List ℕ))) → IfSome o (λ ps. IsTrue (are_words ps)) → optional_member (words_reading text) name (option_map (λ ps. string (joined_words ps)) o) ≡ Ok o
 optional-words name None h = refl
 optional-words name (Some ps) h = rw (pieces-joined ps h, each-text ps) refl
 
 ok_inner : {A : Type 0} (a b : A) → some_of (at_member [] (Ok a)) ≡ Ok (Some b) → a ≡ b
 ok_inner a b h = cc
 
-words_back_at : (o : Option (List (List ℕ))) → (nullable (spaced text) (words_data o) ≡ Ok o) ↔ IfSome o (λ ps. IsTrue (are_words ps))
+words_back_at : (o : Option (List (List ℕ))) → (nullable (words_reading text) (words_data o) ≡ Ok o) ↔ IfSome o (λ ps. IsTrue (are_words ps))
 words_back_at None = (λ _. tt, λ _. refl)
-words_back_at (Some ps) = (λ h. words_only ps (ok_inner (pieces (joined ps)) ps (rw (each-text (pieces (joined ps))) at h)), λ w. rw (pieces-joined ps w, each-text ps) refl)
+words_back_at (Some ps) = (λ h. words_only ps (ok_inner (pieces (joined_words ps)) ps (rw (each-text (pieces (joined_words ps))) at h)), λ w. rw (pieces-joined ps w, each-text ps) refl)
 
 -- a list reads back exactly where it is one of words
-pub words_back : (o : Option (List (List ℕ))) (d : Data) → d ≡ words_data o → (nullable (spaced text) d ≡ Ok o) ↔ IfSome o (λ ps. IsTrue (are_words ps))
+pub words_back : (o : Option (List (List ℕ))) (d : Data) → d ≡ words_data o → (nullable (words_reading text) d ≡ Ok o) ↔ IfSome o (λ ps. IsTrue (are_words ps))
 words_back o d e = rw e (words_back_at o)

@@ -5,7 +5,7 @@ use Rattle.serde_json.specs.Find.{get_member}
 use Rattle.oauth2_types.specs.Pkce.{Challenge}
 use Rattle.oauth2_json.specs.Reading.{Reading, read_then, ◌⊛◌}
 use Rattle.oauth2_json.specs.Writing.{Writing}
-use Rattle.oauth2_json.specs.Members.{members_of_object, needed}
+use Rattle.oauth2_json.specs.Members.{members_of_object, needed_member}
 use Rattle.oauth2_json.specs.Puts.{Row, put_all}
 use Rattle.oauth2_json.specs.Values.{text}
 
@@ -16,8 +16,8 @@ challenge c m = record { text = c; method = m }
 abbrev pub challenge_row : Members → Reading Challenge
 challenge_row ms =
     Ok challenge
-    ⊛ needed text (codes "code_challenge") (get_member (codes "code_challenge") ms)
-    ⊛ needed text (codes "code_challenge_method") (get_member (codes "code_challenge_method") ms)
+    ⊛ needed_member text (codes "code_challenge") (get_member (codes "code_challenge") ms)
+    ⊛ needed_member text (codes "code_challenge_method") (get_member (codes "code_challenge_method") ms)
 
 abbrev pub challenge_reading : Data → Reading Challenge
 challenge_reading d = read_then (members_of_object d) challenge_row

@@ -6,7 +6,7 @@ use Rattle.serde_json.specs.Written.{members_have_float}
 use Rattle.serde_json.specs.Data.{Data, null, boolean, number, string, array, object, Members, no_members, member, put}
 use Rattle.serde_json.specs.Find.{get_member}
 use Rattle.oauth2_json.specs.Reading.{Reading, whole, at_member}
-use Rattle.oauth2_json.specs.Writing.{Writing, Refusal, name_clash, float as refused_float}
+use Rattle.oauth2_json.specs.Writing.{Writing, WriteRefusal, name_clash, float as refused_float}
 use Rattle.oauth2_json.specs.declared.read.ParseCause.TheVariants as cause
 
 abbrev pub members_of_object : Data → Reading Members
@@ -18,36 +18,36 @@ members_of_object (array ds) = Err (whole cause.NotObject)
 members_of_object (object ms) = Ok ms
 
 -- absent is `Missing`, and null of a wrong type
-abbrev pub needed : {A : Type 0} → (Data → Reading A) → List ℕ → Option Data → Reading A
-needed kind name None = Err (record { member = name; cause = cause.Missing })
-needed kind name (Some null) = Err (record { member = name; cause = cause.WrongType })
-needed kind name (Some d) = at_member name (kind d)
+abbrev pub needed_member : {A : Type 0} → (Data → Reading A) → List ℕ → Option Data → Reading A
+needed_member kind name None = Err (record { member = name; cause = cause.Missing })
+needed_member kind name (Some null) = Err (record { member = name; cause = cause.WrongType })
+needed_member kind name (Some d) = at_member name (kind d)
 
 abbrev pub some_of : {A : Type 0} → Reading A → Reading (Option A)
 some_of (Ok a) = Ok (Some a)
 some_of (Err e) = Err e
 
 -- absent and null are none
-abbrev pub optional : {A : Type 0} → (Data → Reading A) → List ℕ → Option Data → Reading (Option A)
-optional kind name None = Ok None
-optional kind name (Some null) = Ok None
-optional kind name (Some d) = some_of (at_member name (kind d))
+abbrev pub optional_member : {A : Type 0} → (Data → Reading A) → List ℕ → Option Data → Reading (Option A)
+optional_member kind name None = Ok None
+optional_member kind name (Some null) = Ok None
+optional_member kind name (Some d) = some_of (at_member name (kind d))
 
 -- absent is none; what is there is read, null too
-abbrev pub present : {A : Type 0} → (Data → Reading A) → List ℕ → Option Data → Reading (Option A)
-present kind name None = Ok None
-present kind name (Some d) = some_of (at_member name (kind d))
+abbrev pub present_member : {A : Type 0} → (Data → Reading A) → List ℕ → Option Data → Reading (Option A)
+present_member kind name None = Ok None
+present_member kind name (Some d) = some_of (at_member name (kind d))
 
 -- absent and null are `a`
-abbrev pub defaulted : {A : Type 0} → (Data → Reading A) → List ℕ → A → Option Data → Reading A
-defaulted kind name a None = Ok a
-defaulted kind name a (Some null) = Ok a
-defaulted kind name a (Some d) = at_member name (kind d)
+abbrev pub member_or : {A : Type 0} → (Data → Reading A) → List ℕ → A → Option Data → Reading A
+member_or kind name a None = Ok a
+member_or kind name a (Some null) = Ok a
+member_or kind name a (Some d) = at_member name (kind d)
 
 -- what stands under one of two names, never both; null counts as there
 abbrev pub either_name : {A : Type 0} → (Data → Reading A) → List ℕ → Option Data → Option Data → Reading A
-either_name kind name None o = needed kind name o
-either_name kind name (Some d) None = needed kind name (Some d)
+either_name kind name None o = needed_member kind name o
+either_name kind name (Some d) None = needed_member kind name (Some d)
 either_name kind name (Some d) (Some e) = Err (record { member = name; cause = cause.BothNames })
 
 -- the members but the one of that name
@@ -68,11 +68,11 @@ put_some k None ms = ms
 put_some k (Some d) ms = put k d ms
 
 -- a value that may be absent, as its writer writes it
-abbrev pub some_written : Writing → Result (Option Data) Refusal
+abbrev pub some_written : Writing → Result (Option Data) WriteRefusal
 some_written (Ok d) = Ok (Some d)
 some_written (Err e) = Err e
 
-abbrev pub optional_writing : {T : Type 0} → (T → Writing) → Option T → Result (Option Data) Refusal
+abbrev pub optional_writing : {T : Type 0} → (T → Writing) → Option T → Result (Option Data) WriteRefusal
 optional_writing w None = Ok None
 optional_writing w (Some t) = some_written (w t)
 
@@ -82,7 +82,7 @@ clashes [] ms = false
 clashes (k ∷ ks) ms = is_some (get_member k ms) || clashes ks ms
 
 -- the members that stand beside a type's own: none bears an own name, and none holds a float
-abbrev pub beside : List (List ℕ) → Data → Result Members Refusal
+abbrev pub beside : List (List ℕ) → Data → Result Members WriteRefusal
 beside own null = Err name_clash
 beside own (boolean b) = Err name_clash
 beside own (number n) = Err name_clash

@@ -57,17 +57,17 @@ url d = read_then (text d) url_text
 -- ---- texts that hold another value, or several
 
 -- a text, its ASCII letters lowered, as `kind` reads it
-abbrev pub lowered : {A : Type 0} → (Data → Reading A) → Data → Reading A
-lowered kind d = read_then (text d) (λ s. kind (string (map to_ascii_lowercase s)))
+abbrev pub lowercase_reading : {A : Type 0} → (Data → Reading A) → Data → Reading A
+lowercase_reading kind d = read_then (text d) (λ s. kind (string (map to_ascii_lowercase s)))
 
 -- each piece as `kind` reads it; a fault names no member
-abbrev pub each : {A : Type 0} → (Data → Reading A) → List (List ℕ) → Reading (List A)
-each kind [] = Ok []
-each kind (p ∷ ps) = Ok (λ first later. first ∷ later) ⊛ at_member [] (kind (string p)) ⊛ each kind ps
+abbrev pub each_word : {A : Type 0} → (Data → Reading A) → List (List ℕ) → Reading (List A)
+each_word kind [] = Ok []
+each_word kind (p ∷ ps) = Ok (λ first later. first ∷ later) ⊛ at_member [] (kind (string p)) ⊛ each_word kind ps
 
 -- RFC 6749, 3.3: a text, split at every space, each piece as `kind` reads it
-abbrev pub spaced : {A : Type 0} → (Data → Reading A) → Data → Reading (List A)
-spaced kind d = read_then (text d) (λ s. each kind (pieces s))
+abbrev pub words_reading : {A : Type 0} → (Data → Reading A) → Data → Reading (List A)
+words_reading kind d = read_then (text d) (λ s. each_word kind (pieces s))
 
 -- ---- lists of texts
 

@@ -5,7 +5,7 @@ ghost use Rattle.std.specs.Prelude.{option_map, string_bytes};
 ghost use Rattle.serde_json.specs.View.{view};
 ghost use Rattle.oauth2_json.specs.Helpers.{nullable, words_data};
 ghost use Rattle.oauth2_json.specs.Reading.{ReadsAs, at_member};
-ghost use Rattle.oauth2_json.specs.Values.{lowered, spaced, text, texts};
+ghost use Rattle.oauth2_json.specs.Values.{lowercase_reading, words_reading, text, texts};
 ghost use Rattle.oauth2_json.specs.Words.{are_words};
 
 use crate::lowered::Lowered;
@@ -21,7 +21,7 @@ pub fn deserialize_untagged_enum_case_insensitive<T: FromJson>(
     alloc: Global,
     value: Value,
 ) -> Result<T, ReadError>
-    ensures { ReadsAs T.meaning result (at_member [] (lowered T.reading (view value))) }
+    ensures { ReadsAs T.meaning result (at_member [] (lowercase_reading T.reading (view value))) }
 {
     let Lowered(read) = member_readers::under_name::<Lowered<T>>(alloc, "", value)?;
     Ok(read)
@@ -34,7 +34,7 @@ pub fn deserialize_space_delimited_vec<T: FromJson + Drop>(
     value: Value,
 ) -> Result<Option<Vec<T>>, ReadError>
     ensures { ReadsAs (option_map (λ v. map T.meaning v.items)) result
-        (nullable (spaced T.reading) (view value)) }
+        (nullable (words_reading T.reading) (view value)) }
 {
     members::optional_words(alloc, "", Some(value))
 }
@@ -59,7 +59,7 @@ pub fn serialize_space_delimited_vec<T: AsStr>(
         ≡ words_data (option_map (λ v. map T.text v.items) words.now)) }
     // A list reads back exactly where it isn't empty and no entry holds a space.
     ensures reads_back { let lists = option_map (λ v. map T.text v.items) words.now in
-        IfOk result (λ v. (nullable (spaced text) (view v) ≡ Ok lists)
+        IfOk result (λ v. (nullable (words_reading text) (view v) ≡ Ok lists)
         ↔ IfSome lists (λ ps. IsTrue (are_words ps))) }
 {
     match words {

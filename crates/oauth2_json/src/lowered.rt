@@ -3,8 +3,8 @@
 ghost use Rattle.std.specs.Prelude.{option_map};
 ghost use Rattle.serde_json.specs.View.{view};
 ghost use Rattle.oauth2_json.specs.Reading.{ReadsAs};
-ghost use Rattle.oauth2_json.specs.Members.{needed, present};
-ghost use Rattle.oauth2_json.specs.Values.{lowered};
+ghost use Rattle.oauth2_json.specs.Members.{needed_member, present_member};
+ghost use Rattle.oauth2_json.specs.Values.{lowercase_reading};
 
 use crate::member_readers;
 use crate::read::{FromJson, ReadError};
@@ -20,7 +20,7 @@ impl<T: FromJson> FromJson for Lowered<T> {
 
     ghost meaning = { λ t. T.meaning t.0 };
 
-    ghost reading = { lowered T.reading };
+    ghost reading = { lowercase_reading T.reading };
 
     fn from_json(alloc: Global, value: Value) -> Result<Lowered<T>, ReadError> {
         let mut text = String::from_json(alloc, value)?;
@@ -36,7 +36,7 @@ pub fn needed_lowered<T: FromJson>(
     found: Option<Value>,
 ) -> Result<T, ReadError>
     ensures { ReadsAs T.meaning result
-        (needed (lowered T.reading) name.now (option_map view found)) }
+        (needed_member (lowercase_reading T.reading) name.now (option_map view found)) }
 {
     let Lowered(read) = member_readers::needed::<Lowered<T>>(alloc, name, found)?;
     Ok(read)
@@ -49,7 +49,7 @@ pub fn present_lowered<T: FromJson>(
     found: Option<Value>,
 ) -> Result<Option<T>, ReadError>
     ensures { ReadsAs (option_map T.meaning) result
-        (present (lowered T.reading) name.now (option_map view found)) }
+        (present_member (lowercase_reading T.reading) name.now (option_map view found)) }
 {
     match member_readers::present::<Lowered<T>>(alloc, name, found)? {
         Some(Lowered(read)) => Ok(Some(read)),

@@ -4,7 +4,8 @@ ghost use Rattle.std.specs.Prelude.{◌≡◌, option_map};
 ghost use Rattle.serde_json.specs.Find.{get_member};
 ghost use Rattle.serde_json.specs.View.{view, members_view};
 ghost use Rattle.oauth2_json.specs.Reading.{ReadsAs, ReadsExactly, at_member};
-ghost use Rattle.oauth2_json.specs.Members.{members_of_object, without, needed, optional, present};
+ghost use Rattle.oauth2_json.specs.Members.{members_of_object, without, needed_member};
+ghost use Rattle.oauth2_json.specs.Members.{optional_member, present_member};
 ghost use Rattle.oauth2_json.specs.Members.{either_name};
 
 use crate::read::{FromJson, ParseCause, ReadError};
@@ -47,7 +48,7 @@ pub(crate) fn under_name<T: FromJson>(
 
 /// A member that has to be there.
 pub fn needed<T: FromJson>(alloc: Global, name: &str, found: Option<Value>) -> Result<T, ReadError>
-    ensures { ReadsAs T.meaning result (needed T.reading name.now (option_map view found)) }
+    ensures { ReadsAs T.meaning result (needed_member T.reading name.now (option_map view found)) }
 {
     match found {
         None => Err(ReadError::at(alloc, name, ParseCause::Missing)),
@@ -63,7 +64,7 @@ pub fn optional<T: FromJson>(
     found: Option<Value>,
 ) -> Result<Option<T>, ReadError>
     ensures { ReadsAs (option_map T.meaning) result
-        (optional T.reading name.now (option_map view found)) }
+        (optional_member T.reading name.now (option_map view found)) }
 {
     match found {
         None | Some(Value::Null) => Ok(None),
@@ -78,7 +79,7 @@ pub fn present<T: FromJson>(
     found: Option<Value>,
 ) -> Result<Option<T>, ReadError>
     ensures { ReadsAs (option_map T.meaning) result
-        (present T.reading name.now (option_map view found)) }
+        (present_member T.reading name.now (option_map view found)) }
 {
     match found {
         None => Ok(None),

@@ -4,7 +4,7 @@ ghost use Rattle.std.specs.Prelude.{◌≡◌, ℕ, Bool, option_map};
 ghost use Rattle.serde_json.specs.Data.{number, unsigned};
 ghost use Rattle.serde_json.specs.View.{view};
 ghost use Rattle.oauth2_json.specs.Reading.{ReadsAs};
-ghost use Rattle.oauth2_json.specs.Members.{needed, optional, defaulted};
+ghost use Rattle.oauth2_json.specs.Members.{needed_member, optional_member, member_or};
 ghost use Rattle.oauth2_json.specs.Values.{flag, whole_number};
 
 use crate::member_readers;
@@ -60,7 +60,7 @@ impl FromJson for WholeNumber {
 
 /// A truth value that has to be there.
 pub fn needed_flag(alloc: Global, name: &str, found: Option<Value>) -> Result<bool, ReadError>
-    ensures { ReadsAs (λ b. b) result (needed flag name.now (option_map view found)) }
+    ensures { ReadsAs (λ b. b) result (needed_member flag name.now (option_map view found)) }
 {
     let Flag(b) = member_readers::needed::<Flag>(alloc, name, found)?;
     Ok(b)
@@ -68,7 +68,8 @@ pub fn needed_flag(alloc: Global, name: &str, found: Option<Value>) -> Result<bo
 
 /// A number that has to be there.
 pub fn needed_number(alloc: Global, name: &str, found: Option<Value>) -> Result<u64, ReadError>
-    ensures { ReadsAs (λ n. n) result (needed whole_number name.now (option_map view found)) }
+    ensures { ReadsAs (λ n. n) result
+        (needed_member whole_number name.now (option_map view found)) }
 {
     let WholeNumber(n) = member_readers::needed::<WholeNumber>(alloc, name, found)?;
     Ok(n)
@@ -80,7 +81,8 @@ pub fn optional_number(
     name: &str,
     found: Option<Value>,
 ) -> Result<Option<u64>, ReadError>
-    ensures { ReadsAs (λ n. n) result (optional whole_number name.now (option_map view found)) }
+    ensures { ReadsAs (λ n. n) result
+        (optional_member whole_number name.now (option_map view found)) }
 {
     match member_readers::optional::<WholeNumber>(alloc, name, found)? {
         Some(WholeNumber(n)) => Ok(Some(n)),
@@ -96,7 +98,7 @@ pub fn number_or(
     found: Option<Value>,
 ) -> Result<u64, ReadError>
     ensures { ReadsAs (λ n. n) result
-        (defaulted whole_number name.now default (option_map view found)) }
+        (member_or whole_number name.now default (option_map view found)) }
 {
     match member_readers::optional::<WholeNumber>(alloc, name, found)? {
         Some(WholeNumber(n)) => Ok(n),

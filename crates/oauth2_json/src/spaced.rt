@@ -5,9 +5,9 @@ ghost use Rattle.std.specs.Prelude.{option_map};
 ghost use Rattle.serde_json.specs.Data.{string};
 ghost use Rattle.serde_json.specs.View.{view};
 ghost use Rattle.oauth2_json.specs.Reading.{ReadsAs, at_member};
-ghost use Rattle.oauth2_json.specs.Members.{optional};
-ghost use Rattle.oauth2_json.specs.Values.{each, spaced};
-ghost use Rattle.oauth2_json.specs.Words.{pieces, joined};
+ghost use Rattle.oauth2_json.specs.Members.{optional_member};
+ghost use Rattle.oauth2_json.specs.Values.{each_word, words_reading};
+ghost use Rattle.oauth2_json.specs.Words.{pieces, joined_words};
 ghost use Rattle.oauth2_json.specs.private.Words.{lead};
 
 use crate::member_readers;
@@ -24,7 +24,7 @@ fn piece<T: FromJson>(alloc: Global, text: &str) -> Result<T, ReadError>
 
 /// Splits the text at every space, and reads each piece as a `T`.
 pub fn pieces<T: FromJson + Drop>(alloc: Global, text: &str) -> Result<Vec<T>, ReadError>
-    ensures { ReadsAs (λ v. map T.meaning v.items) result (each T.reading (pieces text.now)) }
+    ensures { ReadsAs (λ v. map T.meaning v.items) result (each_word T.reading (pieces text.now)) }
 {
     let mut read = Vec::new(alloc);
     let mut rest = text;
@@ -49,7 +49,7 @@ fn push_word(text: &mut String, is_first: bool, word: &str) -> Result<(), AllocE
 /// The texts, with one space between two.
 #[tactic(auto, using(crate::proofs::Words::words_facts))]
 pub fn joined<T: AsStr>(alloc: Global, items: &[T]) -> Result<String, AllocError>
-    ensures { IfOk result (λ s. string_bytes s ≡ joined (map T.text items.now)) }
+    ensures { IfOk result (λ s. string_bytes s ≡ joined_words (map T.text items.now)) }
 {
     let mut text = String::new(alloc);
     let mut is_first = true;
@@ -69,7 +69,7 @@ impl<T: FromJson + Drop> FromJson for Spaced<T> {
 
     ghost meaning = { λ s. map T.meaning s.0.items };
 
-    ghost reading = { spaced T.reading };
+    ghost reading = { words_reading T.reading };
 
     fn from_json(alloc: Global, value: Value) -> Result<Spaced<T>, ReadError> {
         let text = String::from_json(alloc, value)?;
@@ -84,7 +84,7 @@ pub fn optional_words<T: FromJson + Drop>(
     found: Option<Value>,
 ) -> Result<Option<Vec<T>>, ReadError>
     ensures { ReadsAs (option_map (λ v. map T.meaning v.items)) result
-        (optional (spaced T.reading) name.now (option_map view found)) }
+        (optional_member (words_reading T.reading) name.now (option_map view found)) }
 {
     match member_readers::optional::<Spaced<T>>(alloc, name, found)? {
         Some(Spaced(words)) => Ok(Some(words)),
@@ -94,7 +94,7 @@ pub fn optional_words<T: FromJson + Drop>(
 
 // The text of a list, as a JSON value.
 pub(crate) fn words_text<T: AsStr>(alloc: Global, words: &[T]) -> Result<Value, AllocError>
-    ensures { IfOk result (λ v. view v ≡ string (joined (map T.text words.now))) }
+    ensures { IfOk result (λ v. view v ≡ string (joined_words (map T.text words.now))) }
 {
     Ok(Value::String(joined(alloc, words)?))
 }
@@ -105,7 +105,8 @@ pub fn words_value<T: AsStr>(
     words: &Option<Vec<T>>,
 ) -> Result<Option<Value>, AllocError>
     ensures { IfOk result (λ v. option_map view v
-        ≡ option_map (λ ps. string (joined ps)) (option_map (λ v. map T.text v.items) words.now)) }
+        ≡ option_map (λ ps. string (joined_words ps))
+        (option_map (λ v. map T.text v.items) words.now)) }
 {
     match words {
         Some(words) => Ok(Some(words_text(alloc, words.as_slice())?)),

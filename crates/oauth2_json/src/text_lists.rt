@@ -4,7 +4,7 @@ ghost use Rattle.std.specs.Prelude.{◌≡◌, ℕ, List, [], ◌∷◌, map, op
 ghost use Rattle.serde_json.specs.Data.{array};
 ghost use Rattle.serde_json.specs.View.{view, items_view};
 ghost use Rattle.oauth2_json.specs.Reading.{ReadsAs};
-ghost use Rattle.oauth2_json.specs.Members.{needed, optional};
+ghost use Rattle.oauth2_json.specs.Members.{needed_member, optional_member};
 ghost use Rattle.oauth2_json.specs.Values.{texts, each_text, text_list, text_items};
 
 use crate::member_readers;
@@ -67,7 +67,7 @@ pub fn optional_texts(
     found: Option<Value>,
 ) -> Result<Option<Vec<String>>, ReadError>
     ensures { ReadsAs (option_map (λ v. map string_bytes v.items)) result
-        (optional texts name.now (option_map view found)) }
+        (optional_member texts name.now (option_map view found)) }
 {
     match member_readers::optional::<Texts>(alloc, name, found)? {
         Some(Texts(list)) => Ok(Some(list)),
@@ -82,7 +82,7 @@ pub fn needed_texts(
     found: Option<Value>,
 ) -> Result<Vec<String>, ReadError>
     ensures { ReadsAs (λ v. map string_bytes v.items) result
-        (needed texts name.now (option_map view found)) }
+        (needed_member texts name.now (option_map view found)) }
 {
     let Texts(list) = member_readers::needed::<Texts>(alloc, name, found)?;
     Ok(list)
@@ -95,7 +95,7 @@ pub fn optional_text_list(
     found: Option<Value>,
 ) -> Result<Option<Vec<String>>, ReadError>
     ensures { ReadsAs (option_map (λ v. map string_bytes v.items)) result
-        (optional text_list name.now (option_map view found)) }
+        (optional_member text_list name.now (option_map view found)) }
 {
     match found {
         Some(Value::String(_)) => Err(ReadError::at(alloc, name, ParseCause::WrongType)),

@@ -8,23 +8,23 @@ use Rattle.oauth2_wire.specs.declared.error.RequestTokenError.{RequestTokenError
 use Rattle.oauth2_wire.specs.Expected.{Configuration}
 use Rattle.oauth2_keeper.specs.declared.patient_keeper.PatientError.{PatientError}
 use Rattle.oauth2_keeper.specs.declared.patient_keeper.PatientError.TheVariants.{Request, Waits}
-use Rattle.oauth2_keeper.specs.Keeper.{Keeper, Given, quiet, accepted, failed, Calls}
+use Rattle.oauth2_keeper.specs.Keeper.{Keeper, Given, quiet, accepted, failed, KeeperCalls}
 use Rattle.oauth2_keeper.specs.Patience.{Patient, is_waiting_for, is_held_back, counts, called, failed_call, PatientCalls, PatientRuns, EachPatientRunIsARun, EachFailureIsWaitedFor}
 use Rattle.oauth2_keeper.specs.Runs.{Call, Runs}
 
 module _ {D T RE C : Type 0} (asks : ReplyRule → Configuration → Addressed → C → Result D (RequestTokenError RE T) → C → Type 0) (told : D → Given) where
   pub by_success : (patient kept : Patient) (now : ℤ) (before after : C) (first keeper : Keeper) (done : Unit) → is_held_back patient now ≡ false → first ≡ patient.keeper
-      → Calls asks told first now before (Ok done) after keeper → kept ≡ called patient now keeper → PatientCalls asks told patient now before (Ok tt) after kept
+      → KeeperCalls asks told first now before (Ok done) after keeper → kept ≡ called patient now keeper → PatientCalls asks told patient now before (Ok tt) after kept
   by_success patient kept now before after first keeper done free same calls is =
-      let ours = subst (λ k. Calls asks told k now before (Ok tt) after keeper) same calls in
-      inl (free, subst (λ (p : Patient). Calls asks told patient.keeper now before (Ok tt) after p.keeper) (sym is) ours, is ∙ ap (λ (p : Patient). called patient now p.keeper) (sym is))
+      let ours = subst (λ k. KeeperCalls asks told k now before (Ok tt) after keeper) same calls in
+      inl (free, subst (λ (p : Patient). KeeperCalls asks told patient.keeper now before (Ok tt) after p.keeper) (sym is) ours, is ∙ ap (λ (p : Patient). called patient now p.keeper) (sym is))
 
   pub by_fault : (patient kept : Patient) (now : ℤ) (before after : C) (first keeper : Keeper) (error : RequestTokenError RE T) → is_held_back patient now ≡ false → first ≡ patient.keeper
-      → Calls asks told first now before (Err error) after keeper → keeper ≡ patient.keeper → kept ≡ failed_call patient now error
+      → KeeperCalls asks told first now before (Err error) after keeper → keeper ≡ patient.keeper → kept ≡ failed_call patient now error
       → PatientCalls asks told patient now before (Err (Request error)) after kept
   by_fault patient kept now before after first keeper error free same calls back is =
-      let ours = subst (λ k. Calls asks told k now before (Err error) after keeper) same calls in
-      (free, subst (λ k. Calls asks told patient.keeper now before (Err error) after k) back ours, is)
+      let ours = subst (λ k. KeeperCalls asks told k now before (Err error) after keeper) same calls in
+      (free, subst (λ k. KeeperCalls asks told patient.keeper now before (Err error) after k) back ours, is)
 
   -- one call, and those after it
   pub one_call : (patient next kept : Patient) (now : ℤ) (before middle after : C) (result : Result Unit (PatientError RE T)) → PatientCalls asks told patient now before result middle next

@@ -10,7 +10,7 @@ use Rattle.oauth2_requests.specs.Base.{configuration_of}
 use Rattle.oauth2_requests.specs.ClientCredentials.{ClientCredentialsRequest, client_credentials_pairs, client_credentials_configuration}
 use Rattle.oauth2_requests.specs.Refresh.{RefreshRequest, refresh_pairs, refresh_configuration}
 use Rattle.oauth2.specs.NewRequest.{base_of, new_client_credentials_request, new_refresh_request}
-use Rattle.oauth2_keeper.specs.Keeper.{Keeper, AcceptedToken, Given, Renews, Calls, renewal, is_good, accepted, failed}
+use Rattle.oauth2_keeper.specs.Keeper.{Keeper, AcceptedToken, Given, Renews, KeeperCalls, renewal, is_good, accepted, failed}
 use Rattle.oauth2_keeper.specs.private.Params.{with_params}
 use Rattle.oauth2_keeper.specs.private.Settled.{Settles}
 
@@ -49,7 +49,7 @@ module _ {D T RE C : Type 0} (asks : ReplyRule → Configuration → Addressed �
 module _ {D T RE C : Type 0} (asks : ReplyRule → Configuration → Addressed → C → Result D (RequestTokenError RE T) → C → Type 0) (told : D → Given) (keeper : Keeper) (now : ℤ) (stale : is_good keeper now ≡ false) (before after : C) where
   -- the answer to the request, and what it leaves, are what the call does
   pub settled : (answer : Result D (RequestTokenError RE T)) → Renews asks keeper before answer after → (result : Result Unit (RequestTokenError RE T)) (kept : Keeper)
-      → Settles told keeper now answer result kept → Calls asks told keeper now before result after kept
+      → Settles told keeper now answer result kept → KeeperCalls asks told keeper now before result after kept
   settled (Ok reply) renews (Ok done) kept is = (accepted (told reply), (stale, refl, (reply, refl, renews)), is)
   settled (Ok reply) renews (Err error) kept is = (failed, (stale, (error, refl, inr (is.0, (reply, renews)))), is.1)
   settled (Err fault) renews (Ok done) kept is = absurd is

@@ -7,7 +7,7 @@ use Rattle.oauth2_wire.specs.declared.content_type.ReplyRule.{ReplyRule}
 use Rattle.oauth2_wire.specs.declared.error.RequestTokenError.{RequestTokenError}
 use Rattle.oauth2_wire.specs.Expected.{Configuration}
 use Rattle.oauth2_keeper.specs.Keeper.{Keeper, Given, Outcome, quiet, accepted, failed, kept_after, IsOutcome}
-use Rattle.oauth2_keeper.specs.Runs.{Call, keeps_last, calls_at, replies_of, reply_of, EachRunKeepsTheLast, EachRunFollowsFromItsReplies}
+use Rattle.oauth2_keeper.specs.Runs.{Call, keeps_last, calls_at, replies_of_calls, reply_of_outcome, EachRunKeepsTheLast, EachRunFollowsFromItsReplies}
 
 pub option_or-assoc : {X : Type 0} (a b c : Option X) → option_or a (option_or b c) ≡ option_or (option_or a b) c
 option_or-assoc None b c = refl
@@ -27,8 +27,8 @@ module _ {D T RE C : Type 0} (asks : ReplyRule → Configuration → Addressed �
 
   -- the first call, and those after it
   pub one_more : (keeper : Keeper) (now : ℤ) (before after : C) (result : Result Unit (RequestTokenError RE T)) (outcome : Outcome) (calls : List Call)
-      → IsOutcome asks told keeper now before result after outcome → calls ≡ calls_at (kept_after keeper now outcome) (map (λ call. call.now) calls) (replies_of calls)
-      → (record { now = now; outcome = outcome } ∷ calls) ≡ calls_at keeper (now ∷ map (λ call. call.now) calls) (reply_of outcome ++ replies_of calls)
+      → IsOutcome asks told keeper now before result after outcome → calls ≡ calls_at (kept_after keeper now outcome) (map (λ call. call.now) calls) (replies_of_calls calls)
+      → (record { now = now; outcome = outcome } ∷ calls) ≡ calls_at keeper (now ∷ map (λ call. call.now) calls) (reply_of_outcome outcome ++ replies_of_calls calls)
   one_more keeper now before after result quiet calls is rest = rw is.0 (ap (λ (l : List Call). record { now = now; outcome = quiet } ∷ l) rest)
   one_more keeper now before after result (accepted given) calls is rest = rw is.0 (ap (λ (l : List Call). record { now = now; outcome = accepted given } ∷ l) rest)
   one_more keeper now before after result failed calls is rest = rw is.0 (ap (λ (l : List Call). record { now = now; outcome = failed } ∷ l) rest)

@@ -137,15 +137,15 @@ module _ {D T RE C : Type 0} (asks : ReplyRule → Configuration → Addressed �
         (is_good keeper now ≡ false) × ((error : RequestTokenError RE T) × (result ≡ Err error) × FailsWith keeper before error after)
 
     -- a call at a moment, from what was kept before to what is kept after
-    abbrev pub Calls : Keeper → ℤ → C → Result Unit (RequestTokenError RE T) → C → Keeper → Type 0
-    Calls keeper now before result after kept =
+    abbrev pub KeeperCalls : Keeper → ℤ → C → Result Unit (RequestTokenError RE T) → C → Keeper → Type 0
+    KeeperCalls keeper now before result after kept =
         (outcome : Outcome) × IsOutcome keeper now before result after outcome × (kept ≡ kept_after keeper now outcome)
 
     -- a call at a moment whose answer is one that the text of the kept token may give
     abbrev pub Answers : {A : Type 0} → (List ℕ → A → Type 0) → Keeper → ℤ → C → Result A (RequestTokenError RE T) → C → Keeper → Type 0
     Answers Gives keeper now before (Ok value) after kept =
-        Calls keeper now before (Ok tt) after kept × IsSomeAnd kept.token (λ token. Gives token.access_token value)
-    Answers Gives keeper now before (Err error) after kept = Calls keeper now before (Err error) after kept × (kept ≡ keeper)
+        KeeperCalls keeper now before (Ok tt) after kept × IsSomeAnd kept.token (λ token. Gives token.access_token value)
+    Answers Gives keeper now before (Err error) after kept = KeeperCalls keeper now before (Err error) after kept × (kept ≡ keeper)
 
 -- what a token response tells, by what its type says of it
 abbrev pub given_by : {D : Type 0} → (D → List ℕ) → (D → Option ℕ) → (D → Option (List ℕ)) → D → Given

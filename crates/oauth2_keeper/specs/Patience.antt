@@ -11,7 +11,7 @@ use Rattle.oauth2_wire.specs.OneShot.{HttpRequest, not_http_text}
 use Rattle.oauth2_wire.specs.Reply.{HttpResponse}
 use Rattle.oauth2_keeper.specs.declared.patient_keeper.PatientError.{PatientError}
 use Rattle.oauth2_keeper.specs.declared.patient_keeper.PatientError.TheVariants.{Request, Waits}
-use Rattle.oauth2_keeper.specs.Keeper.{Keeper, Given, is_good, is_good_if_any, Calls, FailsWith}
+use Rattle.oauth2_keeper.specs.Keeper.{Keeper, Given, is_good, is_good_if_any, KeeperCalls, FailsWith}
 use Rattle.oauth2_keeper.specs.Runs.{Call, Runs}
 
 -- a keeper; how long it waits, in nanoseconds; whether it hands out its token meanwhile to the end
@@ -59,10 +59,10 @@ module _ {D T RE C : Type 0} (asks : ReplyRule → Configuration → Addressed �
   -- handed out if it lasts
   abbrev pub PatientCalls : Patient → ℤ → C → Result Unit (PatientError RE T) → C → Patient → Type 0
   PatientCalls patient now before (Ok done) after kept =
-      ((is_held_back patient now ≡ false) × Calls asks told patient.keeper now before (Ok tt) after kept.keeper × (kept ≡ called patient now kept.keeper))
+      ((is_held_back patient now ≡ false) × KeeperCalls asks told patient.keeper now before (Ok tt) after kept.keeper × (kept ≡ called patient now kept.keeper))
       ⊎ (IsTrue (is_held_back patient now && lasts patient now) × (after ≡ before) × (kept ≡ patient))
   PatientCalls patient now before (Err (Request error)) after kept =
-      (is_held_back patient now ≡ false) × Calls asks told patient.keeper now before (Err error) after patient.keeper × (kept ≡ failed_call patient now error)
+      (is_held_back patient now ≡ false) × KeeperCalls asks told patient.keeper now before (Err error) after patient.keeper × (kept ≡ failed_call patient now error)
   PatientCalls patient now before (Err (Waits until)) after kept =
       IsTrue (is_held_back patient now && not (lasts patient now)) × IsSomeAnd patient.failed_at (λ failed_at. IsUntil (failed_at +ℤ pos patient.wait) until)
       × (after ≡ before) × (kept ≡ patient)

@@ -51,14 +51,14 @@ keeps_last keeper calls = record keeper {
 }
 
 -- the replies to the requests of calls, in order; of one that failed there is none
-abbrev pub reply_of : Outcome → List (Option Given)
-reply_of quiet = []
-reply_of (accepted given) = Some given ∷ []
-reply_of failed = None ∷ []
+abbrev pub reply_of_outcome : Outcome → List (Option Given)
+reply_of_outcome quiet = []
+reply_of_outcome (accepted given) = Some given ∷ []
+reply_of_outcome failed = None ∷ []
 
-abbrev pub replies_of : List Call → List (Option Given)
-replies_of [] = []
-replies_of (call ∷ calls) = reply_of call.outcome ++ replies_of calls
+abbrev pub replies_of_calls : List Call → List (Option Given)
+replies_of_calls [] = []
+replies_of_calls (call ∷ calls) = reply_of_outcome call.outcome ++ replies_of_calls calls
 
 -- what comes of a request, by the first of the replies to come
 abbrev pub request_outcome : List (Option Given) → Outcome
@@ -88,4 +88,4 @@ module _ {D T RE C : Type 0} (asks : ReplyRule → Configuration → Addressed �
   abbrev pub EachRunFollowsFromItsReplies : Type 0
   EachRunFollowsFromItsReplies =
       (keeper kept : Keeper) (before after : C) (calls : List Call) → Runs asks told keeper before calls after kept
-      → calls ≡ calls_at keeper (map (λ call. call.now) calls) (replies_of calls)
+      → calls ≡ calls_at keeper (map (λ call. call.now) calls) (replies_of_calls calls)

@@ -35,7 +35,7 @@ ghost use Rattle.oauth2_keeper.specs.Keeper.{
   starting_from,
   accept,
   Renews,
-  Calls,
+  KeeperCalls,
   Answers,
 };
 ghost use Rattle.oauth2_keeper.specs.private.Settled.{Settles, RenewsAndSettles};
@@ -360,7 +360,7 @@ where
         http_client: &mut C,
     ) -> Result<(), RequestTokenError<C::Error, TE>>
         requires { C.is_ready http_client.old }
-        ensures call { Calls (AsksOnce TR.meaning TE.meaning TR.reading TE.reading C.step)
+        ensures call { KeeperCalls (AsksOnce TR.meaning TE.meaning TR.reading TE.reading C.step)
             (given_by TR.access_token TR.expires_in TR.refresh_token)
             self.old now.nanosecond http_client.old result http_client.new self.new }
         ensures token { OnOk result (IsSome self.new.token) }

@@ -8,7 +8,7 @@ use Rattle.url.specs.Parts.{Parts}
 use Rattle.oauth2_urls.specs.Addressed.{Addressed}
 use Rattle.oauth2_json.specs.Reading.{Reading, whole, at_member}
 use Rattle.oauth2_json.specs.declared.read.ParseCause.TheVariants as cause
-use Rattle.oauth2_json.specs.Members.{optional, some_of, optional_writing}
+use Rattle.oauth2_json.specs.Members.{optional_member, some_of, optional_writing}
 use Rattle.oauth2_json.specs.Values.{url}
 use Rattle.oauth2_metadata.specs.Kinds.{address_data, told}
 use Rattle.oauth2_replies.specs.private.Address.{IsAddress}
@@ -24,7 +24,7 @@ address_at (Ok u) name s a is h =
     rw (t, v) is
 address_at (Err e) name s a is h = cc
 
-address_read : (name : List ℕ) (o : Option Data) (a : Addressed) → optional url name o ≡ Ok (Some a) → IsAddress a
+address_read : (name : List ℕ) (o : Option Data) (a : Addressed) → optional_member url name o ≡ Ok (Some a) → IsAddress a
 address_read name None a h = cc
 address_read name (Some null) a h = cc
 address_read name (Some (boolean b)) a h = cc
@@ -40,7 +40,7 @@ some_told name ms (Some b) a h is = cc
 pub told_address : (name : List ℕ) (ms : Members) (o : Option Addressed) → told url name ms ≡ Ok (option_map (λ u. u) o) → ForSome o IsAddress
 told_address name ms o h a is = address_read name (get_member name ms) a (some_told name ms o a h is)
 
-pub optional-address : (name : List ℕ) (o : Option Addressed) → ForSome o IsAddress → optional url name (option_map address_data o) ≡ Ok o
+pub optional-address : (name : List ℕ) (o : Option Addressed) → ForSome o IsAddress → optional_member url name (option_map address_data o) ≡ Ok o
 unfolding IsAddress
 optional-address name None h = refl
 optional-address name (Some a) h = subst (λ p. text_and_url name a.text p ≡ Ok (Some a)) (sym (h a refl)) refl

@@ -6,13 +6,13 @@ use Rattle.std.proofs.lemmas.Slice.Eq.{bytes_eq-Decides}
 use Rattle.serde_json.specs.Data.{Data, Members, object}
 use Rattle.serde_json.specs.Find.{get_member}
 use Rattle.oauth2_json.specs.Reading.{Reading, ◌⊛◌}
-use Rattle.oauth2_json.specs.Members.{needed, others}
+use Rattle.oauth2_json.specs.Members.{needed_member, others}
 use Rattle.oauth2_json.specs.Values.{text}
 use Rattle.oauth2_json.proofs.Objects.{get_member-others, misses}
 use Rattle.oauth2_body_members.specs.Object.{Keeps, has_name}
 use Rattle.oauth2_body_members.proofs.Keeping.{others_kept}
-use Rattle.oauth2_metadata.specs.Metadata.{metadata, own_names, metadata_row, endpoint_names, endpoint_row, supported_names, supported_row, auth_method_names, auth_method_row, signing_algorithm_names, signing_algorithm_row, page_names, page_row, service_names, service_row}
-use Rattle.oauth2_metadata.specs.private.InTurn.{in_turn, endpoints_in_turn, without_endpoints, supported_in_turn, without_supported, auth_methods_in_turn, without_auth_methods, signing_algorithms_in_turn, without_signing_algorithms, pages_in_turn, without_pages, services_in_turn, without_services, after_issuer, after_endpoints, after_supported, after_auth_methods, after_signing_algorithms, after_pages, after_services}
+use Rattle.oauth2_metadata.specs.Metadata.{metadata, metadata_names, metadata_row, endpoint_names, endpoint_row, supported_names, supported_row, auth_method_names, auth_method_row, signing_algorithm_names, signing_algorithm_row, page_names, page_row, service_names, service_row}
+use Rattle.oauth2_metadata.specs.private.InTurn.{metadata_in_turn, endpoints_in_turn, without_endpoints, supported_in_turn, without_supported, auth_methods_in_turn, without_auth_methods, signing_algorithms_in_turn, without_signing_algorithms, pages_in_turn, without_pages, services_in_turn, without_services, after_issuer, after_endpoints, after_supported, after_auth_methods, after_signing_algorithms, after_pages, after_services}
 
 pass_at : (b : Bool) (test : List ℕ → Bool) (k name : List ℕ) (ks : List (List ℕ)) → bytes_eq k name ≡ b → test k && list_all test ks ≡ true → b || has_name name ks ≡ true → (list_all test ks ≡ true → has_name name ks ≡ true → test name ≡ true) → test name ≡ true
 pass_at true test k name ks is pass there later = rw (← (bytes_eq-Decides k name).0 is) (and_parts _ _ pass).0
@@ -166,16 +166,16 @@ services_left ms =
     let before = (codes "issuer" ∷ []) ++ (endpoint_names ++ (supported_names ++ (auth_method_names ++ (signing_algorithm_names ++ (page_names))))) in
     record { at = λ name there. get_member-others name before ms (passes (λ k. misses k before) service_names name refl there) }
 
-rest_left : (ms : Members) → after_services ms ≡ others own_names ms
-unfolding own_names without_endpoints without_supported without_auth_methods without_signing_algorithms without_pages without_services
+rest_left : (ms : Members) → after_services ms ≡ others metadata_names ms
+unfolding metadata_names without_endpoints without_supported without_auth_methods without_signing_algorithms without_pages without_services
 rest_left ms = refl
 
 -- group by group is row by row
-pub read_in_turn : {E : Type 0} (er : Data → Reading E) (ms : Members) → in_turn er ms ≡ metadata_row er ms
+pub read_in_turn : {E : Type 0} (er : Data → Reading E) (ms : Members) → metadata_in_turn er ms ≡ metadata_row er ms
 read_in_turn er ms =
     λ i.
     Ok metadata
-    ⊛ needed text (codes "issuer") (get_member (codes "issuer") ms)
+    ⊛ needed_member text (codes "issuer") (get_member (codes "issuer") ms)
     ⊛ (endpoints_turn (after_issuer ms) ∙ endpoints_agree (after_issuer ms) ms (endpoints_left ms)) i
     ⊛ (supported_turn (after_endpoints ms) ∙ supported_agree (after_endpoints ms) ms (supported_left ms)) i
     ⊛ (auth_methods_turn (after_supported ms) ∙ auth_methods_agree (after_supported ms) ms (auth_methods_left ms)) i
@@ -184,22 +184,22 @@ read_in_turn er ms =
     ⊛ (services_turn (after_pages ms) ∙ services_agree (after_pages ms) ms (services_left ms)) i
     ⊛ er (object (rest_left ms i))
 
-own_kept : (b : Bool) (all kept : Members) (ks : List (List ℕ)) → Keeps own_names b all kept → list_all (λ k. has_name k own_names) ks ≡ true → Agrees ks kept all
-own_kept b all kept ks k own = record { at = λ name there. k.own name (passes (λ n. has_name n own_names) ks name own there) }
+own_kept : (b : Bool) (all kept : Members) (ks : List (List ℕ)) → Keeps metadata_names b all kept → list_all (λ k. has_name k metadata_names) ks ≡ true → Agrees ks kept all
+own_kept b all kept ks k own = record { at = λ name there. k.own name (passes (λ n. has_name n metadata_names) ks name own there) }
 
 -- what is kept of the members reads as all of them
-pub kept_rows : {E : Type 0} (er : Data → Reading E) (b : Bool) (all kept : Members) → Keeps own_names b all kept → (b ≡ false → (x y : Members) → er (object x) ≡ er (object y))
-    → in_turn er kept ≡ metadata_row er all
-unfolding own_names
+pub kept_rows : {E : Type 0} (er : Data → Reading E) (b : Bool) (all kept : Members) → Keeps metadata_names b all kept → (b ≡ false → (x y : Members) → er (object x) ≡ er (object y))
+    → metadata_in_turn er kept ≡ metadata_row er all
+unfolding metadata_names
 kept_rows er b all kept k any =
     read_in_turn er kept
     ∙ (λ i.
     Ok metadata
-    ⊛ needed text (codes "issuer") (k.own (codes "issuer") refl i)
+    ⊛ needed_member text (codes "issuer") (k.own (codes "issuer") refl i)
     ⊛ endpoints_agree kept all (own_kept b all kept endpoint_names k refl) i
     ⊛ supported_agree kept all (own_kept b all kept supported_names k refl) i
     ⊛ auth_methods_agree kept all (own_kept b all kept auth_method_names k refl) i
     ⊛ signing_algorithms_agree kept all (own_kept b all kept signing_algorithm_names k refl) i
     ⊛ pages_agree kept all (own_kept b all kept page_names k refl) i
     ⊛ services_agree kept all (own_kept b all kept service_names k refl) i
-    ⊛ others_kept er own_names b all kept k.rest any i)
+    ⊛ others_kept er metadata_names b all kept k.rest any i)

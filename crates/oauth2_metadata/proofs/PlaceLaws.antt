@@ -23,7 +23,7 @@ use Rattle.url.proofs.PathLemmas.{IsNoSlash, without_last_valid}
 use Rattle.url.proofs.RoundTrip.{stays_unless_file, parse_own_path}
 use Rattle.url.proofs.SetLemmas.{passes_from_kept}
 use Rattle.url.proofs.ValidLemmas.{segment_list_kept, special_has_authority, base_from_authority, hierarchical}
-use Rattle.oauth2_metadata.specs.Issuer.{is_secure, refusal, trimmed, IsOutOfRoom, IsPlaced}
+use Rattle.oauth2_metadata.specs.Issuer.{is_secure, issuer_refusal, trimmed, IsOutOfRoom, IsPlaced}
 use Rattle.oauth2_metadata.specs.declared.issuer.IssuerError.{IssuerError}
 use Rattle.oauth2_metadata.specs.declared.issuer.IssuerError.TheVariants.{NotHttps}
 
@@ -41,7 +41,7 @@ secure_if : (b : Bool) (o : Option IssuerError) → cond (not b) (Some NotHttps)
 secure_if true o h = refl
 secure_if false o h = cc
 
-pub issuer_kind : (url : Parts) → refusal url ≡ None → kind_of url ≡ SpecialNotFile
+pub issuer_kind : (url : Parts) → issuer_refusal url ≡ None → kind_of url ≡ SpecialNotFile
 issuer_kind url h = secure_kind url (secure_if (is_secure url) _ h)
 
 pub none_if : {A : Type 0} (o : Option A) → ((a : A) → o ≡ Some a → ⊥) → o ≡ None
@@ -166,7 +166,7 @@ set_own_path url path valid kind list some =
 
 -- ---- the result
 
-pub placed : (place : Parts → Parts) (issuer : Parts) (path : List ℕ) (result : Result Parts IssuerError) → refusal issuer ≡ None → with_path issuer path ≡ place issuer → IfOk result (λ url. url ≡ with_path issuer path) → IfErr result IsOutOfRoom
+pub placed : (place : Parts → Parts) (issuer : Parts) (path : List ℕ) (result : Result Parts IssuerError) → issuer_refusal issuer ≡ None → with_path issuer path ≡ place issuer → IfOk result (λ url. url ≡ with_path issuer path) → IfErr result IsOutOfRoom
     → IsPlaced place issuer result
 placed place issuer path (Ok url) issues at ok err = (issues, ok ∙ at)
 placed place issuer path (Err error) issues at ok err = inr (issues, err)

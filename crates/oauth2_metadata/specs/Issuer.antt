@@ -26,8 +26,8 @@ is_secure url =
     bytes_eq url.scheme (codes "https") || (bytes_eq url.scheme (codes "http") && is_loopback (nonempty_host url))
 
 -- why a URL is no issuer: of several causes the first
-abbrev pub refusal : Parts → Option IssuerError
-refusal url =
+abbrev pub issuer_refusal : Parts → Option IssuerError
+issuer_refusal url =
     if not (is_secure url) then Some NotHttps
     else (if is_some url.query then Some HasQuery
     else (if is_some url.fragment then Some HasFragment
@@ -56,8 +56,8 @@ IsOutOfRoom error = (error ≡ Memory) ⊎ (error ≡ TooLong)
 
 -- an issuer has its metadata at that place, and a URL that is none is refused
 abbrev pub IsPlaced : (Parts → Parts) → Parts → Result Parts IssuerError → Type 0
-IsPlaced place issuer (Ok url) = (refusal issuer ≡ None) × (url ≡ place issuer)
-IsPlaced place issuer (Err error) = (refusal issuer ≡ Some error) ⊎ ((refusal issuer ≡ None) × IsOutOfRoom error)
+IsPlaced place issuer (Ok url) = (issuer_refusal issuer ≡ None) × (url ≡ place issuer)
+IsPlaced place issuer (Err error) = (issuer_refusal issuer ≡ Some error) ⊎ ((issuer_refusal issuer ≡ None) × IsOutOfRoom error)
 
 -- a text is no URL, or there was no room to read it
 abbrev pub IsNoUrl : List ℕ → IssuerError → Type 0

@@ -5,7 +5,7 @@ use Rattle.serde_json.specs.Find.{get_member}
 use Rattle.oauth2_urls.specs.Addressed.{Addressed}
 use Rattle.oauth2_json.specs.Reading.{Reading, read_then, ◌⊛◌}
 use Rattle.oauth2_json.specs.Writing.{Writing, write_then}
-use Rattle.oauth2_json.specs.Members.{members_of_object, needed, others, beside}
+use Rattle.oauth2_json.specs.Members.{members_of_object, needed_member, others, beside}
 use Rattle.oauth2_json.specs.Values.{text, flag, url, text_list}
 use Rattle.oauth2_json.specs.Puts.{Row, put_all}
 use Rattle.oauth2_metadata.specs.Kinds.{list_data, address_data, told}
@@ -236,8 +236,8 @@ metadata i e s a g p v x = record { issuer = i; endpoints = e; supported = s; au
 abbrev pub metadata_seen : {E F : Type 0} → (E → F) → Metadata E → Metadata F
 metadata_seen f m = metadata m.issuer m.endpoints m.supported m.auth_methods m.signing_algorithms m.pages m.services (f m.extra_fields)
 
-unfoldable pub own_names : List (List ℕ)
-own_names =
+unfoldable pub metadata_names : List (List ℕ)
+metadata_names =
     codes "issuer"
     ∷ (endpoint_names ++ (supported_names ++ (auth_method_names ++ (signing_algorithm_names ++ (page_names ++ (service_names))))))
 
@@ -245,21 +245,21 @@ own_names =
 abbrev pub metadata_row : {E : Type 0} → (Data → Reading E) → Members → Reading (Metadata E)
 metadata_row extra_fields ms =
     Ok metadata
-    ⊛ needed text (codes "issuer") (get_member (codes "issuer") ms)
+    ⊛ needed_member text (codes "issuer") (get_member (codes "issuer") ms)
     ⊛ endpoint_row ms
     ⊛ supported_row ms
     ⊛ auth_method_row ms
     ⊛ signing_algorithm_row ms
     ⊛ page_row ms
     ⊛ service_row ms
-    ⊛ extra_fields (object (others own_names ms))
+    ⊛ extra_fields (object (others metadata_names ms))
 
 abbrev pub metadata_reading : {E : Type 0} → (Data → Reading E) → Data → Reading (Metadata E)
 metadata_reading extra_fields d = read_then (members_of_object d) (metadata_row extra_fields)
 
 -- the type's own members, none of which is written where it is none
-unfoldable pub own_rows : {E : Type 0} → Metadata E → List Row
-own_rows m =
+unfoldable pub metadata_rows : {E : Type 0} → Metadata E → List Row
+metadata_rows m =
     (codes "issuer", Some (string m.issuer))
     ∷ (endpoint_rows m.endpoints
     ++ (supported_rows m.supported
@@ -272,5 +272,5 @@ own_rows m =
 abbrev pub metadata_writing : {E : Type 0} → (E → Writing) → Metadata E → Writing
 metadata_writing extra_fields m =
     write_then (extra_fields m.extra_fields) (λ x.
-    write_then (beside own_names x) (λ ms.
-    Ok (object (put_all (own_rows m) ms))))
+    write_then (beside metadata_names x) (λ ms.
+    Ok (object (put_all (metadata_rows m) ms))))

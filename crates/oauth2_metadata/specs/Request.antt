@@ -6,7 +6,7 @@ use Rattle.http_uri.specs.Uri.{Spells, SpellsNone}
 use Rattle.url.specs.Parts.{Parts, serialize}
 use Rattle.url.specs.Parser.{parse_url}
 use Rattle.oauth2_wire.specs.declared.content_type.ReplyRule.TheVariants.{Prefix}
-use Rattle.oauth2_metadata.specs.Issuer.{IsNoUrl, IsPlaced, refusal}
+use Rattle.oauth2_metadata.specs.Issuer.{IsNoUrl, IsPlaced, issuer_refusal}
 use Rattle.oauth2_metadata.specs.declared.issuer.IssuerError.{IssuerError}
 use Rattle.oauth2_json.specs.Reading.{Reading}
 use Rattle.oauth2_wire.specs.declared.content_type.ReplyRule.{ReplyRule}
@@ -61,7 +61,7 @@ module _ {E A T F RE C : Type 0} where
 -- a request for the metadata of the issuer that a text is, at that place
 abbrev pub IsAsked : (Parts → Parts) → List ℕ → Result MetadataQuery IssuerError → Type 0
 IsAsked place text (Ok query) =
-    (url : Parts) × (parse_url None text ≡ Ok url) × (refusal url ≡ None)
+    (url : Parts) × (parse_url None text ≡ Ok url) × (issuer_refusal url ≡ None)
     × (query ≡ record { issuer = text; url = place url; reply_rule = Prefix })
 IsAsked place text (Err error) =
     IsNoUrl text error ⊎ ((url : Parts) × (parse_url None text ≡ Ok url) × IsPlaced place url (Err error))

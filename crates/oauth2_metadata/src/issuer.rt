@@ -8,7 +8,7 @@ ghost use Rattle.url.specs.Parts.{IsValid, kind_of, nonempty_host};
 ghost use Rattle.url.specs.Path.{IsSegmentList};
 ghost use Rattle.oauth2_metadata.specs.Issuer.{IsOutOfRoom, IsPlaced, is_loopback, is_secure};
 ghost use Rattle.oauth2_metadata.specs.Issuer.{issuer_error_text, metadata_place, openid_place};
-ghost use Rattle.oauth2_metadata.specs.Issuer.{refusal, trimmed};
+ghost use Rattle.oauth2_metadata.specs.Issuer.{issuer_refusal, trimmed};
 
 use std::alloc::{AllocError, Global};
 use std::fmt;
@@ -89,7 +89,7 @@ pub fn openid_metadata_url(alloc: Global, issuer: &Url) -> Result<Url, IssuerErr
 
 // Why a URL is no issuer.
 fn refusal(url: &Url) -> Option<IssuerError>
-    ensures { result ≡ refusal url.now }
+    ensures { result ≡ issuer_refusal url.now }
 {
     if !is_secure(url) {
         Some(IssuerError::NotHttps)

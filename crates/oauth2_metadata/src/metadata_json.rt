@@ -11,10 +11,10 @@ ghost use Rattle.oauth2_metadata.specs.Metadata.{
   metadata_reading,
   metadata_seen,
   metadata_writing,
-  own_names,
-  own_rows,
+  metadata_names,
+  metadata_rows,
 };
-ghost use Rattle.oauth2_metadata.specs.private.InTurn.{in_turn};
+ghost use Rattle.oauth2_metadata.specs.private.InTurn.{metadata_in_turn};
 ghost use Rattle.oauth2_metadata.specs.private.Kept.{AreAddresses};
 ghost use Rattle.oauth2_replies.specs.Kept.{AreFieldsKept};
 
@@ -48,9 +48,9 @@ impl<EF: ExtraTokenFields + Drop> FromJson for ServerMetadata<EF> {
 }
 
 // The names of the type's own members.
-#[tactic(auto, unfolding(crate::specs::Metadata::own_names))]
+#[tactic(auto, unfolding(crate::specs::Metadata::metadata_names))]
 pub(crate) fn own_names() -> [&'static str; 25]
-    ensures { map (λ name. name.now) result ≡ own_names }
+    ensures { map (λ name. name.now) result ≡ metadata_names }
 {
     [
         "issuer",
@@ -87,7 +87,7 @@ fn from_members<EF: ExtraTokenFields + Drop>(
     mut object: Object<'_>,
 ) -> Result<ServerMetadata<EF>, ReadError>
     ensures { ReadsAs (metadata_seen EF.meaning) result
-        (in_turn EF.reading (object_members object.entry)) }
+        (metadata_in_turn EF.reading (object_members object.entry)) }
 {
     let issuer = object.take("issuer");
     let issuer = members::needed(alloc, "issuer", issuer)?;
@@ -127,7 +127,7 @@ impl<EF: ExtraTokenFields> ServerMetadata<EF> {
         mut members: Map<String, Value>,
     ) -> Result<Map<String, Value>, AllocError>
         ensures put { IfOk result (λ all. members_view all.entries
-            ≡ put_all (own_rows self.now) (members_view members.entries)) }
+            ≡ put_all (metadata_rows self.now) (members_view members.entries)) }
         ensures addresses { IfOk result (λ _. AreAddresses self.now.endpoints) }
     {
         self.services.put(alloc, &mut members)?;

@@ -7,7 +7,7 @@ use Rattle.oauth2_json.proofs.Objects.{get_member-others}
 use Rattle.oauth2_openid.specs.Claims.{claims}
 use Rattle.oauth2_openid.specs.Token.{with_others}
 use Rattle.oauth2_openid.specs.Reading.{claims_reading, header_reading}
-use Rattle.oauth2_openid.specs.private.Rows.{triple, pair, names_reading, times_reading, login_reading, bindings_reading, claims_in_turn, header_in_turn}
+use Rattle.oauth2_openid.specs.private.Rows.{triple, pair, names_reading, times_reading, authentication_reading, bindings_reading, claims_in_turn, header_in_turn}
 
 -- group by group is row by row
 grouped : {A B C D E F G H I J K X R : Type 0} (f : A → B → C → D → E → F → G → H → I → J → K → X → R) (a : Reading A) (b : Reading B) (c : Reading C) (d : Reading D) (e : Reading E) (g : Reading F) (h : Reading G) (i : Reading H) (j : Reading I) (k : Reading J) (l : Reading K) (x : X)
@@ -27,7 +27,7 @@ grouped f (Ok a) (Ok b) (Ok c) (Ok d) (Ok e) (Ok g) (Ok h) (Ok i) (Ok j) (Ok k) 
 grouped f (Ok a) (Ok b) (Ok c) (Ok d) (Ok e) (Ok g) (Ok h) (Ok i) (Ok j) (Ok k) (Ok l) x = refl
 
 pub claims_read_in_turn : (d : Data) (ms : Members) → members_of_object d ≡ Ok ms → claims_in_turn ms ≡ claims_reading d
-unfolding names_reading times_reading login_reading bindings_reading
+unfolding names_reading times_reading authentication_reading bindings_reading
 claims_read_in_turn d ms h = grouped (λ i s a e t u n c m p h o. with_others (claims i s a e t u n c m p h) o) _ _ _ _ _ _ _ _ _ _ _ _ ∙ rw (
   h,
   get_member-others (codes "sub") (codes "iss" ∷ []) ms refl,

@@ -10,7 +10,7 @@ use Rattle.oauth2_openid.specs.declared.access_token_hash.AccessTokenHash.{Acces
 use Rattle.oauth2_openid.specs.declared.access_token_hash.AccessTokenHash.TheVariants as hash
 use Rattle.oauth2_openid.specs.Claims.{Expectation}
 use Rattle.oauth2_openid.specs.Rules.{rule}
-use Rattle.oauth2_openid.specs.Token.{Token}
+use Rattle.oauth2_openid.specs.Token.{DecodedToken}
 use Rattle.oauth2_openid.specs.TokenRules.{algorithm_of, half_digest, told_hash, hash_rule, token_checked, IsAlgorithm, IsHashOf, Holds}
 use Rattle.oauth2_openid.proofs.RuleLaws.{rule_held, both, claims_held, held_claims}
 
@@ -61,7 +61,7 @@ held_hash a t (Some told) h = held_half told (half_digest a t) h
 
 -- ---- all
 
-held : (w : Expectation) (a : List ℕ) (n : ℤ) (t : Token) (v : AccessTokenHash) → token_checked w a n t ≡ Ok v → Holds w a n t
+held : (w : Expectation) (a : List ℕ) (n : ℤ) (t : DecodedToken) (v : AccessTokenHash) → token_checked w a n t ≡ Ok v → Holds w a n t
 held w a n t v h =
     let g = both _ _ _ h in
     let x = both _ _ _ g.1 in
@@ -73,7 +73,7 @@ held w a n t v h =
       hash = hash_held t.header.own.algorithm a t.claims.own.access_token_hash v c.1;
     }
 
-all : (w : Expectation) (a : List ℕ) (n : ℤ) (t : Token) → Holds w a n t → IsOk (token_checked w a n t)
+all : (w : Expectation) (a : List ℕ) (n : ℤ) (t : DecodedToken) → Holds w a n t → IsOk (token_checked w a n t)
 all w a n t h =
     rw (
       held_algorithm w.algorithm t.header.own.algorithm h.algorithm,
@@ -81,10 +81,10 @@ all w a n t h =
       held_claims w n t.claims.own h.claims,
     ) (held_hash t.header.own.algorithm a t.claims.own.access_token_hash h.hash)
 
-some_held : (w : Expectation) (a : List ℕ) (n : ℤ) (t : Token) (r : Result AccessTokenHash ClaimsError) → token_checked w a n t ≡ r → IsOk r → Holds w a n t
+some_held : (w : Expectation) (a : List ℕ) (n : ℤ) (t : DecodedToken) (r : Result AccessTokenHash ClaimsError) → token_checked w a n t ≡ r → IsOk r → Holds w a n t
 some_held w a n t (Ok v) e ok = held w a n t v e
 some_held w a n t (Err error) e ok = absurd (true≢false (sym ok))
 
 -- a check that answers as the rules do succeeds exactly where all hold
-pub succeeds : (w : Expectation) (a : List ℕ) (n : ℤ) (t : Token) (r : Result AccessTokenHash ClaimsError) → r ≡ token_checked w a n t → IsOk r ↔ Holds w a n t
+pub succeeds : (w : Expectation) (a : List ℕ) (n : ℤ) (t : DecodedToken) (r : Result AccessTokenHash ClaimsError) → r ≡ token_checked w a n t → IsOk r ↔ Holds w a n t
 succeeds w a n t r e = (λ ok. some_held w a n t r (sym e) ok, λ h. rw e (all w a n t h))

@@ -11,7 +11,7 @@ use Rattle.oauth2_openid.specs.declared.access_token_hash.AccessTokenHash.{Acces
 use Rattle.oauth2_openid.specs.declared.access_token_hash.AccessTokenHash.TheVariants as hash
 use Rattle.oauth2_openid.specs.Claims.{Expectation}
 use Rattle.oauth2_openid.specs.Rules.{Verdict, rule, ◌then◌, is_among, claims_checked, ClaimsHold}
-use Rattle.oauth2_openid.specs.Token.{Header, WithOthers, Token}
+use Rattle.oauth2_openid.specs.Token.{Header, WithOthers, DecodedToken}
 
 -- 3.1.3.7, 7, and section 2: the algorithm is the registered one, where one is given; else it is any
 -- but `none`
@@ -58,7 +58,7 @@ hash_rule algorithm access_token None = Ok hash.Absent
 hash_rule algorithm access_token (Some told) = told_hash told (half_digest algorithm access_token)
 
 -- each rule holds, or the first that does not is named
-abbrev pub token_checked : Expectation → List ℕ → ℤ → Token → Result AccessTokenHash ClaimsError
+abbrev pub token_checked : Expectation → List ℕ → ℤ → DecodedToken → Result AccessTokenHash ClaimsError
 token_checked expected access_token now token =
     algorithm_rule expected token.header.own
     then critical_rule token.header
@@ -78,7 +78,7 @@ IsHashOf algorithm access_token told =
 
 -- the token is as 3.1.3.7 and 3.1.3.8 have it, but for its signature, at this moment, for a client
 -- that expects this and got this access token
-pub record Holds (expected : Expectation) (access_token : List ℕ) (now : ℤ) (token : Token) : Type 0 where
+pub record Holds (expected : Expectation) (access_token : List ℕ) (now : ℤ) (token : DecodedToken) : Type 0 where
   pub algorithm : IsAlgorithm expected.algorithm token.header.own.algorithm
   pub no_extension : get (codes "crit") token.header.others ≡ None
   pub claims : ClaimsHold expected now token.claims.own

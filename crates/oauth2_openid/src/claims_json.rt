@@ -16,7 +16,7 @@ ghost use Rattle.oauth2_openid.specs.private.Rows.{
   times_names,
   times_reading,
   login_names,
-  login_reading,
+  authentication_reading,
   bindings_names,
   bindings_reading,
   claims_in_turn,
@@ -124,12 +124,12 @@ fn take_times(alloc: Global, members: &mut Object<'_>) -> Result<Times, ReadErro
     })
 }
 
-#[tactic(auto, unfolding(crate::specs::private::Rows::login_reading))]
+#[tactic(auto, unfolding(crate::specs::private::Rows::authentication_reading))]
 fn take_login(alloc: Global, members: &mut Object<'_>) -> Result<Login, ReadError>
     ensures read { ReadsAs (λ l. triple l.nonce
         (option_map string_bytes l.authentication_context_class)
         (option_map (λ list. map string_bytes list.items) l.authentication_methods))
-        result (login_reading (object_members members.old)) }
+        result (authentication_reading (object_members members.old)) }
     ensures rest { IfOk result (λ _. object_members members.new
         ≡ others login_names (object_members members.old)) }
 {

@@ -2,7 +2,7 @@
 
 ghost use Rattle.std.specs.Prelude.{◌≡◌, ◌∷◌, ◌++◌, IfOk, IfSome, Some, option_map};
 ghost use Rattle.oauth2_types.specs.Pkce.{base64url};
-ghost use Rattle.oauth2_openid.specs.Token.{bytes_of, parts, split_dot, three_parts};
+ghost use Rattle.oauth2_openid.specs.Token.{bytes_of, token_parts, split_dot, three_parts};
 
 use base64::DecodeAllocError;
 use base64::display::Base64Display;
@@ -20,7 +20,8 @@ fn split_dot(text: &str) -> Option<(&str, &str)>
 // The header, the payload and the signature, where there are just three parts.
 pub(crate) fn three_parts(text: &str) -> Option<(&str, &str, &str)>
     ensures joined { IfSome result (λ p. text.now ≡ (p.0.now ++ (46 ∷ p.1.now)) ++ (46 ∷ p.2.now)) }
-    ensures parts { option_map (λ p. parts p.0.now p.1.now p.2.now) result ≡ three_parts text.now }
+    ensures parts { option_map (λ p. token_parts p.0.now p.1.now p.2.now) result
+        ≡ three_parts text.now }
 {
     let (header, rest) = split_dot(text)?;
     let (payload, signature) = split_dot(rest)?;

@@ -11,7 +11,7 @@ ghost use Rattle.oauth2_openid.specs.TokenRules.{
   token_checked,
   Holds,
 };
-ghost use Rattle.oauth2_openid.specs.Reading.{json_part, token_reading};
+ghost use Rattle.oauth2_openid.specs.Reading.{json_part, compact_token_reading};
 
 use crate::access_token_hash::{AccessTokenHash, check_hash};
 use crate::claims::IdTokenClaims;
@@ -62,7 +62,7 @@ fn read_part<T: FromJson>(alloc: Global, part: TokenPart, text: &str) -> Result<
 impl IdToken {
     /// Reads a token in compact form (RFC 7515, section 7.1).
     pub fn from_text(alloc: Global, text: &str) -> Result<IdToken, IdTokenReadError>
-        ensures read { TokenReadsAs token_of result (token_reading text.now) }
+        ensures read { TokenReadsAs token_of result (compact_token_reading text.now) }
         // Nothing of the text is lost.
         ensures compact { IfOk result (λ t. text.now ≡ compact_of (token_of t)) }
     {

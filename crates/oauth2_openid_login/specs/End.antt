@@ -7,14 +7,14 @@ use Rattle.oauth2_wire.specs.Reply.{HttpResponse}
 use Rattle.oauth2.specs.Settings.{Settings}
 use Rattle.oauth2_redirect.specs.declared.login_error.LoginError.{LoginError}
 use Rattle.oauth2_redirect.specs.End.{EndsLogin, IsExchange, login_error_text}
-use Rattle.oauth2_redirect.specs.Redirect.{Refusal}
+use Rattle.oauth2_redirect.specs.Redirect.{RedirectRefusal}
 use Rattle.oauth2_openid.specs.declared.read_error.IdTokenReadError.{IdTokenReadError}
 use Rattle.oauth2_openid.specs.declared.read_error.IdTokenReadError.TheVariants as read
 use Rattle.oauth2_openid.specs.Claims.{Expectation}
 use Rattle.oauth2_openid.specs.ErrorTexts.{claims_error_text, id_token_read_error_text}
-use Rattle.oauth2_openid.specs.Reading.{token_reading}
+use Rattle.oauth2_openid.specs.Reading.{compact_token_reading}
 use Rattle.oauth2_openid.specs.Seen.{token_of}
-use Rattle.oauth2_openid.specs.Token.{Token, TokenFault, TokenReading, not_three_parts, not_base64, at_fault}
+use Rattle.oauth2_openid.specs.Token.{DecodedToken, TokenFault, TokenReading, not_three_parts, not_base64, at_fault}
 use Rattle.oauth2_openid.specs.TokenRules.{token_checked}
 use Rattle.oauth2_openid_login.specs.declared.login_end.OpenIdLoginEnd.{OpenIdLoginEnd}
 use Rattle.oauth2_openid_login.specs.declared.login_error.OpenIdLoginError.{OpenIdLoginError}
@@ -37,8 +37,8 @@ fault_told (read.Fault part fault) = Some (at_fault part (fault_of fault))
 fault_told read.Memory = None
 
 -- what the text of an ID token reads to, if there is one
-abbrev pub id_token_reading : Option (List ℕ) → Option (TokenReading Token)
-id_token_reading text = option_map token_reading text
+abbrev pub id_token_reading : Option (List ℕ) → Option (TokenReading DecodedToken)
+id_token_reading text = option_map compact_token_reading text
 
 module _ {D RE T : Type 0} where
   -- what comes of a token response: itself, with what its ID token reads to, if each rule holds; or
@@ -54,7 +54,7 @@ module _ {D RE T : Type 0} where
   Judges access_token id_token expected now response (Err (Read error)) =
       (fault : TokenFault) × (fault_told error ≡ Some fault) × (id_token_reading (id_token response) ≡ Some (Err fault))
   Judges access_token id_token expected now response (Err (Claims error)) =
-      (token : Token) × (id_token_reading (id_token response) ≡ Some (Ok token))
+      (token : DecodedToken) × (id_token_reading (id_token response) ≡ Some (Ok token))
       × (token_checked expected (access_token response) now token ≡ Err error)
   Judges access_token id_token expected now response (Err (Memory sent)) = (sent ≡ true) × IsSome (id_token response)
 
@@ -64,7 +64,7 @@ module _ {D A T E RE C : Type 0} where
   -- response; or memory ran out before, and the HTTP client is as it was
   abbrev pub EndsOpenIdLogin : (D → A) → (T → E) → (Data → Reading A) → (Data → Reading E)
       → (C → HttpRequest → Result HttpResponse RE → C → Type 0) → (D → List ℕ) → (D → Option (List ℕ))
-      → Settings → OpenIdKept → Expectation → ℤ → Result (List ℕ) Refusal
+      → Settings → OpenIdKept → Expectation → ℤ → Result (List ℕ) RedirectRefusal
       → C → Result (OpenIdLoginEnd D) (OpenIdLoginError RE T) → C → Type 0
   EndsOpenIdLogin meaning error_meaning reading error_reading step access_token id_token client login expected now told before result after =
       ((code : List ℕ) × (told ≡ Ok code) × (response : D)

@@ -4,7 +4,7 @@ use Rattle.serde_json.specs.Data.{Data, Members, string, number, unsigned, objec
 use Rattle.serde_json.specs.Find.{get_member}
 use Rattle.oauth2_json.specs.Reading.{Reading, read_then, ◌⊛◌}
 use Rattle.oauth2_json.specs.Writing.{Writing}
-use Rattle.oauth2_json.specs.Members.{members_of_object, needed, optional}
+use Rattle.oauth2_json.specs.Members.{members_of_object, needed_member, optional_member}
 use Rattle.oauth2_json.specs.Puts.{Row, put_all}
 use Rattle.oauth2_json.specs.Values.{text, whole_number}
 use Rattle.oauth2_redirect.specs.Login.{Kept, login_row, login_rows}
@@ -24,8 +24,8 @@ abbrev pub openid_login_row : Members → Reading OpenIdKept
 openid_login_row ms =
     Ok openid_kept
     ⊛ login_row ms
-    ⊛ needed text (codes "nonce") (get_member (codes "nonce") ms)
-    ⊛ optional whole_number (codes "max_age") (get_member (codes "max_age") ms)
+    ⊛ needed_member text (codes "nonce") (get_member (codes "nonce") ms)
+    ⊛ optional_member whole_number (codes "max_age") (get_member (codes "max_age") ms)
 
 abbrev pub openid_login_reading : Data → Reading OpenIdKept
 openid_login_reading d = read_then (members_of_object d) openid_login_row

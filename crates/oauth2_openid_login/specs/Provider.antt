@@ -16,8 +16,8 @@ abbrev pub redirect_issuer : Provider → Option (List ℕ)
 redirect_issuer provider = if provider.tells_issuer_in_redirect then Some provider.issuer else None
 
 -- what is expected of an ID token for this client, this nonce and this maximum age in seconds
-abbrev pub expectation : Provider → List ℕ → List ℕ → Option ℕ → Expectation
-expectation provider client sent seconds =
+abbrev pub login_expectation : Provider → List ℕ → List ℕ → Option ℕ → Expectation
+login_expectation provider client sent seconds =
     record {
       issuer = provider.issuer;
       client = client;
@@ -30,4 +30,4 @@ expectation provider client sent seconds =
 -- OpenID Connect Core 1.0, 3.1.3.7: what is expected of the ID token of a login: this client, and the
 -- nonce and the maximum age of this login
 abbrev pub expected_of : Provider → Settings → OpenIdKept → Expectation
-expected_of provider client login = expectation provider client.client_id login.nonce login.max_age
+expected_of provider client login = login_expectation provider client.client_id login.nonce login.max_age

@@ -7,7 +7,7 @@ ghost use Rattle.oauth2_types.specs.Pkce.{IsRandomText};
 ghost use Rattle.oauth2_urls.specs.Addressed.{Addressed};
 ghost use Rattle.oauth2_form.specs.Query.{query_form};
 ghost use Rattle.oauth2_redirect.specs.Query.{sole_text};
-ghost use Rattle.oauth2_redirect.specs.Redirect.{Refusal, answer, is_state};
+ghost use Rattle.oauth2_redirect.specs.Redirect.{RedirectRefusal, answer, is_state};
 ghost use Rattle.oauth2_openid.specs.Seen.{token_of};
 ghost use Rattle.oauth2_openid.specs.TokenRules.{Holds};
 ghost use Rattle.oauth2_openid.specs.Claims.{Expectation};
@@ -127,7 +127,7 @@ impl OpenIdLogin {
             (TR.access_token end.token_response) now.nanosecond (token_of end.id_token)) }
 
         // A redirect that tells no code sends nothing, so none with another state does.
-        ensures no_code { (why : Refusal)
+        ensures no_code { (why : RedirectRefusal)
             → answer self.login.state (redirect_issuer provider.now) (query_form redirect.now)
             ≡ Err why
             → http_client.new ≡ http_client.old }

@@ -27,7 +27,7 @@ ghost use Rattle.oauth2_form.specs.Query.{ExtendsQuery, query_form};
 ghost use Rattle.oauth2_wire.specs.ByName.{avoid_own_names};
 ghost use Rattle.oauth2_wire.specs.Texts.{param_bytes};
 ghost use Rattle.oauth2_requests.specs.Authorization.{IsTooLong, asked_url, query_pairs};
-ghost use Rattle.oauth2_redirect.specs.Login.{kept};
+ghost use Rattle.oauth2_redirect.specs.Login.{kept_login};
 ghost use Rattle.oauth2_redirect.specs.Start.{ShowsLogin};
 ghost use Rattle.oauth2_openid_login.specs.Login.{openid_kept};
 ghost use Rattle.oauth2_openid_login.specs.Start.{max_age_pair};
@@ -179,13 +179,13 @@ impl<'a> OpenIdLoginRequest<'a> {
         ensures url { IfOk result (λ (url, _).
             ExtendsQuery self.entry.request.auth_url.url url (query_pairs self.entry.request)) }
         ensures kept { IfOk result (λ (_, login). let request = self.entry.request in
-            login ≡ openid_kept (kept request.state self.entry.verifier request.redirect_url)
+            login ≡ openid_kept (kept_login request.state self.entry.verifier request.redirect_url)
             self.entry.nonce self.entry.max_age) }
 
         // What a server reads of the URL by name.
         ensures shows { IsTrue (avoid_own_names (query_form self.entry.request.auth_url.url))
             → IsTrue (avoid_own_names self.entry.request.extra_params)
-            → IfOk result (λ (url, kept). ShowsLogin kept.login (query_form url)) }
+            → IfOk result (λ (url, kept_login). ShowsLogin kept_login.login (query_form url)) }
         ensures refusal { IfErr result
             (λ refused. (refused.request ≡ self.entry) × IsOutOfRoom refused.error) }
         ensures overflow { IfErr result (λ refused. refused.error ≡ Overflow

@@ -1,7 +1,7 @@
 //! What a client knows of the provider that it logs its users in at.
 
 ghost use Rattle.std.specs.Prelude.{◌≡◌, IfOk, option_copied, option_map, string_bytes};
-ghost use Rattle.oauth2_openid_login.specs.Provider.{expectation, redirect_issuer};
+ghost use Rattle.oauth2_openid_login.specs.Provider.{login_expectation, redirect_issuer};
 
 use oauth2_openid::{Expected, Nonce};
 use oauth2_types::{ClientId, TryClone};
@@ -60,7 +60,7 @@ impl OpenIdProvider<'_> {
         max_age: Option<u64>,
     ) -> Result<Expected, AllocError>
         ensures { IfOk result
-            (λ expected. expected ≡ expectation self.now client_id.now nonce max_age) }
+            (λ expected. expected ≡ login_expectation self.now client_id.now nonce max_age) }
     {
         Ok(Expected {
             issuer: String::from_str(alloc, self.issuer)?,

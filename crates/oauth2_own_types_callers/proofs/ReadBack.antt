@@ -13,7 +13,7 @@ use Rattle.oauth2_own_types_callers.specs.declared.colorful_fields.ColorfulField
 use Rattle.oauth2_own_types_callers.specs.declared.colorful_token_type.ColorfulTokenType.{ColorfulTokenType}
 use Rattle.oauth2_own_types_callers.specs.declared.colorful_token_type.ColorfulTokenType.TheVariants.{Green, Red}
 use Rattle.oauth2_own_types_callers.specs.Asked.{ColorfulToken}
-use Rattle.oauth2_own_types_callers.specs.ColorErrors.{error_text, error_reading, error_writing}
+use Rattle.oauth2_own_types_callers.specs.ColorErrors.{color_error_text, color_error_reading, color_error_writing}
 use Rattle.oauth2_own_types_callers.specs.Colors.{color_text, color_reading, color_writing}
 use Rattle.oauth2_own_types_callers.specs.Fields.{Fields, fields_members, fields_reading, fields_writing, fields_seen}
 
@@ -21,10 +21,10 @@ pub color_kept : (color : ColorfulTokenType) → IsTypeKept color_reading (λ c.
 color_kept Green = record { type_text = color_text Green; written = refl; lowered = refl; back = refl }
 color_kept Red = record { type_text = color_text Red; written = refl; lowered = refl; back = refl }
 
-pub error_kept : (error : ColorfulErrorResponseType) → IsReadBack error_reading (λ e. e) error_writing error
-error_kept TooDark = (error_text TooDark, refl, refl)
-error_kept TooLight = (error_text TooLight, refl, refl)
-error_kept WrongColorSpace = (error_text WrongColorSpace, refl, refl)
+pub error_kept : (error : ColorfulErrorResponseType) → IsReadBack color_error_reading (λ e. e) color_error_writing error
+error_kept TooDark = (color_error_text TooDark, refl, refl)
+error_kept TooLight = (color_error_text TooLight, refl, refl)
+error_kept WrongColorSpace = (color_error_text WrongColorSpace, refl, refl)
 
 fields_back : (shape : Option (List ℕ)) (height : ℕ) → nat_lt height (2 ^ 32) ≡ true → fields_reading (object (fields_members (shape, height))) ≡ Ok (shape, height)
 fields_back None height in_range = rw in_range refl

@@ -4,7 +4,7 @@ use Rattle.serde_json.specs.Data.{Data}
 use Rattle.oauth2_json.specs.Reading.{Reading}
 use Rattle.oauth2_urls.specs.Addressed.{Addressed}
 use Rattle.oauth2_codes.specs.declared.error_response.StandardErrorResponse.{StandardErrorResponse}
-use Rattle.oauth2_codes.specs.ErrorResponse.{ErrorParts, parts_of, error_reading as response_reading}
+use Rattle.oauth2_codes.specs.ErrorResponse.{ErrorParts, parts_of, color_error_reading as response_reading}
 use Rattle.oauth2_replies.specs.Device.{DeviceAuthorization, device_seen, device_reading}
 use Rattle.oauth2_introspection.specs.Introspection.{Introspection, introspection_seen, introspection_reading}
 use Rattle.oauth2_replies.specs.Token.{Token, token_seen, token_reading}
@@ -21,7 +21,7 @@ use Rattle.oauth2_own_types_callers.specs.declared.colorful_error.ColorfulErrorR
 use Rattle.oauth2_own_types_callers.specs.declared.colorful_fields.ColorfulFields.{ColorfulFields}
 use Rattle.oauth2_own_types_callers.specs.declared.colorful_token_type.ColorfulTokenType.{ColorfulTokenType}
 use Rattle.oauth2_own_types_callers.specs.declared.custom_error.CustomErrorResponse.{CustomErrorResponse}
-use Rattle.oauth2_own_types_callers.specs.ColorErrors.{error_reading}
+use Rattle.oauth2_own_types_callers.specs.ColorErrors.{color_error_reading}
 use Rattle.oauth2_own_types_callers.specs.Colors.{color_reading}
 use Rattle.oauth2_own_types_callers.specs.CustomError.{custom_reading, custom_seen}
 use Rattle.oauth2_own_types_callers.specs.Fields.{Fields, fields_seen, fields_reading}
@@ -53,7 +53,7 @@ abbrev pub colorful_error_seen : ColorfulError → ErrorParts ColorfulErrorRespo
 colorful_error_seen response = parts_of (λ error. error) response
 
 abbrev pub colorful_error_reading : Data → Reading (ErrorParts ColorfulErrorResponseType)
-colorful_error_reading d = response_reading error_reading d
+colorful_error_reading d = response_reading color_error_reading d
 
 -- ---- one request and its answer
 

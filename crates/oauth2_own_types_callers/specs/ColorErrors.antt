@@ -9,10 +9,10 @@ use Rattle.oauth2_codes.specs.Codes.{code_in}
 use Rattle.oauth2_own_types_callers.specs.declared.colorful_error.ColorfulErrorResponseType.{ColorfulErrorResponseType}
 use Rattle.oauth2_own_types_callers.specs.declared.colorful_error.ColorfulErrorResponseType.TheVariants.{TooDark, TooLight, WrongColorSpace}
 
-abbrev pub error_text : ColorfulErrorResponseType → List ℕ
-error_text TooDark = codes "too_dark"
-error_text TooLight = codes "too_light"
-error_text WrongColorSpace = codes "wrong_color_space"
+abbrev pub color_error_text : ColorfulErrorResponseType → List ℕ
+color_error_text TooDark = codes "too_dark"
+color_error_text TooLight = codes "too_light"
+color_error_text WrongColorSpace = codes "wrong_color_space"
 
 abbrev pub error_of : List ℕ → Reading ColorfulErrorResponseType
 error_of s =
@@ -21,8 +21,8 @@ error_of s =
     (Err (whole cause.Refused))
     s
 
-abbrev pub error_reading : Data → Reading ColorfulErrorResponseType
-error_reading d = read_then (text d) error_of
+abbrev pub color_error_reading : Data → Reading ColorfulErrorResponseType
+color_error_reading d = read_then (text d) error_of
 
-abbrev pub error_writing : ColorfulErrorResponseType → Writing
-error_writing error = Ok (string (error_text error))
+abbrev pub color_error_writing : ColorfulErrorResponseType → Writing
+color_error_writing error = Ok (string (color_error_text error))

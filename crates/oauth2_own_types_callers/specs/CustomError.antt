@@ -4,7 +4,7 @@ use Rattle.serde_json.specs.Data.{Data, no_members, put, string, object}
 use Rattle.serde_json.specs.Find.{get_member}
 use Rattle.oauth2_json.specs.Reading.{Reading, read_then}
 use Rattle.oauth2_json.specs.Writing.{Writing}
-use Rattle.oauth2_json.specs.Members.{members_of_object, needed}
+use Rattle.oauth2_json.specs.Members.{members_of_object, needed_member}
 use Rattle.oauth2_json.specs.Values.{text}
 use Rattle.oauth2_own_types_callers.specs.declared.custom_error.CustomErrorResponse.{CustomErrorResponse}
 
@@ -13,7 +13,7 @@ abbrev pub custom_seen : CustomErrorResponse → List ℕ
 custom_seen response = string_bytes response.custom_error
 
 abbrev pub custom_reading : Data → Reading (List ℕ)
-custom_reading d = read_then (members_of_object d) (λ ms. needed text (codes "custom_error") (get_member (codes "custom_error") ms))
+custom_reading d = read_then (members_of_object d) (λ ms. needed_member text (codes "custom_error") (get_member (codes "custom_error") ms))
 
 abbrev pub custom_writing : List ℕ → Writing
 custom_writing error = Ok (object (put (codes "custom_error") (string error) no_members))

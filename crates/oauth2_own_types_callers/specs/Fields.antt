@@ -4,7 +4,7 @@ use Rattle.serde_json.specs.Data.{Data, Members, no_members, number, unsigned, s
 use Rattle.serde_json.specs.Find.{get_member}
 use Rattle.oauth2_json.specs.Reading.{Reading, read_then, ◌⊛◌}
 use Rattle.oauth2_json.specs.Writing.{Writing}
-use Rattle.oauth2_json.specs.Members.{members_of_object, needed, optional}
+use Rattle.oauth2_json.specs.Members.{members_of_object, needed_member, optional_member}
 use Rattle.oauth2_json.specs.Values.{text, whole_number}
 use Rattle.oauth2_json.specs.Puts.{put_all}
 use Rattle.oauth2_json.specs.declared.read.ParseCause.TheVariants as cause
@@ -25,8 +25,8 @@ height_of n = if nat_lt n (2 ^ 32) then Ok n else Err (record { member = codes "
 abbrev pub fields_row : Members → Reading Fields
 fields_row ms =
     Ok (λ shape height. (shape, height))
-    ⊛ optional text (codes "shape") (get_member (codes "shape") ms)
-    ⊛ read_then (needed whole_number (codes "height") (get_member (codes "height") ms)) height_of
+    ⊛ optional_member text (codes "shape") (get_member (codes "shape") ms)
+    ⊛ read_then (needed_member whole_number (codes "height") (get_member (codes "height") ms)) height_of
 
 abbrev pub fields_reading : Data → Reading Fields
 fields_reading d = read_then (members_of_object d) fields_row

@@ -2,9 +2,9 @@
 
 ghost use Rattle.std.specs.Prelude.{Some};
 ghost use Rattle.oauth2_own_types_callers.specs.ColorErrors.{
-  error_text,
-  error_reading,
-  error_writing,
+  color_error_text,
+  color_error_reading,
+  color_error_writing,
 };
 ghost use Rattle.oauth2_own_types_callers.specs.declared.colorful_error.ColorfulErrorResponseType.{
   ColorfulErrorResponseType,
@@ -25,7 +25,7 @@ pub enum ColorfulErrorResponseType {
 }
 
 impl AsStr for ColorfulErrorResponseType {
-    ghost text = { error_text };
+    ghost text = { color_error_text };
 
     fn as_str(&self) -> &str {
         match self {
@@ -41,7 +41,7 @@ impl FromJson for ColorfulErrorResponseType {
 
     ghost meaning = { λ error. error };
 
-    ghost reading = { error_reading };
+    ghost reading = { color_error_reading };
 
     fn from_json(alloc: Global, value: Value) -> Result<ColorfulErrorResponseType, ReadError> {
         let text = String::from_json(alloc, value)?;
@@ -55,7 +55,7 @@ impl FromJson for ColorfulErrorResponseType {
 }
 
 impl ToJson for ColorfulErrorResponseType {
-    ghost writing = { error_writing };
+    ghost writing = { color_error_writing };
 
     fn to_json(&self, alloc: Global) -> Result<Value, WriteError> {
         Ok(Value::try_from_str(alloc, self.as_str())?)
@@ -63,7 +63,7 @@ impl ToJson for ColorfulErrorResponseType {
 }
 
 impl fmt::Display for ColorfulErrorResponseType {
-    ghost output = { λ error. Some (error_text error) };
+    ghost output = { λ error. Some (color_error_text error) };
 
     fn fmt<W: fmt::Write>(&self, f: &mut fmt::Formatter<W>) -> fmt::Result {
         f.write_str(self.as_str())

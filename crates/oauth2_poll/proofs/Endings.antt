@@ -4,7 +4,7 @@ use Rattle.std.specs.Prelude.{slice_get, ℤ, pos, ◌+ℤ◌, ◌<ℤ◌}
 use Rattle.std.proofs.Math.Decide.{dec_le}
 use Rattle.oauth2_poll.specs.declared.device_poll.PollAnswer.{PollAnswer}
 use Rattle.oauth2_poll.specs.declared.device_poll.PollAnswer.TheVariants.{Failed, Pending, SlowDown, Deciding}
-use Rattle.oauth2_poll.specs.Trace.{PollInput, Event, answer_of, IsLate, Decides, GoesOn, IsReached, Ending, TooLong, OutOfRange, Late, Decided, Limited, IsEnding, interval_after, reading_at, answer_at, round, rounds}
+use Rattle.oauth2_poll.specs.Trace.{PollInput, TraceEvent, answer_in_round, IsLate, Decides, GoesOn, IsReached, Ending, TooLong, OutOfRange, Late, Decided, Limited, IsEnding, interval_after, reading_at, answer_at, round, rounds}
 use Rattle.std.proofs.lemmas.Int.{by_lt_z, ints}
 
 -- the last round of a poll with this end, if it has rounds
@@ -33,7 +33,7 @@ dec_late_at p n (Some s) (Some t) h k =
 dec_late : (p : PollInput) (n : ℕ) → IsLate p n ⊎ (¬ (IsLate p n))
 dec_late p n = dec_late_at p n _ _ refl refl
 
-dec_decides_at : (p : PollInput) (n : ℕ) (a : Option PollAnswer) → answer_of p.answers n ≡ a → Decides p n ⊎ (¬ (Decides p n))
+dec_decides_at : (p : PollInput) (n : ℕ) (a : Option PollAnswer) → answer_in_round p.answers n ≡ a → Decides p n ⊎ (¬ (Decides p n))
 dec_decides_at p n None h = inr (λ d. cc)
 dec_decides_at p n (Some Failed) h = inr (λ d. cc)
 dec_decides_at p n (Some Pending) h = inr (λ d. cc)
@@ -76,8 +76,8 @@ ending_from p (suc more) n r full =
 module _ (p : PollInput) (k : ℕ) where
   -- with nothing after round k, or its reading
   pub record Begins (m : ℕ) : Type 0 where
-    pub rest : List (Option Event)
-    pub is : rounds p m ≡ rounds p k ++ reading_at p (suc k) ∷ Some Event.Asked ∷ answer_at p (suc k) ∷ rest
+    pub rest : List (Option TraceEvent)
+    pub is : rounds p m ≡ rounds p k ++ reading_at p (suc k) ∷ Some TraceEvent.Asked ∷ answer_at p (suc k) ∷ rest
 
   pub begins : (m : ℕ) → k < m → Begins m
   begins zero h = absurd (omega arith)
@@ -85,7 +85,7 @@ module _ (p : PollInput) (k : ℕ) where
       elim (dec_le m k) [
         | yes le ↦
             let e : m ≡ k = omega arith in
-            record { rest = Some (Event.Slept (interval_after p (suc k))) ∷ []; is = rw e refl }
+            record { rest = Some (TraceEvent.Slept (interval_after p (suc k))) ∷ []; is = rw e refl }
         | no gt ↦
             let b = begins m (omega arith) in
             record { rest = b.rest ++ round p (suc m); is = rw b.is (append_assoc (rounds p k) _ (round p (suc m))) }

@@ -6,7 +6,7 @@ use Rattle.std.proofs.lemmas.List.{take-append-le}
 use Rattle.oauth2_poll.specs.declared.device_poll.PollAnswer.{PollAnswer}
 use Rattle.oauth2_poll.specs.State.{PollState}
 use Rattle.oauth2_poll.specs.Step.{next_interval}
-use Rattle.oauth2_poll.specs.Trace.{PollInput, Event, Reading, Asked, Answered, Slept, answer_of, IsLate, GoesOn, interval_after, rounds, readings_in, answers_in}
+use Rattle.oauth2_poll.specs.Trace.{PollInput, TraceEvent, Reading, Asked, Answered, Slept, answer_in_round, IsLate, GoesOn, interval_after, rounds, readings_in, answers_in}
 use Rattle.oauth2_poll.proofs.Lists.{slice_get-append_left}
 use Rattle.oauth2_poll.proofs.Open.{IsOpen}
 
@@ -18,7 +18,7 @@ module _ (p : PollInput) (ts : List ℤ) (bs : List PollAnswer) where
   reading_same : (i : ℕ) → i < length p.readings → slice_get (more p ts bs).readings i ≡ slice_get p.readings i
   reading_same i h = slice_get-append_left p.readings ts i h
 
-  answer_same : (i : ℕ) → i ≤ length p.answers → answer_of (more p ts bs).answers i ≡ answer_of p.answers i
+  answer_same : (i : ℕ) → i ≤ length p.answers → answer_in_round (more p ts bs).answers i ≡ answer_in_round p.answers i
   answer_same zero h = refl
   answer_same (suc i) h = slice_get-append_left p.answers bs i (omega (arith, h))
 
@@ -46,7 +46,7 @@ module _ (p : PollInput) (ts : List ℤ) (bs : List PollAnswer) where
         below = g.below;
       }
 
-  pub open_more : (k : ℕ) (xs : List Event) (poll : PollState) → IsOpen p k xs poll → IsOpen (more p ts bs) k xs poll
+  pub open_more : (k : ℕ) (xs : List TraceEvent) (poll : PollState) → IsOpen p k xs poll → IsOpen (more p ts bs) k xs poll
   open_more k xs poll o =
       let there = o.readings_there in
       let answers = o.answers_there in
@@ -70,14 +70,14 @@ module _ (p : PollInput) (ts : List ℤ) (bs : List PollAnswer) where
       }
 
 -- what a list of events followed by another has of each
-pub readings_in-append : (xs ys : List Event) → readings_in (xs ++ ys) ≡ readings_in xs ++ readings_in ys
+pub readings_in-append : (xs ys : List TraceEvent) → readings_in (xs ++ ys) ≡ readings_in xs ++ readings_in ys
 readings_in-append [] ys = refl
 readings_in-append (Reading t ∷ xs) ys = ap (λ (l : List ℤ). t ∷ l) (readings_in-append xs ys)
 readings_in-append (Asked ∷ xs) ys = readings_in-append xs ys
 readings_in-append (Answered a ∷ xs) ys = readings_in-append xs ys
 readings_in-append (Slept d ∷ xs) ys = readings_in-append xs ys
 
-pub answers_in-append : (xs ys : List Event) → answers_in (xs ++ ys) ≡ answers_in xs ++ answers_in ys
+pub answers_in-append : (xs ys : List TraceEvent) → answers_in (xs ++ ys) ≡ answers_in xs ++ answers_in ys
 answers_in-append [] ys = refl
 answers_in-append (Reading t ∷ xs) ys = answers_in-append xs ys
 answers_in-append (Asked ∷ xs) ys = answers_in-append xs ys

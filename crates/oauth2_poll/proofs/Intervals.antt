@@ -6,11 +6,11 @@ use Rattle.std.specs.Duration.{max_nanos}
 use Rattle.std.proofs.lemmas.Bool.Decides.{nat_tests}
 use Rattle.oauth2_poll.specs.declared.device_poll.PollAnswer.{PollAnswer}
 use Rattle.oauth2_poll.specs.declared.device_poll.PollAnswer.TheVariants.{Failed, Pending, SlowDown, Deciding}
-use Rattle.oauth2_poll.specs.Step.{slow_down, next_interval, doubled}
+use Rattle.oauth2_poll.specs.Step.{slow_down, next_interval, double}
 use Rattle.oauth2_poll.specs.Trace.{PollInput, interval_after}
 use Rattle.oauth2_poll.specs.Pacing.{slow_downs, failures, IsPaced, slow_downs_to}
 
-doubled_fits : (d : ℕ) → d ≤ max_nanos → doubled d ≤ max_nanos
+doubled_fits : (d : ℕ) → d ≤ max_nanos → double d ≤ max_nanos
 doubled_fits d h = grind (arith, nat_tests)
 
 lower : (c d : ℕ) (xs : List PollAnswer) → min max_nanos (d + slow_down * slow_downs xs) ≤ fold (next_interval c) d xs

@@ -9,12 +9,12 @@ use Rattle.jiff.specs.Words.{IsTimestampNanos}
 use Rattle.oauth2_poll.specs.declared.device_poll.PollAnswer.{PollAnswer}
 use Rattle.oauth2_poll.specs.declared.device_poll.PollAnswer.TheVariants.{Deciding}
 use Rattle.oauth2_poll.specs.State.{PollState}
-use Rattle.oauth2_poll.specs.Step.{TimeoutFits, next_interval, answered}
-use Rattle.oauth2_poll.specs.Trace.{PollInput, Event, Reading, Asked, Answered, Slept, IsLate, GoesOn, IsReached, Late, Decided, interval_after, reading_at, rounds, planned}
+use Rattle.oauth2_poll.specs.Step.{TimeoutFits, next_interval, state_after}
+use Rattle.oauth2_poll.specs.Trace.{PollInput, TraceEvent, Reading, Asked, Answered, Slept, IsLate, GoesOn, IsReached, Late, Decided, interval_after, reading_at, rounds, poll_events}
 use Rattle.oauth2_poll.proofs.Lists.{take_one_more}
 
 -- k rounds are over, and this is what was done in them
-pub record IsOpen (p : PollInput) (k : ℕ) (xs : List Event) (poll : PollState) : Type 0 where
+pub record IsOpen (p : PollInput) (k : ℕ) (xs : List TraceEvent) (poll : PollState) : Type 0 where
   pub start : ℤ
   pub first : slice_get p.readings 0 ≡ Some start
   pub fits : TimeoutFits p.timeout
@@ -32,7 +32,7 @@ pub record IsOpen (p : PollInput) (k : ℕ) (xs : List Event) (poll : PollState)
 same_some : {A : Type 0} (x y : A) (o : Option A) → o ≡ Some x → o ≡ Some y → x ≡ y
 same_some {A} x y o h k = let e : Some x ≡ Some y = sym h ∙ k in cc
 
-pub reached : (p : PollInput) (k : ℕ) (xs : List Event) (poll : PollState) → IsOpen p k xs poll → IsReached p (suc k)
+pub reached : (p : PollInput) (k : ℕ) (xs : List TraceEvent) (poll : PollState) → IsOpen p k xs poll → IsReached p (suc k)
 reached p k xs poll o =
     record {
       fits = o.fits;
@@ -41,11 +41,11 @@ reached p k xs poll o =
       earlier = λ i one below. o.earlier i one (omega arith);
     }
 
-pub late : (p : PollInput) (k : ℕ) (xs : List Event) (poll : PollState) (t : ℤ) → IsOpen p k xs poll → slice_get p.readings (suc k) ≡ Some t → poll.deadline <ℤ t → IsLate p (suc k)
+pub late : (p : PollInput) (k : ℕ) (xs : List TraceEvent) (poll : PollState) (t : ℤ) → IsOpen p k xs poll → slice_get p.readings (suc k) ≡ Some t → poll.deadline <ℤ t → IsLate p (suc k)
 late p k xs poll t o here after =
     record { start = o.start; moment = t; first = o.first; here = here; after = subst (λ (d : ℤ). d <ℤ t) o.deadline after }
 
-pub not_late : (p : PollInput) (k : ℕ) (xs : List Event) (poll : PollState) (t : ℤ) → IsOpen p k xs poll → slice_get p.readings (suc k) ≡ Some t → (poll.deadline <ℤ t → ⊥) → IsLate p (suc k) → ⊥
+pub not_late : (p : PollInput) (k : ℕ) (xs : List TraceEvent) (poll : PollState) (t : ℤ) → IsOpen p k xs poll → slice_get p.readings (suc k) ≡ Some t → (poll.deadline <ℤ t → ⊥) → IsLate p (suc k) → ⊥
 not_late p k xs poll t o here before l =
     before (rw (o.deadline, same_some o.start l.start _ o.first l.first, same_some t l.moment _ here l.here) l.after)
 
@@ -72,11 +72,11 @@ one_less : (k : ℕ) → suc k - 1 ≡ k
 one_less k = omega arith
 
 -- a late reading
-pub late_plan : (p : PollInput) (k : ℕ) (xs : List Event) (poll : PollState) (t : ℤ) → IsOpen p k xs poll → slice_get p.readings (suc k) ≡ Some t → map Some (xs ++ Reading t ∷ []) ≡ planned p (Late (suc k))
+pub late_plan : (p : PollInput) (k : ℕ) (xs : List TraceEvent) (poll : PollState) (t : ℤ) → IsOpen p k xs poll → slice_get p.readings (suc k) ≡ Some t → map Some (xs ++ Reading t ∷ []) ≡ poll_events p (Late (suc k))
 late_plan p k xs poll t o here = rw (map-append, o.so_far, one_less, here) refl
 
 -- the last answer
-pub decided_plan : (p : PollInput) (k : ℕ) (xs : List Event) (poll : PollState) (t : ℤ) (a : PollAnswer) → IsOpen p k xs poll → slice_get p.readings (suc k) ≡ Some t → slice_get p.answers k ≡ Some a → map Some (xs ++ Reading t ∷ Asked ∷ Answered a ∷ []) ≡ planned p (Decided (suc k))
+pub decided_plan : (p : PollInput) (k : ℕ) (xs : List TraceEvent) (poll : PollState) (t : ℤ) (a : PollAnswer) → IsOpen p k xs poll → slice_get p.readings (suc k) ≡ Some t → slice_get p.answers k ≡ Some a → map Some (xs ++ Reading t ∷ Asked ∷ Answered a ∷ []) ≡ poll_events p (Decided (suc k))
 decided_plan p k xs poll t a o here answer = rw (map-append, o.so_far, one_less, here, answer) refl
 
 pub next_interval_is : (p : PollInput) (k : ℕ) (a : PollAnswer) → slice_get p.answers k ≡ Some a → interval_after p (suc k) ≡ next_interval p.cap (interval_after p k) a
@@ -88,14 +88,14 @@ by_last k P before here i one below =
     elim (dec_le i k) [ yes h ↦ before i one h | no h ↦ let e : suc k ≡ i = omega arith in subst P e here ]
 
 -- a round that doesn't end it
-pub open_next : (p : PollInput) (k : ℕ) (xs : List Event) (poll : PollState) (t : ℤ) (a : PollAnswer) → IsOpen p k xs poll → slice_get p.readings (suc k) ≡ Some t → slice_get p.answers k ≡ Some a → (poll.deadline <ℤ t → ⊥) → a ≢ Deciding → poll.polls_left ≢ 1 → IsOpen p (suc k) (xs ++ Reading t ∷ Asked ∷ Answered a ∷ Slept (answered poll a).interval ∷ []) (answered poll a)
+pub open_next : (p : PollInput) (k : ℕ) (xs : List TraceEvent) (poll : PollState) (t : ℤ) (a : PollAnswer) → IsOpen p k xs poll → slice_get p.readings (suc k) ≡ Some t → slice_get p.answers k ≡ Some a → (poll.deadline <ℤ t → ⊥) → a ≢ Deciding → poll.polls_left ≢ 1 → IsOpen p (suc k) (xs ++ Reading t ∷ Asked ∷ Answered a ∷ Slept (state_after poll a).interval ∷ []) (state_after poll a)
 open_next p k xs poll t a o here answer before open_answer more =
     let here_goes : GoesOn p (suc k) = record {
       in_time = not_late p k xs poll t o here before;
       open_answer = λ d. open_answer (same_some a Deciding _ answer d);
       below = λ e. more (let l = o.left in omega arith);
     } in
-    let step : (answered poll a).interval ≡ interval_after p (suc k) = ap (λ (c : ℕ). next_interval c poll.interval a) o.cap ∙ ap (λ (d : ℕ). next_interval p.cap d a) o.interval ∙ sym (next_interval_is p k a answer) in
+    let step : (state_after poll a).interval ≡ interval_after p (suc k) = ap (λ (c : ℕ). next_interval c poll.interval a) o.cap ∙ ap (λ (d : ℕ). next_interval p.cap d a) o.interval ∙ sym (next_interval_is p k a answer) in
     record {
       start = o.start;
       first = o.first;

@@ -2,25 +2,25 @@
 use Rattle.std.proofs.Common.{◌≡◌, ℕ, zero, suc, ◌-◌, ◌<◌, ◌≤◌, List, [], ◌∷◌, ◌++◌, map, Option, Some, refl, arith, subst, append_assoc}
 use Rattle.std.proofs.Math.Decide.{dec_le}
 use Rattle.oauth2_poll.specs.State.{PollState}
-use Rattle.oauth2_poll.specs.Trace.{PollInput, Event, Asked, IsLate, Ending, TooLong, OutOfRange, Late, Decided, Limited, IsEnding, reading_at, answer_at, rounds, planned}
+use Rattle.oauth2_poll.specs.Trace.{PollInput, TraceEvent, Asked, IsLate, Ending, TooLong, OutOfRange, Late, Decided, Limited, IsEnding, reading_at, answer_at, rounds, poll_events}
 use Rattle.oauth2_poll.proofs.Open.{IsOpen, reached}
 use Rattle.oauth2_poll.proofs.Endings.{begins, last_round, ending_from}
 
 one_less : (k : ℕ) → suc k - 1 ≡ k
 one_less k = omega arith
 
-module _ (p : PollInput) (k : ℕ) (xs : List Event) (poll : PollState) (o : IsOpen p k xs poll) where
+module _ (p : PollInput) (k : ℕ) (xs : List TraceEvent) (poll : PollState) (o : IsOpen p k xs poll) where
   -- the next round's reading, request and answer follow
-  pub record Goes (plan : List (Option Event)) : Type 0 where
-    pub rest : List (Option Event)
+  pub record Goes (plan : List (Option TraceEvent)) : Type 0 where
+    pub rest : List (Option TraceEvent)
     pub is : plan ≡ map Some xs ++ reading_at p (suc k) ∷ Some Asked ∷ answer_at p (suc k) ∷ rest
 
   -- its reading follows
-  pub record Reads (plan : List (Option Event)) : Type 0 where
-    pub rest : List (Option Event)
+  pub record Reads (plan : List (Option TraceEvent)) : Type 0 where
+    pub rest : List (Option TraceEvent)
     pub is : plan ≡ map Some xs ++ reading_at p (suc k) ∷ rest
 
-  past : (m : ℕ) (tail : List (Option Event)) → k < m → Goes (reading_at p 0 ∷ (rounds p m ++ tail))
+  past : (m : ℕ) (tail : List (Option TraceEvent)) → k < m → Goes (reading_at p 0 ∷ (rounds p m ++ tail))
   past m tail h =
       let b = begins p k m h in
       let s = o.so_far in
@@ -34,7 +34,7 @@ module _ (p : PollInput) (k : ℕ) (xs : List Event) (poll : PollState) (o : IsO
         | no gt ↦ past m _ (omega arith)
       ]
 
-  pub goes : (e : Ending) → IsEnding p e → suc k ≤ last_round e → ¬ (IsLate p (suc k)) → Goes (planned p e)
+  pub goes : (e : Ending) → IsEnding p e → suc k ≤ last_round e → ¬ (IsLate p (suc k)) → Goes (poll_events p e)
   goes TooLong e h l = absurd (omega arith)
   goes OutOfRange e h l = absurd (omega arith)
   goes (Late zero) e h l = absurd (omega arith)
@@ -48,10 +48,10 @@ module _ (p : PollInput) (k : ℕ) (xs : List Event) (poll : PollState) (o : IsO
   goes (Limited zero) e h l = absurd (omega arith)
   goes (Limited (suc m)) e h l = rw (one_less m) (last m (omega arith))
 
-  first_of_goes : (plan : List (Option Event)) → Goes plan → Reads plan
+  first_of_goes : (plan : List (Option TraceEvent)) → Goes plan → Reads plan
   first_of_goes plan b = record { rest = Some Asked ∷ answer_at p (suc k) ∷ b.rest; is = b.is }
 
-  pub reads : (e : Ending) → IsEnding p e → suc k ≤ last_round e → Reads (planned p e)
+  pub reads : (e : Ending) → IsEnding p e → suc k ≤ last_round e → Reads (poll_events p e)
   reads TooLong e h = absurd (omega arith)
   reads OutOfRange e h = absurd (omega arith)
   reads (Late zero) e h = absurd (omega arith)

@@ -10,7 +10,7 @@ use Rattle.oauth2_poll.specs.declared.run.PollEnd.{PollEnd}
 use Rattle.oauth2_poll.specs.declared.run.PollEnd.TheVariants as end
 use Rattle.oauth2_poll.specs.State.{PollState}
 use Rattle.oauth2_poll.specs.Step.{TimeoutFits}
-use Rattle.oauth2_poll.specs.Trace.{PollInput, Event, Reading, Asked, Answered, Ending, TooLong, OutOfRange, Late, Decided, Limited, IsEnding, IsReached, reading_at, planned}
+use Rattle.oauth2_poll.specs.Trace.{PollInput, TraceEvent, Reading, Asked, Answered, Ending, TooLong, OutOfRange, Late, Decided, Limited, IsEnding, IsReached, reading_at, poll_events}
 use Rattle.oauth2_poll.specs.Run.{IsRun, end_of}
 use Rattle.oauth2_poll.specs.Laws.{IsTraceOf}
 use Rattle.oauth2_poll.proofs.Lists.{until_missing-append, is_whole-append, until_missing_whole, is_whole_whole, until_missing_begins}
@@ -19,7 +19,7 @@ use Rattle.oauth2_poll.proofs.Endings.{ending_from, last_round}
 use Rattle.oauth2_poll.proofs.Plans.{goes, reads, an_ending}
 
 -- nothing is missing
-whole : (p : PollInput) (xs : List Event) (e : Ending) → IsEnding p e → map Some xs ≡ planned p e → IsRun p xs (end_of e)
+whole : (p : PollInput) (xs : List TraceEvent) (e : Ending) → IsEnding p e → map Some xs ≡ poll_events p e → IsRun p xs (end_of e)
 whole p xs e is h =
     record {
       ending = e;
@@ -29,7 +29,7 @@ whole p xs e is h =
     }
 
 -- something is missing after these events
-short : (p : PollInput) (xs : List Event) (e : Ending) (rest : List (Option Event)) → IsEnding p e → planned p e ≡ map Some xs ++ None ∷ rest → IsRun p xs end.OutOfInput
+short : (p : PollInput) (xs : List TraceEvent) (e : Ending) (rest : List (Option TraceEvent)) → IsEnding p e → poll_events p e ≡ map Some xs ++ None ∷ rest → IsRun p xs end.OutOfInput
 short p xs e rest is h =
     record {
       ending = e;
@@ -44,10 +44,10 @@ run_too_long p h = whole p [] TooLong h refl
 pub run_out_of_range : (p : PollInput) (t : ℤ) → TimeoutFits p.timeout → slice_get p.readings 0 ≡ Some t → ¬ (IsTimestampNanos (t +ℤ pos p.timeout)) → IsRun p (Reading t ∷ []) end.DeadlineOutOfRange
 run_out_of_range p t fits first beyond = whole p (Reading t ∷ []) OutOfRange (fits, (t, first, beyond)) (rw first refl)
 
-missing_first : (p : PollInput) (rest : List (Option Event)) → slice_get p.readings 0 ≡ None → reading_at p 0 ∷ rest ≡ None ∷ rest
+missing_first : (p : PollInput) (rest : List (Option TraceEvent)) → slice_get p.readings 0 ≡ None → reading_at p 0 ∷ rest ≡ None ∷ rest
 missing_first p rest h = rw h refl
 
-no_start : (p : PollInput) (e : Ending) → slice_get p.readings 0 ≡ None → 1 ≤ last_round e → (rest : List (Option Event)) × (planned p e ≡ None ∷ rest)
+no_start : (p : PollInput) (e : Ending) → slice_get p.readings 0 ≡ None → 1 ≤ last_round e → (rest : List (Option TraceEvent)) × (poll_events p e ≡ None ∷ rest)
 no_start p TooLong h k = absurd (omega arith)
 no_start p OutOfRange h k = absurd (omega arith)
 no_start p (Late n) h k = (_, missing_first p _ h)
@@ -66,7 +66,7 @@ run_no_reading p fits none polls =
     let n = no_start p x.0 none x.2 in
     short p [] x.0 n.0 x.1 n.1
 
-module _ (p : PollInput) (k : ℕ) (xs : List Event) (poll : PollState) (o : IsOpen p k xs poll) where
+module _ (p : PollInput) (k : ℕ) (xs : List TraceEvent) (poll : PollState) (o : IsOpen p k xs poll) where
   pub run_no_more_readings : slice_get p.readings (suc k) ≡ None → IsRun p xs end.OutOfInput
   run_no_more_readings none =
       let x = an_ending p k xs poll o in
@@ -96,7 +96,7 @@ module _ (p : PollInput) (k : ℕ) (xs : List Event) (poll : PollState) (o : IsO
           (decided_plan p k xs poll t a o here there)
 
 -- what a run did is a trace of the poll
-pub trace_of_run : (p : PollInput) (xs : List Event) (last : PollEnd) → IsRun p xs last → IsTraceOf p xs
+pub trace_of_run : (p : PollInput) (xs : List TraceEvent) (last : PollEnd) → IsRun p xs last → IsTraceOf p xs
 trace_of_run p xs last r =
-    let b = until_missing_begins (planned p r.ending) in
-    record { ending = r.ending; is_ending = r.is_ending; rest = b.0; is = b.1 ∙ ap (λ (l : List Event). map Some l ++ b.0) (sym r.events) }
+    let b = until_missing_begins (poll_events p r.ending) in
+    record { ending = r.ending; is_ending = r.is_ending; rest = b.0; is = b.1 ∙ ap (λ (l : List TraceEvent). map Some l ++ b.0) (sym r.events) }

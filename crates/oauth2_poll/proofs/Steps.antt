@@ -9,25 +9,25 @@ use Rattle.oauth2_poll.specs.declared.device_poll.PollAnswer.TheVariants.{Failed
 use Rattle.oauth2_poll.specs.declared.device_poll.PollStep.{PollStep}
 use Rattle.oauth2_poll.specs.declared.device_poll.PollStep.TheVariants as step
 use Rattle.oauth2_poll.specs.State.{PollState}
-use Rattle.oauth2_poll.specs.Step.{Action, SleepFor, GiveUp, Finish, action_of, action_after, answered}
+use Rattle.oauth2_poll.specs.Step.{Action, SleepFor, GiveUp, Finish, action_of, action_after, state_after}
 
 by_test : (b : Bool) (n : ℕ) (x : Action) → x ≡ (if b then GiveUp else SleepFor n) → ((b ≡ true) × (x ≡ GiveUp)) ⊎ ((b ≡ false) × (x ≡ SleepFor n))
 by_test true n x h = inl (refl, h)
 by_test false n x h = inr (refl, h)
 
 -- after an answer that doesn't decide there is a limit or a sleep
-pub by_count : (poll : PollState) (a : PollAnswer) (x : Action) → a ≢ Deciding → x ≡ action_after poll a → (((poll.polls_left == 1) ≡ true) × (x ≡ GiveUp)) ⊎ (((poll.polls_left == 1) ≡ false) × (x ≡ SleepFor (answered poll a).interval))
+pub by_count : (poll : PollState) (a : PollAnswer) (x : Action) → a ≢ Deciding → x ≡ action_after poll a → (((poll.polls_left == 1) ≡ true) × (x ≡ GiveUp)) ⊎ (((poll.polls_left == 1) ≡ false) × (x ≡ SleepFor (state_after poll a).interval))
 by_count poll Failed x n h = by_test _ _ x h
 by_count poll Pending x n h = by_test _ _ x h
 by_count poll SlowDown x n h = by_test _ _ x h
 by_count poll Deciding x n h = absurd (n refl)
 
-pub sleep_step : (poll : PollState) (a : PollAnswer) (s : PollStep) (d : Duration) → a ≢ Deciding → action_of s ≡ action_after poll a → s ≡ step.Sleep d → (poll.polls_left ≢ 1) × (as_nanos d ≡ (answered poll a).interval)
+pub sleep_step : (poll : PollState) (a : PollAnswer) (s : PollStep) (d : Duration) → a ≢ Deciding → action_of s ≡ action_after poll a → s ≡ step.Sleep d → (poll.polls_left ≢ 1) × (as_nanos d ≡ (state_after poll a).interval)
 sleep_step poll a s d n h is =
     let same : SleepFor (as_nanos d) ≡ action_of s = ap action_of (sym is) in
     elim (by_count poll a (action_of s) n h) [
       | inl w ↦ (let e : SleepFor (as_nanos d) ≡ GiveUp = same ∙ w.1 in cc)
-      | inr w ↦ ((λ one. let t = w.0 in let u = rw one at t in cc), let e : SleepFor (as_nanos d) ≡ SleepFor (answered poll a).interval = same ∙ w.1 in cc)
+      | inr w ↦ ((λ one. let t = w.0 in let u = rw one at t in cc), let e : SleepFor (as_nanos d) ≡ SleepFor (state_after poll a).interval = same ∙ w.1 in cc)
     ]
 
 pub limit_step : (poll : PollState) (a : PollAnswer) (s : PollStep) → a ≢ Deciding → action_of s ≡ action_after poll a → (s ≡ step.Limit) ⊎ (s ≡ step.Done) → poll.polls_left ≡ 1
@@ -35,8 +35,8 @@ limit_step poll a s n h is =
     elim (by_count poll a (action_of s) n h) [
       | inl w ↦ (let t = w.0 in grind (arith, nat_tests, t))
       | inr w ↦ elim is [
-        | inl l ↦ (let e : GiveUp ≡ SleepFor (answered poll a).interval = ap action_of (sym l) ∙ w.1 in cc)
-        | inr l ↦ (let e : Finish ≡ SleepFor (answered poll a).interval = ap action_of (sym l) ∙ w.1 in cc)
+        | inl l ↦ (let e : GiveUp ≡ SleepFor (state_after poll a).interval = ap action_of (sym l) ∙ w.1 in cc)
+        | inr l ↦ (let e : Finish ≡ SleepFor (state_after poll a).interval = ap action_of (sym l) ∙ w.1 in cc)
       ]
     ]
 

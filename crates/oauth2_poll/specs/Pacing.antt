@@ -5,7 +5,7 @@ use Rattle.std.specs.Duration.{max_nanos}
 use Rattle.oauth2_poll.specs.declared.device_poll.PollAnswer.{PollAnswer}
 use Rattle.oauth2_poll.specs.declared.device_poll.PollAnswer.TheVariants.{Failed, Pending, SlowDown, Deciding}
 use Rattle.oauth2_poll.specs.Step.{slow_down}
-use Rattle.oauth2_poll.specs.Trace.{Event, Reading, Asked, Answered, Slept, readings_in, answers_in}
+use Rattle.oauth2_poll.specs.Trace.{TraceEvent, Reading, Asked, Answered, Slept, readings_in, answers_in}
 
 -- how many answers were `slow_down`
 abbrev pub slow_downs : List PollAnswer → ℕ
@@ -32,12 +32,12 @@ pub record IsPaced (interval cap : ℕ) (answers : List PollAnswer) (sleep : ℕ
   pub exact : failures answers ≡ 0 → sleep ≡ min max_nanos (interval + slow_down * slow_downs answers)
 
 -- each sleep in a trace is paced by the answers before it
-abbrev pub SleepsArePaced : ℕ → ℕ → List Event → Type 0
+abbrev pub SleepsArePaced : ℕ → ℕ → List TraceEvent → Type 0
 SleepsArePaced interval cap trace =
-    (before after : List Event) (sleep : ℕ) → trace ≡ before ++ Slept sleep ∷ after → IsPaced interval cap (answers_in before) sleep
+    (before after : List TraceEvent) (sleep : ℕ) → trace ≡ before ++ Slept sleep ∷ after → IsPaced interval cap (answers_in before) sleep
 
 -- how many requests were made
-abbrev pub requests_in : List Event → ℕ
+abbrev pub requests_in : List TraceEvent → ℕ
 requests_in [] = 0
 requests_in (Reading t ∷ events) = requests_in events
 requests_in (Asked ∷ events) = requests_in events + 1
@@ -45,7 +45,7 @@ requests_in (Answered a ∷ events) = requests_in events
 requests_in (Slept d ∷ events) = requests_in events
 
 -- how long the sleeps were together
-abbrev pub slept_in : List Event → ℕ
+abbrev pub slept_in : List TraceEvent → ℕ
 slept_in [] = 0
 slept_in (Reading t ∷ events) = slept_in events
 slept_in (Asked ∷ events) = slept_in events
@@ -53,9 +53,9 @@ slept_in (Answered a ∷ events) = slept_in events
 slept_in (Slept d ∷ events) = d + slept_in events
 
 -- the clock was honest: from one reading to the next it shows at least what was slept between them
-abbrev pub ClockIsHonest : List Event → Type 0
+abbrev pub ClockIsHonest : List TraceEvent → Type 0
 ClockIsHonest trace =
-    (before between after : List Event) (s t : ℤ) →
+    (before between after : List TraceEvent) (s t : ℤ) →
     trace ≡ before ++ Reading s ∷ (between ++ Reading t ∷ after) →
     readings_in between ≡ [] →
     (s +ℤ pos (slept_in between)) ≤ℤ t
@@ -67,6 +67,6 @@ slow_downs_to answers (suc n) = slow_downs_to answers n + slow_downs (take (suc 
 
 -- what a poll waited for before its last request fits the timeout: an interval for each request but
 -- the first, and five seconds for each `slow_down` before each of these waits
-abbrev pub RequestsFit : ℕ → ℕ → List Event → Type 0
+abbrev pub RequestsFit : ℕ → ℕ → List TraceEvent → Type 0
 RequestsFit timeout interval trace =
     (requests_in trace - 1) * interval + slow_down * slow_downs_to (answers_in trace) (requests_in trace - 1) ≤ timeout

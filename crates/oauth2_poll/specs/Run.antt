@@ -9,10 +9,10 @@ use Rattle.oauth2_poll.specs.declared.run.PollEvent.{PollEvent}
 use Rattle.oauth2_poll.specs.declared.run.PollEvent.TheVariants as event
 use Rattle.oauth2_poll.specs.declared.run.PollEnd.{PollEnd}
 use Rattle.oauth2_poll.specs.declared.run.PollEnd.TheVariants as end
-use Rattle.oauth2_poll.specs.Trace.{PollInput, Event, Reading, Asked, Answered, Slept, Ending, TooLong, OutOfRange, Late, Decided, Limited, IsEnding, planned, until_missing, is_whole}
+use Rattle.oauth2_poll.specs.Trace.{PollInput, TraceEvent, Reading, Asked, Answered, Slept, Ending, TooLong, OutOfRange, Late, Decided, Limited, IsEnding, poll_events, until_missing, is_whole}
 
 -- an event by its numbers
-abbrev pub event_of : PollEvent → Event
+abbrev pub event_of : PollEvent → TraceEvent
 event_of (event.Reading t) = Reading t.nanosecond
 event_of event.Request = Asked
 event_of (event.Answer a) = Answered a
@@ -38,8 +38,8 @@ end_of (Decided n) = end.Done
 end_of (Limited n) = end.Limit
 
 -- the trace is what the poll does as far as there is input for it, and the end is its own where there is enough
-pub record IsRun (p : PollInput) (trace : List Event) (last : PollEnd) : Type 0 where
+pub record IsRun (p : PollInput) (trace : List TraceEvent) (last : PollEnd) : Type 0 where
   pub ending : Ending
   pub is_ending : IsEnding p ending
-  pub events : trace ≡ until_missing (planned p ending)
-  pub end : last ≡ (if is_whole (planned p ending) then end_of ending else end.OutOfInput)
+  pub events : trace ≡ until_missing (poll_events p ending)
+  pub end : last ≡ (if is_whole (poll_events p ending) then end_of ending else end.OutOfInput)

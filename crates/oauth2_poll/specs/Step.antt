@@ -16,13 +16,13 @@ abbrev pub TimeoutFits : ℕ → Type 0
 TimeoutFits nanos = nanos / 1_000_000_000 ≤ 9_223_372_036_854_775_807
 
 -- twice the interval, or the interval where twice is past the greatest duration
-abbrev pub doubled : ℕ → ℕ
-doubled interval = if nat_le (interval * 2) max_nanos then interval * 2 else interval
+abbrev pub double : ℕ → ℕ
+double interval = if nat_le (interval * 2) max_nanos then interval * 2 else interval
 
 -- after a failed call, from the cap and the interval: twice the interval, at most the cap, and
 -- never less than the interval was
 abbrev pub backed_off : ℕ → ℕ → ℕ
-backed_off cap interval = max interval (min (doubled interval) cap)
+backed_off cap interval = max interval (min (double interval) cap)
 
 -- the interval after an answer, from the cap and the interval before
 abbrev pub next_interval : ℕ → ℕ → PollAnswer → ℕ
@@ -32,8 +32,8 @@ next_interval cap interval SlowDown = min max_nanos (interval + slow_down)
 next_interval cap interval Deciding = interval
 
 -- the state after an answer
-abbrev pub answered : PollState → PollAnswer → PollState
-answered poll answer =
+abbrev pub state_after : PollState → PollAnswer → PollState
+state_after poll answer =
     record {
       interval = next_interval poll.cap poll.interval answer;
       cap = poll.cap;

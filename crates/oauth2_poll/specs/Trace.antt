@@ -21,16 +21,16 @@ pub record PollInput : Type 0 where
   pub answers : List PollAnswer
 
 -- what a poll does: reads the clock, asks the token endpoint, has an answer, sleeps
-pub data Event : Type 0 where
-  Reading : ℤ → Event
-  Asked : Event
-  Answered : PollAnswer → Event
-  Slept : ℕ → Event
+pub data TraceEvent : Type 0 where
+  Reading : ℤ → TraceEvent
+  Asked : TraceEvent
+  Answered : PollAnswer → TraceEvent
+  Slept : ℕ → TraceEvent
 
 -- the answer of round i, if it came
-abbrev pub answer_of : List PollAnswer → ℕ → Option PollAnswer
-answer_of answers zero = None
-answer_of answers (suc i) = slice_get answers i
+abbrev pub answer_in_round : List PollAnswer → ℕ → Option PollAnswer
+answer_in_round answers zero = None
+answer_in_round answers (suc i) = slice_get answers i
 
 -- the start plus the timeout is a timestamp
 abbrev pub DeadlineInRange : PollInput → Type 0
@@ -46,7 +46,7 @@ pub record IsLate (p : PollInput) (i : ℕ) : Type 0 where
 
 -- the answer of round i is neither a failure nor a request for patience
 abbrev pub Decides : PollInput → ℕ → Type 0
-Decides p i = answer_of p.answers i ≡ Some Deciding
+Decides p i = answer_in_round p.answers i ≡ Some Deciding
 
 -- the poll goes on after round i: it isn't late, decided or at its limit
 pub record GoesOn (p : PollInput) (i : ℕ) : Type 0 where
@@ -83,29 +83,29 @@ abbrev pub interval_after : PollInput → ℕ → ℕ
 interval_after p i = fold (next_interval p.cap) p.interval (take i p.answers)
 
 -- the reading and the answer of round i as events, if they are there
-abbrev pub reading_at : PollInput → ℕ → Option Event
+abbrev pub reading_at : PollInput → ℕ → Option TraceEvent
 reading_at p i = option_map Reading (slice_get p.readings i)
 
-abbrev pub answer_at : PollInput → ℕ → Option Event
-answer_at p i = option_map Answered (answer_of p.answers i)
+abbrev pub answer_at : PollInput → ℕ → Option TraceEvent
+answer_at p i = option_map Answered (answer_in_round p.answers i)
 
 -- what the poll does in a round that isn't the last; an event that has no input is missing
-abbrev pub round : PollInput → ℕ → List (Option Event)
+abbrev pub round : PollInput → ℕ → List (Option TraceEvent)
 round p i = reading_at p i ∷ Some Asked ∷ answer_at p i ∷ Some (Slept (interval_after p i)) ∷ []
 
 -- rounds 1 to n
-abbrev pub rounds : PollInput → ℕ → List (Option Event)
+abbrev pub rounds : PollInput → ℕ → List (Option TraceEvent)
 rounds p zero = []
 rounds p (suc n) = rounds p n ++ round p (suc n)
 
 -- all that a poll with this end does: the last round has no sleep, and if its reading is late
 -- neither request nor answer
-abbrev pub planned : PollInput → Ending → List (Option Event)
-planned p TooLong = []
-planned p OutOfRange = reading_at p 0 ∷ []
-planned p (Late n) = reading_at p 0 ∷ (rounds p (n - 1) ++ reading_at p n ∷ [])
-planned p (Decided n) = reading_at p 0 ∷ (rounds p (n - 1) ++ reading_at p n ∷ Some Asked ∷ answer_at p n ∷ [])
-planned p (Limited n) = reading_at p 0 ∷ (rounds p (n - 1) ++ reading_at p n ∷ Some Asked ∷ answer_at p n ∷ [])
+abbrev pub poll_events : PollInput → Ending → List (Option TraceEvent)
+poll_events p TooLong = []
+poll_events p OutOfRange = reading_at p 0 ∷ []
+poll_events p (Late n) = reading_at p 0 ∷ (rounds p (n - 1) ++ reading_at p n ∷ [])
+poll_events p (Decided n) = reading_at p 0 ∷ (rounds p (n - 1) ++ reading_at p n ∷ Some Asked ∷ answer_at p n ∷ [])
+poll_events p (Limited n) = reading_at p 0 ∷ (rounds p (n - 1) ++ reading_at p n ∷ Some Asked ∷ answer_at p n ∷ [])
 
 -- what comes before the first event that is missing
 abbrev pub until_missing : {A : Type 0} → List (Option A) → List A
@@ -118,7 +118,7 @@ abbrev pub is_whole : {A : Type 0} → List (Option A) → Bool
 is_whole {A} xs = list_all is_some xs
 
 -- the moments read in a list of events
-abbrev pub readings_in : List Event → List ℤ
+abbrev pub readings_in : List TraceEvent → List ℤ
 readings_in [] = []
 readings_in (Reading t ∷ events) = t ∷ readings_in events
 readings_in (Asked ∷ events) = readings_in events
@@ -126,7 +126,7 @@ readings_in (Answered a ∷ events) = readings_in events
 readings_in (Slept d ∷ events) = readings_in events
 
 -- the answers that came in it
-abbrev pub answers_in : List Event → List PollAnswer
+abbrev pub answers_in : List TraceEvent → List PollAnswer
 answers_in [] = []
 answers_in (Reading t ∷ events) = answers_in events
 answers_in (Asked ∷ events) = answers_in events

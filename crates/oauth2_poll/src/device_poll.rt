@@ -16,7 +16,7 @@ ghost use Rattle.std.specs.Prelude.{
 ghost use Rattle.std.specs.Duration.{as_nanos};
 ghost use Rattle.jiff.specs.Words.{IsTimestampNanos};
 ghost use Rattle.oauth2_poll.specs.Step as step;
-ghost use Rattle.oauth2_poll.specs.Step.{TimeoutFits, answered, action_of, action_after};
+ghost use Rattle.oauth2_poll.specs.Step.{TimeoutFits, state_after, action_of, action_after};
 
 use jiff::Timestamp;
 use std::marker::Model;
@@ -130,7 +130,7 @@ impl DevicePoll {
     /// Takes the answer to a request, and says what to do next.
     pub fn answer(&mut self, answer: PollAnswer) -> PollStep
         requires { 0 < self.old.polls_left }
-        ensures state { self.new ≡ answered self.old answer }
+        ensures state { self.new ≡ state_after self.old answer }
         ensures step { action_of result ≡ action_after self.old answer }
     {
         self.interval = next_interval(self.cap, self.interval, answer);

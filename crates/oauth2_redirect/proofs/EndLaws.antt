@@ -27,7 +27,7 @@ use Rattle.oauth2_requests.specs.Base.{Base}
 use Rattle.oauth2_requests.specs.Code.{CodeRequest, code_configuration}
 use Rattle.oauth2_requests.specs.Once.{AsksOnce}
 use Rattle.oauth2_redirect.specs.Query.{sole_text}
-use Rattle.oauth2_redirect.specs.Redirect.{Refusal, other_state, answer, is_state}
+use Rattle.oauth2_redirect.specs.Redirect.{RedirectRefusal, other_state, answer, is_state}
 
 module _ {D A T E RE C : Type 0} {meaning : D → A} {error_meaning : T → E} (reading : Data → Reading A) (error_reading : Data → Reading E) (step : C → HttpRequest → Result HttpResponse RE → C → Type 0) {before after : C} {result : Result D (RequestTokenError RE T)} where
   -- exchanges of a code that are equal are asked for alike
@@ -57,7 +57,7 @@ module _ {D A T E RE C : Type 0} {meaning : D → A} {error_meaning : T → E} (
       let by_rule = subst (λ rule. AsksOnce meaning error_meaning reading error_reading step rule (code_configuration wanted) wanted.token_url before result after) (ap (λ (b : Base). b.reply_rule) (with-base login.redirect_uri plain)) (AsksOnce-equal reading error_reading step r wanted is asked) in
       (url, there, subst (λ u. AsksOnce meaning error_meaning reading error_reading step client.reply_rule (code_configuration wanted) u before result after) (with-token_url login.redirect_uri plain) by_rule)
 
-module _ {D A T E RE C : Type 0} (meaning : D → A) (error_meaning : T → E) (reading : Data → Reading A) (error_reading : Data → Reading E) (step : C → HttpRequest → Result HttpResponse RE → C → Type 0) (client : Settings) (login : Kept) (told : Result (List ℕ) Refusal) (before after : C) where
+module _ {D A T E RE C : Type 0} (meaning : D → A) (error_meaning : T → E) (reading : Data → Reading A) (error_reading : Data → Reading E) (step : C → HttpRequest → Result HttpResponse RE → C → Type 0) (client : Settings) (login : Kept) (told : Result (List ℕ) RedirectRefusal) (before after : C) where
   -- a login that gave a token exchanged the code that the redirect told
   pub IfOk-from_EndsLogin : (result : Result D (LoginError RE T)) → EndsLogin meaning error_meaning reading error_reading step client login told before result after
       → IfOk result (λ token. (code : List ℕ) × (told ≡ Ok code) × IsExchange meaning error_meaning reading error_reading step client login code before (Ok token) after)
@@ -68,7 +68,7 @@ module _ {D A T E RE C : Type 0} (meaning : D → A) (error_meaning : T → E) (
   IfOk-from_EndsLogin (Ok token) (inr (error, same, shown, stayed)) = cc
   IfOk-from_EndsLogin (Err error) ends = tt
 
-only_with : (b : Bool) (told : Result (List ℕ) Refusal) (code : List ℕ) → (if b then told else Err other_state) ≡ Ok code → b ≡ true
+only_with : (b : Bool) (told : Result (List ℕ) RedirectRefusal) (code : List ℕ) → (if b then told else Err other_state) ≡ Ok code → b ≡ true
 only_with true told code is = refl
 only_with false told code is = cc
 

@@ -17,7 +17,7 @@ use Rattle.oauth2_redirect.specs.declared.redirect.RedirectError.{RedirectError}
 use Rattle.oauth2_redirect.specs.declared.login_error.LoginError.{LoginError}
 use Rattle.oauth2_redirect.specs.declared.login_error.LoginError.TheVariants.{Redirect, Token}
 use Rattle.oauth2_redirect.specs.Login.{Kept}
-use Rattle.oauth2_redirect.specs.Redirect.{Refusal, TellsRefusal, redirect_error_text}
+use Rattle.oauth2_redirect.specs.Redirect.{RedirectRefusal, TellsRefusal, redirect_error_text}
 
 -- the text of an error
 abbrev pub login_error_text : {RE T : Type 0} → (T → Option (List ℕ)) → LoginError RE T → Option (List ℕ)
@@ -59,7 +59,7 @@ module _ {D A T E RE C : Type 0} where
   -- a redirect that tells a code has that code exchanged for the login's token; another tells
   -- why it gives none, and the HTTP client is as it was, as it is where memory ran out
   abbrev pub EndsLogin : (D → A) → (T → E) → (Data → Reading A) → (Data → Reading E)
-      → (C → HttpRequest → Result HttpResponse RE → C → Type 0) → Settings → Kept → Result (List ℕ) Refusal
+      → (C → HttpRequest → Result HttpResponse RE → C → Type 0) → Settings → Kept → Result (List ℕ) RedirectRefusal
       → C → Result D (LoginError RE T) → C → Type 0
   EndsLogin meaning error_meaning reading error_reading step client login told before result after =
       ((code : List ℕ) × (told ≡ Ok code) × (outcome : Result D (RequestTokenError RE T)) × (result ≡ of_exchange outcome)

@@ -9,8 +9,8 @@ abbrev pub has_value : Pair → Bool
 has_value (name, []) = false
 has_value (name, byte ∷ bytes) = true
 
-abbrev pub sent : List Pair → List Pair
-sent pairs = filter has_value pairs
+abbrev pub sent_pairs : List Pair → List Pair
+sent_pairs pairs = filter has_value pairs
 
 -- the value of the first pair
 abbrev pub first : List Pair → Option (List ℕ)
@@ -20,8 +20,8 @@ first (pair ∷ pairs) = Some pair.1
 -- the value of the sole parameter of that name, as text, with U+FFFD for what is not UTF-8; one that
 -- is sent twice is none (RFC 6749, 3.1)
 abbrev pub sole_text : List ℕ → List Pair → Option (List ℕ)
-sole_text name pairs = option_map utf8_lossy (read_by_name name (sent pairs))
+sole_text name pairs = option_map utf8_lossy (read_by_name name (sent_pairs pairs))
 
 -- the value of the first parameter of that name, as text
 abbrev pub first_text : List ℕ → List Pair → Option (List ℕ)
-first_text name pairs = option_map utf8_lossy (first (filter (bears name) (sent pairs)))
+first_text name pairs = option_map utf8_lossy (first (filter (bears name) (sent_pairs pairs)))

@@ -1,7 +1,7 @@
 -- What the redirect of an authorization endpoint says (RFC 6749, 4.1.2 and 4.1.2.1; RFC 9207, 2.4).
 use Rattle.std.specs.Prelude.{◌≡◌, ℕ, List, Option, Some, None, Result, Ok, Err, Bool, true, false, if◌then◌else◌, codes, bytes_eq}
 use Rattle.oauth2_types.specs.Digest.{digest_eq}
-use Rattle.oauth2_codes.specs.ErrorResponse.{ErrorParts, parts, parts_of, error_text}
+use Rattle.oauth2_codes.specs.ErrorResponse.{ErrorParts, parts_of_error, parts_of, error_text}
 use Rattle.oauth2_redirect.specs.declared.redirect.RedirectError.{RedirectError}
 use Rattle.oauth2_redirect.specs.declared.redirect.RedirectError.TheVariants as errors
 use Rattle.oauth2_codes.specs.AuthorizationCodes.{AuthorizationErrorCode, authorization_error_code, authorization_error_code_of, authorization_error_code_text}
@@ -9,11 +9,11 @@ use Rattle.oauth2_form.specs.Pairs.{Pair}
 use Rattle.oauth2_redirect.specs.Query.{sole_text, first_text}
 
 -- why a redirect gives no code, without where its texts lie in memory
-pub data Refusal : Type 0 where
-  other_state : Refusal
-  other_issuer : Refusal
-  refused : ErrorParts AuthorizationErrorCode → Refusal
-  no_code : Refusal
+pub data RedirectRefusal : Type 0 where
+  other_state : RedirectRefusal
+  other_issuer : RedirectRefusal
+  refused : ErrorParts AuthorizationErrorCode → RedirectRefusal
+  no_code : RedirectRefusal
 
 -- the state that is told is the login's: their digests are equal
 abbrev pub is_state : List ℕ → Option (List ℕ) → Bool
@@ -30,24 +30,24 @@ is_issuer (Some issuer) (Some told) = bytes_eq told issuer
 -- the error that is told: its code is the first `error`, its description and page are told once
 abbrev pub error_parts : List ℕ → List Pair → ErrorParts AuthorizationErrorCode
 error_parts error pairs =
-    parts (authorization_error_code_of error) (sole_text (codes "error_description") pairs) (sole_text (codes "error_uri") pairs)
+    parts_of_error (authorization_error_code_of error) (sole_text (codes "error_description") pairs) (sole_text (codes "error_uri") pairs)
 
 abbrev pub error_told : Option (List ℕ) → List Pair → Option (ErrorParts AuthorizationErrorCode)
 error_told None pairs = None
 error_told (Some error) pairs = Some (error_parts error pairs)
 
 -- the code, if it is told once
-abbrev pub code_told : Option (List ℕ) → Result (List ℕ) Refusal
+abbrev pub code_told : Option (List ℕ) → Result (List ℕ) RedirectRefusal
 code_told None = Err no_code
 code_told (Some code) = Ok code
 
 -- an error that is told hides a code
-abbrev pub unless_error : Option (ErrorParts AuthorizationErrorCode) → Result (List ℕ) Refusal → Result (List ℕ) Refusal
+abbrev pub unless_error : Option (ErrorParts AuthorizationErrorCode) → Result (List ℕ) RedirectRefusal → Result (List ℕ) RedirectRefusal
 unless_error None code = code
 unless_error (Some error) code = Err (refused error)
 
 -- what the pairs of a redirect say to a client whose login has this state and expects this issuer
-abbrev pub answer : List ℕ → Option (List ℕ) → List Pair → Result (List ℕ) Refusal
+abbrev pub answer : List ℕ → Option (List ℕ) → List Pair → Result (List ℕ) RedirectRefusal
 answer state issuer pairs =
     if is_state state (sole_text (codes "state") pairs)
     then (if is_issuer issuer (sole_text (codes "iss") pairs)
@@ -56,7 +56,7 @@ answer state issuer pairs =
     else Err other_state
 
 -- an error tells that refusal, unless memory ran out
-abbrev pub TellsRefusal : RedirectError → Result (List ℕ) Refusal → Type 0
+abbrev pub TellsRefusal : RedirectError → Result (List ℕ) RedirectRefusal → Type 0
 TellsRefusal errors.OtherState expected = expected ≡ Err other_state
 TellsRefusal errors.OtherIssuer expected = expected ≡ Err other_issuer
 TellsRefusal (errors.Refused error) expected = expected ≡ Err (refused (parts_of authorization_error_code error))
@@ -64,7 +64,7 @@ TellsRefusal errors.NoCode expected = expected ≡ Err no_code
 TellsRefusal errors.Memory expected = Unit {0}
 
 -- what was returned is that answer, unless memory ran out
-abbrev pub Tells : Result (List ℕ) RedirectError → Result (List ℕ) Refusal → Type 0
+abbrev pub Tells : Result (List ℕ) RedirectError → Result (List ℕ) RedirectRefusal → Type 0
 Tells (Ok code) expected = expected ≡ Ok code
 Tells (Err error) expected = TellsRefusal error expected
 

@@ -8,9 +8,9 @@ ghost use Rattle.oauth2_urls.specs.Addressed.{Addressed};
 ghost use Rattle.oauth2_form.specs.Query.{query_form};
 ghost use Rattle.oauth2.specs.CodeFlow.{flow_authorization};
 ghost use Rattle.oauth2_redirect.specs.Query.{sole_text};
-ghost use Rattle.oauth2_redirect.specs.Redirect.{Refusal, answer, is_state};
+ghost use Rattle.oauth2_redirect.specs.Redirect.{RedirectRefusal, answer, is_state};
 ghost use Rattle.oauth2_redirect.specs.End.{EndsLogin, IsExchange, login_exchange};
-ghost use Rattle.oauth2_redirect.specs.Login.{kept};
+ghost use Rattle.oauth2_redirect.specs.Login.{kept_login};
 
 use crate::login_error::LoginError;
 use crate::login_request::LoginRequest;
@@ -55,7 +55,7 @@ impl Login {
         verifier: PkceCodeVerifier,
         redirect_uri: Option<RedirectUrl>,
     ) -> Login
-        ensures { result ≡ kept state verifier redirect_uri }
+        ensures { result ≡ kept_login state verifier redirect_uri }
     {
         Login {
             state,
@@ -121,7 +121,7 @@ impl Login {
             http_client.old (Ok token) http_client.new) }
 
         // A redirect that tells no code sends nothing, so none with another state does.
-        ensures no_code { (why : Refusal)
+        ensures no_code { (why : RedirectRefusal)
             → answer self.state (option_copied issuer.entry) (query_form redirect.now) ≡ Err why
             → http_client.new ≡ http_client.old }
         ensures other_state { let state = sole_text (codes "state") (query_form redirect.now) in

@@ -22,7 +22,7 @@ ghost use Rattle.oauth2_wire.specs.Texts.{param_bytes};
 ghost use Rattle.oauth2_requests.specs.Authorization.{IsTooLong, asked_url, query_pairs};
 ghost use Rattle.oauth2_form.specs.Query.{ExtendsQuery, query_form};
 ghost use Rattle.oauth2_redirect.specs.Start.{ShowsLogin};
-ghost use Rattle.oauth2_redirect.specs.Login.{kept};
+ghost use Rattle.oauth2_redirect.specs.Login.{kept_login};
 
 use crate::login::Login;
 use crate::login_url_error::LoginUrlError;
@@ -157,7 +157,7 @@ impl<'a> LoginRequest<'a> {
         ensures url { IfOk result (λ (url, _).
             ExtendsQuery self.entry.request.auth_url.url url (query_pairs self.entry.request)) }
         ensures kept { IfOk result (λ (_, login). let request = self.entry.request in
-            login ≡ kept request.state self.entry.verifier request.redirect_url) }
+            login ≡ kept_login request.state self.entry.verifier request.redirect_url) }
 
         // What a server reads of the URL by name.
         ensures shows { IsTrue (avoid_own_names (query_form self.entry.request.auth_url.url))

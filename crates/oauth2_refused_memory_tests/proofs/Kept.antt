@@ -8,7 +8,7 @@ use Rattle.oauth2_wire.specs.OneShot.{HttpRequest, OneShot}
 use Rattle.oauth2_wire.specs.Reply.{HttpResponse, Answer}
 use Rattle.oauth2_wire.specs.declared.error.RequestTokenError.{RequestTokenError}
 use Rattle.oauth2_wire.specs.declared.error.RequestTokenError.TheVariants as token
-use Rattle.oauth2_keeper.specs.Keeper.{Keeper, Given, IsOutcome, Outcome, quiet, accepted, failed, Calls}
+use Rattle.oauth2_keeper.specs.Keeper.{Keeper, Given, IsOutcome, Outcome, quiet, accepted, failed, KeeperCalls}
 use Rattle.oauth2_refused_memory_tests.specs.Counted.{Counts, TellsCalls}
 use Rattle.oauth2_refused_memory_tests.specs.declared.counting_client.CountingClient.{CountingClient}
 use Rattle.oauth2_refused_memory_tests.specs.declared.counting_client.NoReply.{NoReply}
@@ -52,5 +52,5 @@ module _ {D A T E : Type 0} (meaning : D → A) (error_meaning : T → E) (befor
         subst (λ r. TellsCalls r after) (sym (is ∙ ap (λ e. Err e) memory)) (told_of_reply _ _ _ reply asked)
 
     pub told_of_call : (result : Result Unit (RequestTokenError NoReply T)) (kept : Keeper)
-        → Calls (AsksOnce meaning error_meaning reading error_reading Counts) given keeper now before result after kept → TellsCalls result after
+        → KeeperCalls (AsksOnce meaning error_meaning reading error_reading Counts) given keeper now before result after kept → TellsCalls result after
     told_of_call result kept (outcome, is, _) = told_of_outcome result outcome is

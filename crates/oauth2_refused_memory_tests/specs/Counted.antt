@@ -8,15 +8,15 @@ use Rattle.oauth2_refused_memory_tests.specs.declared.counting_client.CountingCl
 use Rattle.oauth2_refused_memory_tests.specs.declared.counting_client.NoReply.{NoReply}
 
 -- the reply that is answered, if one is
-abbrev pub replied : Result HttpResponse NoReply → Option HttpResponse
-replied (Ok reply) = Some reply
-replied (Err error) = None
+abbrev pub reply_given : Result HttpResponse NoReply → Option HttpResponse
+reply_given (Ok reply) = Some reply
+reply_given (Err error) = None
 
 -- one call: it is counted, its request kept, and the reply given away
 pub record Counts (before : CountingClient) (request : HttpRequest) (answer : Result HttpResponse NoReply) (after : CountingClient) : Type 0 where
   pub calls : after.calls ≡ min (before.calls + 1) (2 ^ 64 - 1)
   pub kept : after.request ≡ Some request
-  pub shown : replied answer ≡ before.reply
+  pub shown : reply_given answer ≡ before.reply
   pub given : after.reply ≡ None
 
 -- want of memory tells whether the client, which had not been called before, was called once or not

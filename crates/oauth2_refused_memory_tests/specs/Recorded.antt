@@ -16,23 +16,23 @@ abbrev pub Notes : Recorder → Seen → Recorder → Type 0
 Notes before event after =
     after.is_whole ≡ true → (before.is_whole ≡ true) × (after.seen.items ≡ before.seen.items ++ event ∷ [])
 
-abbrev pub Reads : Recorder → Timestamp → Recorder → Type 0
-Reads before moment after = Notes before (Reading moment) after
+abbrev pub RecordsReading : Recorder → Timestamp → Recorder → Type 0
+RecordsReading before moment after = Notes before (Reading moment) after
 
-abbrev pub Sends : Recorder → HttpRequest → Result HttpResponse NoReply → Recorder → Type 0
-Sends before request answer after = Notes before Request after
+abbrev pub RecordsSending : Recorder → HttpRequest → Result HttpResponse NoReply → Recorder → Type 0
+RecordsSending before request answer after = Notes before Request after
 
-abbrev pub Sleeps : Recorder → Duration → Recorder → Type 0
-Sleeps before duration after = Notes before (Sleep duration) after
+abbrev pub RecordsSleep : Recorder → Duration → Recorder → Type 0
+RecordsSleep before duration after = Notes before (Sleep duration) after
 
 -- the events of a poll as they are kept
-abbrev pub seen_of : {RE : Type 0} → List (Event RE) → List Seen
-seen_of [] = []
-seen_of (event.Reading moment ∷ e) = Reading moment ∷ seen_of e
-seen_of (event.Sent request answer ∷ e) = Request ∷ seen_of e
-seen_of (event.Slept duration ∷ e) = Sleep duration ∷ seen_of e
+abbrev pub events_seen : {RE : Type 0} → List (Event RE) → List Seen
+events_seen [] = []
+events_seen (event.Reading moment ∷ e) = Reading moment ∷ events_seen e
+events_seen (event.Sent request answer ∷ e) = Request ∷ events_seen e
+events_seen (event.Slept duration ∷ e) = Sleep duration ∷ events_seen e
 
 -- while there is room, these events stand behind those before them
 abbrev pub Records : {RE : Type 0} → Recorder → List (Event RE) → Recorder → Type 0
 Records before e after =
-    after.is_whole ≡ true → (before.is_whole ≡ true) × (after.seen.items ≡ before.seen.items ++ seen_of e)
+    after.is_whole ≡ true → (before.is_whole ≡ true) × (after.seen.items ≡ before.seen.items ++ events_seen e)

@@ -54,15 +54,16 @@ impl Recorder<'_> {
 }
 
 impl PollWorld for Recorder<'_> {
-    ghost use Rattle.oauth2_refused_memory_tests.specs.Recorded.{Reads, Sends, Sleeps};
+    ghost use Rattle.oauth2_refused_memory_tests.specs.Recorded.{RecordsReading, RecordsSending};
+    ghost use Rattle.oauth2_refused_memory_tests.specs.Recorded.{RecordsSleep};
 
     type Error = NoReply;
 
-    ghost reads = { Reads };
+    ghost reads = { RecordsReading };
 
-    ghost sends = { Sends };
+    ghost sends = { RecordsSending };
 
-    ghost sleeps = { Sleeps };
+    ghost sleeps = { RecordsSleep };
 
     fn now(&mut self) -> Timestamp {
         let now = self.show_next();

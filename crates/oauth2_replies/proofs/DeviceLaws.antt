@@ -9,7 +9,7 @@ use Rattle.oauth2_json.specs.Reading.{Reading, whole, at_member, ReadsAs, ◌⊛
 use Rattle.oauth2_json.specs.declared.read.ReadError.{ReadError}
 use Rattle.oauth2_json.specs.declared.read.ParseCause.TheVariants as cause
 use Rattle.oauth2_json.specs.Writing.{Writing, write_then}
-use Rattle.oauth2_json.specs.Members.{members_of_object, needed, either_name, others, clashes, beside}
+use Rattle.oauth2_json.specs.Members.{members_of_object, needed_member, either_name, others, clashes, beside}
 use Rattle.oauth2_json.specs.Values.{url}
 use Rattle.oauth2_json.specs.Puts.{put_all}
 use Rattle.oauth2_json.proofs.Puts.{found, rest}
@@ -73,7 +73,7 @@ address_at (Ok u) name s a is h =
     rw (t, v) is
 address_at (Err e) name s a is h = cc
 
-address_needed : (name : List ℕ) (o : Option Data) (a : Addressed) → needed url name o ≡ Ok a → IsAddress a
+address_needed : (name : List ℕ) (o : Option Data) (a : Addressed) → needed_member url name o ≡ Ok a → IsAddress a
 address_needed name None a h = cc
 address_needed name (Some null) a h = cc
 address_needed name (Some (boolean b)) a h = cc

@@ -6,7 +6,7 @@ use Rattle.serde_json.specs.Find.{get_member}
 use Rattle.oauth2_json.specs.Reading.{Reading, ◌⊛◌}
 use Rattle.oauth2_json.specs.Writing.{Writing, write_then}
 use Rattle.oauth2_json.specs.Members.{members_of_object, others, clashes, beside}
-use Rattle.oauth2_json.specs.Words.{joined}
+use Rattle.oauth2_json.specs.Words.{joined_words}
 use Rattle.oauth2_json.specs.Puts.{put_all}
 use Rattle.oauth2_json.proofs.Puts.{found, rest}
 use Rattle.oauth2_json.proofs.Objects.{get_member-others, beside_taken, optional-text, optional-number}
@@ -61,7 +61,7 @@ token_again er tr tv r ms free low back scopes again =
     let in_token_type : get_member (codes "token_type") (put_all rs ms) ≡ Some (string tv) = found (codes "token_type") rs ms refl free in
     let in_expires_in : get_member (codes "expires_in") (put_all rs ms) ≡ option_map (λ n. number (unsigned n)) r.expires_in = found (codes "expires_in") rs ms refl free in
     let in_refresh_token : get_member (codes "refresh_token") (put_all rs ms) ≡ option_map string r.refresh_token = found (codes "refresh_token") rs ms refl free in
-    let in_scope : get_member (codes "scope") (put_all rs ms) ≡ option_map (λ ps. string (joined ps)) r.scopes = found (codes "scope") rs ms refl free in
+    let in_scope : get_member (codes "scope") (put_all rs ms) ≡ option_map (λ ps. string (joined_words ps)) r.scopes = found (codes "scope") rs ms refl free in
     let in_rest : others own_names (put_all rs ms) ≡ ms = rest rs ms refl free in
     rw (
       in_access_token,

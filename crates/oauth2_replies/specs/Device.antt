@@ -5,7 +5,7 @@ use Rattle.serde_json.specs.Find.{get_member}
 use Rattle.oauth2_urls.specs.Addressed.{Addressed}
 use Rattle.oauth2_json.specs.Reading.{Reading, read_then, ◌⊛◌}
 use Rattle.oauth2_json.specs.Writing.{Writing, write_then}
-use Rattle.oauth2_json.specs.Members.{members_of_object, needed, optional, defaulted, either_name, others, beside}
+use Rattle.oauth2_json.specs.Members.{members_of_object, needed_member, optional_member, member_or, either_name, others, beside}
 use Rattle.oauth2_json.specs.Values.{text, whole_number, url}
 use Rattle.oauth2_json.specs.Puts.{Row, put_all}
 
@@ -47,12 +47,12 @@ abbrev pub device_rows : {E : Type 0} → (Data → Reading E)
     → Option Data → Option Data → Option Data → Option Data → Option Data → Option Data → Option Data → Members → Reading (DeviceAuthorization E)
 device_rows extra_fields d u v o c e i rest =
     Ok device_authorization
-    ⊛ needed text (codes "device_code") d
-    ⊛ needed text (codes "user_code") u
+    ⊛ needed_member text (codes "device_code") d
+    ⊛ needed_member text (codes "user_code") u
     ⊛ address_reading v o
-    ⊛ optional text (codes "verification_uri_complete") c
-    ⊛ needed whole_number (codes "expires_in") e
-    ⊛ defaulted whole_number (codes "interval") 5 i
+    ⊛ optional_member text (codes "verification_uri_complete") c
+    ⊛ needed_member whole_number (codes "expires_in") e
+    ⊛ member_or whole_number (codes "interval") 5 i
     ⊛ extra_fields (object rest)
 
 abbrev pub device_row : {E : Type 0} → (Data → Reading E) → Members → Reading (DeviceAuthorization E)

@@ -3,7 +3,7 @@ use Rattle.std.specs.Prelude.{ℕ, List, [], ◌∷◌, Bool, true, false, if◌
 use Rattle.serde_json.specs.Data.{Data, Members, no_members, member, put, string, object}
 use Rattle.serde_json.specs.Find.{get_member}
 use Rattle.oauth2_json.specs.Reading.{Reading, whole, read_then}
-use Rattle.oauth2_json.specs.Members.{members_of_object, needed, others}
+use Rattle.oauth2_json.specs.Members.{members_of_object, needed_member, others}
 use Rattle.oauth2_json.specs.Values.{text}
 use Rattle.oauth2_json.specs.Writing.{Writing}
 use Rattle.oauth2_json.specs.declared.read.ParseCause.TheVariants as cause
@@ -27,19 +27,19 @@ abbrev pub has_any : Members → Bool
 has_any no_members = false
 has_any (member k d ms) = true
 
-abbrev pub refused : Reading StandardRevocableToken
-refused = Err (whole cause.Refused)
+abbrev pub token_refusal : Reading StandardRevocableToken
+token_refusal = Err (whole cause.Refused)
 
 -- what stands under the two names: one of the two
 abbrev pub one_of : Option Data → Option Data → Reading StandardRevocableToken
-one_of (Some d) None = read_then (needed text (codes "AccessToken") (Some d)) (λ text. Ok (AccessToken text))
-one_of None (Some d) = read_then (needed text (codes "RefreshToken") (Some d)) (λ text. Ok (RefreshToken text))
-one_of (Some d) (Some e) = refused
-one_of None None = refused
+one_of (Some d) None = read_then (needed_member text (codes "AccessToken") (Some d)) (λ text. Ok (AccessToken text))
+one_of None (Some d) = read_then (needed_member text (codes "RefreshToken") (Some d)) (λ text. Ok (RefreshToken text))
+one_of (Some d) (Some e) = token_refusal
+one_of None None = token_refusal
 
 -- and nothing else
 abbrev pub sole_token : Option Data → Option Data → Members → Reading StandardRevocableToken
-sole_token access_token refresh_token rest = if has_any rest then refused else one_of access_token refresh_token
+sole_token access_token refresh_token rest = if has_any rest then token_refusal else one_of access_token refresh_token
 
 abbrev pub revocable_row : Members → Reading StandardRevocableToken
 revocable_row ms = sole_token (get_member (codes "AccessToken") ms) (get_member (codes "RefreshToken") ms) (others (codes "AccessToken" ∷ codes "RefreshToken" ∷ []) ms)

@@ -4,9 +4,9 @@ use Rattle.serde_json.specs.Data.{Data, Members, number, unsigned, string, objec
 use Rattle.serde_json.specs.Find.{get_member}
 use Rattle.oauth2_json.specs.Reading.{Reading, read_then, ◌⊛◌}
 use Rattle.oauth2_json.specs.Writing.{Writing, write_then}
-use Rattle.oauth2_json.specs.Members.{members_of_object, needed, optional, others, beside}
-use Rattle.oauth2_json.specs.Values.{text, whole_number, lowered, spaced}
-use Rattle.oauth2_json.specs.Words.{joined}
+use Rattle.oauth2_json.specs.Members.{members_of_object, needed_member, optional_member, others, beside}
+use Rattle.oauth2_json.specs.Values.{text, whole_number, lowercase_reading, words_reading}
+use Rattle.oauth2_json.specs.Words.{joined_words}
 use Rattle.oauth2_json.specs.Puts.{Row, put_all}
 use Rattle.oauth2_replies.specs.Kept.{IsTypeKept, AreFieldsKept, AreScopesKept}
 
@@ -34,11 +34,11 @@ abbrev pub token_rows : {E T : Type 0} → (Data → Reading E) → (Data → Re
     → Option Data → Option Data → Option Data → Option Data → Option Data → Members → Reading (Token E T)
 token_rows extra_fields token_type a t e r s rest =
     Ok token
-    ⊛ needed text (codes "access_token") a
-    ⊛ needed (lowered token_type) (codes "token_type") t
-    ⊛ optional whole_number (codes "expires_in") e
-    ⊛ optional text (codes "refresh_token") r
-    ⊛ optional (spaced text) (codes "scope") s
+    ⊛ needed_member text (codes "access_token") a
+    ⊛ needed_member (lowercase_reading token_type) (codes "token_type") t
+    ⊛ optional_member whole_number (codes "expires_in") e
+    ⊛ optional_member text (codes "refresh_token") r
+    ⊛ optional_member (words_reading text) (codes "scope") s
     ⊛ extra_fields (object rest)
 
 abbrev pub token_row : {E T : Type 0} → (Data → Reading E) → (Data → Reading T) → Members → Reading (Token E T)
@@ -56,7 +56,7 @@ own_rows token_type r =
     ∷ (codes "token_type", Some token_type)
     ∷ (codes "expires_in", option_map (λ n. number (unsigned n)) r.expires_in)
     ∷ (codes "refresh_token", option_map string r.refresh_token)
-    ∷ (codes "scope", option_map (λ scopes. string (joined scopes)) r.scopes)
+    ∷ (codes "scope", option_map (λ scopes. string (joined_words scopes)) r.scopes)
     ∷ []
 
 -- the type's own members beside those of its extra fields

@@ -4,8 +4,8 @@ use Rattle.oauth2_commands.specs.declared.status.RunStatus.{RunStatus}
 use Rattle.oauth2_commands.specs.declared.status.RunStatus.TheVariants.{Answered, Fault, BadScript}
 use Rattle.oauth2_commands.specs.declared.status.RunFault.{RunFault}
 
-abbrev pub status_of : Result RunStatus RunFault → ℕ
-status_of (Ok Answered) = 0
-status_of (Ok Fault) = 1
-status_of (Ok BadScript) = 2
-status_of (Err fault) = 3
+abbrev pub run_exit_status : Result RunStatus RunFault → ℕ
+run_exit_status (Ok Answered) = 0
+run_exit_status (Ok Fault) = 1
+run_exit_status (Ok BadScript) = 2
+run_exit_status (Err fault) = 3

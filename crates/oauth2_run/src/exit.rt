@@ -2,14 +2,14 @@
 
 ghost use Rattle.std.specs.Prelude.{◌≡◌};
 ghost use Rattle.std.specs.Process.{exit_status};
-ghost use Rattle.oauth2_run.specs.Exit.{status_of};
+ghost use Rattle.oauth2_run.specs.Exit.{run_exit_status};
 
 use oauth2_commands::{RunFault, RunStatus};
 use std::process::ExitCode;
 
 /// The status that the process ends with.
 pub fn exit_of(run: Result<RunStatus, RunFault>) -> ExitCode
-    ensures { exit_status result ≡ status_of run }
+    ensures { exit_status result ≡ run_exit_status run }
 {
     match run {
         Ok(RunStatus::Answered) => ExitCode::from(0),

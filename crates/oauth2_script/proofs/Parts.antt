@@ -6,8 +6,8 @@ use Rattle.std.proofs.Math.ListN.{drop_of_length-le}
 use Rattle.serde_json.specs.Data.{Data}
 use Rattle.serde_json.specs.View.{view, items_view}
 use Rattle.serde_json.specs.declared.value.Value.{Value}
-use Rattle.oauth2_script.specs.Part.{each, pair_of}
-use Rattle.oauth2_script.specs.Gives.{Refuses}
+use Rattle.oauth2_script.specs.Part.{each_item, pair_of}
+use Rattle.oauth2_script.specs.Gives.{TellsScriptError}
 use Rattle.oauth2_script.specs.declared.script_error.ScriptError.{ScriptError}
 use Rattle.oauth2_script.specs.declared.script_error.ScriptError.TheVariants as errors
 
@@ -26,23 +26,23 @@ module _ {A : Type 0} (part : Data → Option A) (front : List A) (vs : List Val
   one : (v : Value) → i < length vs → v ≡ get_or vs i v → drop i vs ≡ v ∷ drop (i + 1) vs
   one v lt at = rw (add-one, drop-cons vs i v lt) (ap (λ (w : Value). w ∷ drop (suc i) vs) (sym at))
 
-  pub goes_on : (v : Value) → i < length vs → v ≡ get_or vs i v → with_front front (each part (items_view (drop i vs))) ≡ total
-      → (x : A) → part (view v) ≡ Some x → with_front (front ++ x ∷ []) (each part (items_view (drop (i + 1) vs))) ≡ total
+  pub goes_on : (v : Value) → i < length vs → v ≡ get_or vs i v → with_front front (each_item part (items_view (drop i vs))) ≡ total
+      → (x : A) → part (view v) ≡ Some x → with_front (front ++ x ∷ []) (each_item part (items_view (drop (i + 1) vs))) ≡ total
   goes_on v lt at so_far x h =
-      let step : each part (items_view (drop i vs)) ≡ option_map (λ xs. x ∷ xs) (each part (items_view (drop (i + 1) vs))) = rw (one v lt at, h) refl in
-      sym (regroup front x (each part (items_view (drop (i + 1) vs)))) ∙ ap (with_front front) (sym step) ∙ so_far
+      let step : each_item part (items_view (drop i vs)) ≡ option_map (λ xs. x ∷ xs) (each_item part (items_view (drop (i + 1) vs))) = rw (one v lt at, h) refl in
+      sym (regroup front x (each_item part (items_view (drop (i + 1) vs)))) ∙ ap (with_front front) (sym step) ∙ so_far
 
-  pub stops : (v : Value) → i < length vs → v ≡ get_or vs i v → with_front front (each part (items_view (drop i vs))) ≡ total
-      → (e : ScriptError) → Refuses e (part (view v)) → Refuses e total
+  pub stops : (v : Value) → i < length vs → v ≡ get_or vs i v → with_front front (each_item part (items_view (drop i vs))) ≡ total
+      → (e : ScriptError) → TellsScriptError e (part (view v)) → TellsScriptError e total
   stops v lt at so_far errors.Memory h = tt
   stops v lt at so_far errors.Bad h =
-      let step : each part (items_view (drop i vs)) ≡ None = rw (one v lt at, h) refl in
+      let step : each_item part (items_view (drop i vs)) ≡ None = rw (one v lt at, h) refl in
       sym so_far ∙ ap (with_front front) step
 
-  pub is_done : length vs ≤ i → with_front front (each part (items_view (drop i vs))) ≡ total → total ≡ Some front
+  pub is_done : length vs ≤ i → with_front front (each_item part (items_view (drop i vs))) ≡ total → total ≡ Some front
   is_done le so_far =
       let e : drop i vs ≡ [] = drop_of_length-le vs le in
-      let all : with_front front (each part (items_view (drop i vs))) ≡ Some front = rw e (ap Some (append-nil front)) in
+      let all : with_front front (each_item part (items_view (drop i vs))) ≡ Some front = rw e (ap Some (append-nil front)) in
       sym so_far ∙ all
 
 -- a list of another length is no pair

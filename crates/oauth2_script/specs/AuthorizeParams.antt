@@ -4,7 +4,7 @@ use Rattle.serde_json.specs.Data.{Data}
 use Rattle.serde_json.specs.Find.{as_str}
 use Rattle.oauth2_types.specs.Pkce.{Challenge}
 use Rattle.oauth2_urls.specs.Addressed.{Addressed}
-use Rattle.oauth2_script.specs.Part.{◌>>=◌, address, listed, needed, optional, pair, challenge}
+use Rattle.oauth2_script.specs.Part.{◌>>=◌, address, list_part, needed_part, present_part, pair_part, challenge_part}
 
 pub record AuthorizeParams : Type 0 where
   pub state : List ℕ
@@ -17,13 +17,13 @@ pub record AuthorizeParams : Type 0 where
 
 unfoldable pub authorize_params : Data → Option AuthorizeParams
 authorize_params d = do
-  state ← needed as_str (codes "state") d
-  scopes ← listed as_str (codes "scopes") d
-  extra ← listed pair (codes "extra") d
-  challenge ← optional challenge (codes "verifier") d
-  redirect ← optional address (codes "redirect") d
-  response_type ← optional as_str (codes "response_type") d
-  nonce ← optional as_str (codes "nonce") d
+  state ← needed_part as_str (codes "state") d
+  scopes ← list_part as_str (codes "scopes") d
+  extra ← list_part pair_part (codes "extra") d
+  challenge ← present_part challenge_part (codes "verifier") d
+  redirect ← present_part address (codes "redirect") d
+  response_type ← present_part as_str (codes "response_type") d
+  nonce ← present_part as_str (codes "nonce") d
   Some (record {
     state = state;
     challenge = challenge;

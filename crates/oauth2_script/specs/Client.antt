@@ -8,7 +8,7 @@ use Rattle.oauth2_script.specs.declared.client_part.Auth.{Auth}
 use Rattle.oauth2_script.specs.declared.client_part.Auth.TheVariants.{Basic, Body}
 use Rattle.oauth2_script.specs.declared.client_part.Rule.{Rule}
 use Rattle.oauth2_script.specs.declared.client_part.Rule.TheVariants.{Prefix, MediaType}
-use Rattle.oauth2_script.specs.Part.{◌>>=◌, needed, optional, address}
+use Rattle.oauth2_script.specs.Part.{◌>>=◌, needed_part, present_part, address}
 
 pub record Endpoints : Type 0 where
   pub auth : Option Addressed
@@ -38,25 +38,25 @@ rule_of text =
     if bytes_eq text (codes "prefix") then Some Prefix
     else (if bytes_eq text (codes "media_type") then Some MediaType else None)
 
-abbrev pub rule : Data → Option Rule
-rule d = as_str d >>= rule_of
+abbrev pub rule_part : Data → Option Rule
+rule_part d = as_str d >>= rule_of
 
 unfoldable pub endpoints : Data → Option Endpoints
 endpoints d = do
-  auth ← optional address (codes "auth_url") d
-  token ← optional address (codes "token_url") d
-  device ← optional address (codes "device_url") d
-  introspection ← optional address (codes "introspection_url") d
-  revocation ← optional address (codes "revocation_url") d
+  auth ← present_part address (codes "auth_url") d
+  token ← present_part address (codes "token_url") d
+  device ← present_part address (codes "device_url") d
+  introspection ← present_part address (codes "introspection_url") d
+  revocation ← present_part address (codes "revocation_url") d
   Some (record { auth = auth; token = token; device = device; introspection = introspection; revocation = revocation })
 
 unfoldable pub client : Data → Option Client
 client d = do
-  id ← needed as_str (codes "id") d
-  secret ← optional as_str (codes "secret") d
-  auth ← optional auth (codes "auth") d
-  reply_rule ← optional rule (codes "reply_rule") d
-  redirect ← optional address (codes "redirect") d
+  id ← needed_part as_str (codes "id") d
+  secret ← present_part as_str (codes "secret") d
+  auth ← present_part auth (codes "auth") d
+  reply_rule ← present_part rule_part (codes "reply_rule") d
+  redirect ← present_part address (codes "redirect") d
   endpoints ← endpoints d
   Some (record {
     id = id;

@@ -3,7 +3,7 @@ use Rattle.std.specs.Prelude.{ℕ, List, Option, Some, codes}
 use Rattle.serde_json.specs.Data.{Data}
 use Rattle.serde_json.specs.Find.{as_str}
 use Rattle.oauth2_urls.specs.Addressed.{Addressed}
-use Rattle.oauth2_script.specs.Part.{◌>>=◌, needed, optional, listed, verifier, address, pair}
+use Rattle.oauth2_script.specs.Part.{◌>>=◌, needed_part, present_part, list_part, verifier, address, pair_part}
 
 pub record CodeParams : Type 0 where
   pub code : List ℕ
@@ -13,8 +13,8 @@ pub record CodeParams : Type 0 where
 
 unfoldable pub code_params : Data → Option CodeParams
 code_params d = do
-  code ← needed as_str (codes "code") d
-  verifier ← optional verifier (codes "verifier") d
-  redirect ← optional address (codes "redirect") d
-  extra ← listed pair (codes "extra") d
+  code ← needed_part as_str (codes "code") d
+  verifier ← present_part verifier (codes "verifier") d
+  redirect ← present_part address (codes "redirect") d
+  extra ← list_part pair_part (codes "extra") d
   Some (record { code = code; verifier = verifier; redirect = redirect; extra = extra })

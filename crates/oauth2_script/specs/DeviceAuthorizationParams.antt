@@ -2,7 +2,7 @@
 use Rattle.std.specs.Prelude.{ℕ, List, Option, Some, codes}
 use Rattle.serde_json.specs.Data.{Data}
 use Rattle.serde_json.specs.Find.{as_str}
-use Rattle.oauth2_script.specs.Part.{◌>>=◌, listed, pair}
+use Rattle.oauth2_script.specs.Part.{◌>>=◌, list_part, pair_part}
 
 pub record DeviceAuthorizationParams : Type 0 where
   pub scopes : List (List ℕ)
@@ -10,6 +10,6 @@ pub record DeviceAuthorizationParams : Type 0 where
 
 unfoldable pub device_authorization_params : Data → Option DeviceAuthorizationParams
 device_authorization_params d = do
-  scopes ← listed as_str (codes "scopes") d
-  extra ← listed pair (codes "extra") d
+  scopes ← list_part as_str (codes "scopes") d
+  extra ← list_part pair_part (codes "extra") d
   Some (record { scopes = scopes; extra = extra })

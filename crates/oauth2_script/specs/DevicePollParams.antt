@@ -4,7 +4,7 @@ use Rattle.serde_json.specs.Data.{Data}
 use Rattle.oauth2_json.specs.Reading.{Reading}
 use Rattle.oauth2_replies.specs.Device.{DeviceAuthorization, device_reading}
 use Rattle.oauth2_replies.specs.Kept.{any_object}
-use Rattle.oauth2_script.specs.Part.{◌>>=◌, needed, optional, listed, pair, duration, count}
+use Rattle.oauth2_script.specs.Part.{◌>>=◌, needed_part, present_part, list_part, pair_part, duration, count}
 
 -- the response that the device got, how many requests it makes at most, for how long it polls, and
 -- up to where a failed call doubles the wait; lengths in nanoseconds
@@ -26,9 +26,9 @@ device d = if_read (device_reading any_object d)
 
 unfoldable pub device_poll_params : Data → Option DevicePollParams
 device_poll_params d = do
-  device ← needed device (codes "device") d
-  max_polls ← needed count (codes "max_polls") d
-  timeout ← optional duration (codes "timeout") d
-  cap ← optional duration (codes "cap") d
-  extra ← listed pair (codes "extra") d
+  device ← needed_part device (codes "device") d
+  max_polls ← needed_part count (codes "max_polls") d
+  timeout ← present_part duration (codes "timeout") d
+  cap ← present_part duration (codes "cap") d
+  extra ← list_part pair_part (codes "extra") d
   Some (record { device = device; max_polls = max_polls; timeout = timeout; cap = cap; extra = extra })

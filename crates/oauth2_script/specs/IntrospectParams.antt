@@ -2,7 +2,7 @@
 use Rattle.std.specs.Prelude.{ℕ, List, Option, Some, codes}
 use Rattle.serde_json.specs.Data.{Data}
 use Rattle.serde_json.specs.Find.{as_str}
-use Rattle.oauth2_script.specs.Part.{◌>>=◌, needed, optional, listed, pair}
+use Rattle.oauth2_script.specs.Part.{◌>>=◌, needed_part, present_part, list_part, pair_part}
 
 pub record IntrospectParams : Type 0 where
   pub token : List ℕ
@@ -11,7 +11,7 @@ pub record IntrospectParams : Type 0 where
 
 unfoldable pub introspect_params : Data → Option IntrospectParams
 introspect_params d = do
-  token ← needed as_str (codes "token") d
-  hint ← optional as_str (codes "hint") d
-  extra ← listed pair (codes "extra") d
+  token ← needed_part as_str (codes "token") d
+  hint ← present_part as_str (codes "hint") d
+  extra ← list_part pair_part (codes "extra") d
   Some (record { token = token; hint = hint; extra = extra })

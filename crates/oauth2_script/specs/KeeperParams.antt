@@ -2,7 +2,7 @@
 use Rattle.std.specs.Prelude.{ℕ, List, Option, Some, codes}
 use Rattle.serde_json.specs.Data.{Data}
 use Rattle.serde_json.specs.Find.{as_str}
-use Rattle.oauth2_script.specs.Part.{◌>>=◌, needed, optional, listed, pair, duration}
+use Rattle.oauth2_script.specs.Part.{◌>>=◌, needed_part, present_part, list_part, pair_part, duration}
 
 -- how long before its end a lifetime is over, the lifetime where a reply tells none, the refresh
 -- token at first, what it asks for by the client's own credentials, what it sends with every request,
@@ -17,10 +17,10 @@ pub record KeeperParams : Type 0 where
 
 unfoldable pub keeper_params : Data → Option KeeperParams
 keeper_params d = do
-  margin ← needed duration (codes "margin") d
-  life ← needed duration (codes "life") d
-  refresh ← optional as_str (codes "refresh") d
-  scopes ← listed as_str (codes "scopes") d
-  extra ← listed pair (codes "extra") d
-  retry_after ← optional duration (codes "retry_after") d
+  margin ← needed_part duration (codes "margin") d
+  life ← needed_part duration (codes "life") d
+  refresh ← present_part as_str (codes "refresh") d
+  scopes ← list_part as_str (codes "scopes") d
+  extra ← list_part pair_part (codes "extra") d
+  retry_after ← present_part duration (codes "retry_after") d
   Some (record { margin = margin; life = life; refresh = refresh; scopes = scopes; extra = extra; retry_after = retry_after })

@@ -3,7 +3,7 @@ use Rattle.std.specs.Prelude.{ℕ, List, Option, Some, None, unwrap_or, if◌the
 use Rattle.std.specs.Str.{bytes_eq}
 use Rattle.serde_json.specs.Data.{Data}
 use Rattle.serde_json.specs.Find.{as_str}
-use Rattle.oauth2_script.specs.Part.{◌>>=◌, needed, optional}
+use Rattle.oauth2_script.specs.Part.{◌>>=◌, needed_part, present_part}
 use Rattle.oauth2_script.specs.declared.metadata_params.WellKnown.{WellKnown}
 use Rattle.oauth2_script.specs.declared.metadata_params.WellKnown.TheVariants.{OauthAuthorizationServer, OpenidConfiguration}
 
@@ -22,6 +22,6 @@ well_known d = as_str d >>= well_known_of
 
 unfoldable pub metadata_params : Data → Option MetadataParams
 metadata_params d = do
-  issuer ← needed as_str (codes "issuer") d
-  well_known ← optional well_known (codes "well_known") d
+  issuer ← needed_part as_str (codes "issuer") d
+  well_known ← present_part well_known (codes "well_known") d
   Some (record { issuer = issuer; well_known = unwrap_or well_known OauthAuthorizationServer })

@@ -17,29 +17,29 @@ None >>= f = None
 
 module _ {A : Type 0} (part : Data → Option A) where
   -- a member that has to be there
-  unfoldable pub needed : List ℕ → Data → Option A
-  needed name d = get name d >>= part
+  unfoldable pub needed_part : List ℕ → Data → Option A
+  needed_part name d = get name d >>= part
 
   -- a member that may be absent; null is no absence
-  abbrev pub optional_part : Option Data → Option (Option A)
-  optional_part None = Some None
-  optional_part (Some d) = option_map Some (part d)
+  abbrev pub read_if_present : Option Data → Option (Option A)
+  read_if_present None = Some None
+  read_if_present (Some d) = option_map Some (part d)
 
-  unfoldable pub optional : List ℕ → Data → Option (Option A)
-  optional name d = optional_part (get name d)
+  unfoldable pub present_part : List ℕ → Data → Option (Option A)
+  present_part name d = read_if_present (get name d)
 
   -- each item of a list
-  abbrev pub each : Items → Option (List A)
-  each no_items = Some []
-  each (item d ds) = part d >>= λ x. option_map (λ xs. x ∷ xs) (each ds)
+  abbrev pub each_item : Items → Option (List A)
+  each_item no_items = Some []
+  each_item (item d ds) = part d >>= λ x. option_map (λ xs. x ∷ xs) (each_item ds)
 
   -- a list, empty where it is absent
-  abbrev pub listed_part : Option Data → Option (List A)
-  listed_part None = Some []
-  listed_part (Some d) = as_array d >>= each
+  abbrev pub list_or_empty : Option Data → Option (List A)
+  list_or_empty None = Some []
+  list_or_empty (Some d) = as_array d >>= each_item
 
-  unfoldable pub listed : List ℕ → Data → Option (List A)
-  listed name d = listed_part (get name d)
+  unfoldable pub list_part : List ℕ → Data → Option (List A)
+  list_part name d = list_or_empty (get name d)
 
 -- a name and a value, as a list of two texts
 abbrev pub pair_of : Items → Option (List ℕ × List ℕ)
@@ -48,16 +48,16 @@ pair_of (item a no_items) = None
 pair_of (item a (item b no_items)) = as_str a >>= λ name. option_map (λ value. (name, value)) (as_str b)
 pair_of (item a (item b (item c ds))) = None
 
-abbrev pub pair : Data → Option (List ℕ × List ℕ)
-pair d = as_array d >>= pair_of
+abbrev pub pair_part : Data → Option (List ℕ × List ℕ)
+pair_part d = as_array d >>= pair_of
 
 -- a text that the URL Standard's parser takes
-abbrev pub addressed : List ℕ → Parsed Parts → Option Addressed
-addressed text (Ok url) = Some (record { text = text; url = url })
-addressed text (Err e) = None
+abbrev pub address_of : List ℕ → Parsed Parts → Option Addressed
+address_of text (Ok url) = Some (record { text = text; url = url })
+address_of text (Err e) = None
 
 abbrev pub address : Data → Option Addressed
-address d = as_str d >>= λ text. addressed text (parse_url None text)
+address d = as_str d >>= λ text. address_of text (parse_url None text)
 
 -- a code verifier (RFC 7636, 4.1)
 abbrev pub verifier_of : List ℕ → Option (List ℕ)
@@ -67,15 +67,15 @@ abbrev pub verifier : Data → Option (List ℕ)
 verifier d = as_str d >>= verifier_of
 
 -- the challenge of a verifier, by SHA-256 (RFC 7636, 4.2)
-abbrev pub challenge : Data → Option Challenge
-challenge d = option_map sha256_challenge (verifier d)
+abbrev pub challenge_part : Data → Option Challenge
+challenge_part d = option_map sha256_challenge (verifier d)
 
 -- a status code of HTTP
-abbrev pub status_of : ℕ → Option ℕ
-status_of n = if nat_le 100 n && nat_le n 999 then Some n else None
+abbrev pub status_in_range : ℕ → Option ℕ
+status_in_range n = if nat_le 100 n && nat_le n 999 then Some n else None
 
 abbrev pub status : Data → Option ℕ
-status d = option_and_then as_u64 (as_number d) >>= status_of
+status d = option_and_then as_u64 (as_number d) >>= status_in_range
 
 -- the value of a header field (RFC 9110, 5.5)
 abbrev pub field_of : List ℕ → Option (List ℕ)
@@ -85,11 +85,11 @@ abbrev pub field : Data → Option (List ℕ)
 field d = as_str d >>= field_of
 
 -- whole seconds since 1970, from -9999-01-02T01:59:59Z to 9999-12-30T22:00:00Z
-abbrev pub second_of : ℤ → Option ℤ
-second_of z = if le_z (negsuc 377705023200) z && le_z z (pos 253402207200) then Some z else None
+abbrev pub second_in_range : ℤ → Option ℤ
+second_in_range z = if le_z (negsuc 377705023200) z && le_z z (pos 253402207200) then Some z else None
 
 abbrev pub second : Data → Option ℤ
-second d = option_and_then as_i64 (as_number d) >>= second_of
+second d = option_and_then as_i64 (as_number d) >>= second_in_range
 
 -- the same in nanoseconds
 abbrev pub moment : Data → Option ℤ

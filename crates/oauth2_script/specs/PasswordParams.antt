@@ -2,7 +2,7 @@
 use Rattle.std.specs.Prelude.{ℕ, List, Option, Some, codes}
 use Rattle.serde_json.specs.Data.{Data}
 use Rattle.serde_json.specs.Find.{as_str}
-use Rattle.oauth2_script.specs.Part.{◌>>=◌, needed, listed, pair}
+use Rattle.oauth2_script.specs.Part.{◌>>=◌, needed_part, list_part, pair_part}
 
 pub record PasswordParams : Type 0 where
   pub username : List ℕ
@@ -12,8 +12,8 @@ pub record PasswordParams : Type 0 where
 
 unfoldable pub password_params : Data → Option PasswordParams
 password_params d = do
-  username ← needed as_str (codes "username") d
-  password ← needed as_str (codes "password") d
-  scopes ← listed as_str (codes "scopes") d
-  extra ← listed pair (codes "extra") d
+  username ← needed_part as_str (codes "username") d
+  password ← needed_part as_str (codes "password") d
+  scopes ← list_part as_str (codes "scopes") d
+  extra ← list_part pair_part (codes "extra") d
   Some (record { username = username; password = password; scopes = scopes; extra = extra })

@@ -2,7 +2,7 @@
 use Rattle.std.specs.Prelude.{ℕ, List, Option, Some, codes}
 use Rattle.serde_json.specs.Data.{Data}
 use Rattle.serde_json.specs.Find.{as_str}
-use Rattle.oauth2_script.specs.Part.{◌>>=◌, needed, listed, pair}
+use Rattle.oauth2_script.specs.Part.{◌>>=◌, needed_part, list_part, pair_part}
 
 pub record RefreshParams : Type 0 where
   pub refresh_token : List ℕ
@@ -11,7 +11,7 @@ pub record RefreshParams : Type 0 where
 
 unfoldable pub refresh_params : Data → Option RefreshParams
 refresh_params d = do
-  refresh_token ← needed as_str (codes "refresh_token") d
-  scopes ← listed as_str (codes "scopes") d
-  extra ← listed pair (codes "extra") d
+  refresh_token ← needed_part as_str (codes "refresh_token") d
+  scopes ← list_part as_str (codes "scopes") d
+  extra ← list_part pair_part (codes "extra") d
   Some (record { refresh_token = refresh_token; scopes = scopes; extra = extra })

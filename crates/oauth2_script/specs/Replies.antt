@@ -2,7 +2,7 @@
 use Rattle.std.specs.Prelude.{ℕ, List, Bool, true, false, Option, Some, None, option_map, codes}
 use Rattle.serde_json.specs.Data.{Data}
 use Rattle.serde_json.specs.Find.{get, as_str, as_bool}
-use Rattle.oauth2_script.specs.Part.{◌>>=◌, needed, optional, status, field}
+use Rattle.oauth2_script.specs.Part.{◌>>=◌, needed_part, present_part, status, field}
 
 -- a reply as values
 pub record HttpReply : Type 0 where
@@ -17,9 +17,9 @@ pub data Reply : Type 0 where
 
 unfoldable pub http_reply : Data → Option HttpReply
 http_reply d = do
-  status ← needed status (codes "status") d
-  content_type ← optional field (codes "content_type") d
-  body ← needed as_str (codes "body") d
+  status ← needed_part status (codes "status") d
+  content_type ← present_part field (codes "content_type") d
+  body ← needed_part as_str (codes "body") d
   Some (record { status = status; content_type = content_type; body = body })
 
 abbrev pub failed_if : Bool → Option Reply

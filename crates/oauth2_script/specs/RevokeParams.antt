@@ -3,7 +3,7 @@ use Rattle.std.specs.Prelude.{ℕ, List, Option, Some, None, unwrap_or, if◌the
 use Rattle.std.specs.Str.{bytes_eq}
 use Rattle.serde_json.specs.Data.{Data}
 use Rattle.serde_json.specs.Find.{as_str}
-use Rattle.oauth2_script.specs.Part.{◌>>=◌, needed, optional, listed, pair}
+use Rattle.oauth2_script.specs.Part.{◌>>=◌, needed_part, present_part, list_part, pair_part}
 use Rattle.oauth2_script.specs.declared.revoke_params.TokenKind.{TokenKind}
 use Rattle.oauth2_script.specs.declared.revoke_params.TokenKind.TheVariants.{Access, Refresh}
 
@@ -22,7 +22,7 @@ kind d = as_str d >>= kind_of
 
 unfoldable pub revoke_params : Data → Option RevokeParams
 revoke_params d = do
-  token ← needed as_str (codes "token") d
-  kind ← optional kind (codes "kind") d
-  extra ← listed pair (codes "extra") d
+  token ← needed_part as_str (codes "token") d
+  kind ← present_part kind (codes "kind") d
+  extra ← list_part pair_part (codes "extra") d
   Some (record { token = token; kind = unwrap_or kind Access; extra = extra })

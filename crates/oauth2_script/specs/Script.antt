@@ -4,7 +4,7 @@ use Rattle.std.specs.Str.{is_utf8}
 use Rattle.serde_json.specs.Data.{Data, object, no_members}
 use Rattle.serde_json.specs.Find.{get, as_str, as_object}
 use Rattle.serde_json.specs.Read.{read}
-use Rattle.oauth2_script.specs.Part.{◌>>=◌, needed, listed, moment}
+use Rattle.oauth2_script.specs.Part.{◌>>=◌, needed_part, list_part, moment}
 use Rattle.oauth2_script.specs.Client.{Client, client}
 use Rattle.oauth2_script.specs.Command.{Command, command_of}
 use Rattle.oauth2_script.specs.Replies.{Reply, reply}
@@ -23,12 +23,12 @@ object_or_empty (Some d) = option_map (λ _. d) (as_object d)
 
 unfoldable pub script_of : Data → Option Script
 script_of d = do
-  name ← needed as_str (codes "command") d
-  replies ← listed reply (codes "replies") d
-  readings ← listed moment (codes "readings") d
+  name ← needed_part as_str (codes "command") d
+  replies ← list_part reply (codes "replies") d
+  readings ← list_part moment (codes "readings") d
   params ← object_or_empty (get (codes "params") d)
   command ← command_of name params
-  client ← needed client (codes "client") d
+  client ← needed_part client (codes "client") d
   Some (record { client = client; command = command; replies = replies; readings = readings })
 
 -- the script that an input is, where it is one

@@ -165,9 +165,9 @@ http_reply_view r = record {
   body = string_bytes r.body;
 }
 
-abbrev pub reply_view : Reply → replies_spec.Reply
-reply_view (Replied r) = replies_spec.replied (http_reply_view r)
-reply_view Failed = replies_spec.failed
+abbrev pub stored_reply : Reply → replies_spec.Reply
+stored_reply (Replied r) = replies_spec.replied (http_reply_view r)
+stored_reply Failed = replies_spec.failed
 
 abbrev pub command_view : Command → command_spec.Command
 command_view (Code p) = command_spec.code (code_view p)
@@ -188,6 +188,6 @@ abbrev pub script_view : Script → script_spec.Script
 script_view s = record {
   client = client_view s.client;
   command = command_view s.command;
-  replies = map reply_view s.replies.items;
+  replies = map stored_reply s.replies.items;
   readings = map (λ t. t.nanosecond) s.readings.items;
 }

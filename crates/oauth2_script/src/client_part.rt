@@ -80,7 +80,7 @@ impl Part for Rule {
 
     ghost meaning = { λ rule. rule };
 
-    ghost reading = { spec.rule };
+    ghost reading = { spec.rule_part };
 
     ghost allocates = { false };
 

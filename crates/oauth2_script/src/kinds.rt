@@ -38,7 +38,7 @@ impl Part for (String, String) {
 
     ghost meaning = { λ p. (string_bytes p.0, string_bytes p.1) };
 
-    ghost reading = { spec.pair };
+    ghost reading = { spec.pair_part };
 
     fn from_value(alloc: Global, value: &Value) -> Result<(String, String), ScriptError> {
         let list = value.as_array().ok_or(ScriptError::Bad)?;
@@ -70,7 +70,7 @@ impl Part for PkceCodeChallenge {
 
     ghost meaning = { λ challenge. challenge };
 
-    ghost reading = { spec.challenge };
+    ghost reading = { spec.challenge_part };
 
     fn from_value(alloc: Global, value: &Value) -> Result<PkceCodeChallenge, ScriptError> {
         let verifier = PkceCodeVerifier::from_value(alloc, value)?;
@@ -116,7 +116,7 @@ impl Part for StatusCode {
 
 fn moment_at(second: i64) -> Result<Timestamp, ScriptError>
     ensures read { Gives (λ t. t.nanosecond) result
-        (option_map (λ z. z *ℤ pos 1_000_000_000) (spec.second_of second)) }
+        (option_map (λ z. z *ℤ pos 1_000_000_000) (spec.second_in_range second)) }
     ensures fed { IfErr result (λ e. e ≡ ScriptError.Bad) }
 {
     match Timestamp::from_nanosecond(second as i128 * 1_000_000_000) {

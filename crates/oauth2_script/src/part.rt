@@ -35,9 +35,9 @@ pub trait Part: Sized {
 }
 
 /// The member of this name; without it the object is `Bad`.
-#[tactic(auto, unfolding(crate::specs::Part::needed))]
+#[tactic(auto, unfolding(crate::specs::Part::needed_part))]
 pub fn needed<T: Part>(alloc: Global, object: &Value, name: &str) -> Result<T, ScriptError>
-    ensures read { Gives T.meaning result (spec.needed T.reading name.now (view object.now)) }
+    ensures read { Gives T.meaning result (spec.needed_part T.reading name.now (view object.now)) }
     ensures absent { get name.now (view object.now) ≡ None → result ≡ Err ScriptError.Bad }
     ensures fed { T.allocates ≡ false → IfErr result (λ e. e ≡ ScriptError.Bad) }
 {
@@ -46,14 +46,14 @@ pub fn needed<T: Part>(alloc: Global, object: &Value, name: &str) -> Result<T, S
 }
 
 /// The member of this name, which may be absent and may not be null.
-#[tactic(auto, unfolding(crate::specs::Part::optional))]
+#[tactic(auto, unfolding(crate::specs::Part::present_part))]
 pub fn optional<T: Part>(
     alloc: Global,
     object: &Value,
     name: &str,
 ) -> Result<Option<T>, ScriptError>
     ensures read { Gives (option_map T.meaning) result
-        (spec.optional T.reading name.now (view object.now)) }
+        (spec.present_part T.reading name.now (view object.now)) }
     ensures fed { T.allocates ≡ false → IfErr result (λ e. e ≡ ScriptError.Bad) }
 {
     match object.get(name) {
@@ -64,7 +64,7 @@ pub fn optional<T: Part>(
 
 fn each<T: Part + Drop>(alloc: Global, values: &[Value]) -> Result<Vec<T>, ScriptError>
     ensures { Gives (λ v. map T.meaning v.items) result
-        (spec.each T.reading (items_view values.now)) }
+        (spec.each_item T.reading (items_view values.now)) }
 {
     let mut parts = Vec::new(alloc);
     for value in values {
@@ -74,14 +74,14 @@ fn each<T: Part + Drop>(alloc: Global, values: &[Value]) -> Result<Vec<T>, Scrip
 }
 
 /// The list under this name; an absent one is empty.
-#[tactic(auto, unfolding(crate::specs::Part::listed))]
+#[tactic(auto, unfolding(crate::specs::Part::list_part))]
 pub fn listed<T: Part + Drop>(
     alloc: Global,
     object: &Value,
     name: &str,
 ) -> Result<Vec<T>, ScriptError>
     ensures { Gives (λ v. map T.meaning v.items) result
-        (spec.listed T.reading name.now (view object.now)) }
+        (spec.list_part T.reading name.now (view object.now)) }
 {
     match object.get(name) {
         None => Ok(Vec::new(alloc)),

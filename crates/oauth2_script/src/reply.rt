@@ -47,11 +47,11 @@ impl Part for HttpReply {
 }
 
 impl Part for Reply {
-    ghost use Rattle.oauth2_script.specs.Views.{reply_view};
+    ghost use Rattle.oauth2_script.specs.Views.{stored_reply};
 
     ghost Meaning = { spec.Reply };
 
-    ghost meaning = { reply_view };
+    ghost meaning = { stored_reply };
 
     ghost reading = { spec.reply };
 

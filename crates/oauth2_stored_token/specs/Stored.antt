@@ -5,7 +5,7 @@ use Rattle.serde_json.specs.Data.{Data, Members, number, unsigned, string, objec
 use Rattle.serde_json.specs.Find.{get_member}
 use Rattle.oauth2_json.specs.Reading.{Reading, read_then, ◌⊛◌}
 use Rattle.oauth2_json.specs.Writing.{Writing}
-use Rattle.oauth2_json.specs.Members.{members_of_object, needed, optional}
+use Rattle.oauth2_json.specs.Members.{members_of_object, needed_member, optional_member}
 use Rattle.oauth2_json.specs.Puts.{Row, put_all}
 use Rattle.oauth2_json.specs.Values.{text, whole_number}
 use Rattle.oauth2_json.specs.declared.read.ParseCause.TheVariants as cause
@@ -34,8 +34,8 @@ moment_from second nanos =
 
 abbrev pub moment_reading : Option Data → Option Data → Reading ℤ
 moment_reading seconds nanoseconds =
-    read_then (needed instant (codes "accepted_at") seconds) (λ second.
-    read_then (needed whole_number (codes "accepted_at_nanoseconds") nanoseconds) (λ nanos. moment_from second nanos))
+    read_then (needed_member instant (codes "accepted_at") seconds) (λ second.
+    read_then (needed_member whole_number (codes "accepted_at_nanoseconds") nanoseconds) (λ nanos. moment_from second nanos))
 
 -- a lifetime: whole seconds, and nanoseconds to add
 abbrev pub lifetime_from : ℕ → ℕ → Reading ℕ
@@ -45,17 +45,17 @@ lifetime_from seconds nanos =
 
 abbrev pub lifetime_reading : Option Data → Option Data → Reading ℕ
 lifetime_reading seconds nanoseconds =
-    read_then (needed whole_number (codes "lifetime") seconds) (λ whole.
-    read_then (needed whole_number (codes "lifetime_nanoseconds") nanoseconds) (λ nanos. lifetime_from whole nanos))
+    read_then (needed_member whole_number (codes "lifetime") seconds) (λ whole.
+    read_then (needed_member whole_number (codes "lifetime_nanoseconds") nanoseconds) (λ nanos. lifetime_from whole nanos))
 
 -- other members are ignored
 abbrev pub stored_row : Members → Reading Stored
 stored_row ms =
     Ok stored
-    ⊛ needed text (codes "access_token") (get_member (codes "access_token") ms)
+    ⊛ needed_member text (codes "access_token") (get_member (codes "access_token") ms)
     ⊛ moment_reading (get_member (codes "accepted_at") ms) (get_member (codes "accepted_at_nanoseconds") ms)
     ⊛ lifetime_reading (get_member (codes "lifetime") ms) (get_member (codes "lifetime_nanoseconds") ms)
-    ⊛ optional text (codes "refresh_token") (get_member (codes "refresh_token") ms)
+    ⊛ optional_member text (codes "refresh_token") (get_member (codes "refresh_token") ms)
 
 abbrev pub stored_reading : Data → Reading Stored
 stored_reading d = read_then (members_of_object d) stored_row

@@ -4,7 +4,7 @@ ghost use Rattle.std.specs.Prelude.{◌≡◌, ◌/◌, Ok, IfOk, codes, option_
 ghost use Rattle.std.specs.Duration.{as_nanos, FitsDuration};
 ghost use Rattle.serde_json.specs.View.{view};
 ghost use Rattle.oauth2_introspection.specs.Instants.{instant};
-ghost use Rattle.oauth2_json.specs.Members.{needed};
+ghost use Rattle.oauth2_json.specs.Members.{needed_member};
 ghost use Rattle.oauth2_json.specs.Reading.{ReadsAs};
 ghost use Rattle.oauth2_json.specs.Writing.{WritesAs};
 ghost use Rattle.oauth2_stored_token.specs.Stored.{
@@ -26,7 +26,7 @@ use std::time::Duration;
 // The instant of these whole seconds.
 fn second(alloc: Global, seconds: Option<Value>) -> Result<Timestamp, ReadError>
     ensures { ReadsAs (λ t. t.nanosecond) result
-        (needed instant (codes "accepted_at") (option_map view seconds)) }
+        (needed_member instant (codes "accepted_at") (option_map view seconds)) }
 {
     if let Some(Value::Null) = &seconds {
         return Err(ReadError::at(alloc, "accepted_at", ParseCause::WrongType));

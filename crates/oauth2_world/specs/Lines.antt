@@ -12,8 +12,8 @@ use Rattle.oauth2_wire.specs.Expected.{Configuration, expected_basic, expected_p
 use Rattle.oauth2_wire.specs.ServerView.{shown_pair}
 
 -- a text as JSON writes it
-unfoldable pub quoted : List ℕ → List ℕ
-quoted text = compact_text (string text)
+unfoldable pub quotation : List ℕ → List ℕ
+quotation text = compact_text (string text)
 
 abbrev pub line : List ℕ → List ℕ
 line text = text ++ codes "\n"
@@ -26,14 +26,14 @@ authorization_line None = line (codes "authorization none")
 authorization_line (Some value) = line (codes "authorization " ++ utf8_lossy value)
 
 unfoldable pub body_line : List ℕ → List ℕ
-body_line body = line (codes "body " ++ quoted (utf8_lossy body))
+body_line body = line (codes "body " ++ quotation (utf8_lossy body))
 
 unfoldable pub basic_line : Option Pair → List ℕ
 basic_line None = line (codes "basic none")
-basic_line (Some pair) = line (codes "basic " ++ quoted pair.0 ++ codes " " ++ quoted pair.1)
+basic_line (Some pair) = line (codes "basic " ++ quotation pair.0 ++ codes " " ++ quotation pair.1)
 
 unfoldable pub pair_line : Pair → List ℕ
-pair_line pair = line (codes "pair " ++ quoted pair.0 ++ codes " " ++ quoted pair.1)
+pair_line pair = line (codes "pair " ++ quotation pair.0 ++ codes " " ++ quotation pair.1)
 
 abbrev pub pair_lines : List Pair → List ℕ
 pair_lines pairs = flat_map pair_line pairs
@@ -68,4 +68,4 @@ answer_line json = line (codes "answer ok " ++ json)
 
 -- the display of a fault
 unfoldable pub fault_line : List ℕ → List ℕ
-fault_line text = line (codes "answer fault " ++ quoted text)
+fault_line text = line (codes "answer fault " ++ quotation text)

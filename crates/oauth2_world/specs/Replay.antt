@@ -10,17 +10,17 @@ use Rattle.oauth2_script.specs.Views as script_views
 use Rattle.oauth2_world.specs.declared.replay.ScriptedClient.{ScriptedClient}
 use Rattle.oauth2_world.specs.declared.replay.NoReply.{NoReply}
 
-abbrev pub replied : Result HttpResponse NoReply → Option ReplyView
-replied (Ok reply) = Some (reply_of reply)
-replied (Err e) = None
+abbrev pub reply_seen : Result HttpResponse NoReply → Option ReplyView
+reply_seen (Ok reply) = Some (reply_of reply)
+reply_seen (Err e) = None
 
-abbrev pub replies_of : ScriptedClient → List Reply
-replies_of c = map script_views.reply_view c.replies.items
+abbrev pub client_replies : ScriptedClient → List Reply
+client_replies c = map script_views.stored_reply c.replies.items
 
 -- one call
 pub record Replays (old : ScriptedClient) (request : HttpRequest) (answer : Result HttpResponse NoReply) (new : ScriptedClient) : Type 0 where
-  pub answers : replied answer ≡ next_reply (replies_of old)
-  pub goes_on : replies_of new ≡ later_replies (replies_of old)
+  pub answers : reply_seen answer ≡ next_reply (client_replies old)
+  pub goes_on : client_replies new ≡ later_replies (client_replies old)
   pub prints : string_bytes new.lines ≡ string_bytes old.lines ++ request_lines (view_of request)
   pub is_fed : new.is_starved ≡ old.is_starved
 

@@ -3,13 +3,13 @@ use Rattle.std.specs.Prelude.{List, [], ◌∷◌, Option, Some, None}
 use Rattle.oauth2_wire.specs.Reply.{ReplyView}
 use Rattle.oauth2_script.specs.Replies.{HttpReply, Reply, replied, failed}
 
-abbrev pub reply_view : HttpReply → ReplyView
-reply_view r = record { status = r.status; content_type = r.content_type; body = r.body }
+abbrev pub view_of_http_reply : HttpReply → ReplyView
+view_of_http_reply r = record { status = r.status; content_type = r.content_type; body = r.body }
 
 -- what the next call answers: the next reply, or a failure
 abbrev pub next_reply : List Reply → Option ReplyView
 next_reply [] = None
-next_reply (replied reply ∷ rest) = Some (reply_view reply)
+next_reply (replied reply ∷ rest) = Some (view_of_http_reply reply)
 next_reply (failed ∷ rest) = None
 
 abbrev pub later_replies : List Reply → List Reply

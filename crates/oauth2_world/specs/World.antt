@@ -7,7 +7,7 @@ use Rattle.oauth2_wire.specs.OneShot.{HttpRequest}
 use Rattle.oauth2_wire.specs.Reply.{HttpResponse}
 use Rattle.oauth2_world.specs.Clock.{reading_of, after_reading}
 use Rattle.oauth2_world.specs.Lines.{sleep_line}
-use Rattle.oauth2_world.specs.Replay.{ReplaysOrStarves, replies_of}
+use Rattle.oauth2_world.specs.Replay.{ReplaysOrStarves, client_replies}
 use Rattle.oauth2_world.specs.declared.replay.NoReply.{NoReply}
 use Rattle.oauth2_world.specs.declared.world.ScriptedWorld.{ScriptedWorld}
 
@@ -25,7 +25,7 @@ pub record Sends (old : ScriptedWorld) (request : HttpRequest) (answer : Result 
 -- a sleep is a line
 pub record Prints (old : ScriptedWorld) (sleep : Duration) (new : ScriptedWorld) : Type 0 where
   pub lines : string_bytes new.http_client.lines ≡ string_bytes old.http_client.lines ++ sleep_line (as_nanos sleep)
-  pub replies : replies_of new.http_client ≡ replies_of old.http_client
+  pub replies : client_replies new.http_client ≡ client_replies old.http_client
   pub is_fed : new.http_client.is_starved ≡ old.http_client.is_starved
 
 -- unless it was refused memory

@@ -15,9 +15,9 @@ use std::alloc::{AllocError, Global};
 use std::time::Duration;
 
 /// A text as JSON writes it.
-#[tactic(auto, unfolding(crate::specs::Lines::quoted))]
+#[tactic(auto, unfolding(crate::specs::Lines::quotation))]
 pub fn quoted(alloc: Global, text: &str) -> Result<String, AllocError>
-    ensures { IfOk result (λ s. string_bytes s ≡ spec.quoted text.now) }
+    ensures { IfOk result (λ s. string_bytes s ≡ spec.quotation text.now) }
 {
     Value::String(String::from_str(alloc, text)?).to_string(alloc)
 }

@@ -3,7 +3,7 @@
 ghost use Rattle.std.specs.Prelude.{◌≡◌, IfOk};
 ghost use Rattle.oauth2_wire.specs.Reply.{reply_of};
 ghost use Rattle.oauth2_script.specs.Views.{http_reply_view};
-ghost use Rattle.oauth2_world.specs.Replies.{reply_view};
+ghost use Rattle.oauth2_world.specs.Replies.{view_of_http_reply};
 
 use crate::lines::print_request;
 use http::Response;
@@ -30,7 +30,8 @@ pub struct ScriptedClient {
 }
 
 fn response_of(alloc: Global, reply: HttpReply) -> Result<HttpResponse, AllocError>
-    ensures { IfOk result (λ response. reply_of response ≡ reply_view (http_reply_view reply)) }
+    ensures { IfOk result (λ response. reply_of response
+        ≡ view_of_http_reply (http_reply_view reply)) }
 {
     let HttpReply {
         status,

@@ -4,8 +4,8 @@ use Rattle.oauth2_commands.specs.Out.{Output}
 use Rattle.oauth2_commands.specs.declared.status.RunStatus.{RunStatus}
 
 -- these lines are added, and the run ends so
-abbrev pub Prints : List ℕ → List ℕ → RunStatus → Output → Type 0
-Prints old new s o = (new ≡ old ++ o.lines) × (s ≡ o.status)
+abbrev pub AddsOutput : List ℕ → List ℕ → RunStatus → Output → Type 0
+AddsOutput old new s o = (new ≡ old ++ o.lines) × (s ≡ o.status)
 
 -- those of an output of this kind
 abbrev pub Adds : List ℕ → List ℕ → RunStatus → (Output → Type 0) → Type 0

@@ -13,7 +13,7 @@ use Rattle.oauth2_wire.specs.Request.{IsRequestOf, view_of}
 use Rattle.oauth2_wire.specs.declared.error.RequestTokenError.{RequestTokenError}
 use Rattle.oauth2_commands.specs.Exchange.{token_answer}
 use Rattle.oauth2_world.specs.Replay.{ReplaysOrStarves}
-use Rattle.oauth2_commands.specs.private.Results.{Fault, TokenSeen, token_meaning}
+use Rattle.oauth2_commands.specs.private.Results.{ShownFault, TokenSeen, token_meaning}
 use Rattle.oauth2_world.specs.declared.replay.NoReply.{NoReply}
 use Rattle.oauth2_world.specs.declared.replay.ScriptedClient.{ScriptedClient}
 
@@ -25,5 +25,5 @@ Asks meaning error_meaning says c endpoint old result new =
     (λ request. IsRequestOf c (serialize endpoint.url) (view_of request)) (SpellsNone (serialize endpoint.url)) old result new
 
 -- for a token
-abbrev pub AsksForToken : ReplyRule → Configuration → Addressed → ScriptedClient → Result TokenSeen Fault → ScriptedClient → Type 0
+abbrev pub AsksForToken : ReplyRule → Configuration → Addressed → ScriptedClient → Result TokenSeen ShownFault → ScriptedClient → Type 0
 AsksForToken rule = Asks token_meaning (parts_of error_code) (token_answer rule)

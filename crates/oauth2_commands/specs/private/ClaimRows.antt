@@ -20,8 +20,8 @@ times_rows c =
     ∷ (codes "auth_time", option_map second_data c.auth_time)
     ∷ []
 
-abbrev pub login_rows : Claims → List Row
-login_rows c =
+abbrev pub sign_in_rows : Claims → List Row
+sign_in_rows c =
     (codes "nonce", option_map string c.nonce)
     ∷ (codes "acr", option_map string c.authentication_context_class)
     ∷ (codes "amr", option_map (λ list. array (text_items list)) c.authentication_methods)

@@ -5,7 +5,7 @@ use Rattle.oauth2_metadata.specs.declared.metadata_error.MetadataError.{Metadata
 use Rattle.oauth2_metadata.specs.declared.metadata_error.MetadataError.TheVariants.{OtherIssuer, Reply}
 use Rattle.oauth2_replies.specs.declared.token.EmptyExtraTokenFields.{EmptyExtraTokenFields}
 use Rattle.oauth2_commands.specs.Metadata.{BasicMetadata, metadata_json}
-use Rattle.oauth2_commands.specs.Out.{Output, answered, failed}
+use Rattle.oauth2_commands.specs.Out.{Output, success_output, failure_output}
 use Rattle.oauth2_commands.specs.private.Results.{ErrorResponse, error_seen, fault_output}
 use Rattle.oauth2_world.specs.declared.replay.NoReply.{NoReply}
 
@@ -17,9 +17,9 @@ metadata_meaning m = metadata_seen (λ _. tt) m
 
 abbrev pub metadata_error_output : MetadataError NoReply ErrorResponse → Output
 metadata_error_output (Reply fault) = fault_output error_seen fault
-metadata_error_output OtherIssuer = failed (codes "metadata is another issuer's")
+metadata_error_output OtherIssuer = failure_output (codes "metadata is another issuer's")
 
 -- metadata, or why there is none
 abbrev pub discovery_output : Result MetadataSeen (MetadataError NoReply ErrorResponse) → Output
-discovery_output (Ok m) = answered (metadata_json (metadata_meaning m))
+discovery_output (Ok m) = success_output (metadata_json (metadata_meaning m))
 discovery_output (Err error) = metadata_error_output error

@@ -8,11 +8,11 @@ use Rattle.oauth2_keeper.specs.declared.patient_keeper.PatientError.TheVariants.
 use Rattle.oauth2_script.specs.KeeperParams.{KeeperParams}
 use Rattle.oauth2_script.specs.Replies.{Reply}
 use Rattle.oauth2_commands.specs.Keeper.{Standing, AreCalls, given_in, new_standing, waiting}
-use Rattle.oauth2_world.specs.Lines.{quoted}
-use Rattle.oauth2_commands.specs.Out.{Output, answered}
-use Rattle.oauth2_commands.specs.private.Added.{Prints}
-use Rattle.oauth2_world.specs.Replay.{replies_of}
-use Rattle.oauth2_commands.specs.private.Results.{Fault, ErrorResponse, TokenSeen, token_meaning, error_seen, fault_output}
+use Rattle.oauth2_world.specs.Lines.{quotation}
+use Rattle.oauth2_commands.specs.Out.{Output, success_output}
+use Rattle.oauth2_commands.specs.private.Added.{AddsOutput}
+use Rattle.oauth2_world.specs.Replay.{client_replies}
+use Rattle.oauth2_commands.specs.private.Results.{ShownFault, ErrorResponse, TokenSeen, token_meaning, error_seen, fault_output}
 use Rattle.oauth2_world.specs.declared.replay.NoReply.{NoReply}
 use Rattle.oauth2_world.specs.declared.replay.ScriptedClient.{ScriptedClient}
 use Rattle.oauth2_commands.specs.declared.script_keeper.ScriptKeeper.{ScriptKeeper}
@@ -20,7 +20,7 @@ use Rattle.oauth2_commands.specs.declared.script_keeper.ScriptKeeper.TheVariants
 use Rattle.oauth2_commands.specs.declared.status.RunStatus.{RunStatus}
 
 abbrev pub standing : Keeper → Option ℤ → ScriptedClient → Standing
-standing keeper waits_until client = record { keeper = keeper; waits_until = waits_until; replies = replies_of client }
+standing keeper waits_until client = record { keeper = keeper; waits_until = waits_until; replies = client_replies client }
 
 -- the end of a wait after a request that failed at a moment
 abbrev pub end_of_wait : ℕ → Option ℤ → Option ℤ
@@ -39,7 +39,7 @@ WaitsFor (Plain keeper) wait = wait ≡ None
 WaitsFor (Waiting patient) wait = (wait ≡ Some patient.wait) × (patient.until_end ≡ false)
 
 -- the end of the wait after a call with this result
-abbrev pub wait_after : Option ℕ → Option ℤ → ℤ → Bool → Result Unit Fault → Option ℤ
+abbrev pub wait_after : Option ℕ → Option ℤ → ℤ → Bool → Result Unit ShownFault → Option ℤ
 wait_after retry_after until now was_good (Ok done) = if was_good then until else None
 wait_after retry_after until now was_good (Err error) = if counts error then option_map (λ wait. now +ℤ pos wait) retry_after else until
 
@@ -47,14 +47,14 @@ abbrev pub told_by : TokenSeen → Given
 told_by reply = given_in (token_meaning reply)
 
 -- what is shown after a call: the kept token, or the fault
-abbrev pub ShowsCall : List ℕ → List ℕ → RunStatus → Keeper → Result Unit Fault → Type 0
-ShowsCall old new s kept (Ok done) = IsSomeAnd kept.token (λ token. Prints old new s (answered (quoted token.access_token)))
-ShowsCall old new s kept (Err fault) = Prints old new s (fault_output error_seen fault)
+abbrev pub ShowsCall : List ℕ → List ℕ → RunStatus → Keeper → Result Unit ShownFault → Type 0
+ShowsCall old new s kept (Ok done) = IsSomeAnd kept.token (λ token. AddsOutput old new s (success_output (quotation token.access_token)))
+ShowsCall old new s kept (Err fault) = AddsOutput old new s (fault_output error_seen fault)
 
 -- what is shown of a keeper that has no good token: the fault of a request, or the end of a wait
 abbrev pub ShowsError : List ℕ → List ℕ → RunStatus → PatientError NoReply ErrorResponse → Type 0
-ShowsError old new s (Request fault) = Prints old new s (fault_output error_seen fault)
-ShowsError old new s (Waits until) = (end : ℤ) → IsUntil end until → Prints old new s (waiting end)
+ShowsError old new s (Request fault) = AddsOutput old new s (fault_output error_seen fault)
+ShowsError old new s (Waits until) = (end : ℤ) → IsUntil end until → AddsOutput old new s (waiting end)
 
 -- the calls at these moments of a new keeper
 abbrev pub AreKept : Settings → KeeperParams → List ℤ → List Reply → Output → Type 0

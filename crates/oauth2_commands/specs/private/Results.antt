@@ -17,17 +17,17 @@ use Rattle.oauth2_wire.specs.declared.error.RequestTokenError.TheVariants.{Serve
 use Rattle.oauth2_commands.specs.Client.{missing}
 use Rattle.oauth2_commands.specs.Exchange.{BasicToken, not_read, refused_text, other_text, error_display}
 use Rattle.oauth2_commands.specs.Revoke.{insecure}
-use Rattle.oauth2_commands.specs.Out.{Output, answered, failed, starved}
+use Rattle.oauth2_commands.specs.Out.{Output, success_output, failure_output, no_memory_output}
 use Rattle.oauth2_world.specs.declared.replay.NoReply.{NoReply}
 
 module _ {T : Type 0} (text : T → List ℕ) where
   -- a fault, where the server's error is shown as `text`
   abbrev pub fault_output : RequestTokenError NoReply T → Output
-  fault_output (ServerResponse e) = failed (refused_text (text e))
-  fault_output (Request e) = failed (codes "Request failed")
+  fault_output (ServerResponse e) = failure_output (refused_text (text e))
+  fault_output (Request e) = failure_output (codes "Request failed")
   fault_output (Parse fault body) = not_read (fault_of fault)
-  fault_output (Other given) = failed (other_text (string_bytes given))
-  fault_output (Memory sent) = starved
+  fault_output (Other given) = failure_output (other_text (string_bytes given))
+  fault_output (Memory sent) = no_memory_output
 
   -- the end of a request
   abbrev pub end_output : {D : Type 0} → (D → Output) → Result D (RequestTokenError NoReply T) → Output
@@ -39,8 +39,8 @@ module _ {T : Type 0} (text : T → List ℕ) where
 abbrev pub ErrorResponse : Type 0
 ErrorResponse = StandardErrorResponse BasicErrorResponseType
 
-abbrev pub Fault : Type 0
-Fault = RequestTokenError NoReply ErrorResponse
+abbrev pub ShownFault : Type 0
+ShownFault = RequestTokenError NoReply ErrorResponse
 
 abbrev pub error_seen : ErrorResponse → List ℕ
 error_seen e = error_display error_code_text (parts_of error_code e)
@@ -61,7 +61,7 @@ abbrev pub revocation_error_seen : RevocationErrorResponse → List ℕ
 revocation_error_seen e = error_display revocation_error_code_text (parts_of revocation_error_code e)
 
 abbrev pub revocation_output : Result Unit RevocationFault → Output
-revocation_output result = end_output revocation_error_seen (λ done. answered (codes "null")) result
+revocation_output result = end_output revocation_error_seen (λ done. success_output (codes "null")) result
 
 -- ---- an endpoint that the client has not
 

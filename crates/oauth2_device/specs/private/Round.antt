@@ -5,7 +5,7 @@ use Rattle.std.specs.Duration.{as_nanos}
 use Rattle.jiff.specs.Types.{Timestamp}
 use Rattle.oauth2_poll.specs.declared.device_poll.PollAnswer.TheVariants.{Deciding}
 use Rattle.oauth2_poll.specs.State.{PollState}
-use Rattle.oauth2_poll.specs.Step.{answered}
+use Rattle.oauth2_poll.specs.Step.{state_after}
 use Rattle.oauth2_wire.specs.declared.error.RequestTokenError.TheVariants as token
 use Rattle.oauth2_wire.specs.declared.request.RequestFault.{RequestFault}
 use Rattle.oauth2_wire.specs.declared.request.RequestFault.TheVariants as fault
@@ -68,7 +68,7 @@ module _ {D A RE : Type 0} (meaning : D → A) where
           ⊎ (result ≡ Err (token.Memory true)))
 
     -- a round after which the poll goes on
-    pub record GoesOn (poll : PollState) (e : List (Event RE)) (after : PollState) : Type 0 where
+    pub record RoundGoesOn (poll : PollState) (e : List (Event RE)) (after : PollState) : Type 0 where
       pub moment : Timestamp
       pub request : HttpRequest
       pub reply : Result HttpResponse RE
@@ -77,11 +77,11 @@ module _ {D A RE : Type 0} (meaning : D → A) where
       pub in_time : ¬ (poll.deadline <ℤ moment.nanosecond)
       pub open_answer : class_of says reply ≢ Deciding
       pub more : poll.polls_left ≢ 1
-      pub after_is : after ≡ answered poll (class_of says reply)
+      pub after_is : after ≡ state_after poll (class_of says reply)
       pub sleep_is : as_nanos sleep ≡ after.interval
 
     -- what a round did, and how the poll stands
     abbrev pub IsTurn : Type 0 → PollState → Bool → List (Event RE) → Option (Result D (PollError RE)) → PollState → Type 0
-    IsTurn NotHttp poll sent e None after = GoesOn poll e after
+    IsTurn NotHttp poll sent e None after = RoundGoesOn poll e after
     IsTurn NotHttp poll sent e (Some (Err error)) after = EndsUnsent NotHttp poll sent e error ⊎ EndsSent poll e (Err error)
     IsTurn NotHttp poll sent e (Some (Ok value)) after = EndsSent poll e (Ok value)

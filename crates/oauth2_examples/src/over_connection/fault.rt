@@ -1,7 +1,7 @@
 //! Why a run has no answer, and what it tells of that.
 
 ghost use Rattle.std.specs.Prelude.{◌≡◌};
-ghost use Rattle.oauth2_examples.specs.Fault.{status_of};
+ghost use Rattle.oauth2_examples.specs.Fault.{fault_exit_status};
 
 use oauth2::{ParseCause, ReadError, RequestTokenError, ToJson};
 use serde_json::{Value, json};
@@ -89,7 +89,7 @@ impl Fault {
 
     /// The exit status: 2 if nothing was asked, and else 1.
     pub fn status(&self) -> u8
-        ensures { result ≡ status_of self.now }
+        ensures { result ≡ fault_exit_status self.now }
     {
         match self {
             Fault::Setting(_) | Fault::Unreadable(_) => 2,

@@ -4,7 +4,7 @@ ghost use Rattle.std.specs.Prelude.{option_map};
 ghost use Rattle.serde_json.specs.Find.{get_member};
 ghost use Rattle.serde_json.specs.View.{members_view};
 ghost use Rattle.oauth2_json.specs.Reading.{ReadsAs};
-ghost use Rattle.oauth2_json.specs.Members.{needed, optional};
+ghost use Rattle.oauth2_json.specs.Members.{needed_member, optional_member};
 
 use crate::over_connection::fault::Fault;
 use oauth2::basic::BasicClient;
@@ -61,7 +61,7 @@ impl<'a> Settings<'a> {
 
     /// A member that has to be there.
     pub fn needed<T: FromJson>(&mut self, name: &str) -> Result<T, ReadError>
-        ensures { ReadsAs T.meaning result (needed T.reading name.now
+        ensures { ReadsAs T.meaning result (needed_member T.reading name.now
             (get_member name.now (members_view self.old.members.entries))) }
     {
         let found = members::take(&mut self.members, name);
@@ -70,7 +70,7 @@ impl<'a> Settings<'a> {
 
     /// A member that may be absent or null.
     pub fn optional<T: FromJson>(&mut self, name: &str) -> Result<Option<T>, ReadError>
-        ensures { ReadsAs (option_map T.meaning) result (optional T.reading name.now
+        ensures { ReadsAs (option_map T.meaning) result (optional_member T.reading name.now
             (get_member name.now (members_view self.old.members.entries))) }
     {
         let found = members::take(&mut self.members, name);

@@ -2,10 +2,10 @@
 use Rattle.std.specs.Prelude.{◌≡◌, List, ℕ, [], ◌∷◌, option_map, Result, Ok, Err}
 use Rattle.serde_json.specs.Data.{Data, Members, object}
 use Rattle.oauth2_json.specs.Members.{beside, put_some}
-use Rattle.oauth2_json.specs.Writing.{Writing, Refusal, write_then}
+use Rattle.oauth2_json.specs.Writing.{Writing, WriteRefusal, write_then}
 use Rattle.oauth2_extra_fields.specs.Fields.{MemberAndRest, with_member_writing}
 
-by_members : (written : Result Members Refusal) (f : Members → Members) (d : Data) → write_then written (λ ms. Ok (object (f ms))) ≡ Ok d → (ms : Members) × (d ≡ object ms)
+by_members : (written : Result Members WriteRefusal) (f : Members → Members) (d : Data) → write_then written (λ ms. Ok (object (f ms))) ≡ Ok d → (ms : Members) × (d ≡ object ms)
 by_members (Ok ms) f d h = (f ms, cc)
 by_members (Err e) f d h = cc
 

@@ -4,10 +4,10 @@ use Rattle.std.specs.Prelude.{◌≡◌, ℕ, ℤ, List, Bool, true, [], ◌∷�
 use Rattle.serde_json.specs.Data.{Data, Members, boolean, string, array, object}
 use Rattle.serde_json.specs.Find.{get_member}
 use Rattle.oauth2_json.specs.Reading.{Reading, ◌⊛◌}
-use Rattle.oauth2_json.specs.Members.{needed, optional, present, others}
-use Rattle.oauth2_json.specs.Values.{text, flag, lowered, spaced, texts, text_items}
+use Rattle.oauth2_json.specs.Members.{needed_member, optional_member, present_member, others}
+use Rattle.oauth2_json.specs.Values.{text, flag, lowercase_reading, words_reading, texts, text_items}
 use Rattle.oauth2_introspection.specs.Instants.{instant, second_data, is_instant}
-use Rattle.oauth2_json.specs.Words.{joined}
+use Rattle.oauth2_json.specs.Words.{joined_words}
 use Rattle.oauth2_json.specs.Puts.{Row}
 use Rattle.oauth2_introspection.specs.Introspection.{Introspection, introspection}
 use Rattle.oauth2_introspection.specs.private.Groups.{quadruple}
@@ -18,10 +18,10 @@ grant_names = codes "active" ∷ codes "scope" ∷ codes "client_id" ∷ codes "
 unfoldable pub grant_reading : Members → Reading (Bool × Option (List (List ℕ)) × Option (List ℕ) × Option (List ℕ))
 grant_reading ms =
     Ok quadruple
-    ⊛ needed flag (codes "active") (get_member (codes "active") ms)
-    ⊛ optional (spaced text) (codes "scope") (get_member (codes "scope") (others (codes "active" ∷ []) ms))
-    ⊛ optional text (codes "client_id") (get_member (codes "client_id") (others (codes "active" ∷ codes "scope" ∷ []) ms))
-    ⊛ optional text (codes "username") (get_member (codes "username") (others (codes "active" ∷ codes "scope" ∷ codes "client_id" ∷ []) ms))
+    ⊛ needed_member flag (codes "active") (get_member (codes "active") ms)
+    ⊛ optional_member (words_reading text) (codes "scope") (get_member (codes "scope") (others (codes "active" ∷ []) ms))
+    ⊛ optional_member text (codes "client_id") (get_member (codes "client_id") (others (codes "active" ∷ codes "scope" ∷ []) ms))
+    ⊛ optional_member text (codes "username") (get_member (codes "username") (others (codes "active" ∷ codes "scope" ∷ codes "client_id" ∷ []) ms))
 
 abbrev pub validity_names : List (List ℕ)
 validity_names = codes "token_type" ∷ codes "exp" ∷ codes "iat" ∷ codes "nbf" ∷ []
@@ -29,10 +29,10 @@ validity_names = codes "token_type" ∷ codes "exp" ∷ codes "iat" ∷ codes "n
 unfoldable pub validity_reading : {T : Type 0} → (Data → Reading T) → Members → Reading (Option T × Option ℤ × Option ℤ × Option ℤ)
 validity_reading token_type ms =
     Ok quadruple
-    ⊛ present (lowered token_type) (codes "token_type") (get_member (codes "token_type") ms)
-    ⊛ optional instant (codes "exp") (get_member (codes "exp") (others (codes "token_type" ∷ []) ms))
-    ⊛ optional instant (codes "iat") (get_member (codes "iat") (others (codes "token_type" ∷ codes "exp" ∷ []) ms))
-    ⊛ optional instant (codes "nbf") (get_member (codes "nbf") (others (codes "token_type" ∷ codes "exp" ∷ codes "iat" ∷ []) ms))
+    ⊛ present_member (lowercase_reading token_type) (codes "token_type") (get_member (codes "token_type") ms)
+    ⊛ optional_member instant (codes "exp") (get_member (codes "exp") (others (codes "token_type" ∷ []) ms))
+    ⊛ optional_member instant (codes "iat") (get_member (codes "iat") (others (codes "token_type" ∷ codes "exp" ∷ []) ms))
+    ⊛ optional_member instant (codes "nbf") (get_member (codes "nbf") (others (codes "token_type" ∷ codes "exp" ∷ codes "iat" ∷ []) ms))
 
 abbrev pub claims_names : List (List ℕ)
 claims_names = codes "sub" ∷ codes "aud" ∷ codes "iss" ∷ codes "jti" ∷ []
@@ -40,10 +40,10 @@ claims_names = codes "sub" ∷ codes "aud" ∷ codes "iss" ∷ codes "jti" ∷ [
 unfoldable pub claims_reading : Members → Reading (Option (List ℕ) × Option (List (List ℕ)) × Option (List ℕ) × Option (List ℕ))
 claims_reading ms =
     Ok quadruple
-    ⊛ optional text (codes "sub") (get_member (codes "sub") ms)
-    ⊛ optional texts (codes "aud") (get_member (codes "aud") (others (codes "sub" ∷ []) ms))
-    ⊛ optional text (codes "iss") (get_member (codes "iss") (others (codes "sub" ∷ codes "aud" ∷ []) ms))
-    ⊛ optional text (codes "jti") (get_member (codes "jti") (others (codes "sub" ∷ codes "aud" ∷ codes "iss" ∷ []) ms))
+    ⊛ optional_member text (codes "sub") (get_member (codes "sub") ms)
+    ⊛ optional_member texts (codes "aud") (get_member (codes "aud") (others (codes "sub" ∷ []) ms))
+    ⊛ optional_member text (codes "iss") (get_member (codes "iss") (others (codes "sub" ∷ codes "aud" ∷ []) ms))
+    ⊛ optional_member text (codes "jti") (get_member (codes "jti") (others (codes "sub" ∷ codes "aud" ∷ codes "iss" ∷ []) ms))
 
 abbrev pub of_groups : {E T : Type 0} → Bool × Option (List (List ℕ)) × Option (List ℕ) × Option (List ℕ) → Option T × Option ℤ × Option ℤ × Option ℤ → Option (List ℕ) × Option (List (List ℕ)) × Option (List ℕ) × Option (List ℕ) → E → Introspection E T
 of_groups g v c x = introspection g.0 g.1 g.2 g.3 v.0 v.1 v.2 v.3 c.0 c.1 c.2 c.3 x
@@ -60,7 +60,7 @@ in_turn extra_fields token_type ms =
 abbrev pub grant_rows : {E T : Type 0} → Introspection E T → List Row
 grant_rows r =
     (codes "active", Some (boolean r.active))
-    ∷ (codes "scope", option_map (λ scopes. string (joined scopes)) r.scopes)
+    ∷ (codes "scope", option_map (λ scopes. string (joined_words scopes)) r.scopes)
     ∷ (codes "client_id", option_map string r.client_id)
     ∷ (codes "username", option_map string r.username)
     ∷ []

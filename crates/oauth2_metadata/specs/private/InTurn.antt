@@ -3,7 +3,7 @@ use Rattle.std.specs.Prelude.{[], ◌∷◌, Ok, codes}
 use Rattle.serde_json.specs.Data.{Data, Members, object}
 use Rattle.serde_json.specs.Find.{get_member}
 use Rattle.oauth2_json.specs.Reading.{Reading, ◌⊛◌}
-use Rattle.oauth2_json.specs.Members.{needed, others, without}
+use Rattle.oauth2_json.specs.Members.{needed_member, others, without}
 use Rattle.oauth2_json.specs.Values.{text, flag, url, text_list}
 use Rattle.oauth2_metadata.specs.Kinds.{told}
 use Rattle.oauth2_metadata.specs.Metadata.{Metadata, metadata, EndpointMembers, endpoint_group, endpoint_names, SupportedMembers, supported_group, supported_names, AuthMethodMembers, auth_method_group, auth_method_names, SigningAlgorithmMembers, signing_algorithm_group, signing_algorithm_names, PageMembers, page_group, page_names, ServiceMembers, service_group, service_names}
@@ -97,10 +97,10 @@ after_pages ms = without_pages (after_signing_algorithms ms)
 abbrev pub after_services : Members → Members
 after_services ms = without_services (after_pages ms)
 
-abbrev pub in_turn : {E : Type 0} → (Data → Reading E) → Members → Reading (Metadata E)
-in_turn extra_fields ms =
+abbrev pub metadata_in_turn : {E : Type 0} → (Data → Reading E) → Members → Reading (Metadata E)
+metadata_in_turn extra_fields ms =
     Ok metadata
-    ⊛ needed text (codes "issuer") (get_member (codes "issuer") ms)
+    ⊛ needed_member text (codes "issuer") (get_member (codes "issuer") ms)
     ⊛ endpoints_in_turn (after_issuer ms)
     ⊛ supported_in_turn (after_endpoints ms)
     ⊛ auth_methods_in_turn (after_supported ms)

@@ -3,7 +3,7 @@ use Rattle.std.specs.Prelude.{Ok, codes}
 use Rattle.serde_json.specs.Data.{Members}
 use Rattle.serde_json.specs.Find.{get_member}
 use Rattle.oauth2_json.specs.Reading.{Reading, ◌⊛◌}
-use Rattle.oauth2_json.specs.Members.{needed, optional, without}
+use Rattle.oauth2_json.specs.Members.{needed_member, optional_member, without}
 use Rattle.oauth2_json.specs.Values.{text, whole_number}
 use Rattle.oauth2_redirect.specs.Login.{Kept, login_row}
 use Rattle.oauth2_openid_login.specs.Login.{OpenIdKept, openid_kept}
@@ -15,5 +15,5 @@ abbrev pub read_in_turn : Members → Reading OpenIdKept
 read_in_turn ms =
     Ok openid_kept
     ⊛ login_members (without (codes "max_age") (without (codes "nonce") ms))
-    ⊛ needed text (codes "nonce") (get_member (codes "nonce") ms)
-    ⊛ optional whole_number (codes "max_age") (get_member (codes "max_age") (without (codes "nonce") ms))
+    ⊛ needed_member text (codes "nonce") (get_member (codes "nonce") ms)
+    ⊛ optional_member whole_number (codes "max_age") (get_member (codes "max_age") (without (codes "nonce") ms))

@@ -3,8 +3,8 @@ use Rattle.std.specs.Prelude.{ℕ, List, [], ◌∷◌, Option, Ok, codes}
 use Rattle.serde_json.specs.Data.{Data, Members, object}
 use Rattle.serde_json.specs.Find.{get_member}
 use Rattle.oauth2_json.specs.Reading.{Reading, ◌⊛◌}
-use Rattle.oauth2_json.specs.Members.{needed, optional, others}
-use Rattle.oauth2_json.specs.Values.{text, whole_number, lowered, spaced}
+use Rattle.oauth2_json.specs.Members.{needed_member, optional_member, others}
+use Rattle.oauth2_json.specs.Values.{text, whole_number, lowercase_reading, words_reading}
 use Rattle.oauth2_replies.specs.Token.{Token, token}
 use Rattle.oauth2_replies.specs.private.Groups.{pair, triple}
 
@@ -14,8 +14,8 @@ credential_names = codes "access_token" ∷ codes "token_type" ∷ []
 unfoldable pub credential_reading : {T : Type 0} → (Data → Reading T) → Members → Reading (List ℕ × T)
 credential_reading token_type ms =
     Ok pair
-    ⊛ needed text (codes "access_token") (get_member (codes "access_token") ms)
-    ⊛ needed (lowered token_type) (codes "token_type") (get_member (codes "token_type") (others (codes "access_token" ∷ []) ms))
+    ⊛ needed_member text (codes "access_token") (get_member (codes "access_token") ms)
+    ⊛ needed_member (lowercase_reading token_type) (codes "token_type") (get_member (codes "token_type") (others (codes "access_token" ∷ []) ms))
 
 abbrev pub terms_names : List (List ℕ)
 terms_names = codes "expires_in" ∷ codes "refresh_token" ∷ codes "scope" ∷ []
@@ -23,9 +23,9 @@ terms_names = codes "expires_in" ∷ codes "refresh_token" ∷ codes "scope" ∷
 unfoldable pub terms_reading : Members → Reading (Option ℕ × Option (List ℕ) × Option (List (List ℕ)))
 terms_reading ms =
     Ok triple
-    ⊛ optional whole_number (codes "expires_in") (get_member (codes "expires_in") ms)
-    ⊛ optional text (codes "refresh_token") (get_member (codes "refresh_token") (others (codes "expires_in" ∷ []) ms))
-    ⊛ optional (spaced text) (codes "scope") (get_member (codes "scope") (others (codes "expires_in" ∷ codes "refresh_token" ∷ []) ms))
+    ⊛ optional_member whole_number (codes "expires_in") (get_member (codes "expires_in") ms)
+    ⊛ optional_member text (codes "refresh_token") (get_member (codes "refresh_token") (others (codes "expires_in" ∷ []) ms))
+    ⊛ optional_member (words_reading text) (codes "scope") (get_member (codes "scope") (others (codes "expires_in" ∷ codes "refresh_token" ∷ []) ms))
 
 abbrev pub of_groups : {E T : Type 0} → List ℕ × T → Option ℕ × Option (List ℕ) × Option (List (List ℕ)) → E → Token E T
 of_groups c t x = token c.0 c.1 t.0 t.1 t.2 x

@@ -1,7 +1,7 @@
 use Rattle.std.proofs.Common.{◌≡◌, ◌+◌, ◌<◌, ◌++◌, length, take, drop, set, get_or, map, option_map, sym, ap, ◌∙◌, arith, append-nil}
 use Rattle.std.proofs.lemmas.List.{length-set}
 use Rattle.serde_json.specs.View.{view}
-use Rattle.oauth2_body_members.specs.Object.{entry_of, members_in}
+use Rattle.oauth2_body_members.specs.Object.{entry_of, list_members}
 use Rattle.oauth2_body_members.specs.private.Taken.{blank_at}
 use Rattle.oauth2_body_members.proofs.Taking.{blanked, last_value, later_or, at_place, one_more, one_later, view-or, last_value-is, members_in-blanked, all_looked_at}
 use Rattle.oauth2_body_members.proofs.member.take.Goals as goal
@@ -35,5 +35,5 @@ returns-clause-rest c =
     let l = c.loop-index in
     let k = c.args.name.now in
     let all = all_looked_at k c.args.list.now.items l.index (omega (arith, l.invariant.0)) in
-    ap members_in (l.invariant.1 ∙ ap (λ ms. blanked k ms ++ drop l.index c.args.list.now.items) all.0 ∙ ap (λ ms. blanked k c.args.list.now.items ++ ms) all.1 ∙ append-nil (blanked k c.args.list.now.items))
+    ap list_members (l.invariant.1 ∙ ap (λ ms. blanked k ms ++ drop l.index c.args.list.now.items) all.0 ∙ ap (λ ms. blanked k c.args.list.now.items ++ ms) all.1 ∙ append-nil (blanked k c.args.list.now.items))
     ∙ members_in-blanked k c.args.list.now.items

@@ -7,7 +7,7 @@ use Rattle.oauth2.specs.NewRequest.{new_device_request}
 use Rattle.oauth2_script.specs.DeviceAuthorizationParams.{DeviceAuthorizationParams}
 use Rattle.oauth2_script.specs.Views.{device_authorization_view}
 use Rattle.oauth2_commands.specs.DeviceAuthorization.{device_request, IsDeviceAuthorized}
-use Rattle.oauth2_world.specs.Replay.{replies_of}
+use Rattle.oauth2_world.specs.Replay.{client_replies}
 use Rattle.oauth2_commands.proofs.Commands.{missing_told, command_told}
 use Rattle.oauth2_commands.proofs.Scopes.{every_item}
 use Rattle.oauth2_commands.proofs.device_authorization.run_device_authorization.Goals as goal
@@ -32,7 +32,7 @@ returns-in_ok-asked-in-Ok c =
     let asked : c.in_ok-asked-in-Ok.asked ≡ given p c.in-Ok.request = rw (c.in_ok-asked-in-Ok.ensures, scoped, c.as_slice.ensures.value) refl in
     IfOk-weaker c.ask.result _ _
     (λ status adds. λ fed.
-    command_told (codes "device authorization") (λ r o. IsDeviceAuthorized r.base.reply_rule (device_authorization_configuration r) r.device_authorization_url (replies_of c.args.http_client.now) o)
+    command_told (codes "device authorization") (λ r o. IsDeviceAuthorized r.base.reply_rule (device_authorization_configuration r) r.device_authorization_url (client_replies c.args.http_client.now) o)
     (λ u. new_device_request c.args.client.now u) (given p) (λ u. device_request c.args.client.now p u)
     (string_bytes c.args.http_client.now.lines) (string_bytes c.ask.new.http_client.lines) status (λ u. refl)
     c.args.client.now.device_authorization_url c.in-Ok.request c.in_ok-asked-in-Ok.asked c.in-Ok.ensures.there c.in-Ok.ensures.missing asked (adds fed))

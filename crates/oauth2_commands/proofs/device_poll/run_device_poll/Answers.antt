@@ -7,7 +7,7 @@ use Rattle.oauth2.specs.NewRequest.{new_device_token_request}
 use Rattle.oauth2_script.specs.DevicePollParams.{DevicePollParams}
 use Rattle.oauth2_script.specs.Views.{device_poll_view}
 use Rattle.oauth2_commands.specs.DevicePoll.{device_token, IsPolled}
-use Rattle.oauth2_world.specs.Replay.{replies_of}
+use Rattle.oauth2_world.specs.Replay.{client_replies}
 use Rattle.oauth2_commands.proofs.Commands.{missing_told, command_told}
 use Rattle.oauth2_commands.proofs.device_poll.run_device_poll.Goals as goal
 
@@ -26,7 +26,7 @@ returns-in-Ok c =
     IfOk-weaker c.poll.result _ _
     (λ status adds. λ fed.
     command_told (codes "token")
-    (λ r o. IsPolled r (timeout_of r c.args.params.timeout) (non_zero_u64_get c.args.params.max_polls) c.args.world.now.clock (replies_of c.args.world.now.http_client) o)
+    (λ r o. IsPolled r (timeout_of r c.args.params.timeout) (non_zero_u64_get c.args.params.max_polls) c.args.world.now.clock (client_replies c.args.world.now.http_client) o)
     (λ u. new_device_token_request c.args.client.now u c.args.params.device) (given p) (λ u. device_token c.args.client.now p u)
     (string_bytes c.args.world.now.http_client.lines) (string_bytes c.poll.new.world.http_client.lines) status (λ u. refl)
     c.args.client.now.token_url c.in-Ok.request.request c.in_ok-asked-in-Ok.asked.request c.in-Ok.ensures.there c.in-Ok.ensures.missing asked (adds fed))

@@ -6,7 +6,7 @@ use Rattle.oauth2_script.specs.IntrospectParams.{IntrospectParams}
 use Rattle.oauth2_script.specs.Views.{introspect_view}
 use Rattle.oauth2_commands.specs.Client.{given_or}
 use Rattle.oauth2_commands.specs.Introspect.{introspection_request, IsIntrospected}
-use Rattle.oauth2_world.specs.Replay.{replies_of}
+use Rattle.oauth2_world.specs.Replay.{client_replies}
 use Rattle.oauth2_commands.proofs.Commands.{given_or-none, missing_told, command_told}
 use Rattle.oauth2_commands.proofs.introspect.run_introspect.Goals as goal
 
@@ -25,7 +25,7 @@ returns-in_ok-asked-in-Ok c =
     let asked : c.in_ok-asked-in-Ok.asked ≡ given p c.in-Ok.request = rw (c.in_ok-asked-in-Ok.ensures, c.with_hint-hinted.ensures, c.as_slice.ensures.value) refl in
     IfOk-weaker c.ask.result _ _
     (λ status adds. λ fed.
-    command_told (codes "introspection") (λ r o. IsIntrospected r.base.reply_rule (introspection_configuration r) r.introspection_url (replies_of c.args.http_client.now) o)
+    command_told (codes "introspection") (λ r o. IsIntrospected r.base.reply_rule (introspection_configuration r) r.introspection_url (client_replies c.args.http_client.now) o)
     (λ u. new_introspection_request c.args.client.now u p.token) (given p) (λ u. introspection_request c.args.client.now p u)
     (string_bytes c.args.http_client.now.lines) (string_bytes c.ask.new.http_client.lines) status (λ u. rw (given_or-none p.hint) refl)
     c.args.client.now.introspection_url c.in-Ok.request c.in_ok-asked-in-Ok.asked c.in-Ok.ensures.there c.in-Ok.ensures.missing asked (adds fed))

@@ -1,7 +1,7 @@
 use Rattle.std.proofs.Common.{◌≡◌, ℕ, Option, false, map, take, string_bytes}
 use Rattle.oauth2_commands.specs.Keeper.{AreCalls}
 use Rattle.oauth2_commands.specs.Out.{Output}
-use Rattle.oauth2_commands.specs.private.Added.{Prints}
+use Rattle.oauth2_commands.specs.private.Added.{AddsOutput}
 use Rattle.oauth2_commands.specs.private.Kept.{standing_of, WaitsFor}
 use Rattle.oauth2_commands.proofs.keeper.show_calls.Given as goal
 
@@ -11,4 +11,4 @@ invariant-loop-now l =
     → WaitsFor l.keeper wait
     × (l.http_client.is_starved ≡ false
     → (o : Output) × AreCalls wait (standing_of l.initial.keeper l.initial.http_client) (map (λ t. t.nanosecond) (take l.now-index l.readings)) o (standing_of l.keeper l.http_client)
-    × Prints (string_bytes l.initial.http_client.lines) (string_bytes l.http_client.lines) l.status o)
+    × AddsOutput (string_bytes l.initial.http_client.lines) (string_bytes l.http_client.lines) l.status o)

@@ -3,7 +3,7 @@ use Rattle.std.specs.Vec.Iter.{into_iter_len}
 use Rattle.std.proofs.lemmas.Result.{IfOk-weaker}
 use Rattle.oauth2_form.specs.Params.{with_scopes}
 use Rattle.oauth2_script.specs.Views.{keeper_view}
-use Rattle.oauth2_world.specs.Replay.{replies_of}
+use Rattle.oauth2_world.specs.Replay.{client_replies}
 use Rattle.oauth2_commands.specs.Keeper.{Standing, AreCalls, new_standing}
 use Rattle.oauth2_commands.specs.private.Kept.{standing_of}
 use Rattle.oauth2_commands.proofs.Scopes.{every_item}
@@ -17,7 +17,7 @@ returns c =
     let count : into_iter_len h.0 ≡ length c.args.params.scopes.items = h.2.1 ∙ search rules in
     let scoped : c.add_scopes.new.self ≡ record c.new-keeper.result { scope = with_scopes c.new-keeper.result.scope c.args.params.scopes.items } =
     h.4 ∙ ap (λ added. record c.new-keeper.result { scope = with_scopes c.new-keeper.result.scope added }) (every_item h.0 c.args.params.scopes.items h.1 h.2.0 count h.3) in
-    let made : standing_of c.new-keeper-2.result client ≡ new_standing c.args.client.now p (replies_of client) =
+    let made : standing_of c.new-keeper-2.result client ≡ new_standing c.args.client.now p (client_replies client) =
     c.new-keeper-2.ensures.stands client ∙ rw (c.in_ok-add_extra.ensures, scoped, c.new-keeper.ensures, c.as_slice.ensures.value) refl in
     IfOk-weaker c.show_calls.result _ _
     (λ status shown. λ fed.

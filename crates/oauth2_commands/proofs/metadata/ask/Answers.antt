@@ -6,7 +6,7 @@ use Rattle.oauth2_codes.specs.ErrorResponse.{parts_of}
 use Rattle.oauth2_metadata.specs.Request.{IsGetOf}
 use Rattle.oauth2_commands.specs.Exchange.{error_display}
 use Rattle.oauth2_commands.specs.Metadata.{get_lines, metadata_answer, metadata_output}
-use Rattle.oauth2_commands.specs.private.Added.{Prints}
+use Rattle.oauth2_commands.specs.private.Added.{AddsOutput}
 use Rattle.oauth2_commands.specs.private.Discovery.{discovery_output, metadata_meaning}
 use Rattle.oauth2_commands.specs.private.Results.{end_output, error_seen}
 use Rattle.oauth2_commands.proofs.Discovery.{checked_shown}
@@ -22,7 +22,7 @@ returns c =
     rw once.1 (checked_shown query.issuer outcome) in
     IfOk-weaker c.show_metadata.result _ _
     (λ status printed. λ fed.
-    (let told : Prints (string_bytes c.request-end.new.http_client.lines) (string_bytes c.show_metadata.new.lines) status
+    (let told : AddsOutput (string_bytes c.request-end.new.http_client.lines) (string_bytes c.show_metadata.new.lines) status
     (end_output error_seen (λ m. metadata_output query.issuer (metadata_meaning m)) outcome) = rw same at printed in
     request_told metadata_meaning (parts_of error_code) (metadata_output query.issuer) (error_display error_code_text) (metadata_answer query.reply_rule)
     (IsGetOf (serialize query.url)) get_lines query.url (λ v is. (is.target, request_lines-get (serialize query.url) v is))

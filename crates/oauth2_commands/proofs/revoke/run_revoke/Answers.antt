@@ -6,7 +6,7 @@ use Rattle.oauth2.specs.NewRequest.{new_revocation_request}
 use Rattle.oauth2_script.specs.RevokeParams.{RevokeParams}
 use Rattle.oauth2_script.specs.Views.{revoke_view}
 use Rattle.oauth2_commands.specs.Revoke.{revocation_request, IsRevoked}
-use Rattle.oauth2_world.specs.Replay.{replies_of}
+use Rattle.oauth2_world.specs.Replay.{client_replies}
 use Rattle.oauth2_commands.proofs.Commands.{refusal_told, https_told}
 use Rattle.oauth2_commands.proofs.revoke.run_revoke.Goals as goal
 
@@ -26,7 +26,7 @@ returns-in-Ok c =
     let asked : c.in_ok-asked-in-Ok.asked ≡ given p c.in-Ok.request = rw (c.in_ok-asked-in-Ok.ensures, c.as_slice.ensures.value) refl in
     IfOk-weaker c.ask.result _ _
     (λ status adds. λ fed.
-    https_told (codes "revocation") (λ r o. IsRevoked (revocation_configuration r) r.revocation_url (replies_of c.args.http_client.now) o)
+    https_told (codes "revocation") (λ r o. IsRevoked (revocation_configuration r) r.revocation_url (client_replies c.args.http_client.now) o)
     (λ u. new_revocation_request c.args.client.now u (secret_of token) (Some (hint_of token))) (given p) (λ u. revocation_request c.args.client.now p u)
     (string_bytes c.args.http_client.now.lines) (string_bytes c.ask.new.http_client.lines) status (λ u. rw (c.token_of.ensures.text, c.token_of.ensures.hint) refl)
     c.args.client.now.revocation_url c.in-Ok.request c.in_ok-asked-in-Ok.asked c.in-Ok.ensures.secure c.in-Ok.ensures.insecure c.in-Ok.ensures.missing asked (adds fed))

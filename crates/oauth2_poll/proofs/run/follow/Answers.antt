@@ -3,7 +3,7 @@ use Rattle.std.specs.Prelude.{◌<ℤ◌, ◌+ℤ◌, pos}
 use Rattle.std.specs.Duration.{as_nanos}
 use Rattle.std.proofs.lemmas.Option.{slice_get_within}
 use Rattle.jiff.specs.Words.{IsTimestampNanos}
-use Rattle.oauth2_poll.specs.Step.{TimeoutFits, answered, action_of, GiveUp, Finish, SleepFor}
+use Rattle.oauth2_poll.specs.Step.{TimeoutFits, state_after, action_of, GiveUp, Finish, SleepFor}
 use Rattle.oauth2_poll.specs.Run.{run_input, event_of}
 use Rattle.oauth2_poll.specs.Trace.{Reading, Asked, Answered, Slept}
 use Rattle.oauth2_poll.proofs.Open.{IsOpen, open_start, open_next}
@@ -97,6 +97,6 @@ rounds-preserved c =
     let k = sleep_step c.rounds.poll a s c.in-Sleep.interval no_decision step is in
     let n = open_next _ r _ _ _ a c.rounds.invariant.0 here (sym c.in-Some-answer_at.ensures) before no_decision k.0 in (
       rw (add-one, c.answer.ensures.state, pushed_four event_of _ _ _ _ _ _ _ _ _ c.in_ok-push-2.ensures.items c.in_ok-push-3.ensures.items c.in_ok-push-4.ensures.items c.in_ok-push-in-Sleep.ensures.items)
-          (subst (λ (x : ℕ). IsOpen (run_input c.args.timeout c.args.settings c.args.readings.now c.args.answers.now) (suc r) (map event_of c.rounds.trace.items ++ Reading t.nanosecond ∷ Asked ∷ Answered a ∷ Slept x ∷ []) (answered c.rounds.poll a)) (sym k.1) n),
+          (subst (λ (x : ℕ). IsOpen (run_input c.args.timeout c.args.settings c.args.readings.now c.args.answers.now) (suc r) (map event_of c.rounds.trace.items ++ Reading t.nanosecond ∷ Asked ∷ Answered a ∷ Slept x ∷ []) (state_after c.rounds.poll a)) (sym k.1) n),
       slice_get_within c.args.readings.now (r + 1) t there,
     )

@@ -2,7 +2,7 @@ use Rattle.std.proofs.Common.{◌≡◌, ◌++◌, ◌∷◌, [], map, rules}
 use Rattle.std.proofs.lemmas.List.{map_push}
 use Rattle.serde_json.specs.View.{items_view}
 use Rattle.oauth2_script.specs.Part as spec
-use Rattle.oauth2_script.specs.Gives.{Refuses}
+use Rattle.oauth2_script.specs.Gives.{TellsScriptError}
 use Rattle.oauth2_script.proofs.Parts.{goes_on, stops, is_done}
 use Rattle.oauth2_script.proofs.part.each.Goals as goal
 
@@ -16,7 +16,7 @@ loop-value-preserved g c =
 
 pub returns-in_err-from_value : goal.returns-in_err-from_value
 returns-in_err-from_value g c =
-    let refused : Refuses c.in_err-from_value.field-0.0 (spec.each g.T.Part.reading (items_view c.args.values.now))
+    let refused : TellsScriptError c.in_err-from_value.field-0.0 (spec.each_item g.T.Part.reading (items_view c.args.values.now))
     = stops g.T.Part.reading (map g.T.Part.meaning c.loop-value.parts.items) c.args.values.now c.loop-value.value-index _
     c.value-item.result c.loop-value-test.true c.value-item.is c.loop-value.invariant c.in_err-from_value.field-0.0 c.in_err-from_value.ensures.read in
     search rules

@@ -6,5 +6,5 @@ use Rattle.oauth2_script.proofs.part.each.Given as goal
 
 abbrev pub invariant-loop-value : goal.invariant-loop-value
 invariant-loop-value g l =
-    with_front (map g.T.Part.meaning l.parts.items) (spec.each g.T.Part.reading (items_view (drop l.value-index l.values)))
-    ≡ spec.each g.T.Part.reading (items_view l.values)
+    with_front (map g.T.Part.meaning l.parts.items) (spec.each_item g.T.Part.reading (items_view (drop l.value-index l.values)))
+    ≡ spec.each_item g.T.Part.reading (items_view l.values)

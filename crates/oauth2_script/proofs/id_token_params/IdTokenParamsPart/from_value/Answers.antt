@@ -1,13 +1,13 @@
 use Rattle.serde_json.specs.View.{view}
 use Rattle.oauth2_script.specs.IdTokenParams.{id_token_params}
-use Rattle.oauth2_script.specs.Gives.{Refuses}
+use Rattle.oauth2_script.specs.Gives.{TellsScriptError}
 use Rattle.oauth2_script.proofs.Refusals.{Refuses-then, Gives-refused}
 use Rattle.oauth2_script.proofs.id_token_params.IdTokenParamsPart.from_value.Goals as goal
 
 pub returns-in_err-leeway-clause-read : goal.returns-in_err-leeway-clause-read
 unfolding id_token_params
 returns-in_err-leeway-clause-read c =
-    let refused : Refuses c.in_err-leeway.field-0.0 (id_token_params (view c.args.value.now)) =
+    let refused : TellsScriptError c.in_err-leeway.field-0.0 (id_token_params (view c.args.value.now)) =
     rw (c.in_ok-id_token.ensures.read, c.in_ok-access_token.ensures.read, c.in_ok-issuer.ensures.read, c.in_ok-algorithm.ensures.read, c.in_ok-nonce.ensures.read)
     (Refuses-then c.in_err-leeway.field-0.0 _ _ c.in_err-leeway.ensures.read) in
     Gives-refused _ c.from_residual-in_err-leeway.result c.in_err-leeway.field-0.0 _ c.from_residual-in_err-leeway.ensures.1 refused
@@ -15,7 +15,7 @@ returns-in_err-leeway-clause-read c =
 pub returns-in_err-max_age-clause-read : goal.returns-in_err-max_age-clause-read
 unfolding id_token_params
 returns-in_err-max_age-clause-read c =
-    let refused : Refuses c.in_err-max_age.field-0.0 (id_token_params (view c.args.value.now)) =
+    let refused : TellsScriptError c.in_err-max_age.field-0.0 (id_token_params (view c.args.value.now)) =
     rw (c.in_ok-id_token.ensures.read, c.in_ok-access_token.ensures.read, c.in_ok-issuer.ensures.read, c.in_ok-algorithm.ensures.read, c.in_ok-nonce.ensures.read, c.in_ok-leeway.ensures.read)
     (Refuses-then c.in_err-max_age.field-0.0 _ _ c.in_err-max_age.ensures.read) in
     Gives-refused _ c.from_residual-in_err-max_age.result c.in_err-max_age.field-0.0 _ c.from_residual-in_err-max_age.ensures.1 refused
