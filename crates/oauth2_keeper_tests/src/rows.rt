@@ -7,7 +7,7 @@ use crate::ends::{show_kept, show_lent};
 use crate::stored::{Start, show_stored, show_text, started};
 use crate::values::{Moment, Span, duration, moment};
 use oauth2_keeper::{BasicPatientKeeper, BasicTokenKeeper};
-use oauth2_refused_memory_values_tests::{Ended, Want, find};
+use oauth2_refused_memory_values_tests::{Ended, Rows, find};
 use std::alloc::{AllocError, Global};
 use std::io::Write;
 
@@ -215,33 +215,17 @@ const ROWS: [(&str, Row); 13] = [
     ),
 ];
 
-/// Runs the rows of these names, one on each line. Returns whether none of them ran out of memory.
-pub fn show_rows<W: Write>(alloc: Global, names: &str, out: &mut W) -> Result<bool, Ended> {
-    let mut is_fed = true;
-    for name in names.lines() {
-        writeln!(out, "row {name}")?;
-        if let Some(want) = wanted(show_row(alloc, name, out))? {
-            writeln!(out, "memory {want:?}")?;
-            is_fed = false;
+/// The calls of keepers and of stored tokens.
+pub struct KeeperRows;
+
+impl Rows for KeeperRows {
+    fn show_row<W: Write>(alloc: Global, name: &str, out: &mut W) -> Result<bool, Ended> {
+        match find(&ROWS, name) {
+            Some(Row::Keeper(row)) => show_with_client(alloc, row, out)?,
+            Some(Row::Text(json)) => show_text(alloc, json, out)?,
+            None => return Err(Ended::Unknown),
         }
-    }
-    Ok(is_fed)
-}
-
-// A row that runs out of memory ends; any other error ends the run.
-fn wanted(ended: Result<(), Ended>) -> Result<Option<Want>, Ended> {
-    match ended {
-        Ok(()) => Ok(None),
-        Err(Ended::Starved(want)) => Ok(Some(want)),
-        Err(other) => Err(other),
-    }
-}
-
-fn show_row<W: Write>(alloc: Global, name: &str, out: &mut W) -> Result<(), Ended> {
-    match find(&ROWS, name) {
-        Some(Row::Keeper(row)) => show_with_client(alloc, row, out),
-        Some(Row::Text(json)) => show_text(alloc, json, out),
-        None => Err(Ended::Unknown),
+        Ok(true)
     }
 }
 

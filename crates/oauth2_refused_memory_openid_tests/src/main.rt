@@ -4,8 +4,7 @@
 //! `tools/refusals` refuses memory to each row.
 //!
 //! Printing takes no memory, so a growth that is refused belongs to a call of the row, or to what
-//! it is called with. Exit status 0: every row has a result; 1: memory ran out in one; 2: there is
-//! no such row, or a call refused its arguments; 3: standard input or output failed.
+//! it is called with. The exit status is that of `run_rows`.
 
 #![tactic(auto)]
 
@@ -15,28 +14,11 @@ mod rows;
 mod starts;
 mod tokens;
 
-use oauth2_refused_memory_values_tests::{Ended, read_names};
-use rows::show_rows;
-use std::io::{self, Write};
+use oauth2_refused_memory_values_tests::run_rows;
+use rows::OpenIdRows;
+use std::io;
 use std::process::ExitCode;
 
-// How many bytes of names are taken.
-const MOST_BYTES: usize = 1024;
-
-fn run(rt: &HostRuntime) -> Result<bool, Ended> {
-    let mut bytes = [0u8; MOST_BYTES];
-    let mut writer = io::writer(rt);
-    let names = read_names(&mut rt.reader(), &mut bytes)?;
-    let is_fed = show_rows(rt.alloc(), names, &mut writer)?;
-    writer.flush()?;
-    Ok(is_fed)
-}
-
 fn main(rt: HostRuntime) -> ExitCode {
-    match run(&rt) {
-        Ok(true) => ExitCode::from(0),
-        Ok(false) => ExitCode::from(1),
-        Err(Ended::Unwritten) => ExitCode::from(3),
-        Err(_) => ExitCode::from(2),
-    }
+    run_rows::<OpenIdRows, _, _>(rt.alloc(), &mut rt.reader(), &mut io::writer(&rt))
 }

@@ -3,39 +3,24 @@
 use crate::client_rows::{ClientRow, client_row, show_client_row, texts_of};
 use crate::clients::{ClientTexts, RowClient, client_of, is_as};
 use oauth2::TryClone;
-use oauth2_refused_memory_values_tests::{Ended, Want, show_value_row, value_row};
+use oauth2_refused_memory_values_tests::{Ended, Rows, show_value_row, value_row};
 use std::alloc::Global;
 use std::io::Write;
 
-/// Runs the rows of these names, one on each line. Returns whether none of them ran out of memory.
-pub fn show_rows<W: Write>(alloc: Global, names: &str, out: &mut W) -> Result<bool, Ended> {
-    let mut is_fed = true;
-    for name in names.lines() {
-        writeln!(out, "row {name}")?;
-        if let Some(want) = wanted(show_row(alloc, name, out))? {
-            writeln!(out, "memory {want:?}")?;
-            is_fed = false;
+/// The calls that a client makes, and the values without one.
+pub struct MemoryRows;
+
+impl Rows for MemoryRows {
+    fn show_row<W: Write>(alloc: Global, name: &str, out: &mut W) -> Result<bool, Ended> {
+        if let Some(row) = value_row(name) {
+            show_value_row(alloc, row, out)?;
+            return Ok(true);
         }
-    }
-    Ok(is_fed)
-}
-
-// A row that runs out of memory ends; any other error ends the run.
-fn wanted(ended: Result<(), Ended>) -> Result<Option<Want>, Ended> {
-    match ended {
-        Ok(()) => Ok(None),
-        Err(Ended::Starved(want)) => Ok(Some(want)),
-        Err(other) => Err(other),
-    }
-}
-
-fn show_row<W: Write>(alloc: Global, name: &str, out: &mut W) -> Result<(), Ended> {
-    if let Some(row) = value_row(name) {
-        return show_value_row(alloc, row, out);
-    }
-    match client_row(name) {
-        Some(row) => show_with_client(alloc, texts_of(name), row, out),
-        None => Err(Ended::Unknown),
+        match client_row(name) {
+            Some(row) => show_with_client(alloc, texts_of(name), row, out)?,
+            None => return Err(Ended::Unknown),
+        }
+        Ok(true)
     }
 }
 

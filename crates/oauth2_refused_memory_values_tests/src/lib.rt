@@ -7,14 +7,15 @@
 mod ended;
 mod names;
 mod repeated;
+mod rows;
 mod show;
 mod table;
 mod value_rows;
 mod values;
 
 pub use ended::{Ended, Want, text};
-pub use names::read_names;
 pub use repeated::Repeated;
+pub use rows::{Rows, run_rows};
 pub use show::{show_fault, show_sleep, show_text};
 pub use table::find;
 pub use value_rows::{ValueRow, show_value_row, value_row};

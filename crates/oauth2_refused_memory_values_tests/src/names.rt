@@ -21,8 +21,11 @@ fn fill<R: Read>(reader: &mut R, bytes: &mut [u8]) -> Result<usize, Ended>
     Ok(filled)
 }
 
-/// Reads the input, which is one text with a name a line.
-pub fn read_names<'a, R: Read>(reader: &mut R, bytes: &'a mut [u8]) -> Result<&'a str, Ended> {
+// Reads the input, which is one text with a name a line.
+pub(crate) fn read_names<'a, R: Read>(
+    reader: &mut R,
+    bytes: &'a mut [u8],
+) -> Result<&'a str, Ended> {
     let filled = fill(reader, bytes)?;
     match str::from_utf8(&bytes[..filled]) {
         Ok(names) => Ok(names),
