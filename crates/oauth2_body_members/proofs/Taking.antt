@@ -19,19 +19,14 @@ use Rattle.oauth2_json.proofs.Order.{put-order}
 use Rattle.oauth2_body_members.specs.private.Taken.{blank_at}
 use Rattle.oauth2_body_members.specs.Object.{put_each, entry_of, list_members}
 use Rattle.oauth2_body_members.specs.declared.member.Member.{Member}
-use Rattle.serde_json.specs.declared.value.Value.{Value}
 
 abbrev pub blanked : List ℕ → List Member → List Member
 blanked k list = map (blank_at k) list
 
-abbrev pub later_or : Option Data → Option Data → Option Data
-later_or None earlier = earlier
-later_or (Some d) earlier = Some d
-
 -- the value of the last member of that name
 abbrev pub last_value : List ℕ → List (List ℕ × Option Data) → Option Data
 last_value k [] = None
-last_value k (e ∷ es) = later_or (last_value k es) (cond (bytes_eq e.0 k) e.1 None)
+last_value k (e ∷ es) = option_or (last_value k es) (cond (bytes_eq e.0 k) e.1 None)
 
 -- ---- names
 
@@ -141,22 +136,22 @@ swept k (m ∷ list) ms h =
 pub members_in-blanked : (k : List ℕ) (list : List Member) → list_members (blanked k list) ≡ without k (list_members list)
 members_in-blanked k list = swept k list no_members refl
 
-later_later : (a b c : Option Data) → later_or a (later_or b c) ≡ later_or (later_or a b) c
-later_later None b c = refl
-later_later (Some d) b c = refl
+option_or_assoc : (a b c : Option Data) → option_or a (option_or b c) ≡ option_or (option_or a b) c
+option_or_assoc None b c = refl
+option_or_assoc (Some d) b c = refl
 
-found_one : (b : Bool) (k l : List ℕ) (o : Option Data) (ms : Members) → bytes_eq l k ≡ b → get_member k (put_some l o ms) ≡ later_or (cond b o None) (get_member k ms)
+found_one : (b : Bool) (k l : List ℕ) (o : Option Data) (ms : Members) → bytes_eq l k ≡ b → get_member k (put_some l o ms) ≡ option_or (cond b o None) (get_member k ms)
 found_one true k l None ms is = refl
 found_one true k l (Some d) ms is = ap (λ n. get_member k (put n d ms)) ((bytes_eq-Decides l k).0 is) ∙ get_member-put k d ms
 found_one false k l None ms is = refl
 found_one false k l (Some d) ms is = pass_put k l d ms (flip l k is)
 
-found_in : (k : List ℕ) (es : List (List ℕ × Option Data)) (ms : Members) → get_member k (put_each es ms) ≡ later_or (last_value k es) (get_member k ms)
+found_in : (k : List ℕ) (es : List (List ℕ × Option Data)) (ms : Members) → get_member k (put_each es ms) ≡ option_or (last_value k es) (get_member k ms)
 found_in k [] ms = refl
 found_in k (e ∷ es) ms =
-    found_in k es (put_some e.0 e.1 ms) ∙ ap (later_or (last_value k es)) (found_one (bytes_eq e.0 k) k e.0 e.1 ms refl) ∙ later_later (last_value k es) (cond (bytes_eq e.0 k) e.1 None) (get_member k ms)
+    found_in k es (put_some e.0 e.1 ms) ∙ ap (option_or (last_value k es)) (found_one (bytes_eq e.0 k) k e.0 e.1 ms refl) ∙ option_or_assoc (last_value k es) (cond (bytes_eq e.0 k) e.1 None) (get_member k ms)
 
-or_none : (o : Option Data) → later_or o None ≡ o
+or_none : (o : Option Data) → option_or o None ≡ o
 or_none None = refl
 or_none (Some d) = refl
 
@@ -164,9 +159,9 @@ or_none (Some d) = refl
 pub last_value-is : (k : List ℕ) (list : List Member) → last_value k (map entry_of list) ≡ get_member k (list_members list)
 last_value-is k list = sym (found_in k (map entry_of list) no_members ∙ or_none _)
 
-pub last_value-append : (k : List ℕ) (es : List (List ℕ × Option Data)) (e : List ℕ × Option Data) → last_value k (es ++ e ∷ []) ≡ later_or (cond (bytes_eq e.0 k) e.1 None) (last_value k es)
+pub last_value-append : (k : List ℕ) (es : List (List ℕ × Option Data)) (e : List ℕ × Option Data) → last_value k (es ++ e ∷ []) ≡ option_or (cond (bytes_eq e.0 k) e.1 None) (last_value k es)
 last_value-append k [] e = sym (or_none _)
-last_value-append k (f ∷ es) e = ap (λ o. later_or o (cond (bytes_eq f.0 k) f.1 None)) (last_value-append k es e) ∙ sym (later_later (cond (bytes_eq e.0 k) e.1 None) (last_value k es) _)
+last_value-append k (f ∷ es) e = ap (λ o. option_or o (cond (bytes_eq f.0 k) f.1 None)) (last_value-append k es e) ∙ sym (option_or_assoc (cond (bytes_eq e.0 k) e.1 None) (last_value k es) _)
 
 counted : (k : List ℕ) (list : List Member) (n : ℕ) → n < length list → length (blanked k (take n list)) ≡ n
 counted k list n within = length-map (take n list) (blank_at k) ∙ length-take-le n list (omega (arith, within))
@@ -192,14 +187,10 @@ one_more k list n m is within =
 
 -- the last value among one more member
 pub one_later : (k : List ℕ) (list : List Member) (n : ℕ) (m : Member) → get_or list n m ≡ m → n < length list
-    → last_value k (map entry_of (take (n + 1) list)) ≡ later_or (cond (bytes_eq m.name.now k) (option_map view m.value) None) (last_value k (map entry_of (take n list)))
+    → last_value k (map entry_of (take (n + 1) list)) ≡ option_or (cond (bytes_eq m.name.now k) (option_map view m.value) None) (last_value k (map entry_of (take n list)))
 one_later k list n m is within =
     let last : take (n + 1) list ≡ take n list ++ m ∷ [] = take_more list n m within ∙ ap (λ d. take n list ++ d ∷ []) is in
     ap (λ ms. last_value k (map entry_of ms)) last ∙ ap (last_value k) (map-append entry_of (take n list) (m ∷ [])) ∙ last_value-append k (map entry_of (take n list)) (entry_of m)
-
-pub view-or : (a b : Option Value) → option_map view (option_or a b) ≡ later_or (option_map view a) (option_map view b)
-view-or None b = refl
-view-or (Some v) b = refl
 
 -- where all members were looked at
 pub all_looked_at : (k : List ℕ) (list : List Member) (n : ℕ) → length list ≤ n → (take n list ≡ list) × (drop n list ≡ [])

@@ -1,6 +1,5 @@
 -- The members of a text, a turn at a time.
-use Rattle.std.proofs.Common.{◌≡◌, ℕ, zero, suc, ◌-◌, ◌<◌, ◌≤◌, List, [], ◌∷◌, ◌++◌, length, map, Option, Some, None, option_map, option_and_then, Ok, Err, refl, ap, ◌∙◌, arith}
-use Rattle.std.proofs.lemmas.List.{map-append}
+use Rattle.std.proofs.Common.{◌≡◌, ℕ, zero, suc, ◌-◌, ◌<◌, ◌≤◌, List, [], ◌∷◌, ◌++◌, length, Option, Some, None, option_map, option_and_then, Ok, Err, refl, ap, ◌∙◌, arith}
 use Rattle.json.specs.Token.{Token}
 use Rattle.json.specs.Lex.{tokens}
 use Rattle.json.specs.Json as json
@@ -8,16 +7,14 @@ use Rattle.json.specs.Json.{Parse, parse_map, read_key, members, value, if_last}
 use Rattle.json.proofs.Grammar.{members_end, members_no_key, members_more, value-begin_object}
 use Rattle.serde_json.specs.Data.{Data, Members, object, no_members, put}
 use Rattle.serde_json.specs.Read.{of_json, of_members, converted, read}
-use Rattle.serde_json.specs.View.{view}
 use Rattle.oauth2_json.specs.Body.{value_reading}
 use Rattle.oauth2_json.specs.Members.{members_of_object, put_some}
 use Rattle.oauth2_json.specs.Reading.{Reading, ErrsAs, whole}
 use Rattle.oauth2_json.specs.declared.read.ReadError.{ReadError}
 use Rattle.oauth2_json.specs.declared.read.ReadError.TheVariants as errors
 use Rattle.oauth2_json.specs.declared.read.ParseCause.TheVariants as cause
-use Rattle.oauth2_body_members.specs.Object.{put_each, entry_of, list_members}
+use Rattle.oauth2_body_members.specs.Object.{put_each}
 use Rattle.oauth2_body_members.specs.private.Texts.{or_not_json, at_end}
-use Rattle.oauth2_body_members.specs.declared.member.Member.{Member}
 
 abbrev pick : {A : Type 0} → A → Option A → A
 pick d None = d
@@ -98,10 +95,6 @@ whole_object (Some (ms, t ∷ ts)) = and_more (of_members ms no_members) t ts
 pub put_each-append : (es : List (List ℕ × Option Data)) (e : List ℕ × Option Data) (ms : Members) → put_each (es ++ e ∷ []) ms ≡ put_some e.0 e.1 (put_each es ms)
 put_each-append [] e ms = refl
 put_each-append (f ∷ es) e ms = put_each-append es e (put_some f.0 f.1 ms)
-
-pub members_in-push : (list : List Member) (m : Member) (d : Data) → option_map view m.value ≡ Some d → list_members (list ++ m ∷ []) ≡ put m.name.now d (list_members list)
-members_in-push list m d is =
-    ap (λ es. put_each es no_members) (map-append entry_of list (m ∷ [])) ∙ put_each-append (map entry_of list) (entry_of m) no_members ∙ ap (λ o. put_some m.name.now o (list_members list)) is
 
 -- a text that opens an object is read to its brace
 pub opened : (text : List ℕ) (ts : List Token) → tokens text ≡ Token.begin_object ∷ ts

@@ -1,21 +1,49 @@
 //! The members of an object in the order of its text.
 
-ghost use Rattle.std.specs.Prelude.{◌≡◌, None, IfOk, option_map, if◌then◌else◌};
+ghost use Rattle.std.specs.Prelude.{◌≡◌, None, IfOk, OnOk, option_map, if◌then◌else◌};
+ghost use Rattle.std.specs.Option.{option_or};
 ghost use Rattle.std.specs.Str.{bytes_eq};
 ghost use Rattle.serde_json.specs.Find.{get_member};
 ghost use Rattle.serde_json.specs.View.{view, members_view};
 ghost use Rattle.oauth2_json.specs.Members.{without};
-ghost use Rattle.oauth2_body_members.specs.Object.{list_members};
+ghost use Rattle.oauth2_body_members.specs.Object.{entry_of, list_members};
+ghost use Rattle.oauth2_body_members.specs.private.Found.{found_entry, found_members};
 ghost use Rattle.oauth2_body_members.specs.private.Taken.{blank_at};
 
 use serde_json::{Map, Value};
 use std::alloc::{AllocError, Global};
 
-// A member; its value is none once it is taken.
+// A member. Its value is none while it is a text that is not copied yet, and once it is taken.
 #[derive(Drop)]
 pub(crate) struct Member<'a> {
     pub(crate) name: &'a str,
+    // The text in the body that is to be the value, where there is none.
+    pub(crate) text: &'a str,
     pub(crate) value: Option<Value>,
+}
+
+// The members that were found, each with its value.
+pub(crate) fn with_texts<'a>(
+    alloc: Global,
+    found: Vec<Member<'a>>,
+) -> Result<Vec<Member<'a>>, AllocError>
+    ensures { IfOk result (λ list. list_members list.items ≡ found_members found.entry.items) }
+{
+    let mut list = found;
+    for index in 0..list.len() {
+        copy_text(alloc, &mut list[index])?;
+    }
+    Ok(list)
+}
+
+fn copy_text(alloc: Global, member: &mut Member<'_>) -> Result<(), AllocError>
+    ensures { OnOk result (entry_of member.new ≡ found_entry member.old) }
+{
+    if member.value.is_none() {
+        let text = String::from_str(alloc, member.text)?;
+        member.value = Some(Value::String(text));
+    }
+    Ok(())
 }
 
 // Takes each member of that name; gives the last one.
@@ -25,22 +53,21 @@ pub(crate) fn take(list: &mut Vec<Member<'_>>, name: &str) -> Option<Value>
 {
     let mut found = None;
     for index in 0..list.len() {
-        found = take_value(&mut list[index], name).or(found);
+        take_value(&mut list[index], name, &mut found);
     }
     found
 }
 
-// Takes the value of a member of that name.
-fn take_value(member: &mut Member<'_>, name: &str) -> Option<Value>
-    ensures found { option_map view result
-        ≡ (if bytes_eq member.old.name.now name.now
-        then option_map view member.old.value else None) }
+// Takes the value of a member of that name in place of an earlier one.
+fn take_value(member: &mut Member<'_>, name: &str, found: &mut Option<Value>)
+    ensures found { option_map view found.new ≡ option_or
+        (if bytes_eq member.old.name.now name.now
+        then option_map view member.old.value else None)
+        (option_map view found.old) }
     ensures left { member.new ≡ blank_at name.now member.old }
 {
-    if member.name == name {
-        member.value.take()
-    } else {
-        None
+    if member.value.is_some() && member.name == name {
+        *found = member.value.take();
     }
 }
 
@@ -50,7 +77,7 @@ pub(crate) fn map_of(alloc: Global, list: Vec<Member<'_>>) -> Result<Map<String,
 {
     let mut map = Map::new(alloc);
     for member in list {
-        let Member { name, value } = member;
+        let Member { name, value, .. } = member;
         if let Some(value) = value {
             let name = String::from_str(alloc, name)?;
             drop(map.insert(name, value)?);

@@ -12,7 +12,6 @@ ghost use Rattle.oauth2_body_members.specs.Object.{object_members, KeptAs};
 ghost use Rattle.oauth2_body_members.specs.private.Found.{found_members};
 ghost use Rattle.oauth2_body_members.specs.private.Texts.{IfFound};
 
-use crate::found::{self, Found};
 use crate::member::{self, Member};
 use crate::text;
 use json::{Reader, Scratch, Token};
@@ -96,7 +95,7 @@ fn of_text<'a>(
 {
     match found_in(alloc, text, names, keeps_others)? {
         Some(list) => Ok(Object {
-            source: Source::List(found::members(alloc, list)?),
+            source: Source::List(member::with_texts(alloc, list)?),
         }),
         None => through_value(alloc, text),
     }
@@ -109,7 +108,7 @@ fn found_in<'a>(
     text: &'a str,
     names: &[&str],
     keeps_others: bool,
-) -> Result<Option<Vec<Found<'a>>>, ReadError>
+) -> Result<Option<Vec<Member<'a>>>, ReadError>
     ensures { IfFound result (λ found. KeptAs (λ list. found_members list.items)
         (map (λ k. k.now) names.now) keeps_others found
         (value_reading members_of_object (read text.now))) }

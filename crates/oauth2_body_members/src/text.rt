@@ -1,15 +1,16 @@
 //! The members of an object as a text tells them.
 
-ghost use Rattle.std.specs.Prelude.{◌≡◌, ◌<◌, ◌||◌, length, map, option_map, OnOk};
+ghost use Rattle.std.specs.Prelude.{◌≡◌, ◌<◌, ◌||◌, length, map, option_map, IfOk, OnOk};
 ghost use Rattle.json.specs.Json.{read_key, value, members};
 ghost use Rattle.serde_json.specs.Data.{no_members};
 ghost use Rattle.serde_json.specs.Read.{of_json, of_members, converted};
 ghost use Rattle.oauth2_json.specs.Reading.{ReadsAs};
 ghost use Rattle.oauth2_body_members.specs.Object.{has_name, KeptAs};
-ghost use Rattle.oauth2_body_members.specs.private.Found.{held_view, found_members};
+ghost use Rattle.oauth2_body_members.specs.private.Found.{found_value, found_members};
 ghost use Rattle.oauth2_body_members.specs.private.Texts.{or_not_json, at_end, IfFound, StopsAs};
 
-use crate::found::{Found, Held, hold, in_body};
+use crate::found::{in_body, member_at};
+use crate::member::Member;
 use crate::nested;
 use json::{Error, Reader};
 use oauth2_json::{ParseCause, ReadError};
@@ -27,7 +28,7 @@ pub(crate) fn to_end<'a>(
     reader: &mut Reader<'_>,
     names: &[&str],
     keeps_others: bool,
-) -> Result<Option<Vec<Found<'a>>>, ReadError>
+) -> Result<Option<Vec<Member<'a>>>, ReadError>
     ensures { IfFound result (λ found. KeptAs (λ list. found_members list.items)
         (map (λ k. k.now) names.now) keeps_others found
         (or_not_json (at_end (converted (λ ms. of_members ms no_members)
@@ -48,7 +49,7 @@ fn to_brace<'a>(
     reader: &mut Reader<'_>,
     names: &[&str],
     keeps_others: bool,
-) -> Result<Option<Vec<Found<'a>>>, ReadError>
+) -> Result<Option<Vec<Member<'a>>>, ReadError>
     ensures { IfFound result (λ found. StopsAs (λ list. found_members list.items)
         (map (λ k. k.now) names.now) keeps_others reader.new found
         (or_not_json (converted (λ ms. of_members ms no_members)
@@ -57,14 +58,11 @@ fn to_brace<'a>(
     let mut list = Vec::with_capacity(alloc, names.len())?;
     'members: while let Some((place, name)) = next_name(alloc, reader)? {
         if is_kept(name, names, keeps_others) {
-            let Some(name_there) = in_body(body, place, name) else {
+            let Some(name) = in_body(body, place, name) else {
                 return Ok(None);
             };
-            let held = next_held(alloc, body, reader)?;
-            list.push(Found {
-                name: name_there,
-                held,
-            })?;
+            let member = next_member(alloc, body, name, reader)?;
+            list.push(member)?;
         } else {
             pass_value(alloc, reader)?;
         }
@@ -102,18 +100,21 @@ fn next_name<'a>(
     }
 }
 
-fn next_held<'a>(
+// The member of that name, whose value is next.
+fn next_member<'a>(
     alloc: Global,
     body: &'a str,
+    name: &'a str,
     reader: &mut Reader<'_>,
-) -> Result<Held<'a>, ReadError>
-    ensures read { ReadsAs (λ h. (held_view h, reader.new)) result
+) -> Result<Member<'a>, ReadError>
+    ensures read { ReadsAs (λ m. (found_value m, reader.new)) result
         (or_not_json (converted of_json (value 126 reader.old))) }
+    ensures name { IfOk result (λ m. m.name.now ≡ name.now) }
     ensures shorter { OnOk result (length reader.new < length reader.old) }
 {
     let place = reader.offset();
     match json::Value::read(alloc, reader, DEPTH) {
-        Ok(value) => hold(alloc, body, place, &value),
+        Ok(value) => member_at(alloc, body, name, place, &value),
         Err(Error::OutOfMemory) => Err(ReadError::Memory),
         Err(_) => Err(ReadError::whole(alloc, ParseCause::NotJson)),
     }

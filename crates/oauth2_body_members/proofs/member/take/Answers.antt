@@ -1,9 +1,10 @@
 use Rattle.std.proofs.Common.{◌≡◌, ◌+◌, ◌<◌, ◌++◌, length, take, drop, set, get_or, map, option_map, sym, ap, ◌∙◌, arith, append-nil}
 use Rattle.std.proofs.lemmas.List.{length-set}
+use Rattle.std.specs.Option.{option_or}
 use Rattle.serde_json.specs.View.{view}
 use Rattle.oauth2_body_members.specs.Object.{entry_of, list_members}
 use Rattle.oauth2_body_members.specs.private.Taken.{blank_at}
-use Rattle.oauth2_body_members.proofs.Taking.{blanked, last_value, later_or, at_place, one_more, one_later, view-or, last_value-is, members_in-blanked, all_looked_at}
+use Rattle.oauth2_body_members.proofs.Taking.{blanked, last_value, at_place, one_more, one_later, last_value-is, members_in-blanked, all_looked_at}
 use Rattle.oauth2_body_members.proofs.member.take.Goals as goal
 
 pub loop-index-preserved : goal.loop-index-preserved
@@ -19,9 +20,8 @@ loop-index-preserved c =
     let now : set l.list.items n c.take_value.new.member ≡ blanked k (take (n + 1) old) ++ drop (n + 1) old =
     ap (λ x. set l.list.items n x) left ∙ ap (λ xs. set xs n (blank_at k m)) l.invariant.1 ∙ one_more k old n m held within in
     let size : length (set l.list.items n c.take_value.new.member) ≡ length old = length-set l.list.items n c.take_value.new.member ∙ l.invariant.0 in
-    let last : option_map view c.or-found.result ≡ last_value k (map entry_of (take (n + 1) old)) =
-    ap (option_map view) c.or-found.ensures ∙ view-or c.take_value.result l.found ∙ ap (later_or (option_map view c.take_value.result)) l.invariant.2
-    ∙ ap (λ o. later_or o (last_value k (map entry_of (take n old)))) c.take_value.ensures.found ∙ sym (one_later k old n m held within) in
+    let last : option_map view c.take_value.new.found ≡ last_value k (map entry_of (take (n + 1) old)) =
+    c.take_value.ensures.found ∙ ap (option_or _) l.invariant.2 ∙ sym (one_later k old n m held within) in
     (size, now, last)
 
 pub returns-clause-found : goal.returns-clause-found
