@@ -1,5 +1,6 @@
 pub mod Conversions
 pub mod Finding
 pub mod Keeping
+pub mod Tables
 pub mod Taking
 pub mod Turns

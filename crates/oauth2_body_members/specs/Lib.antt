@@ -1,2 +1,3 @@
 pub mod Object
+pub mod Table
 pub mod private

@@ -7,6 +7,7 @@ mod member;
 mod nested;
 mod number;
 mod object;
+mod readers;
 mod text;
 
 pub use object::Object;
