@@ -78,7 +78,7 @@ exchange auth_type id secret code verifier redirect = record {
   own_pairs = code_pairs code (Some verifier);
   scope = None;
   redirect_uri = redirect;
-  extra_pairs = [];
+  extra_params = [];
 }
 
 pub verifier-read : (auth_type : AuthType) (id : List ℕ) (secret : Option (List ℕ)) (code verifier : List ℕ) (redirect : Option (List ℕ)) → read_by_name (codes "code_verifier") (expected_pairs (exchange auth_type id secret code verifier redirect)) ≡ Some verifier

@@ -21,7 +21,7 @@ authorization client p url = record {
   pkce_challenge = p.challenge;
   redirect_url = given_or p.redirect client.redirect_url;
   scopes = p.scopes;
-  extra_params = optional_pair (codes "nonce") p.nonce ++ p.extra;
+  extra_params = optional_pair (codes "nonce") p.nonce ++ p.extra_params;
 }
 
 unfoldable pub url_line : List ℕ → List ℕ

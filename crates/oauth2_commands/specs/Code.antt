@@ -12,7 +12,7 @@ use Rattle.oauth2_script.specs.Replies.{Reply}
 
 abbrev pub code_request : Settings → CodeParams → Addressed → CodeRequest
 code_request client p url = record {
-  base = record (base_of client) { extra_params = p.extra };
+  base = record (base_of client) { extra_params = p.extra_params };
   token_url = url;
   code = p.code;
   pkce_verifier = p.verifier;

@@ -23,7 +23,7 @@ use Rattle.oauth2_script.specs.Replies.{Reply}
 
 abbrev pub device_request : Settings → DeviceAuthorizationParams → Addressed → DeviceRequest
 device_request client p url = record {
-  base = record (base_of client) { scope = with_scopes None p.scopes; extra_params = p.extra };
+  base = record (base_of client) { scope = with_scopes None p.scopes; extra_params = p.extra_params };
   device_authorization_url = url;
 }
 

@@ -32,7 +32,7 @@ use Rattle.oauth2_script.specs.Replies.{Reply}
 -- the cap is ten seconds where none is given
 abbrev pub device_token : Settings → DevicePollParams → Addressed → DeviceToken
 device_token client p url = record {
-  base = record (base_of client) { extra_params = p.extra };
+  base = record (base_of client) { extra_params = p.extra_params };
   token_url = url;
   device_code = p.device.device_code;
   expires_in = seconds p.device.expires_in;

@@ -23,7 +23,7 @@ use Rattle.oauth2_script.specs.Replies.{Reply}
 
 abbrev pub introspection_request : Settings → IntrospectParams → Addressed → TokenIntrospection
 introspection_request client p url = record {
-  base = record (base_of client) { extra_params = p.extra };
+  base = record (base_of client) { extra_params = p.extra_params };
   introspection_url = url;
   token = p.token;
   token_type_hint = p.hint;

@@ -132,7 +132,7 @@ new_keeper client p = record {
   life = p.life;
   scope = with_scopes None p.scopes;
   refresh_scope = None;
-  extra_params = p.extra;
+  extra_params = p.extra_params;
   token = None;
   refresh_token = p.refresh;
 }

@@ -14,7 +14,7 @@ use Rattle.oauth2_script.specs.Replies.{Reply}
 
 abbrev pub password_request : Settings → PasswordParams → Addressed → PasswordRequest
 password_request client p url = record {
-  base = record (base_of client) { scope = with_scopes None p.scopes; extra_params = p.extra };
+  base = record (base_of client) { scope = with_scopes None p.scopes; extra_params = p.extra_params };
   token_url = url;
   username = p.username;
   password = p.password;

@@ -13,7 +13,7 @@ use Rattle.oauth2_script.specs.Replies.{Reply}
 
 abbrev pub refresh_request : Settings → RefreshParams → Addressed → RefreshRequest
 refresh_request client p url = record {
-  base = record (base_of client) { scope = with_scopes None p.scopes; extra_params = p.extra };
+  base = record (base_of client) { scope = with_scopes None p.scopes; extra_params = p.extra_params };
   token_url = url;
   refresh_token = p.refresh_token;
 }

@@ -23,7 +23,7 @@ hint_text Refresh = codes "refresh_token"
 
 abbrev pub revocation_request : Settings → RevokeParams → Addressed → TokenRevocation
 revocation_request client p url = record {
-  base = record (base_of client) { extra_params = p.extra };
+  base = record (base_of client) { extra_params = p.extra_params };
   revocation_url = url;
   token = p.token;
   token_type_hint = Some (hint_text p.kind);

@@ -164,7 +164,7 @@ pub fn run_authorize(
             let typed = with_response_type(alloc, redirected, params.response_type)?;
             let scoped = typed.add_scopes(params.scopes)?;
             let bound = with_nonce(scoped, params.nonce.as_deref())?;
-            let asked = with_extra(bound, params.extra.as_slice())?;
+            let asked = with_extra(bound, params.extra_params.as_slice())?;
             show_url(alloc, lines, asked)
         }
         Err(error) => show_configuration_error(alloc, lines, &error),

@@ -78,7 +78,7 @@ pub fn run_client_credentials(
     match client.exchange_client_credentials(alloc) {
         Ok(request) => {
             let scoped = request.add_scopes(params.scopes)?;
-            let asked = with_extra(scoped, params.extra.as_slice())?;
+            let asked = with_extra(scoped, params.extra_params.as_slice())?;
             exchange(alloc, asked, http_client)
         }
         Err(error) => show_configuration_error(alloc, &mut http_client.lines, &error),

@@ -96,7 +96,7 @@ pub fn run_code(
         Ok(request) => {
             let request = with_verifier(request, params.verifier);
             let request = with_redirect(request, params.redirect);
-            let request = with_extra(request, params.extra.as_slice())?;
+            let request = with_extra(request, params.extra_params.as_slice())?;
             exchange(alloc, request, http_client)
         }
         Err(error) => show_configuration_error(alloc, &mut http_client.lines, &error),

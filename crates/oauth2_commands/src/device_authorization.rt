@@ -75,7 +75,7 @@ pub fn run_device_authorization(
     match client.exchange_device_code(alloc) {
         Ok(request) => {
             let scoped = request.add_scopes(params.scopes)?;
-            let asked = with_extra(scoped, params.extra.as_slice())?;
+            let asked = with_extra(scoped, params.extra_params.as_slice())?;
             ask(alloc, asked, http_client)
         }
         Err(error) => show_configuration_error(alloc, &mut http_client.lines, &error),

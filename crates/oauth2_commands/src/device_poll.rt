@@ -95,7 +95,7 @@ pub fn run_device_poll(
     match client.exchange_device_access_token(alloc, &device) {
         Ok(request) => {
             let capped = with_cap(request, params.cap);
-            let asked = with_extra(capped, params.extra.as_slice())?;
+            let asked = with_extra(capped, params.extra_params.as_slice())?;
             poll(alloc, asked, params.timeout, params.max_polls, world)
         }
         Err(error) => show_configuration_error(alloc, &mut world.http_client.lines, &error),

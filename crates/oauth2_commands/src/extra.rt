@@ -24,12 +24,12 @@ pub trait Extensible<'a>: Sized {
 /// Adds each of these pairs.
 pub fn with_extra<'a, T: Extensible<'a> + Drop>(
     request: T,
-    extra: &'a [(String, String)],
+    extra_params: &'a [(String, String)],
 ) -> Result<T, AllocError>
-    ensures { IfOk result (λ r. r ≡ T.extended request (map pair_texts extra.now)) }
+    ensures { IfOk result (λ r. r ≡ T.extended request (map pair_texts extra_params.now)) }
 {
     let mut request = request;
-    for (name, value) in extra {
+    for (name, value) in extra_params {
         request = request.with_pair(name.as_str(), value.as_str())?;
     }
     Ok(request)

@@ -85,7 +85,7 @@ pub fn run_introspect(
     match client.introspect(alloc, &token) {
         Ok(request) => {
             let hinted = with_hint(request, params.hint);
-            let asked = with_extra(hinted, params.extra.as_slice())?;
+            let asked = with_extra(hinted, params.extra_params.as_slice())?;
             ask(alloc, asked, http_client)
         }
         Err(error) => show_configuration_error(alloc, &mut http_client.lines, &error),

@@ -81,13 +81,13 @@ fn with_token_endpoint(
 fn add_extra<'a>(
     alloc: Global,
     keeper: &mut PlainKeeper<'a>,
-    extra: &'a [(String, String)],
+    extra_params: &'a [(String, String)],
 ) -> Result<(), AllocError>
     ensures { IfOk result (λ done. keeper.new ≡ record keeper.old {
-      extra_params = keeper.old.extra_params ++ map pair_texts extra.now;
+      extra_params = keeper.old.extra_params ++ map pair_texts extra_params.now;
     }) }
 {
-    for (name, value) in extra {
+    for (name, value) in extra_params {
         keeper.add_extra_param(
             alloc,
             ParamText::Borrowed(name.as_str()),
@@ -115,12 +115,12 @@ fn show_new_keeper(
         life,
         refresh,
         scopes,
-        extra,
+        extra_params,
         retry_after,
     } = params;
     let mut keeper = TokenKeeper::new(client, refresh, margin, life);
     keeper.add_scopes(alloc, scopes)?;
-    add_extra(alloc, &mut keeper, extra.as_slice())?;
+    add_extra(alloc, &mut keeper, extra_params.as_slice())?;
     let mut keeper = ScriptKeeper::new(keeper, retry_after);
     show_calls(alloc, &mut keeper, readings, http_client)
 }

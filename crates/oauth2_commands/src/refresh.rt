@@ -70,7 +70,7 @@ pub fn run_refresh(
     match client.exchange_refresh_token(alloc, &refresh_token) {
         Ok(request) => {
             let scoped = request.add_scopes(params.scopes)?;
-            let asked = with_extra(scoped, params.extra.as_slice())?;
+            let asked = with_extra(scoped, params.extra_params.as_slice())?;
             exchange(alloc, asked, http_client)
         }
         Err(error) => show_configuration_error(alloc, &mut http_client.lines, &error),

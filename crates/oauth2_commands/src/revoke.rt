@@ -76,7 +76,7 @@ pub fn run_revoke(
 {
     match client.revoke_token(alloc, token_of(params.token, params.kind)) {
         Ok(request) => {
-            let asked = with_extra(request, params.extra.as_slice())?;
+            let asked = with_extra(request, params.extra_params.as_slice())?;
             ask(alloc, asked, http_client)
         }
         Err(error) => show_configuration_error(alloc, &mut http_client.lines, &error),

@@ -5,11 +5,11 @@ use Rattle.oauth2_form.specs.Pairs.{Pair}
 -- the text of the scopes, if a scope was added, and the extra parameters
 pub record Params : Type 0 where
   pub scope : Option (List ℕ)
-  pub pairs : List Pair
+  pub extra_params : List Pair
 
 -- neither a scope nor a parameter
 abbrev pub no_params : Params
-no_params = record { scope = None; pairs = [] }
+no_params = record { scope = None; extra_params = [] }
 
 -- the text of the scopes with one more: a list of scopes is delimited by spaces (RFC 6749, section 3.3)
 abbrev pub with_scope : Option (List ℕ) → List ℕ → List ℕ

@@ -33,11 +33,15 @@ pub fn basic_header(alloc: Global, id: &str, secret: &str) -> Result<HeaderValue
 fn basic_value(alloc: Global, id: &str, secret: &str) -> Result<String, AllocError>
     ensures { IfOk result (λ v. string_bytes v ≡ basic_value id.now secret.now) }
 {
-    let mut text = Vec::new(alloc);
+    let room = id.len().saturating_add(secret.len()).saturating_add(1);
+    let mut text = Vec::with_capacity(alloc, room)?;
     append_encoded_text(&mut text, id)?;
     text.push(b':')?;
     append_encoded_text(&mut text, secret)?;
-    let mut value = String::from_str(alloc, "Basic ")?;
+    // At least as much as `Basic ` and the base64 text take: four bytes for three.
+    let room = text.len().saturating_add(text.len() / 2);
+    let mut value = String::with_capacity(alloc, room.saturating_add(10))?;
+    value.push_str("Basic ")?;
     STANDARD.encode_string(text.as_slice(), &mut value)?;
     Ok(value)
 }

@@ -1,6 +1,6 @@
 //! The body of a form, as the list of its pairs.
 
-ghost use Rattle.std.specs.Prelude.{◌≡◌, ℕ, List, [], ◌∷◌, ◌++◌, IfOk, OnOk, OnErr};
+ghost use Rattle.std.specs.Prelude.{◌≡◌, ℕ, List, [], ◌∷◌, ◌++◌, length, IfOk, OnOk, OnErr};
 ghost use Rattle.form_urlencoded.specs.Form.{append_pair as with_pair};
 ghost use Rattle.form_urlencoded.specs.Form.{byte_serialize as encoded_text, extend_pairs};
 ghost use Rattle.oauth2_form.specs.Pairs.{form};
@@ -8,6 +8,7 @@ ghost use Rattle.oauth2_form.specs.private.Written.{IsWritten, JoinsForms};
 
 use crate::encoded_text::EncodedText;
 use crate::form_encoding::{append_name, append_pair};
+use crate::query::append_plain_pair;
 use std::alloc::{AllocError, Global};
 use std::marker::Model;
 
@@ -43,12 +44,38 @@ impl FormBody {
         }
     }
 
+    /// A form with no pairs, and room for so many bytes.
+    pub fn with_capacity(alloc: Global, capacity: usize) -> Result<FormBody, AllocError>
+        ensures { IfOk result (λ body. body ≡ []) }
+    {
+        let text = Vec::with_capacity(alloc, capacity)?;
+        Ok(FormBody { text })
+    }
+
+    /// How many bytes the form has.
+    pub fn byte_len(&self) -> usize
+        ensures { result ≡ length (extend_pairs [] self.now) }
+    {
+        self.text.len()
+    }
+
     /// Adds a pair at the end. If memory runs out, the form is as it was.
     pub fn push(&mut self, name: &str, value: &str) -> Result<(), AllocError>
         ensures ok { OnOk result (self.new ≡ self.old ++ (name.now, value.now) ∷ []) }
         ensures err { OnErr result (self.new ≡ self.old) }
     {
         append_pair(&mut self.text, name, value)?;
+        Ok(())
+    }
+
+    /// Adds a pair whose name needs no escape, such as `client_id`. If memory runs out, the form is
+    /// as it was.
+    pub fn push_plain(&mut self, name: &str, value: &str) -> Result<(), AllocError>
+        requires { encoded_text name.now ≡ name.now }
+        ensures ok { OnOk result (self.new ≡ self.old ++ (name.now, value.now) ∷ []) }
+        ensures err { OnErr result (self.new ≡ self.old) }
+    {
+        append_plain_pair(&mut self.text, name, value)?;
         Ok(())
     }
 

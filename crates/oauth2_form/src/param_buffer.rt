@@ -16,7 +16,7 @@ use std::marker::Model;
 #[derive(Debug, Drop)]
 pub struct ParamBuffer {
     scope: Option<EncodedText>,
-    pairs: FormBody,
+    extra_params: FormBody,
     alloc: Global,
 }
 
@@ -25,7 +25,7 @@ impl Model for ParamBuffer {
 
     ghost Value = { Params };
 
-    ghost view = { λ b. record { scope = b.scope; pairs = b.pairs } };
+    ghost view = { λ b. record { scope = b.scope; extra_params = b.extra_params } };
 }
 
 impl ParamBuffer {
@@ -35,7 +35,7 @@ impl ParamBuffer {
     {
         ParamBuffer {
             scope: None,
-            pairs: FormBody::new(alloc),
+            extra_params: FormBody::new(alloc),
             alloc,
         }
     }
@@ -61,11 +61,11 @@ impl ParamBuffer {
     /// Adds a parameter. If memory runs out, the buffer is as it was.
     pub fn add_extra(&mut self, name: &str, value: &str) -> Result<(), AllocError>
         ensures ok { OnOk result (self.new ≡ record self.old {
-          pairs = self.old.pairs ++ (name.now, value.now) ∷ [];
+          extra_params = self.old.extra_params ++ (name.now, value.now) ∷ [];
         }) }
         ensures err { OnErr result (self.new ≡ self.old) }
     {
-        self.pairs.push(name, value)?;
+        self.extra_params.push(name, value)?;
         Ok(())
     }
 
@@ -84,9 +84,9 @@ impl ParamBuffer {
     }
 
     /// The parameters, encoded.
-    pub fn pairs(&self) -> &FormBody
-        ensures { result.now ≡ self.now.pairs }
+    pub fn extra_params(&self) -> &FormBody
+        ensures { result.now ≡ self.now.extra_params }
     {
-        &self.pairs
+        &self.extra_params
     }
 }

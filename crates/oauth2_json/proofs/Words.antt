@@ -12,7 +12,6 @@ use Rattle.oauth2_json.specs.Helpers.{nullable, words_data}
 use Rattle.oauth2_json.specs.declared.read.ReadError.{ReadError}
 use Rattle.oauth2_json.specs.declared.read.ReadError.TheVariants as errors
 use Rattle.oauth2_json.specs.Words.{onto_first, pieces, joined_words, has_no_space, are_words}
-use Rattle.oauth2_json.specs.private.Words.{each_after_space, lead}
 
 no_space : (x : List ℕ) → ((i : ℕ) → i < length x → get_or x i 0 ≢ 32) → has_no_space x ≡ true
 no_space [] h = refl
@@ -81,10 +80,6 @@ ends_with_fault (errors.Fault f) kind done x ps qs all h is e = sym e ∙ rw is 
 
 -- ---- the laws of words
 
-pub joined-after : (p : List ℕ) (qs : List (List ℕ)) → p ++ each_after_space qs ≡ joined_words (p ∷ qs)
-joined-after p [] = append-nil p
-joined-after p (q ∷ qs) = ap (λ r. p ++ 32 ∷ r) (joined-after q qs)
-
 both : (a b : Bool) → a && b ≡ true → (a ≡ true) × (b ≡ true)
 both true b h = (refl, h)
 both false b h = (h, cc)
@@ -92,7 +87,7 @@ both false b h = (h, cc)
 -- a list of words is read back
 pub pieces-joined : (ps : List (List ℕ)) → are_words ps ≡ true → pieces (joined_words ps) ≡ ps
 pieces-joined [] h = cc
-pieces-joined (p ∷ []) h = pieces-last p (both _ _ h).0
+pieces-joined (p ∷ []) h = ap pieces (append-nil p) ∙ pieces-last p (both _ _ h).0
 pieces-joined (p ∷ q ∷ ps) h =
     let h' = both _ _ h in
     pieces-split p (joined_words (q ∷ ps)) h'.0 ∙ ap (λ r. p ∷ r) (pieces-joined (q ∷ ps) h'.1)
@@ -118,8 +113,7 @@ join_onto : (b : Bool) (c : ℕ) (ps : List (List ℕ)) → b ≡ eqb c 32 → a
 join_onto true c [] e h = cc
 join_onto true c (p ∷ ps) e h = ap (λ d. d ∷ joined_words (p ∷ ps)) (sym (eqb_yes c 32 (sym e)))
 join_onto false c [] e h = refl
-join_onto false c (p ∷ []) e h = refl
-join_onto false c (p ∷ q ∷ ps) e h = refl
+join_onto false c (p ∷ ps) e h = refl
 
 -- the text is the one of its pieces
 pub joined-pieces : (s : List ℕ) → joined_words (pieces s) ≡ s
@@ -130,19 +124,6 @@ joined-pieces (c ∷ cs) = join_onto (eqb c 32) c (pieces cs) refl (pieces-words
 pub each-text : (ps : List (List ℕ)) → each_word text ps ≡ Ok ps
 each-text [] = refl
 each-text (p ∷ ps) = rw (each-text ps)
-
-abbrev pub still : Bool → List (List ℕ) → List ℕ
-still is_first ps = cond is_first (joined_words ps) (each_after_space ps)
-
-pub still_word : (b : Bool) (t p : List ℕ) (ps : List (List ℕ)) → (t ++ lead b p) ++ still false ps ≡ t ++ still b (p ∷ ps)
-still_word true t p ps = append_assoc t p _ ∙ ap (λ r. t ++ r) (joined-after p ps)
-still_word false t p ps = append_assoc t (32 ∷ p) _
-
-pub still-nil : (b : Bool) → still b [] ≡ []
-still-nil true = refl
-still-nil false = refl
-
-pub ruleset words_facts = (still_word, still-nil)
 
 -- ---- lists that may be absent
 

@@ -8,4 +8,3 @@ pub mod Words
 pub mod Body
 pub mod Challenge
 pub mod Helpers
-pub mod private

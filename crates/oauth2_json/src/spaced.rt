@@ -1,14 +1,14 @@
 //! Texts that hold a list, with one space between two entries (RFC 6749, section 3.3).
 
 ghost use Rattle.std.specs.Prelude.{◌≡◌, List, IfOk, OnOk, string_bytes, [], ◌++◌, map};
-ghost use Rattle.std.specs.Prelude.{option_map};
+ghost use Rattle.std.specs.Prelude.{codes, option_map};
+ghost use Rattle.std.specs.List.{flat_map};
 ghost use Rattle.serde_json.specs.Data.{string};
 ghost use Rattle.serde_json.specs.View.{view};
 ghost use Rattle.oauth2_json.specs.Reading.{ReadsAs, at_member};
 ghost use Rattle.oauth2_json.specs.Members.{optional_member};
 ghost use Rattle.oauth2_json.specs.Values.{each_word, words_reading};
 ghost use Rattle.oauth2_json.specs.Words.{pieces, joined_words};
-ghost use Rattle.oauth2_json.specs.private.Words.{lead};
 
 use crate::member_readers;
 use crate::read::{FromJson, ReadError};
@@ -36,28 +36,32 @@ pub fn pieces<T: FromJson + Drop>(alloc: Global, text: &str) -> Result<Vec<T>, R
     Ok(read)
 }
 
-fn push_word(text: &mut String, is_first: bool, word: &str) -> Result<(), AllocError>
-    ensures { OnOk result
-        (string_bytes text.new ≡ string_bytes text.old ++ lead is_first word.now) }
-{
-    if !is_first {
-        text.push_str(" ")?;
-    }
-    text.push_str(word)
-}
+// How many bytes a text of words has room for before it grows.
+const ROOM: usize = 64;
 
 /// The texts, with one space between two.
-#[tactic(auto, using(crate::proofs::Words::words_facts))]
 pub fn joined<T: AsStr>(alloc: Global, items: &[T]) -> Result<String, AllocError>
     ensures { IfOk result (λ s. string_bytes s ≡ joined_words (map T.text items.now)) }
 {
-    let mut text = String::new(alloc);
-    let mut is_first = true;
-    for item in items {
-        push_word(&mut text, is_first, item.as_str())?;
-        is_first = false;
-    }
+    let Some((first, rest)) = items.split_first() else {
+        return Ok(String::new(alloc));
+    };
+    let mut text = String::with_capacity(alloc, ROOM)?;
+    text.push_str(first.as_str())?;
+    append_spaced(&mut text, rest)?;
     Ok(text)
+}
+
+// Appends the texts, each after a space.
+fn append_spaced<T: AsStr>(text: &mut String, items: &[T]) -> Result<(), AllocError>
+    ensures { OnOk result (string_bytes text.new
+        ≡ string_bytes text.old ++ flat_map (λ word. codes " " ++ word) (map T.text items.now)) }
+{
+    for item in items {
+        text.push(' ')?;
+        text.push_str(item.as_str())?;
+    }
+    Ok(())
 }
 
 // A text, split at every space, of which `T` reads each piece.

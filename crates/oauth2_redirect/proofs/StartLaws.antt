@@ -1,7 +1,7 @@
 -- What reading by name gives of a login's URL.
 use Rattle.std.proofs.Common.{◌≡◌, ℕ, List, [], ◌∷◌, ◌++◌, Option, None, Some, true, filter, codes, ap, ◌∙◌, sym, refl, append_assoc}
 use Rattle.std.specs.Prelude.{option_map}
-use Rattle.std.specs.List.{join_by}
+use Rattle.oauth2_json.specs.Words.{joined_words}
 use Rattle.std.proofs.lemmas.List.{append-nil}
 use Rattle.std.proofs.lemmas.List.Elements.{filter-append}
 use Rattle.url.specs.Parts.{Parts}
@@ -76,7 +76,7 @@ pub shows : (old new : Parts) (r : Authorization) (verifier : List ℕ) → Exte
     → avoid_own_names (query_form old) ≡ true → avoid_own_names r.extra_params ≡ true → ShowsLogin (kept_login r.state verifier r.redirect_url) (query_form new)
 shows old new r verifier extends is avoid extra =
     let redirect = option_map given_text r.redirect_url in
-    let scope = join_by (λ s. s) (codes " ") r.scopes in
+    let scope = joined_words r.scopes in
     let first = required r.response_type r.client_id r.state in
     let c = sha256_challenge verifier in
     let read : (own : List ℕ) → is_own_name own ≡ true → read_by_name own (query_form new) ≡ read_by_name own (own_front r.response_type r.client_id r.state (Some c) redirect scope)

@@ -6,4 +6,4 @@ use Rattle.oauth2_refused_memory_tests.specs.declared.additions.Addition.TheVari
 
 abbrev pub with_addition : Params → Addition → Params
 with_addition params (Scope text) = record params { scope = Some (with_scope params.scope text.now) }
-with_addition params (Extra name value) = record params { pairs = params.pairs ++ (name.now, value.now) ∷ [] }
+with_addition params (Extra name value) = record params { extra_params = params.extra_params ++ (name.now, value.now) ∷ [] }

@@ -1,10 +1,10 @@
 -- The authorization request (RFC 6749, section 4.1.1).
 use Rattle.std.specs.Prelude.{ℕ, ◌^◌, ◌≤◌, List, [], ◌∷◌, ◌++◌, length, codes, Option, Some, None, option_map}
-use Rattle.std.specs.List.{join_by}
 use Rattle.url.specs.Parts.{Parts, serialize}
 use Rattle.url.specs.Setters.{append_query_pairs}
 use Rattle.oauth2_types.specs.Pkce.{Challenge}
 use Rattle.oauth2_urls.specs.Addressed.{Addressed}
+use Rattle.oauth2_json.specs.Words.{joined_words}
 use Rattle.oauth2_form.specs.Pairs.{Pair}
 use Rattle.oauth2_wire.specs.Expected.{optional_pair}
 use Rattle.oauth2_wire.specs.Texts.{given_text}
@@ -43,7 +43,7 @@ abbrev pub optional_pairs : Authorization → List Pair
 optional_pairs r =
     challenge_pairs r.pkce_challenge
     ++ optional_pair (codes "redirect_uri") (option_map given_text r.redirect_url)
-    ++ scope_pairs (join_by (λ s. s) (codes " ") r.scopes)
+    ++ scope_pairs (joined_words r.scopes)
     ++ r.extra_params
 
 -- the pairs that follow those of the endpoint's own query, in order

@@ -26,5 +26,5 @@ configuration_of base own_pairs redirect_url = record {
   own_pairs = own_pairs;
   scope = base.scope;
   redirect_uri = option_map given_text redirect_url;
-  extra_pairs = base.extra_params;
+  extra_params = base.extra_params;
 }

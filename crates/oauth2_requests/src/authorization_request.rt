@@ -2,9 +2,9 @@
 
 ghost use Rattle.std.specs.Prelude.{◌≡◌, ◌↔◌, ◌++◌, ◌∷◌, [], Some, None, Err, IfOk, IfErr, OnOk};
 ghost use Rattle.std.specs.Prelude.{IsTrue, List, ℕ, codes, map, option_copied, option_map};
-ghost use Rattle.std.specs.Prelude.{string_bytes, unwrap_or};
+ghost use Rattle.std.specs.Prelude.{unwrap_or};
 ghost use Rattle.std.specs.Iterator.{Drains, IsFinite};
-ghost use Rattle.std.specs.List.{join_by, flat_map};
+ghost use Rattle.oauth2_json.specs.Words.{joined_words};
 ghost use Rattle.url.specs.Parser.{IsOutOfRoom};
 ghost use Rattle.url.specs.Parts.{IsValid};
 ghost use Rattle.oauth2_wire.specs.Expected.{optional_pair};
@@ -16,6 +16,7 @@ ghost use Rattle.oauth2_form.specs.Query.{ExtendsQuery};
 ghost use Rattle.oauth2_form.specs.ExtendsForm.{ExtendsForm};
 
 use oauth2_form::{append_pair, append_plain_pair, query_text, with_query};
+use oauth2_json::members;
 use oauth2_types::{ClientId, CsrfToken, PkceCodeChallenge, ResponseType, Scope};
 use oauth2_urls::{AuthUrl, RedirectUrl};
 use oauth2_wire::{ParamText, RedirectRef};
@@ -269,10 +270,10 @@ fn push_redirect(form: &mut Vec<u8>, redirect: &Option<RedirectRef<'_>>) -> Resu
 }
 
 fn push_scopes(alloc: Global, form: &mut Vec<u8>, scopes: &[Scope]) -> Result<(), AllocError>
-    ensures { let scope = join_by (λ s. s) (codes " ") scopes.now in
+    ensures { let scope = joined_words scopes.now in
         OnOk result (ExtendsForm form.old.items form.new.items (scope_pairs scope)) }
 {
-    let scope = scope_text(alloc, scopes)?;
+    let scope = members::joined(alloc, scopes)?;
     push_scope(form, scope.as_str())?;
     Ok(())
 }
@@ -295,34 +296,6 @@ fn push_extra_params(
 {
     for (name, value) in extra_params {
         append_pair(form, name.as_str(), value.as_str())?;
-    }
-    Ok(())
-}
-
-// How many bytes a text of scopes has room for before it grows.
-const SCOPE_ROOM: usize = 64;
-
-// The scopes as one text, with a space between each two.
-fn scope_text(alloc: Global, scopes: &[Scope]) -> Result<String, AllocError>
-    ensures { IfOk result (λ text. string_bytes text ≡ join_by (λ s. s) (codes " ") scopes.now) }
-{
-    let Some((first, rest)) = scopes.split_first() else {
-        return Ok(String::new(alloc));
-    };
-    let mut text = String::with_capacity(alloc, SCOPE_ROOM)?;
-    text.push_str(first.as_str())?;
-    append_spaced(&mut text, rest)?;
-    Ok(text)
-}
-
-// Appends the scopes with a space before each.
-fn append_spaced(text: &mut String, scopes: &[Scope]) -> Result<(), AllocError>
-    ensures { OnOk result (string_bytes text.new
-        ≡ string_bytes text.old ++ flat_map (λ s. codes " " ++ s) scopes.now) }
-{
-    for scope in scopes {
-        text.push(' ')?;
-        text.push_str(scope.as_str())?;
     }
     Ok(())
 }

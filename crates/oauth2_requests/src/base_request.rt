@@ -32,7 +32,7 @@ pub struct BaseRequest<'a> {
     auth_type: &'a AuthType,
     client_id: &'a ClientId,
     client_secret: Option<&'a ClientSecret>,
-    params: ParamBuffer,
+    buffer: ParamBuffer,
     reply_rule: ReplyRule,
 }
 
@@ -46,8 +46,8 @@ impl<'a> Model for BaseRequest<'a> {
       auth_type = r.auth_type.now;
       client_id = r.client_id.now;
       client_secret = option_copied r.client_secret;
-      scope = r.params.scope;
-      extra_params = r.params.pairs;
+      scope = r.buffer.scope;
+      extra_params = r.buffer.extra_params;
       reply_rule = r.reply_rule;
     } };
 }
@@ -76,7 +76,7 @@ impl<'a> BaseRequest<'a> {
             auth_type,
             client_id,
             client_secret,
-            params: ParamBuffer::new(alloc),
+            buffer: ParamBuffer::new(alloc),
             reply_rule,
         }
     }
@@ -93,7 +93,7 @@ impl<'a> BaseRequest<'a> {
           scope = Some (with_scope self.old.scope scope);
         }) }
     {
-        self.params.add_scope(scope.as_str())?;
+        self.buffer.add_scope(scope.as_str())?;
         Ok(())
     }
 
@@ -126,7 +126,7 @@ impl<'a> BaseRequest<'a> {
             }) }
         ensures err { OnErr result (self.new ≡ self.old) }
     {
-        self.params.add_extra(name.as_str(), value.as_str())?;
+        self.buffer.add_extra(name.as_str(), value.as_str())?;
         Ok(())
     }
 
@@ -149,7 +149,7 @@ impl<'a> BaseRequest<'a> {
             self.auth_type,
             self.client_id,
             self.client_secret,
-            &self.params,
+            &self.buffer,
             redirect_url,
             url,
             own_pairs,

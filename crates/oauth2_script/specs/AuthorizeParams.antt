@@ -13,13 +13,13 @@ pub record AuthorizeParams : Type 0 where
   pub response_type : Option (List ℕ)
   pub nonce : Option (List ℕ)
   pub scopes : List (List ℕ)
-  pub extra : List (List ℕ × List ℕ)
+  pub extra_params : List (List ℕ × List ℕ)
 
 unfoldable pub authorize_params : Data → Option AuthorizeParams
 authorize_params d = do
   state ← needed_part as_str (codes "state") d
   scopes ← list_part as_str (codes "scopes") d
-  extra ← list_part pair_part (codes "extra") d
+  extra_params ← list_part pair_part (codes "extra") d
   challenge ← present_part challenge_part (codes "verifier") d
   redirect ← present_part address (codes "redirect") d
   response_type ← present_part as_str (codes "response_type") d
@@ -31,5 +31,5 @@ authorize_params d = do
     response_type = response_type;
     nonce = nonce;
     scopes = scopes;
-    extra = extra;
+    extra_params = extra_params;
   })

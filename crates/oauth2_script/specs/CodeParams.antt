@@ -9,12 +9,12 @@ pub record CodeParams : Type 0 where
   pub code : List ℕ
   pub verifier : Option (List ℕ)
   pub redirect : Option Addressed
-  pub extra : List (List ℕ × List ℕ)
+  pub extra_params : List (List ℕ × List ℕ)
 
 unfoldable pub code_params : Data → Option CodeParams
 code_params d = do
   code ← needed_part as_str (codes "code") d
   verifier ← present_part verifier (codes "verifier") d
   redirect ← present_part address (codes "redirect") d
-  extra ← list_part pair_part (codes "extra") d
-  Some (record { code = code; verifier = verifier; redirect = redirect; extra = extra })
+  extra_params ← list_part pair_part (codes "extra") d
+  Some (record { code = code; verifier = verifier; redirect = redirect; extra_params = extra_params })

@@ -6,10 +6,10 @@ use Rattle.oauth2_script.specs.Part.{◌>>=◌, list_part, pair_part}
 
 pub record DeviceAuthorizationParams : Type 0 where
   pub scopes : List (List ℕ)
-  pub extra : List (List ℕ × List ℕ)
+  pub extra_params : List (List ℕ × List ℕ)
 
 unfoldable pub device_authorization_params : Data → Option DeviceAuthorizationParams
 device_authorization_params d = do
   scopes ← list_part as_str (codes "scopes") d
-  extra ← list_part pair_part (codes "extra") d
-  Some (record { scopes = scopes; extra = extra })
+  extra_params ← list_part pair_part (codes "extra") d
+  Some (record { scopes = scopes; extra_params = extra_params })

@@ -13,7 +13,7 @@ pub record DevicePollParams : Type 0 where
   pub max_polls : ℕ
   pub timeout : Option ℕ
   pub cap : Option ℕ
-  pub extra : List (List ℕ × List ℕ)
+  pub extra_params : List (List ℕ × List ℕ)
 
 -- what was read, where nothing was at fault
 abbrev pub if_read : {A : Type 0} → Reading A → Option A
@@ -30,5 +30,5 @@ device_poll_params d = do
   max_polls ← needed_part count (codes "max_polls") d
   timeout ← present_part duration (codes "timeout") d
   cap ← present_part duration (codes "cap") d
-  extra ← list_part pair_part (codes "extra") d
-  Some (record { device = device; max_polls = max_polls; timeout = timeout; cap = cap; extra = extra })
+  extra_params ← list_part pair_part (codes "extra") d
+  Some (record { device = device; max_polls = max_polls; timeout = timeout; cap = cap; extra_params = extra_params })

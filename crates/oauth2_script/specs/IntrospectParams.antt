@@ -7,11 +7,11 @@ use Rattle.oauth2_script.specs.Part.{◌>>=◌, needed_part, present_part, list_
 pub record IntrospectParams : Type 0 where
   pub token : List ℕ
   pub hint : Option (List ℕ)
-  pub extra : List (List ℕ × List ℕ)
+  pub extra_params : List (List ℕ × List ℕ)
 
 unfoldable pub introspect_params : Data → Option IntrospectParams
 introspect_params d = do
   token ← needed_part as_str (codes "token") d
   hint ← present_part as_str (codes "hint") d
-  extra ← list_part pair_part (codes "extra") d
-  Some (record { token = token; hint = hint; extra = extra })
+  extra_params ← list_part pair_part (codes "extra") d
+  Some (record { token = token; hint = hint; extra_params = extra_params })

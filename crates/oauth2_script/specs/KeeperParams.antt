@@ -12,7 +12,7 @@ pub record KeeperParams : Type 0 where
   pub life : ℕ
   pub refresh : Option (List ℕ)
   pub scopes : List (List ℕ)
-  pub extra : List (List ℕ × List ℕ)
+  pub extra_params : List (List ℕ × List ℕ)
   pub retry_after : Option ℕ
 
 unfoldable pub keeper_params : Data → Option KeeperParams
@@ -21,6 +21,6 @@ keeper_params d = do
   life ← needed_part duration (codes "life") d
   refresh ← present_part as_str (codes "refresh") d
   scopes ← list_part as_str (codes "scopes") d
-  extra ← list_part pair_part (codes "extra") d
+  extra_params ← list_part pair_part (codes "extra") d
   retry_after ← present_part duration (codes "retry_after") d
-  Some (record { margin = margin; life = life; refresh = refresh; scopes = scopes; extra = extra; retry_after = retry_after })
+  Some (record { margin = margin; life = life; refresh = refresh; scopes = scopes; extra_params = extra_params; retry_after = retry_after })

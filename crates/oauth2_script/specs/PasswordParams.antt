@@ -8,12 +8,12 @@ pub record PasswordParams : Type 0 where
   pub username : List ℕ
   pub password : List ℕ
   pub scopes : List (List ℕ)
-  pub extra : List (List ℕ × List ℕ)
+  pub extra_params : List (List ℕ × List ℕ)
 
 unfoldable pub password_params : Data → Option PasswordParams
 password_params d = do
   username ← needed_part as_str (codes "username") d
   password ← needed_part as_str (codes "password") d
   scopes ← list_part as_str (codes "scopes") d
-  extra ← list_part pair_part (codes "extra") d
-  Some (record { username = username; password = password; scopes = scopes; extra = extra })
+  extra_params ← list_part pair_part (codes "extra") d
+  Some (record { username = username; password = password; scopes = scopes; extra_params = extra_params })

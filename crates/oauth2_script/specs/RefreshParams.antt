@@ -7,11 +7,11 @@ use Rattle.oauth2_script.specs.Part.{◌>>=◌, needed_part, list_part, pair_par
 pub record RefreshParams : Type 0 where
   pub refresh_token : List ℕ
   pub scopes : List (List ℕ)
-  pub extra : List (List ℕ × List ℕ)
+  pub extra_params : List (List ℕ × List ℕ)
 
 unfoldable pub refresh_params : Data → Option RefreshParams
 refresh_params d = do
   refresh_token ← needed_part as_str (codes "refresh_token") d
   scopes ← list_part as_str (codes "scopes") d
-  extra ← list_part pair_part (codes "extra") d
-  Some (record { refresh_token = refresh_token; scopes = scopes; extra = extra })
+  extra_params ← list_part pair_part (codes "extra") d
+  Some (record { refresh_token = refresh_token; scopes = scopes; extra_params = extra_params })

@@ -10,7 +10,7 @@ use Rattle.oauth2_script.specs.declared.revoke_params.TokenKind.TheVariants.{Acc
 pub record RevokeParams : Type 0 where
   pub token : List ℕ
   pub kind : TokenKind
-  pub extra : List (List ℕ × List ℕ)
+  pub extra_params : List (List ℕ × List ℕ)
 
 unfoldable pub kind_of : List ℕ → Option TokenKind
 kind_of text =
@@ -24,5 +24,5 @@ unfoldable pub revoke_params : Data → Option RevokeParams
 revoke_params d = do
   token ← needed_part as_str (codes "token") d
   kind ← present_part kind (codes "kind") d
-  extra ← list_part pair_part (codes "extra") d
-  Some (record { token = token; kind = unwrap_or kind Access; extra = extra })
+  extra_params ← list_part pair_part (codes "extra") d
+  Some (record { token = token; kind = unwrap_or kind Access; extra_params = extra_params })

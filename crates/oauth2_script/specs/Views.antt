@@ -47,14 +47,14 @@ code_view p = record {
   code = p.code;
   verifier = p.verifier;
   redirect = p.redirect;
-  extra = map (λ e. (string_bytes e.0, string_bytes e.1)) p.extra.items;
+  extra_params = map (λ e. (string_bytes e.0, string_bytes e.1)) p.extra_params.items;
 }
 
 abbrev pub refresh_view : RefreshParams → refresh_spec.RefreshParams
 refresh_view p = record {
   refresh_token = p.refresh_token;
   scopes = p.scopes.items;
-  extra = map (λ e. (string_bytes e.0, string_bytes e.1)) p.extra.items;
+  extra_params = map (λ e. (string_bytes e.0, string_bytes e.1)) p.extra_params.items;
 }
 
 abbrev pub password_view : PasswordParams → password_spec.PasswordParams
@@ -62,19 +62,19 @@ password_view p = record {
   username = p.username;
   password = p.password;
   scopes = p.scopes.items;
-  extra = map (λ e. (string_bytes e.0, string_bytes e.1)) p.extra.items;
+  extra_params = map (λ e. (string_bytes e.0, string_bytes e.1)) p.extra_params.items;
 }
 
 abbrev pub client_credentials_view : ClientCredentialsParams → client_credentials_spec.ClientCredentialsParams
 client_credentials_view p = record {
   scopes = p.scopes.items;
-  extra = map (λ e. (string_bytes e.0, string_bytes e.1)) p.extra.items;
+  extra_params = map (λ e. (string_bytes e.0, string_bytes e.1)) p.extra_params.items;
 }
 
 abbrev pub device_authorization_view : DeviceAuthorizationParams → device_authorization_spec.DeviceAuthorizationParams
 device_authorization_view p = record {
   scopes = p.scopes.items;
-  extra = map (λ e. (string_bytes e.0, string_bytes e.1)) p.extra.items;
+  extra_params = map (λ e. (string_bytes e.0, string_bytes e.1)) p.extra_params.items;
 }
 
 abbrev pub device_poll_view : DevicePollParams → device_poll_spec.DevicePollParams
@@ -83,21 +83,21 @@ device_poll_view p = record {
   max_polls = non_zero_u64_get p.max_polls;
   timeout = option_map as_nanos p.timeout;
   cap = option_map as_nanos p.cap;
-  extra = map (λ e. (string_bytes e.0, string_bytes e.1)) p.extra.items;
+  extra_params = map (λ e. (string_bytes e.0, string_bytes e.1)) p.extra_params.items;
 }
 
 abbrev pub introspect_view : IntrospectParams → introspect_spec.IntrospectParams
 introspect_view p = record {
   token = p.token;
   hint = option_map string_bytes p.hint;
-  extra = map (λ e. (string_bytes e.0, string_bytes e.1)) p.extra.items;
+  extra_params = map (λ e. (string_bytes e.0, string_bytes e.1)) p.extra_params.items;
 }
 
 abbrev pub revoke_view : RevokeParams → revoke_spec.RevokeParams
 revoke_view p = record {
   token = string_bytes p.token;
   kind = p.kind;
-  extra = map (λ e. (string_bytes e.0, string_bytes e.1)) p.extra.items;
+  extra_params = map (λ e. (string_bytes e.0, string_bytes e.1)) p.extra_params.items;
 }
 
 abbrev pub authorize_view : AuthorizeParams → authorize_spec.AuthorizeParams
@@ -108,7 +108,7 @@ authorize_view p = record {
   response_type = p.response_type;
   nonce = option_map string_bytes p.nonce;
   scopes = p.scopes.items;
-  extra = map (λ e. (string_bytes e.0, string_bytes e.1)) p.extra.items;
+  extra_params = map (λ e. (string_bytes e.0, string_bytes e.1)) p.extra_params.items;
 }
 
 abbrev pub redirect_view : RedirectParams → redirect_spec.RedirectParams
@@ -124,7 +124,7 @@ keeper_view p = record {
   life = as_nanos p.life;
   refresh = p.refresh;
   scopes = p.scopes.items;
-  extra = map (λ e. (string_bytes e.0, string_bytes e.1)) p.extra.items;
+  extra_params = map (λ e. (string_bytes e.0, string_bytes e.1)) p.extra_params.items;
   retry_after = option_map as_nanos p.retry_after;
 }
 

@@ -19,7 +19,7 @@ pub struct AuthorizeParams {
     /// What an ID token has to name (OpenID Connect Core 1.0, section 3.1.2.1).
     pub nonce: Option<String>,
     pub scopes: Vec<Scope>,
-    pub extra: Vec<(String, String)>,
+    pub extra_params: Vec<(String, String)>,
 }
 
 impl Part for AuthorizeParams {
@@ -35,7 +35,7 @@ impl Part for AuthorizeParams {
     fn from_value(alloc: Global, value: &Value) -> Result<AuthorizeParams, ScriptError> {
         let state = needed(alloc, value, "state")?;
         let scopes = listed(alloc, value, "scopes")?;
-        let extra = listed(alloc, value, "extra")?;
+        let extra_params = listed(alloc, value, "extra")?;
         let challenge = optional(alloc, value, "verifier")?;
         let redirect = optional(alloc, value, "redirect")?;
         let response_type = optional(alloc, value, "response_type")?;
@@ -47,7 +47,7 @@ impl Part for AuthorizeParams {
             response_type,
             nonce,
             scopes,
-            extra,
+            extra_params,
         })
     }
 }

@@ -12,7 +12,7 @@ use std::alloc::Global;
 #[derive(Drop)]
 pub struct ClientCredentialsParams {
     pub scopes: Vec<Scope>,
-    pub extra: Vec<(String, String)>,
+    pub extra_params: Vec<(String, String)>,
 }
 
 impl Part for ClientCredentialsParams {
@@ -27,7 +27,10 @@ impl Part for ClientCredentialsParams {
     #[tactic(auto, unfolding(crate::specs::ClientCredentialsParams::client_credentials_params))]
     fn from_value(alloc: Global, value: &Value) -> Result<ClientCredentialsParams, ScriptError> {
         let scopes = listed(alloc, value, "scopes")?;
-        let extra = listed(alloc, value, "extra")?;
-        Ok(ClientCredentialsParams { scopes, extra })
+        let extra_params = listed(alloc, value, "extra")?;
+        Ok(ClientCredentialsParams {
+            scopes,
+            extra_params,
+        })
     }
 }

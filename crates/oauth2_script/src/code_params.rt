@@ -15,7 +15,7 @@ pub struct CodeParams {
     pub code: AuthorizationCode,
     pub verifier: Option<PkceCodeVerifier>,
     pub redirect: Option<RedirectUrl>,
-    pub extra: Vec<(String, String)>,
+    pub extra_params: Vec<(String, String)>,
 }
 
 impl Part for CodeParams {
@@ -32,12 +32,12 @@ impl Part for CodeParams {
         let code = needed(alloc, value, "code")?;
         let verifier = optional(alloc, value, "verifier")?;
         let redirect = optional(alloc, value, "redirect")?;
-        let extra = listed(alloc, value, "extra")?;
+        let extra_params = listed(alloc, value, "extra")?;
         Ok(CodeParams {
             code,
             verifier,
             redirect,
-            extra,
+            extra_params,
         })
     }
 }

@@ -14,7 +14,7 @@ use std::alloc::Global;
 #[derive(Drop)]
 pub struct DeviceAuthorizationParams {
     pub scopes: Vec<Scope>,
-    pub extra: Vec<(String, String)>,
+    pub extra_params: Vec<(String, String)>,
 }
 
 impl Part for DeviceAuthorizationParams {
@@ -28,7 +28,10 @@ impl Part for DeviceAuthorizationParams {
 
     fn from_value(alloc: Global, value: &Value) -> Result<DeviceAuthorizationParams, ScriptError> {
         let scopes = listed(alloc, value, "scopes")?;
-        let extra = listed(alloc, value, "extra")?;
-        Ok(DeviceAuthorizationParams { scopes, extra })
+        let extra_params = listed(alloc, value, "extra")?;
+        Ok(DeviceAuthorizationParams {
+            scopes,
+            extra_params,
+        })
     }
 }

@@ -21,7 +21,7 @@ pub struct DevicePollParams {
     pub timeout: Option<Duration>,
     /// Up to where a failed call doubles the wait.
     pub cap: Option<Duration>,
-    pub extra: Vec<(String, String)>,
+    pub extra_params: Vec<(String, String)>,
 }
 
 /// A device authorization response of the standard (RFC 8628, section 3.2).
@@ -61,13 +61,13 @@ impl Part for DevicePollParams {
         let max_polls = needed(alloc, value, "max_polls")?;
         let timeout = optional(alloc, value, "timeout")?;
         let cap = optional(alloc, value, "cap")?;
-        let extra = listed(alloc, value, "extra")?;
+        let extra_params = listed(alloc, value, "extra")?;
         Ok(DevicePollParams {
             device,
             max_polls,
             timeout,
             cap,
-            extra,
+            extra_params,
         })
     }
 }

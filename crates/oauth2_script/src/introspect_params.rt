@@ -14,7 +14,7 @@ pub struct IntrospectParams {
     pub token: AccessToken,
     /// What the server is told of the token's type.
     pub hint: Option<String>,
-    pub extra: Vec<(String, String)>,
+    pub extra_params: Vec<(String, String)>,
 }
 
 impl Part for IntrospectParams {
@@ -30,7 +30,11 @@ impl Part for IntrospectParams {
     fn from_value(alloc: Global, value: &Value) -> Result<IntrospectParams, ScriptError> {
         let token = needed(alloc, value, "token")?;
         let hint = optional(alloc, value, "hint")?;
-        let extra = listed(alloc, value, "extra")?;
-        Ok(IntrospectParams { token, hint, extra })
+        let extra_params = listed(alloc, value, "extra")?;
+        Ok(IntrospectParams {
+            token,
+            hint,
+            extra_params,
+        })
     }
 }

@@ -19,7 +19,7 @@ pub struct KeeperParams {
     pub refresh: Option<RefreshToken>,
     /// What it asks for by the client's own credentials.
     pub scopes: Vec<Scope>,
-    pub extra: Vec<(String, String)>,
+    pub extra_params: Vec<(String, String)>,
     /// For how long it makes no request after one that failed.
     pub retry_after: Option<Duration>,
 }
@@ -39,14 +39,14 @@ impl Part for KeeperParams {
         let life = needed(alloc, value, "life")?;
         let refresh = optional(alloc, value, "refresh")?;
         let scopes = listed(alloc, value, "scopes")?;
-        let extra = listed(alloc, value, "extra")?;
+        let extra_params = listed(alloc, value, "extra")?;
         let retry_after = optional(alloc, value, "retry_after")?;
         Ok(KeeperParams {
             margin,
             life,
             refresh,
             scopes,
-            extra,
+            extra_params,
             retry_after,
         })
     }

@@ -14,7 +14,7 @@ pub struct PasswordParams {
     pub username: ResourceOwnerUsername,
     pub password: ResourceOwnerPassword,
     pub scopes: Vec<Scope>,
-    pub extra: Vec<(String, String)>,
+    pub extra_params: Vec<(String, String)>,
 }
 
 impl Part for PasswordParams {
@@ -31,12 +31,12 @@ impl Part for PasswordParams {
         let username = needed(alloc, value, "username")?;
         let password = needed(alloc, value, "password")?;
         let scopes = listed(alloc, value, "scopes")?;
-        let extra = listed(alloc, value, "extra")?;
+        let extra_params = listed(alloc, value, "extra")?;
         Ok(PasswordParams {
             username,
             password,
             scopes,
-            extra,
+            extra_params,
         })
     }
 }

@@ -13,7 +13,7 @@ use std::alloc::Global;
 pub struct RefreshParams {
     pub refresh_token: RefreshToken,
     pub scopes: Vec<Scope>,
-    pub extra: Vec<(String, String)>,
+    pub extra_params: Vec<(String, String)>,
 }
 
 impl Part for RefreshParams {
@@ -29,11 +29,11 @@ impl Part for RefreshParams {
     fn from_value(alloc: Global, value: &Value) -> Result<RefreshParams, ScriptError> {
         let refresh_token = needed(alloc, value, "refresh_token")?;
         let scopes = listed(alloc, value, "scopes")?;
-        let extra = listed(alloc, value, "extra")?;
+        let extra_params = listed(alloc, value, "extra")?;
         Ok(RefreshParams {
             refresh_token,
             scopes,
-            extra,
+            extra_params,
         })
     }
 }

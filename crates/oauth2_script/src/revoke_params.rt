@@ -19,7 +19,7 @@ pub enum TokenKind {
 pub struct RevokeParams {
     pub token: String,
     pub kind: TokenKind,
-    pub extra: Vec<(String, String)>,
+    pub extra_params: Vec<(String, String)>,
 }
 
 impl Part for TokenKind {
@@ -57,11 +57,11 @@ impl Part for RevokeParams {
     fn from_value(alloc: Global, value: &Value) -> Result<RevokeParams, ScriptError> {
         let token = needed(alloc, value, "token")?;
         let kind = optional(alloc, value, "kind")?;
-        let extra = listed(alloc, value, "extra")?;
+        let extra_params = listed(alloc, value, "extra")?;
         Ok(RevokeParams {
             token,
             kind: kind.unwrap_or(TokenKind::Access),
-            extra,
+            extra_params,
         })
     }
 }

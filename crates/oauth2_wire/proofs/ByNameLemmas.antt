@@ -154,7 +154,7 @@ soles_of_set own shared of_request of_shared =
     (All-weaker (PassesName is_request_name) (IsAbsentFrom shared) (λ pair passes. absent_by is_request_name pair.0 shared passes not_in_request) own (passing is_request_name own in_request))
     (All-weaker (FailsName is_request_name) (IsAbsentFrom own) (λ pair fails. absent_by_failing is_request_name pair.0 own (not-true _ fails) in_request) shared (failing is_request_name shared not_in_request))
 
--- no extra pair bears the name of one that is set
+-- no extra parameter bears the name of one that is set
 absent_from_extra : (own shared extra : List Pair) → are_request_pairs own ≡ true → are_shared_pairs shared ≡ true → avoid_own_names extra ≡ true → All (IsAbsentFrom extra) (own ++ shared)
 absent_from_extra own shared extra of_request of_shared avoid =
     All-append (IsAbsentFrom extra) own shared
@@ -184,5 +184,5 @@ by_name c pairs e = λ of_request avoid.
     let of_shared = shared_pairs_are c.scope (expected_basic c) c.client_id c.client_secret c.redirect_uri in
     let grouped = set_pairs_are c in
     subst (All (λ pair. read_by_name pair.0 pairs ≡ Some pair.1)) (sym grouped)
-    (reads_all pairs (c.own_pairs ++ shared) c.extra_pairs (e ∙ ap (λ x. x ++ c.extra_pairs) grouped)
-    (soles_of_set c.own_pairs shared of_request of_shared) (absent_from_extra c.own_pairs shared c.extra_pairs of_request of_shared avoid))
+    (reads_all pairs (c.own_pairs ++ shared) c.extra_params (e ∙ ap (λ x. x ++ c.extra_params) grouped)
+    (soles_of_set c.own_pairs shared of_request of_shared) (absent_from_extra c.own_pairs shared c.extra_params of_request of_shared avoid))

@@ -1,12 +1,15 @@
 -- What a request is to hold, from the configuration of a client and of the request.
-use Rattle.std.specs.Prelude.{ℕ, List, [], ◌∷◌, ◌++◌, codes, Option, Some, None}
-use Rattle.std.specs.List.{join_by}
+use Rattle.std.specs.Prelude.{ℕ, List, [], ◌∷◌, ◌++◌, codes, Option, Some, None, option_map}
 use Rattle.http_header.specs.FieldValue.{FieldValue, plain_value}
 use Rattle.http_header.specs.HeaderMap.{Entries}
 use Rattle.oauth2_wire.specs.declared.request.AuthType.{AuthType}
 use Rattle.oauth2_wire.specs.declared.request.AuthType.TheVariants.{RequestBody, BasicAuth}
+use Rattle.oauth2_json.specs.Words.{joined_words}
 use Rattle.oauth2_form.specs.Pairs.{Pair}
 use Rattle.oauth2_form.specs.Basic.{basic_value}
+use Rattle.oauth2_form.specs.Params.{Params}
+use Rattle.oauth2_urls.specs.Addressed.{Addressed}
+use Rattle.oauth2_wire.specs.Texts.{given_text}
 
 -- who asks, how the identifier and the secret are shown, and what is asked, as texts
 pub record Configuration : Type 0 where
@@ -16,13 +19,25 @@ pub record Configuration : Type 0 where
   pub own_pairs : List Pair
   pub scope : Option (List ℕ)
   pub redirect_uri : Option (List ℕ)
-  pub extra_pairs : List Pair
+  pub extra_params : List Pair
+
+-- the configuration with the scope and the extra parameters of a buffer, and this redirect
+abbrev pub configuration_from : AuthType → List ℕ → Option (List ℕ) → List Pair → Params → Option Addressed → Configuration
+configuration_from auth_type client_id client_secret own_pairs buffer redirect_url = record {
+  auth_type = auth_type;
+  client_id = client_id;
+  client_secret = client_secret;
+  own_pairs = own_pairs;
+  scope = buffer.scope;
+  redirect_uri = option_map given_text redirect_url;
+  extra_params = buffer.extra_params;
+}
 
 -- scopes as one text, where there are any (RFC 6749, section 3.3)
 abbrev pub joined_scope : Option (List (List ℕ)) → Option (List ℕ)
 joined_scope None = None
 joined_scope (Some []) = None
-joined_scope (Some (first ∷ rest)) = Some (join_by (λ s. s) (codes " ") (first ∷ rest))
+joined_scope (Some (first ∷ rest)) = Some (joined_words (first ∷ rest))
 
 -- the credentials that go into the header: under `BasicAuth`, where there is a secret (RFC 6749,
 -- section 2.3.1)
@@ -53,9 +68,9 @@ set_pairs c =
     c.own_pairs ++ optional_pair (codes "scope") c.scope ++ body_credentials (expected_basic c) c.client_id c.client_secret
     ++ optional_pair (codes "redirect_uri") c.redirect_uri
 
--- what `form` reads of the body: these, and then the extra pairs
+-- what `form` reads of the body: these, and then the extra parameters
 abbrev pub expected_pairs : Configuration → List Pair
-expected_pairs c = set_pairs c ++ c.extra_pairs
+expected_pairs c = set_pairs c ++ c.extra_params
 
 -- a name with one value
 abbrev pub one_header : List ℕ → List ℕ → Entries FieldValue

@@ -10,6 +10,7 @@ ghost use Rattle.url.specs.Parts.{serialize};
 ghost use Rattle.oauth2_form.specs.Params.{with_scopes};
 ghost use Rattle.oauth2_wire.specs.Texts.{param_pair, given_text};
 ghost use Rattle.oauth2_wire.specs.Expected.{joined_scope, expected_pairs, optional_pair};
+ghost use Rattle.oauth2_wire.specs.Expected.{configuration_from};
 ghost use Rattle.oauth2_wire.specs.Expected.{basic_credentials, body_credentials};
 ghost use Rattle.oauth2_wire.specs.Expected.{authorization_header};
 ghost use Rattle.oauth2_wire.specs.private.Headers.{headers_with, optional_authorization};
@@ -91,8 +92,8 @@ impl From<AllocError> for RequestFault {
     }
 }
 
-/// Builds the POST to an endpoint: the pairs `params` of this kind of request, the client's
-/// credentials, the redirect, the scopes and the extra parameters.
+/// Builds the POST to an endpoint: the pairs of this kind of request, the client's credentials, the
+/// redirect, the scopes and the extra parameters.
 pub fn endpoint_request(
     alloc: Global,
     auth_type: &AuthType,
@@ -102,16 +103,16 @@ pub fn endpoint_request(
     redirect_url: Option<&RedirectUrl>,
     scopes: Option<&[Scope]>,
     url: &Url,
-    params: &[(&str, &str)],
+    own_pairs: &[(&str, &str)],
 ) -> Result<HttpRequest, RequestFault>
     ensures request { IfOk result (λ r. IsRequestOf (record {
       auth_type = auth_type.now;
       client_id = client_id.now;
       client_secret = option_copied client_secret.entry;
-      own_pairs = map pair_text params.now;
+      own_pairs = map pair_text own_pairs.now;
       scope = joined_scope (option_copied scopes.entry);
       redirect_uri = option_map given_text (option_copied redirect_url.entry);
-      extra_pairs = map param_pair extra_params.now;
+      extra_params = map param_pair extra_params.now;
     }) (serialize url.now) (view_of r)) }
 
     // A URL that is no HTTP target gives no request, and no other is refused as one.
@@ -127,7 +128,7 @@ pub fn endpoint_request(
         &buffer,
         redirect_url,
         url,
-        params,
+        own_pairs,
     )
 }
 
@@ -138,20 +139,15 @@ pub fn endpoint_request_encoded(
     auth_type: &AuthType,
     client_id: &ClientId,
     client_secret: Option<&ClientSecret>,
-    extra_params: &ParamBuffer,
+    buffer: &ParamBuffer,
     redirect_url: Option<&RedirectUrl>,
     url: &Url,
-    params: &[(&str, &str)],
+    own_pairs: &[(&str, &str)],
 ) -> Result<HttpRequest, RequestFault>
-    ensures request { IfOk result (λ r. IsRequestOf (record {
-      auth_type = auth_type.now;
-      client_id = client_id.now;
-      client_secret = option_copied client_secret.entry;
-      own_pairs = map pair_text params.now;
-      scope = extra_params.now.scope;
-      redirect_uri = option_map given_text (option_copied redirect_url.entry);
-      extra_pairs = extra_params.now.pairs;
-    }) (serialize url.now) (view_of r)) }
+    ensures request { let configuration = configuration_from auth_type.now client_id.now
+        (option_copied client_secret.entry) (map pair_text own_pairs.now) buffer.now
+        (option_copied redirect_url.entry) in
+        IfOk result (λ r. IsRequestOf configuration (serialize url.now) (view_of r)) }
 
     // A URL that is no HTTP target gives no request, and no other is refused as one.
     ensures no_target { SpellsNone (serialize url.now) → IsErr result }
@@ -163,9 +159,9 @@ pub fn endpoint_request_encoded(
         auth_type,
         client_id,
         client_secret,
-        extra_params,
+        buffer,
         redirect_url,
-        params,
+        own_pairs,
     )?;
     let value = authorization(alloc, auth_type, client_id, client_secret)?;
     let head = Parts {
@@ -185,7 +181,7 @@ fn filled_buffer(
 ) -> Result<ParamBuffer, AllocError>
     ensures { IfOk result (λ buffer. buffer ≡ record {
       scope = joined_scope (option_copied scopes.entry);
-      pairs = map param_pair extra_params.now;
+      extra_params = map param_pair extra_params.now;
     }) }
 {
     let mut buffer = scopes_buffer(alloc, scopes)?;
@@ -198,7 +194,7 @@ fn filled_buffer(
 fn scopes_buffer(alloc: Global, scopes: Option<&[Scope]>) -> Result<ParamBuffer, AllocError>
     ensures { IfOk result (λ buffer. buffer ≡ record {
       scope = joined_scope (option_copied scopes.entry);
-      pairs = [];
+      extra_params = [];
     }) }
 {
     let mut buffer = ParamBuffer::new(alloc);
@@ -226,13 +222,13 @@ fn add_scopes(buffer: &mut ParamBuffer, scopes: &[Scope]) -> Result<(), AllocErr
 // Adds the parameters, in order.
 fn add_extras(
     buffer: &mut ParamBuffer,
-    params: &[(ParamText<'_>, ParamText<'_>)],
+    extra_params: &[(ParamText<'_>, ParamText<'_>)],
 ) -> Result<(), AllocError>
     ensures { OnOk result (buffer.new ≡ record buffer.old {
-      pairs = buffer.old.pairs ++ map param_pair params.now;
+      extra_params = buffer.old.extra_params ++ map param_pair extra_params.now;
     }) }
 {
-    for (name, value) in params {
+    for (name, value) in extra_params {
         buffer.add_extra(name.as_str(), value.as_str())?;
     }
     Ok(())
@@ -250,33 +246,32 @@ fn target(alloc: Global, url: &Url) -> Result<Uri, RequestFault>
     }
 }
 
+// How many bytes of pairs a body has room for before it grows, beside the extra parameters.
+const ROOM: usize = 256;
+
 // The body: the request's own pairs, the scopes, the credentials that go into no header, the
-// redirect URL, and the extra pairs.
+// redirect URL, and the extra parameters.
 fn request_body(
     alloc: Global,
     auth_type: &AuthType,
     client_id: &ClientId,
     client_secret: Option<&ClientSecret>,
-    extra_params: &ParamBuffer,
+    buffer: &ParamBuffer,
     redirect_url: Option<&RedirectUrl>,
-    params: &[(&str, &str)],
+    own_pairs: &[(&str, &str)],
 ) -> Result<FormBody, AllocError>
-    ensures { IfOk result (λ body. body ≡ expected_pairs (record {
-      auth_type = auth_type.now;
-      client_id = client_id.now;
-      client_secret = option_copied client_secret.entry;
-      own_pairs = map pair_text params.now;
-      scope = extra_params.now.scope;
-      redirect_uri = option_map given_text (option_copied redirect_url.entry);
-      extra_pairs = extra_params.now.pairs;
-    })) }
+    ensures { let configuration = configuration_from auth_type.now client_id.now
+        (option_copied client_secret.entry) (map pair_text own_pairs.now) buffer.now
+        (option_copied redirect_url.entry) in
+        IfOk result (λ body. body ≡ expected_pairs configuration) }
 {
-    let mut body = FormBody::new(alloc);
-    push_all(&mut body, params)?;
-    let mut body = with_encoded(body, "scope", extra_params.scope())?;
+    let room = ROOM.saturating_add(buffer.extra_params().byte_len());
+    let mut body = FormBody::with_capacity(alloc, room)?;
+    push_all(&mut body, own_pairs)?;
+    let mut body = with_encoded(body, "scope", buffer.scope())?;
     push_credentials(&mut body, auth_type, client_id, client_secret)?;
     push_redirect(&mut body, redirect_url)?;
-    Ok(body.append(extra_params.pairs())?)
+    Ok(body.append(buffer.extra_params())?)
 }
 
 // Adds the pairs, in order.
@@ -332,7 +327,7 @@ fn push_credentials(
 fn push_id(body: &mut FormBody, client_id: &ClientId) -> Result<(), AllocError>
     ensures { OnOk result (body.new ≡ body.old ++ (codes "client_id", client_id.now) ∷ []) }
 {
-    body.push("client_id", client_id.as_str())?;
+    body.push_plain("client_id", client_id.as_str())?;
     Ok(())
 }
 
@@ -340,7 +335,7 @@ fn push_secret(body: &mut FormBody, client_secret: &ClientSecret) -> Result<(), 
     ensures { OnOk result (body.new
         ≡ body.old ++ (codes "client_secret", client_secret.now) ∷ []) }
 {
-    body.push("client_secret", client_secret.secret().as_str())?;
+    body.push_plain("client_secret", client_secret.secret().as_str())?;
     Ok(())
 }
 
@@ -351,7 +346,7 @@ fn push_redirect(body: &mut FormBody, redirect_url: Option<&RedirectUrl>) -> Res
 {
     match redirect_url {
         Some(url) => {
-            body.push("redirect_uri", url.as_str())?;
+            body.push_plain("redirect_uri", url.as_str())?;
             Ok(())
         }
         None => Ok(()),
@@ -385,7 +380,9 @@ fn request_headers(
 ) -> Result<HeaderMap, AllocError>
     ensures { IfOk result (λ headers. headers ≡ headers_with authorization) }
 {
-    let mut headers = HeaderMap::new(alloc);
+    let Ok(mut headers) = HeaderMap::with_capacity(alloc, 3) else {
+        return Err(AllocError);
+    };
     add_header(
         &mut headers,
         ACCEPT,

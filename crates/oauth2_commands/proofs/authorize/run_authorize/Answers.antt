@@ -23,7 +23,7 @@ given p started = record {
   pkce_challenge = given_or p.challenge started.pkce_challenge;
   redirect_url = given_or p.redirect started.redirect_url;
   scopes = started.scopes ++ p.scopes;
-  extra_params = started.extra_params ++ (optional_pair (codes "nonce") p.nonce ++ p.extra);
+  extra_params = started.extra_params ++ (optional_pair (codes "nonce") p.nonce ++ p.extra_params);
 }
 
 abbrev scoped_by : Authorization → List (List ℕ) → Authorization

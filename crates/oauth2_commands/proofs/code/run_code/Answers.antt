@@ -14,7 +14,7 @@ use Rattle.oauth2_commands.proofs.code.run_code.Goals as goal
 -- the request with what the command gives
 abbrev given : CodeParams → CodeRequest → CodeRequest
 given p started = record {
-  base = record started.base { extra_params = started.base.extra_params ++ p.extra };
+  base = record started.base { extra_params = started.base.extra_params ++ p.extra_params };
   token_url = started.token_url;
   code = started.code;
   pkce_verifier = given_or p.verifier started.pkce_verifier;

@@ -15,7 +15,7 @@ use Rattle.oauth2_commands.proofs.device_authorization.run_device_authorization.
 -- the request with what the command gives
 abbrev given : DeviceAuthorizationParams → DeviceRequest → DeviceRequest
 given p started = record {
-  base = record started.base { scope = with_scopes started.base.scope p.scopes; extra_params = started.base.extra_params ++ p.extra };
+  base = record started.base { scope = with_scopes started.base.scope p.scopes; extra_params = started.base.extra_params ++ p.extra_params };
   device_authorization_url = started.device_authorization_url;
 }
 

@@ -14,7 +14,7 @@ use Rattle.oauth2_commands.proofs.device_poll.run_device_poll.Goals as goal
 -- the request with what the command gives
 abbrev given : DevicePollParams → DeviceToken → DeviceToken
 given p started = record started {
-  base = record started.base { extra_params = started.base.extra_params ++ p.extra };
+  base = record started.base { extra_params = started.base.extra_params ++ p.extra_params };
   max_backoff_interval = unwrap_or p.cap started.max_backoff_interval;
 }
 

@@ -13,7 +13,7 @@ use Rattle.oauth2_commands.proofs.introspect.run_introspect.Goals as goal
 -- the request with what the command gives
 abbrev given : IntrospectParams → TokenIntrospection → TokenIntrospection
 given p started = record {
-  base = record started.base { extra_params = started.base.extra_params ++ p.extra };
+  base = record started.base { extra_params = started.base.extra_params ++ p.extra_params };
   introspection_url = started.introspection_url;
   token = started.token;
   token_type_hint = given_or p.hint started.token_type_hint;

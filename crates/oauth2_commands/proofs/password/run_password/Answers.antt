@@ -16,7 +16,7 @@ use Rattle.oauth2_commands.proofs.password.run_password.Goals as goal
 -- the request with what the command gives
 abbrev given : PasswordParams → PasswordRequest → PasswordRequest
 given p started = record {
-  base = record started.base { scope = with_scopes started.base.scope p.scopes; extra_params = started.base.extra_params ++ p.extra };
+  base = record started.base { scope = with_scopes started.base.scope p.scopes; extra_params = started.base.extra_params ++ p.extra_params };
   token_url = started.token_url;
   username = started.username;
   password = started.password;

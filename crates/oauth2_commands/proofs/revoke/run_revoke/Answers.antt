@@ -13,7 +13,7 @@ use Rattle.oauth2_commands.proofs.revoke.run_revoke.Goals as goal
 -- the request with what the command gives
 abbrev given : RevokeParams → TokenRevocation → TokenRevocation
 given p started = record {
-  base = record started.base { extra_params = started.base.extra_params ++ p.extra };
+  base = record started.base { extra_params = started.base.extra_params ++ p.extra_params };
   revocation_url = started.revocation_url;
   token = started.token;
   token_type_hint = started.token_type_hint;

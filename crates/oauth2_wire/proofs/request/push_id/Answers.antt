@@ -1,4 +1,10 @@
+use Rattle.std.proofs.Common.{refl}
+use Rattle.form_urlencoded.proofs.OnLiterals.{form_urlencoded_on_literals}
 use Rattle.oauth2_wire.proofs.request.push_id.Goals as goal
 
+pub push_plain-requires : goal.push_plain-requires
+unfolding form_urlencoded_on_literals
+push_plain-requires c = refl
+
 pub returns : goal.returns
-returns c = cc (c.in_ok-push.ensures.ok, c.as_str.ensures.value, c.deref.ensures)
+returns c = cc (c.in_ok-push_plain.ensures.ok, c.as_str.ensures.value, c.deref.ensures)

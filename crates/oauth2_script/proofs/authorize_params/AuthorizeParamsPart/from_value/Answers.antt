@@ -10,7 +10,7 @@ pub returns-in_err-response_type-clause-read : goal.returns-in_err-response_type
 unfolding authorize_params
 returns-in_err-response_type-clause-read c =
     let refused : TellsScriptError c.in_err-response_type.field-0.0 (authorize_params (view c.args.value.now)) =
-    rw (c.in_ok-state.ensures.read, c.in_ok-scopes.ensures, c.in_ok-extra.ensures, c.in_ok-challenge.ensures.read, c.in_ok-redirect.ensures.read)
+    rw (c.in_ok-state.ensures.read, c.in_ok-scopes.ensures, c.in_ok-extra_params.ensures, c.in_ok-challenge.ensures.read, c.in_ok-redirect.ensures.read)
     (Refuses-then c.in_err-response_type.field-0.0 _ _ c.in_err-response_type.ensures.read) in
     Gives-refused _ c.from_residual-in_err-response_type.result c.in_err-response_type.field-0.0 _ c.from_residual-in_err-response_type.ensures.1 refused
 
@@ -18,7 +18,7 @@ pub returns-in_err-nonce-clause-read : goal.returns-in_err-nonce-clause-read
 unfolding authorize_params
 returns-in_err-nonce-clause-read c =
     let refused : TellsScriptError c.in_err-nonce.field-0.0 (authorize_params (view c.args.value.now)) =
-    rw (c.in_ok-state.ensures.read, c.in_ok-scopes.ensures, c.in_ok-extra.ensures, c.in_ok-challenge.ensures.read, c.in_ok-redirect.ensures.read, c.in_ok-response_type.ensures.read)
+    rw (c.in_ok-state.ensures.read, c.in_ok-scopes.ensures, c.in_ok-extra_params.ensures, c.in_ok-challenge.ensures.read, c.in_ok-redirect.ensures.read, c.in_ok-response_type.ensures.read)
     (Refuses-then c.in_err-nonce.field-0.0 _ _ c.in_err-nonce.ensures.read) in
     Gives-refused _ c.from_residual-in_err-nonce.result c.in_err-nonce.field-0.0 _ c.from_residual-in_err-nonce.ensures.1 refused
 
@@ -28,7 +28,7 @@ returns-clause-read c =
     rw (
       c.in_ok-state.ensures.read,
       c.in_ok-scopes.ensures,
-      c.in_ok-extra.ensures,
+      c.in_ok-extra_params.ensures,
       c.in_ok-challenge.ensures.read,
       c.in_ok-redirect.ensures.read,
       c.in_ok-response_type.ensures.read,

@@ -1,2 +1,0 @@
--- What only private clauses and lemmas cite.
-pub mod Words
