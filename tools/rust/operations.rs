@@ -183,6 +183,7 @@ fn device_poll(number: u32, iterations: u64) -> (u128, (usize, usize)) {
     })
 }
 
+/// Those that run without arguments. The others are the same at greater sizes.
 const NAMES: [&str; 17] = [
     "a_code_exchange",
     "b_client_credentials_20_extra_5_scopes",
@@ -209,12 +210,16 @@ fn measure(name: &str, iterations: u64) -> (u128, (usize, usize)) {
         "b_client_credentials_20_extra_5_scopes" => client_credentials(20, iterations),
         "b_client_credentials_200_extra_5_scopes" => client_credentials(200, iterations),
         "b_client_credentials_2000_extra_5_scopes" => client_credentials(2000, iterations),
+        "b_client_credentials_20000_extra_5_scopes" => client_credentials(20000, iterations),
+        "b_client_credentials_200000_extra_5_scopes" => client_credentials(200000, iterations),
         "c_authorize_url_pkce_3_scopes_redirect" => authorization_url(iterations),
         "d_introspection_1kb_request" => introspection_request(iterations),
         "d_introspection_1kb_read_alone" => introspection_reading(iterations),
         "e_token_4kb_request" => token_request(long(4 << 10), iterations),
         "e_token_64kb_request" => token_request(long(64 << 10), iterations),
         "e_token_1mb_request" => token_request(long(1 << 20), iterations),
+        "e_token_16mb_request" => token_request(long(16 << 20), iterations),
+        "e_token_100mb_request" => token_request(long(100 << 20), iterations),
         "e_token_4kb_read_alone" => token_reading(4 << 10, iterations),
         "e_token_64kb_read_alone" => token_reading(64 << 10, iterations),
         "e_token_1mb_read_alone" => token_reading(1 << 20, iterations),
@@ -222,6 +227,8 @@ fn measure(name: &str, iterations: u64) -> (u128, (usize, usize)) {
         "g_device_poll_10_pending" => device_poll(10, iterations),
         "g_device_poll_100_pending" => device_poll(100, iterations),
         "g_device_poll_1000_pending" => device_poll(1000, iterations),
+        "g_device_poll_10000_pending" => device_poll(10000, iterations),
+        "g_device_poll_100000_pending" => device_poll(100000, iterations),
         _ => std::process::exit(2),
     }
 }

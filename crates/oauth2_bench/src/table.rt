@@ -13,7 +13,7 @@ use crate::reading::{IntrospectionReading, TokenReading};
 use std::alloc::Global;
 use std::rt::Clock;
 
-/// Every operation.
+/// The operations that run without arguments. The others are the same at greater sizes.
 pub const NAMES: [&str; 17] = [
     "a_code_exchange",
     "b_client_credentials_20_extra_5_scopes",
@@ -54,12 +54,16 @@ impl<C: Clock> Bench<'_, C> {
             "b_client_credentials_20_extra_5_scopes" => self.credentials(20),
             "b_client_credentials_200_extra_5_scopes" => self.credentials(200),
             "b_client_credentials_2000_extra_5_scopes" => self.credentials(2000),
+            "b_client_credentials_20000_extra_5_scopes" => self.credentials(20000),
+            "b_client_credentials_200000_extra_5_scopes" => self.credentials(200000),
             "c_authorize_url_pkce_3_scopes_redirect" => self.authorization_url(),
             "d_introspection_1kb_request" => self.introspection(),
             "d_introspection_1kb_read_alone" => self.introspection_response(),
             "e_token_4kb_request" => self.exchange(long_token(self.alloc, 4 * KILOBYTE)?),
             "e_token_64kb_request" => self.exchange(long_token(self.alloc, 64 * KILOBYTE)?),
             "e_token_1mb_request" => self.exchange(long_token(self.alloc, MEGABYTE)?),
+            "e_token_16mb_request" => self.exchange(long_token(self.alloc, 16 * MEGABYTE)?),
+            "e_token_100mb_request" => self.exchange(long_token(self.alloc, 100 * MEGABYTE)?),
             "e_token_4kb_read_alone" => self.token(4 * KILOBYTE),
             "e_token_64kb_read_alone" => self.token(64 * KILOBYTE),
             "e_token_1mb_read_alone" => self.token(MEGABYTE),
@@ -67,6 +71,8 @@ impl<C: Clock> Bench<'_, C> {
             "g_device_poll_10_pending" => self.device_poll(10),
             "g_device_poll_100_pending" => self.device_poll(100),
             "g_device_poll_1000_pending" => self.device_poll(1000),
+            "g_device_poll_10000_pending" => self.device_poll(10000),
+            "g_device_poll_100000_pending" => self.device_poll(100000),
             _ => Err(Fault::Arguments),
         }
     }
