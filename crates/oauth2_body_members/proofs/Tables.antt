@@ -1,14 +1,15 @@
 -- What a table reads: of members that are taken out in turn, of those that are kept, of those that it wrote.
 use Rattle.std.proofs.Common.{◌≡◌, ℕ, List, [], ◌∷◌, ◌++◌, Bool, true, false, true≢false, not, ◌&&◌, ◌||◌, bytes_eq, Option, Ok, Err, refl, sym, ap, ◌∙◌}
 use Rattle.std.proofs.lemmas.Slice.Eq.{bytes_eq-Decides}
-use Rattle.serde_json.specs.Data.{Data, Members}
+use Rattle.serde_json.specs.Data.{Data, Members, object}
 use Rattle.serde_json.specs.Find.{get_member}
-use Rattle.oauth2_json.specs.Reading.{Reading, Fault, ◌⊛◌}
-use Rattle.oauth2_json.specs.Members.{without, others, put_some, clashes}
+use Rattle.oauth2_json.specs.Reading.{Reading, Fault, read_then, ◌⊛◌}
+use Rattle.oauth2_json.specs.Members.{members_of_object, without, others, put_some, clashes}
 use Rattle.oauth2_json.specs.Puts.{Row, put_all, names}
 use Rattle.oauth2_json.proofs.Objects.{get_member-others, get_member-without, absent_first, misses, pass_some, find_some}
 use Rattle.oauth2_json.proofs.Puts.{are_distinct}
-use Rattle.oauth2_body_members.specs.Object.{has_name}
+use Rattle.oauth2_body_members.specs.Object.{has_name, Keeps}
+use Rattle.oauth2_body_members.proofs.Keeping.{others_kept}
 use Rattle.oauth2_body_members.specs.Table.{NamedValues, values_under, values_in_turn, rows_before, Table, ◌▸◌, end, Builder, Meanings, curried, uncurried, names_of, rows_of, table_reading, turn_reading, group_reading, grouped_reading}
 
 both : (a b : Bool) → a && b ≡ true → (a ≡ true) × (b ≡ true)
@@ -188,3 +189,15 @@ unfolding group_reading
 grouped {X = X} t (Err e) ms = sym (failed t e ms)
 grouped {X = X} t (Ok f) ms =
     sym (read_after t (uncurried t f) (Ok (curried t (λ m. m))) ms) ∙ ap (λ b. turn_reading t (Ok b) ms) (after_curried t (uncurried t f) (λ m. m) ∙ curried_again X t f)
+
+-- ---- a table beside other members, which are read as one object
+
+pub kept_table : {R E X : Type 0} (t : Table R) (f : Reading (Builder t (E → X))) (er : Data → Reading E) (b : Bool) (all kept : Members) → are_distinct (names_of t) ≡ true → Keeps (names_of t) b all kept
+    → (b ≡ false → (x y : Members) → er (object x) ≡ er (object y)) → turn_reading t f kept ⊛ er (object (others (names_of t) kept)) ≡ table_reading t f all ⊛ er (object (others (names_of t) all))
+kept_table t f er b all kept h k any =
+    ap (λ r. r ⊛ er (object (others (names_of t) kept))) (kept_in_turn t f kept all h k.own) ∙ ap (λ x. table_reading t f all ⊛ x) (others_kept er (names_of t) b all kept k.rest any)
+
+pub whole_table : {R E X : Type 0} (t : Table R) (f : Reading (Builder t (E → X))) (er : Data → Reading E) (d : Data) (ms : Members) → are_distinct (names_of t) ≡ true → members_of_object d ≡ Ok ms
+    → turn_reading t f ms ⊛ er (object (others (names_of t) ms)) ≡ read_then (members_of_object d) (λ all. table_reading t f all ⊛ er (object (others (names_of t) all)))
+whole_table t f er d ms h is =
+    ap (λ r. r ⊛ er (object (others (names_of t) ms))) (kept_in_turn t f ms ms h (λ q there. refl)) ∙ sym (ap (λ r. read_then r (λ all. table_reading t f all ⊛ er (object (others (names_of t) all)))) is)

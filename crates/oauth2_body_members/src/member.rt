@@ -13,12 +13,13 @@ ghost use Rattle.oauth2_body_members.specs.private.Taken.{blank_at};
 use serde_json::{Map, Value};
 use std::alloc::{AllocError, Global};
 
-// A member. Its value is none while it is a text that is not copied yet, and once it is taken.
+// A member, whose name stands in the body.
 #[derive(Drop)]
 pub(crate) struct Member<'a> {
     pub(crate) name: &'a str,
-    // The text in the body that is to be the value, where there is none.
+    // The text in the body that is its value, until it is copied.
     pub(crate) text: &'a str,
+    // None until its text is copied, and once it is taken.
     pub(crate) value: Option<Value>,
 }
 
@@ -36,6 +37,7 @@ pub(crate) fn with_texts<'a>(
     Ok(list)
 }
 
+// Copies a member's text, where it has no value.
 fn copy_text(alloc: Global, member: &mut Member<'_>) -> Result<(), AllocError>
     ensures { OnOk result (entry_of member.new ≡ found_entry member.old) }
 {

@@ -1,12 +1,12 @@
 -- The error response of RFC 6749, 5.2 (and so of RFC 7009, 2.2.1, and RFC 8628, 3.5).
-use Rattle.std.specs.Prelude.{◌≡◌, ℕ, List, [], ◌∷◌, ◌++◌, Option, Some, None, Ok, codes, option_map, string_bytes}
+use Rattle.std.specs.Prelude.{◌≡◌, ℕ, List, [], ◌++◌, Option, Some, None, Ok, codes, option_map, string_bytes}
 use Rattle.serde_json.specs.Data.{Data, Members, string, object, no_members}
-use Rattle.serde_json.specs.Find.{get_member}
-use Rattle.oauth2_json.specs.Reading.{Reading, read_then, ◌⊛◌}
+use Rattle.oauth2_json.specs.Reading.{Reading, read_then}
 use Rattle.oauth2_json.specs.Writing.{Writing, write_then}
 use Rattle.oauth2_json.specs.Members.{members_of_object, needed_member, optional_member}
 use Rattle.oauth2_json.specs.Puts.{Row, put_all}
 use Rattle.oauth2_json.specs.Values.{text}
+use Rattle.oauth2_body_members.specs.Table.{Table, column, ◌▸◌, end, table_reading, rows_of}
 use Rattle.oauth2_codes.specs.declared.error_response.StandardErrorResponse.{StandardErrorResponse}
 
 pub record ErrorParts (T : Type 0) : Type 0 where
@@ -22,24 +22,23 @@ abbrev pub parts_of : {T M : Type 0} → (T → M) → StandardErrorResponse T �
 parts_of f r =
     parts_of_error (f r.error) (option_map string_bytes r.error_description) (option_map string_bytes r.error_uri)
 
--- other members are ignored
+-- each member: how it is read, and how it is written once the code is JSON; other members are ignored
+abbrev pub error_table : {T : Type 0} → (Data → Reading T) → Table (ErrorParts Data)
+error_table code =
+    column (codes "error") (needed_member code) (λ r. Some r.error)
+    ▸ column (codes "error_description") (optional_member text) (λ r. option_map string r.description)
+    ▸ column (codes "error_uri") (optional_member text) (λ r. option_map string r.uri)
+    ▸ end
+
 abbrev pub error_row : {T : Type 0} → (Data → Reading T) → Members → Reading (ErrorParts T)
-error_row code ms =
-    Ok parts_of_error
-    ⊛ needed_member code (codes "error") (get_member (codes "error") ms)
-    ⊛ optional_member text (codes "error_description") (get_member (codes "error_description") ms)
-    ⊛ optional_member text (codes "error_uri") (get_member (codes "error_uri") ms)
+error_row code ms = table_reading (error_table code) (Ok parts_of_error) ms
 
 abbrev pub error_reading : {T : Type 0} → (Data → Reading T) → Data → Reading (ErrorParts T)
 error_reading code d = read_then (members_of_object d) (error_row code)
 
 -- the members of a response whose code is written as `code`
 abbrev pub error_rows : {T : Type 0} → Data → ErrorParts T → List Row
-error_rows code r =
-    (codes "error", Some code)
-    ∷ (codes "error_description", option_map string r.description)
-    ∷ (codes "error_uri", option_map string r.uri)
-    ∷ []
+error_rows code r = rows_of (error_table Ok) (parts_of_error code r.description r.uri)
 
 abbrev pub error_writing : {T : Type 0} → (T → Writing) → ErrorParts T → Writing
 error_writing code r =

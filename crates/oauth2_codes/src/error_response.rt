@@ -99,13 +99,10 @@ fn from_members<T: FromJson + Drop>(
     ensures { ReadsAs (parts_of T.meaning) result
         (error_row T.reading (object_members members.entry)) }
 {
-    let error = members.take("error");
-    let error_description = members.take("error_description");
-    let error_uri = members.take("error_uri");
     Ok(StandardErrorResponse {
-        error: members::needed(alloc, "error", error)?,
-        error_description: members::optional(alloc, "error_description", error_description)?,
-        error_uri: members::optional(alloc, "error_uri", error_uri)?,
+        error: members.needed(alloc, "error")?,
+        error_description: members.optional(alloc, "error_description")?,
+        error_uri: members.optional(alloc, "error_uri")?,
     })
 }
 

@@ -6,6 +6,7 @@ use Rattle.serde_json.specs.declared.value.Value.{Value}
 use Rattle.oauth2_body_members.specs.Object.{put_each}
 use Rattle.oauth2_body_members.specs.declared.member.Member.{Member}
 
+-- a value, or the text that is to be copied where there is none
 abbrev pub value_or_text : Option Value → List ℕ → Data
 value_or_text None s = string s
 value_or_text (Some v) s = view v
