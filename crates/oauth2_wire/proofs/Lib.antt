@@ -1,3 +1,3 @@
 pub mod ByNameLemmas
 pub mod ParamsLemmas
-pub mod OneShotLemmas
+pub mod OnceLemmas

@@ -1,4 +1,3 @@
 -- What only private clauses cite.
 pub mod Headers
-pub mod Call
 pub mod Failure

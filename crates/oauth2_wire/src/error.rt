@@ -1,9 +1,10 @@
 //! Why a request could not be made, was not sent, or got no answer.
 
+use crate::request::RequestFault;
 use oauth2_codes::{BasicErrorResponseType, StandardErrorResponse};
 use oauth2_json::ParseFault;
 use oauth2_types::display::write_display;
-use std::alloc::AllocError;
+use std::alloc::{AllocError, Global};
 use std::{fmt, io};
 use thiserror::Error;
 
@@ -92,8 +93,10 @@ where
 {}
 
 impl<RE, T> RequestTokenError<RE, T> {
-    ghost use Rattle.std.specs.Prelude.{◌≡◌, false};
+    ghost use Rattle.std.specs.Prelude.{◌≡◌, ◌⊎◌, false};
+    ghost use Rattle.oauth2_wire.specs.Once.{SaysOther, not_http_text};
     ghost use Rattle.oauth2_wire.specs.declared.error.RequestTokenError.TheVariants.{Memory};
+    ghost use Rattle.oauth2_wire.specs.declared.request.RequestFault.TheVariants.{NotHttp};
 
     /// The error for memory that ran out before a request was sent. It turns the error of a call
     /// that only allocates: `.map_err(RequestTokenError::refused)?`. A function that is generic
@@ -102,6 +105,31 @@ impl<RE, T> RequestTokenError<RE, T> {
         ensures { result ≡ Memory false }
     {
         RequestTokenError::Memory { sent: false }
+    }
+
+    /// `Other` with a copy of this text, or `Memory` with this `sent` if memory for it runs out.
+    pub fn with_text(alloc: Global, text: &str, sent: bool) -> RequestTokenError<RE, T>
+        ensures { SaysOther text.now result ⊎ (result ≡ Memory sent) }
+    {
+        match String::from_str(alloc, text) {
+            Ok(text) => RequestTokenError::Other(text),
+            Err(AllocError) => RequestTokenError::Memory { sent },
+        }
+    }
+
+    /// The error of a request that could not be prepared, with this `sent` if memory ran out: it
+    /// says whether the client was called before.
+    pub fn unprepared(alloc: Global, fault: RequestFault, sent: bool) -> RequestTokenError<RE, T>
+        ensures { ((fault ≡ NotHttp) × SaysOther not_http_text result) ⊎ (result ≡ Memory sent) }
+    {
+        match fault {
+            RequestFault::NotHttp => RequestTokenError::with_text(
+                alloc,
+                "failed to prepare request: endpoint URL is not an HTTP target",
+                sent,
+            ),
+            RequestFault::Memory => RequestTokenError::Memory { sent },
+        }
     }
 }
 

@@ -1,8 +1,7 @@
 //! One request and its answer.
 
-ghost use Rattle.oauth2_wire.specs.Reply.{reply_of, answer_of, status_answer_of};
-ghost use Rattle.oauth2_wire.specs.OneShot.{SendsOnce, IsUnsentError};
-ghost use Rattle.oauth2_wire.specs.private.Call.{IsCallOf};
+ghost use Rattle.oauth2_wire.specs.Reply.{accepted, reply_of, answer_of, status_answer_of};
+ghost use Rattle.oauth2_wire.specs.Once.{SendsOnce};
 
 use crate::content_type::ReplyRule;
 use crate::error::RequestTokenError;
@@ -10,7 +9,7 @@ use crate::http_client::{HttpResponse, SyncHttpClient};
 use crate::reply::{endpoint_response_status_only, endpoint_response_with};
 use crate::request::{HttpRequest, RequestFault};
 use oauth2_json::FromJson;
-use std::alloc::{AllocError, Global};
+use std::alloc::Global;
 
 /// Sends a prepared request once, and reads its reply by this rule.
 pub fn send_once<C: SyncHttpClient, TE: FromJson, DO: FromJson>(
@@ -20,8 +19,7 @@ pub fn send_once<C: SyncHttpClient, TE: FromJson, DO: FromJson>(
     http_client: &mut C,
 ) -> Result<DO, RequestTokenError<C::Error, TE>>
     requires { C.is_ready http_client.old }
-    ensures once { SendsOnce DO.meaning TE.meaning C.step
-        (λ reply. answer_of rule DO.reading TE.reading (reply_of reply))
+    ensures once { SendsOnce DO.meaning TE.meaning C.step (answer_of rule DO.reading TE.reading)
         http_client.old prepared result http_client.new }
     ensures ready { C.is_ready http_client.new }
 {
@@ -39,8 +37,7 @@ pub fn send_once_status_only<C: SyncHttpClient, TE: FromJson>(
     http_client: &mut C,
 ) -> Result<(), RequestTokenError<C::Error, TE>>
     requires { C.is_ready http_client.old }
-    ensures once { SendsOnce (λ done. done) TE.meaning C.step
-        (λ reply. status_answer_of TE.reading (reply_of reply))
+    ensures once { SendsOnce (λ done. done) TE.meaning C.step (status_answer_of TE.reading)
         http_client.old prepared result http_client.new }
     ensures ready { C.is_ready http_client.new }
 {
@@ -57,7 +54,8 @@ fn call<C: SyncHttpClient, TE>(
     http_client: &mut C,
 ) -> Result<HttpResponse, RequestTokenError<C::Error, TE>>
     requires { C.is_ready http_client.old }
-    ensures once { IsCallOf C.step http_client.old prepared result http_client.new }
+    ensures once { SendsOnce reply_of (λ error. error) C.step accepted
+        http_client.old prepared result http_client.new }
     ensures ready { C.is_ready http_client.new }
 {
     match prepared {
@@ -65,28 +63,6 @@ fn call<C: SyncHttpClient, TE>(
             Ok(reply) => Ok(reply),
             Err(error) => Err(RequestTokenError::Request(error)),
         },
-        Err(fault) => Err(unsent(alloc, fault)),
-    }
-}
-
-// The error of a request that was not sent.
-fn unsent<RE, TE>(alloc: Global, fault: RequestFault) -> RequestTokenError<RE, TE>
-    ensures { IsUnsentError fault result }
-{
-    match fault {
-        RequestFault::NotHttp => not_http(alloc),
-        RequestFault::Memory => RequestTokenError::Memory { sent: false },
-    }
-}
-
-fn not_http<RE, TE>(alloc: Global) -> RequestTokenError<RE, TE>
-    ensures { IsUnsentError RequestFault.NotHttp result }
-{
-    match String::from_str(
-        alloc,
-        "failed to prepare request: endpoint URL is not an HTTP target",
-    ) {
-        Ok(text) => RequestTokenError::Other(text),
-        Err(AllocError) => RequestTokenError::Memory { sent: false },
+        Err(fault) => Err(RequestTokenError::unprepared(alloc, fault, false)),
     }
 }

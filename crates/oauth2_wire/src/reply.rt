@@ -93,7 +93,11 @@ fn read_answer<RE, TE: FromJson, DO: FromJson>(
     ensures { ShowsAnswer DO.meaning TE.meaning (body_answer DO.reading body.items) result }
 {
     if body.is_empty() {
-        return Err(other(alloc, "server returned empty response body"));
+        return Err(RequestTokenError::with_text(
+            alloc,
+            "server returned empty response body",
+            true,
+        ));
     }
     match read_body::<DO>(alloc, &body) {
         Ok(answer) => Ok(answer),
@@ -107,22 +111,12 @@ fn read_failure<RE, TE: FromJson>(alloc: Global, body: Vec<u8>) -> RequestTokenE
     ensures { ShowsFailure TE.meaning (failure_answer TE.reading body.items) result }
 {
     if body.is_empty() {
-        return other(alloc, "server returned empty error response");
+        return RequestTokenError::with_text(alloc, "server returned empty error response", true);
     }
     match read_body::<TE>(alloc, &body) {
         Ok(error) => RequestTokenError::ServerResponse(error),
         Err(ReadError::Fault(fault)) => RequestTokenError::Parse(fault, body),
         Err(ReadError::Memory) => RequestTokenError::Memory { sent: true },
-    }
-}
-
-// A fault in words, after a call of the client.
-fn other<RE, TE: FromJson>(alloc: Global, text: &str) -> RequestTokenError<RE, TE>
-    ensures { ShowsFailure TE.meaning (other text.now) result }
-{
-    match String::from_str(alloc, text) {
-        Ok(text) => RequestTokenError::Other(text),
-        Err(AllocError) => RequestTokenError::Memory { sent: true },
     }
 }
 
