@@ -1,3 +1,4 @@
 pub mod ByNameLemmas
+pub mod CopyLemmas
 pub mod ParamsLemmas
 pub mod OnceLemmas

@@ -18,7 +18,7 @@ pub use http_client::{AlwaysReady, FnClient, HttpResponse, SyncHttpClient};
 pub use once::{send_once, send_once_status_only};
 pub use reply::{endpoint_response, endpoint_response_status_only, endpoint_response_with};
 pub use request::{
-    AuthType, HttpRequest, RequestFault, endpoint_request, endpoint_request_encoded,
+    AuthType, HttpRequest, RequestFault, copy_request, endpoint_request, endpoint_request_encoded,
 };
 pub use texts::{ParamText, RedirectRef};
 pub use view::{ServerView, ViewError, server_view};

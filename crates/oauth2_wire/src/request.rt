@@ -1,6 +1,6 @@
 //! The requests of a client: a POST of a form to an endpoint (RFC 6749, sections 2.3.1 and 3.2).
 
-ghost use Rattle.std.specs.Prelude.{◌≡◌, ◌<◌, [], ◌∷◌, ◌++◌, length, map, codes};
+ghost use Rattle.std.specs.Prelude.{◌≡◌, ◌<◌, ℕ, List, [], ◌∷◌, ◌++◌, length, map, codes};
 ghost use Rattle.std.specs.Prelude.{Err, IfOk, IsErr, OnOk};
 ghost use Rattle.std.specs.Prelude.{option_copied, option_and_then, option_map};
 ghost use Rattle.form_urlencoded.specs.Form.{pair_text};
@@ -10,7 +10,7 @@ ghost use Rattle.url.specs.Parts.{serialize};
 ghost use Rattle.oauth2_form.specs.Params.{with_scopes};
 ghost use Rattle.oauth2_wire.specs.Texts.{param_pair, given_text};
 ghost use Rattle.oauth2_wire.specs.Expected.{joined_scope, expected_pairs, optional_pair};
-ghost use Rattle.oauth2_wire.specs.Expected.{configuration_from};
+ghost use Rattle.oauth2_wire.specs.Expected.{Configuration, configuration_from};
 ghost use Rattle.oauth2_wire.specs.Expected.{basic_credentials, body_credentials};
 ghost use Rattle.oauth2_wire.specs.Expected.{authorization_header};
 ghost use Rattle.oauth2_wire.specs.private.Headers.{headers_with, optional_authorization};
@@ -171,6 +171,25 @@ pub fn endpoint_request_encoded(
         headers: request_headers(alloc, value)?,
     };
     Ok(Request::from_parts(head, body.into_bytes()))
+}
+
+/// A copy of a request: it is the request of each configuration that the other is.
+pub fn copy_request(alloc: Global, request: &HttpRequest) -> Result<HttpRequest, AllocError>
+    ensures { IfOk result (λ copy. (configuration : Configuration) (text : List ℕ)
+        → IsRequestOf configuration text (view_of request.now)
+        → IsRequestOf configuration text (view_of copy)) }
+{
+    let method = request.method().clone()?;
+    let uri = request.uri().clone()?;
+    let headers = request.headers().clone()?;
+    let body = Vec::from_slice(alloc, request.body().as_slice())?;
+    let head = Parts {
+        method,
+        uri,
+        version: request.version(),
+        headers,
+    };
+    Ok(Request::from_parts(head, body))
 }
 
 // A buffer of the scopes and the parameters.
