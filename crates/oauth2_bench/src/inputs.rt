@@ -17,15 +17,16 @@ pub fn short_token(alloc: Global) -> Result<String, AllocError> {
     )
 }
 
-/// A token response whose token has this many bytes.
+/// A token response whose token has this many bytes. The token is made apart and dropped, as on the
+/// Rust side.
 pub fn long_token(alloc: Global, size: u32) -> Result<String, AllocError> {
-    let mut body = String::from_str(alloc, "{\"access_token\":\"")?;
+    let mut token = String::new(alloc);
     for i in 0..size {
-        body.push((b'a' + (i % 26) as u8) as char)?;
+        token.push((b'a' + (i % 26) as u8) as char)?;
     }
-    body.push_str(
-        "\",\"token_type\":\"bearer\",\"expires_in\":3600,\"refresh_token\":\"r1\",\
-        \"scope\":\"read write\"}",
+    let body = format!(in alloc;
+        "{{\"access_token\":\"{token}\",\"token_type\":\"bearer\",\"expires_in\":3600,\
+         \"refresh_token\":\"r1\",\"scope\":\"read write\"}}"
     )?;
     Ok(body)
 }

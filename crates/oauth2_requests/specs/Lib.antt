@@ -7,5 +7,4 @@ pub mod DeviceAuthorization
 pub mod HintedToken
 pub mod TokenIntrospection
 pub mod TokenRevocation
-pub mod Once
 pub mod Authorization

@@ -6,9 +6,9 @@ ghost use Rattle.std.specs.Iterator.{Drains, IsFinite};
 ghost use Rattle.form_urlencoded.specs.Form.{pair_text};
 ghost use Rattle.http_uri.specs.Uri.{SpellsNone};
 ghost use Rattle.url.specs.Parts.{serialize};
-ghost use Rattle.oauth2_wire.specs.OneShot.{SendsOnce};
+ghost use Rattle.oauth2_wire.specs.Once.{SendsOnce};
 ghost use Rattle.oauth2_form.specs.Params.{with_scope, with_scopes};
-ghost use Rattle.oauth2_wire.specs.Reply.{answer_of, reply_of};
+ghost use Rattle.oauth2_wire.specs.Reply.{answer_of};
 ghost use Rattle.oauth2_wire.specs.Request.{IsRequestOf, view_of};
 ghost use Rattle.oauth2_wire.specs.Texts.{param_bytes};
 ghost use Rattle.oauth2_requests.specs.Base.{configuration_of};
@@ -165,7 +165,7 @@ impl<'a> BaseRequest<'a> {
     ) -> Result<DO, RequestTokenError<C::Error, TE>>
         requires { C.is_ready http_client.old }
         ensures once { SendsOnce DO.meaning TE.meaning C.step
-            (λ reply. answer_of self.now.reply_rule DO.reading TE.reading (reply_of reply))
+            (answer_of self.now.reply_rule DO.reading TE.reading)
             http_client.old prepared result http_client.new }
         ensures ready { C.is_ready http_client.new }
     {

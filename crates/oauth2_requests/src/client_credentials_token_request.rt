@@ -5,10 +5,11 @@ ghost use Rattle.std.specs.Iterator.{Drains, IsFinite};
 ghost use Rattle.http_uri.specs.Uri.{SpellsNone};
 ghost use Rattle.url.specs.Parts.{serialize};
 ghost use Rattle.oauth2_form.specs.Params.{with_scope, with_scopes};
+ghost use Rattle.oauth2_wire.specs.Once.{AsksOnce};
+ghost use Rattle.oauth2_wire.specs.Reply.{answer_of};
 ghost use Rattle.oauth2_wire.specs.Request.{IsRequestOf, view_of};
 ghost use Rattle.oauth2_wire.specs.Texts.{param_bytes};
 ghost use Rattle.oauth2_requests.specs.ClientCredentials.{client_credentials_configuration};
-ghost use Rattle.oauth2_requests.specs.Once.{AsksOnce};
 
 use crate::base_request::BaseRequest;
 use oauth2_codes::ErrorResponse;
@@ -121,9 +122,10 @@ impl<'a, TE: ErrorResponse, TR: TokenResponse> ClientCredentialsTokenRequest<'a,
         http_client: &mut C,
     ) -> Result<TR, RequestTokenError<C::Error, TE>>
         requires { C.is_ready http_client.old }
-        ensures once { AsksOnce TR.meaning TE.meaning TR.reading TE.reading C.step
-            self.entry.base.reply_rule (client_credentials_configuration self.entry)
-            self.entry.token_url http_client.old result http_client.new }
+        ensures once { AsksOnce TR.meaning TE.meaning C.step
+            (answer_of self.entry.base.reply_rule TR.reading TE.reading)
+            (IsRequestOf (client_credentials_configuration self.entry))
+            (serialize self.entry.token_url.url) http_client.old result http_client.new }
         ensures ready { C.is_ready http_client.new }
     {
         let prepared = self.prepare_request(alloc);

@@ -3,10 +3,11 @@
 ghost use Rattle.std.specs.Prelude.{◌≡◌, ◌++◌, ◌∷◌, [], Some, None, IfOk, Err, option_copied};
 ghost use Rattle.http_uri.specs.Uri.{SpellsNone};
 ghost use Rattle.url.specs.Parts.{serialize};
+ghost use Rattle.oauth2_wire.specs.Once.{AsksOnce};
+ghost use Rattle.oauth2_wire.specs.Reply.{answer_of};
 ghost use Rattle.oauth2_wire.specs.Request.{IsRequestOf, view_of};
 ghost use Rattle.oauth2_wire.specs.Texts.{param_bytes, redirect_of};
 ghost use Rattle.oauth2_requests.specs.Code.{code_configuration};
-ghost use Rattle.oauth2_requests.specs.Once.{AsksOnce};
 
 use crate::base_request::BaseRequest;
 use oauth2_codes::ErrorResponse;
@@ -155,9 +156,10 @@ impl<'a, TE: ErrorResponse, TR: TokenResponse> CodeTokenRequest<'a, TE, TR> {
         http_client: &mut C,
     ) -> Result<TR, RequestTokenError<C::Error, TE>>
         requires { C.is_ready http_client.old }
-        ensures once { AsksOnce TR.meaning TE.meaning TR.reading TE.reading C.step
-            self.entry.base.reply_rule (code_configuration self.entry)
-            self.entry.token_url http_client.old result http_client.new }
+        ensures once { AsksOnce TR.meaning TE.meaning C.step
+            (answer_of self.entry.base.reply_rule TR.reading TE.reading)
+            (IsRequestOf (code_configuration self.entry))
+            (serialize self.entry.token_url.url) http_client.old result http_client.new }
         ensures ready { C.is_ready http_client.new }
     {
         let prepared = self.prepare_request(alloc);

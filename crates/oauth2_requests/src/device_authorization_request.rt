@@ -5,11 +5,12 @@ ghost use Rattle.std.specs.Iterator.{Drains, IsFinite};
 ghost use Rattle.http_uri.specs.Uri.{SpellsNone};
 ghost use Rattle.url.specs.Parts.{serialize};
 ghost use Rattle.oauth2_form.specs.Params.{with_scope, with_scopes};
+ghost use Rattle.oauth2_wire.specs.Once.{AsksOnce};
+ghost use Rattle.oauth2_wire.specs.Reply.{answer_of};
 ghost use Rattle.oauth2_wire.specs.Request.{IsRequestOf, view_of};
 ghost use Rattle.oauth2_wire.specs.Texts.{param_bytes};
 ghost use Rattle.oauth2_replies.specs.Device.{device_seen, device_reading};
 ghost use Rattle.oauth2_requests.specs.DeviceAuthorization.{device_authorization_configuration};
-ghost use Rattle.oauth2_requests.specs.Once.{AsksOnce};
 
 use crate::base_request::BaseRequest;
 use oauth2_codes::ErrorResponse;
@@ -121,10 +122,11 @@ impl<'a, TE: ErrorResponse> DeviceAuthorizationRequest<'a, TE> {
         http_client: &mut C,
     ) -> Result<DeviceAuthorizationResponse<EF>, RequestTokenError<C::Error, TE>>
         requires { C.is_ready http_client.old }
-        ensures once { AsksOnce (device_seen EF.meaning) TE.meaning
-            (device_reading EF.reading) TE.reading C.step
-            self.entry.base.reply_rule (device_authorization_configuration self.entry)
-            self.entry.device_authorization_url http_client.old result http_client.new }
+        ensures once { AsksOnce (device_seen EF.meaning) TE.meaning C.step
+            (answer_of self.entry.base.reply_rule (device_reading EF.reading) TE.reading)
+            (IsRequestOf (device_authorization_configuration self.entry))
+            (serialize self.entry.device_authorization_url.url)
+            http_client.old result http_client.new }
         ensures ready { C.is_ready http_client.new }
     {
         let prepared = self.prepare_request(alloc);

@@ -3,10 +3,11 @@
 ghost use Rattle.std.specs.Prelude.{◌≡◌, ◌++◌, ◌∷◌, [], Some, None, IfOk, Err};
 ghost use Rattle.http_uri.specs.Uri.{SpellsNone};
 ghost use Rattle.url.specs.Parts.{serialize};
+ghost use Rattle.oauth2_wire.specs.Once.{AsksOnce};
+ghost use Rattle.oauth2_wire.specs.Reply.{answer_of};
 ghost use Rattle.oauth2_wire.specs.Request.{IsRequestOf, view_of};
 ghost use Rattle.oauth2_wire.specs.Texts.{param_bytes};
 ghost use Rattle.oauth2_requests.specs.TokenIntrospection.{introspection_configuration};
-ghost use Rattle.oauth2_requests.specs.Once.{AsksOnce};
 
 use crate::base_request::BaseRequest;
 use oauth2_codes::ErrorResponse;
@@ -124,9 +125,11 @@ impl<'a, TE: ErrorResponse, TIR: FromJson> IntrospectionRequest<'a, TE, TIR> {
         http_client: &mut C,
     ) -> Result<TIR, RequestTokenError<C::Error, TE>>
         requires { C.is_ready http_client.old }
-        ensures once { AsksOnce TIR.meaning TE.meaning TIR.reading TE.reading C.step
-            self.entry.base.reply_rule (introspection_configuration self.entry)
-            self.entry.introspection_url http_client.old result http_client.new }
+        ensures once { AsksOnce TIR.meaning TE.meaning C.step
+            (answer_of self.entry.base.reply_rule TIR.reading TE.reading)
+            (IsRequestOf (introspection_configuration self.entry))
+            (serialize self.entry.introspection_url.url)
+            http_client.old result http_client.new }
         ensures ready { C.is_ready http_client.new }
     {
         let prepared = self.prepare_request(alloc);

@@ -3,10 +3,11 @@
 ghost use Rattle.std.specs.Prelude.{◌≡◌, ◌++◌, ◌∷◌, [], IfOk, Err};
 ghost use Rattle.http_uri.specs.Uri.{SpellsNone};
 ghost use Rattle.url.specs.Parts.{serialize};
+ghost use Rattle.oauth2_wire.specs.Once.{AsksOnce};
+ghost use Rattle.oauth2_wire.specs.Reply.{status_answer_of};
 ghost use Rattle.oauth2_wire.specs.Request.{IsRequestOf, view_of};
 ghost use Rattle.oauth2_wire.specs.Texts.{param_bytes};
 ghost use Rattle.oauth2_requests.specs.TokenRevocation.{revocation_configuration};
-ghost use Rattle.oauth2_requests.specs.Once.{AsksOnceStatusOnly};
 
 use crate::base_request::BaseRequest;
 use oauth2_codes::ErrorResponse;
@@ -111,9 +112,9 @@ impl<'a, RT: RevocableToken + Drop, TRE: ErrorResponse> RevocationRequest<'a, RT
         http_client: &mut C,
     ) -> Result<(), RequestTokenError<C::Error, TRE>>
         requires { C.is_ready http_client.old }
-        ensures once { AsksOnceStatusOnly TRE.meaning TRE.reading C.step
-            (revocation_configuration self.entry) self.entry.revocation_url
-            http_client.old result http_client.new }
+        ensures once { AsksOnce (λ done. done) TRE.meaning C.step
+            (status_answer_of TRE.reading) (IsRequestOf (revocation_configuration self.entry))
+            (serialize self.entry.revocation_url.url) http_client.old result http_client.new }
         ensures ready { C.is_ready http_client.new }
     {
         let prepared = self.prepare_request(alloc);

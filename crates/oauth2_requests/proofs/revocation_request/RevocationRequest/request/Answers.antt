@@ -1,7 +1,0 @@
-use Rattle.oauth2_wire.proofs.OneShotLemmas.{OneShot-from_SendsOnce}
-use Rattle.oauth2_requests.proofs.revocation_request.RevocationRequest.request.Goals as goal
-
-pub returns-clause-once : goal.returns-clause-once
-returns-clause-once g c =
-    let prepared = c.prepare_request-prepared in
-    OneShot-from_SendsOnce _ g.TRE.FromJson.meaning g.C.SyncHttpClient.step _ _ _ _ _ _ prepared.result prepared.ensures.ok prepared.ensures.not_http c.send_once_status_only.ensures.once
