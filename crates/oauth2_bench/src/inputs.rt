@@ -28,6 +28,8 @@ pub fn long_token(alloc: Global, size: u32) -> Result<String, AllocError> {
         "{{\"access_token\":\"{token}\",\"token_type\":\"bearer\",\"expires_in\":3600,\
          \"refresh_token\":\"r1\",\"scope\":\"read write\"}}"
     )?;
+    // The body is held while the operation runs, and grew into more room than it needs.
+    body.shrink_to_fit();
     Ok(body)
 }
 

@@ -2,7 +2,7 @@
 use Rattle.std.proofs.Common.{◌≡◌, List, [], ◌∷◌, ◌++◌, Bool, true, false, Option, Some, Result, refl, subst, sym, ◌∙◌}
 use Rattle.std.specs.declared.time.Duration.{Duration}
 use Rattle.jiff.specs.Types.{Timestamp}
-use Rattle.oauth2_wire.specs.OneShot.{HttpRequest}
+use Rattle.oauth2_wire.specs.Request.{HttpRequest}
 use Rattle.oauth2_wire.specs.Reply.{HttpResponse}
 use Rattle.oauth2_device.specs.Events.{Event, Reading, Sent, Slept, Leads, EachRequest, has_request, last_reply}
 

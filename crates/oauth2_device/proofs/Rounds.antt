@@ -12,12 +12,14 @@ use Rattle.oauth2_poll.specs.Step.{state_after, action_of, action_after}
 use Rattle.oauth2_poll.proofs.Steps.{sleep_step, limit_step}
 use Rattle.oauth2_wire.specs.declared.request.RequestFault.{RequestFault}
 use Rattle.oauth2_wire.specs.declared.request.RequestFault.TheVariants as fault
-use Rattle.oauth2_wire.specs.OneShot.{HttpRequest}
+use Rattle.oauth2_wire.specs.declared.error.RequestTokenError.TheVariants as token
+use Rattle.oauth2_wire.specs.Once.{SaysOther, not_http_text}
+use Rattle.oauth2_wire.specs.Request.{HttpRequest}
 use Rattle.oauth2_wire.specs.Reply.{HttpResponse, Answer}
 use Rattle.oauth2_device.specs.declared.verdict.Verdict.TheVariants.{Again, Decided}
 use Rattle.oauth2_device.specs.Events.{Reading, Sent, Slept}
-use Rattle.oauth2_device.specs.Poll.{DeviceError, PollError, SaysOther, SaysExpired, class_of}
-use Rattle.oauth2_device.specs.private.Round.{OrMemory, IsUnprepared, IsJudged, EndsUnsent, EndsSent, RoundGoesOn, IsTurn}
+use Rattle.oauth2_device.specs.Poll.{DeviceError, PollError, SaysExpired, class_of}
+use Rattle.oauth2_device.specs.private.Round.{OrMemory, IsJudged, EndsUnsent, EndsSent, RoundGoesOn, IsTurn}
 
 module _ {D A RE : Type 0} (meaning : D → A) (says : HttpResponse → Answer A DeviceError) (N : Type 0) (poll : PollState) (sent : Bool) (t : Timestamp) where
   pub late : (error : PollError RE) → poll.deadline <ℤ t.nanosecond → OrMemory SaysExpired sent error → EndsUnsent meaning says N poll sent (Reading t ∷ []) error
@@ -26,10 +28,9 @@ module _ {D A RE : Type 0} (meaning : D → A) (says : HttpResponse → Answer A
 
   module _ (before : ¬ (poll.deadline <ℤ t.nanosecond)) where
     pub unprepared : (kind : RequestFault) (error : PollError RE) (prepared : Result HttpRequest RequestFault) → prepared ≡ Err kind → (prepared ≡ Err fault.NotHttp → N)
-        → IsUnprepared kind sent error → EndsUnsent meaning says N poll sent (Reading t ∷ []) error
-    unprepared fault.NotHttp error prepared is none (inl h) = record { moment = t; events = refl; cause = inr (inl (before, none is, h)) }
-    unprepared fault.NotHttp error prepared is none (inr h) = record { moment = t; events = refl; cause = inr (inr h) }
-    unprepared fault.Memory error prepared is none h = record { moment = t; events = refl; cause = inr (inr h) }
+        → ((kind ≡ fault.NotHttp) × SaysOther not_http_text error) ⊎ (error ≡ token.Memory sent) → EndsUnsent meaning says N poll sent (Reading t ∷ []) error
+    unprepared kind error prepared is none (inl (not_http, said)) = record { moment = t; events = refl; cause = inr (inl (before, none (is ∙ ap Err not_http), said)) }
+    unprepared kind error prepared is none (inr h) = record { moment = t; events = refl; cause = inr (inr h) }
 
     module _ (q : HttpRequest) (a : Result HttpResponse RE) where
       -- after a request the result is that of the round

@@ -24,11 +24,12 @@ use Rattle.oauth2_poll.proofs.Lists.{slice_get-append_here}
 use Rattle.oauth2_poll.proofs.Sleeps.{each_sleep_is_paced}
 use Rattle.oauth2_poll.proofs.Requests.{requests_are_bounded}
 use Rattle.oauth2_wire.specs.declared.error.RequestTokenError.TheVariants as token
-use Rattle.oauth2_wire.specs.OneShot.{HttpRequest, not_http_text}
+use Rattle.oauth2_wire.specs.Once.{not_http_text, SaysOther}
+use Rattle.oauth2_wire.specs.Request.{HttpRequest}
 use Rattle.oauth2_wire.specs.Reply.{HttpResponse, Answer}
 use Rattle.oauth2_device.specs.DeviceToken.{DeviceToken}
 use Rattle.oauth2_device.specs.Events.{Event, Reading, Sent, Slept, EachRequest, has_request}
-use Rattle.oauth2_device.specs.Poll.{DeviceError, PollError, SaysOther, SaysExpired, IsDeviceRequest, class_of, plain, input_of, device_answer, IsWhole, IsUnsendable, IsPoll, Polls}
+use Rattle.oauth2_device.specs.Poll.{DeviceError, PollError, SaysExpired, IsDeviceRequest, class_of, plain, input_of, device_answer, IsWhole, IsUnsendable, IsPoll, Polls}
 use Rattle.oauth2_device.specs.private.Round.{OrMemory, IsDecision, EndsUnsent, EndsSent, IsTurn}
 use Rattle.oauth2_device.proofs.LeadsFacts.{EachRequest-append, none_sent, has_request-unsent, has_request-sent, last_reply-append}
 

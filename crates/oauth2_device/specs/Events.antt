@@ -2,7 +2,7 @@
 use Rattle.std.specs.Prelude.{◌≡◌, Bool, true, false, List, [], ◌∷◌, Option, Some, Result}
 use Rattle.std.specs.declared.time.Duration.{Duration}
 use Rattle.jiff.specs.Types.{Timestamp}
-use Rattle.oauth2_wire.specs.OneShot.{HttpRequest}
+use Rattle.oauth2_wire.specs.Request.{HttpRequest}
 use Rattle.oauth2_wire.specs.Reply.{HttpResponse}
 
 -- a reading of the clock, a request with what came of it, or a sleep; RE is the client's error

@@ -1,6 +1,6 @@
 -- What the poll of a device does and answers (RFC 8628, sections 3.4 and 3.5), judged on the
 -- finished list of its events.
-use Rattle.std.specs.Prelude.{◌≡◌, ◌⊎◌, ℕ, List, [], ◌∷◌, codes, string_bytes, Option, Some, None, option_map, unwrap_or, Result, Ok, Err, IsErrAnd}
+use Rattle.std.specs.Prelude.{◌≡◌, ◌⊎◌, ℕ, List, [], ◌∷◌, codes, Option, Some, None, option_map, unwrap_or, Result, Ok, Err, IsErrAnd}
 use Rattle.std.specs.declared.time.Duration.{Duration}
 use Rattle.std.specs.Duration.{as_nanos}
 use Rattle.http_uri.specs.Uri.{SpellsNone}
@@ -21,9 +21,9 @@ use Rattle.oauth2_poll.specs.Pacing.{SleepsArePaced, ClockIsHonest, RequestsFit}
 use Rattle.oauth2_wire.specs.declared.content_type.ReplyRule.{ReplyRule}
 use Rattle.oauth2_wire.specs.declared.error.RequestTokenError.{RequestTokenError}
 use Rattle.oauth2_wire.specs.declared.error.RequestTokenError.TheVariants as token
-use Rattle.oauth2_wire.specs.OneShot.{HttpRequest, not_http_text}
+use Rattle.oauth2_wire.specs.Once.{not_http_text, SaysOther}
 use Rattle.oauth2_wire.specs.Reply.{HttpResponse, Answer, accepted, refused, unread, other, answer_of, reply_of, ShowsAnswer}
-use Rattle.oauth2_wire.specs.Request.{IsRequestOf, view_of}
+use Rattle.oauth2_wire.specs.Request.{HttpRequest, IsRequestOf, view_of}
 use Rattle.oauth2_device.specs.DeviceToken.{DeviceToken, device_token_configuration}
 use Rattle.oauth2_device.specs.Events.{Event, Reading, Sent, Slept, EachRequest, has_request, last_reply}
 
@@ -59,11 +59,6 @@ class_of_answer (accepted value) = Deciding
 class_of_answer (refused error) = class_of_code error.error
 class_of_answer (unread fault body) = Deciding
 class_of_answer (other text) = Deciding
-
--- the error is another one, in these words
-abbrev pub SaysOther : {RE : Type 0} → List ℕ → PollError RE → Type 0
-SaysOther text (token.Other said) = string_bytes said ≡ text
-SaysOther text error = ⊥
 
 -- the error is the server's that the code has expired
 abbrev pub SaysExpired : {RE : Type 0} → PollError RE → Type 0

@@ -6,15 +6,15 @@ ghost use Rattle.http_uri.specs.Uri.{SpellsNone};
 ghost use Rattle.url.specs.Parts.{serialize};
 ghost use Rattle.oauth2_device.specs.Events.{Event, Leads, EachRequest};
 ghost use Rattle.oauth2_device.specs.Poll.{IsDeviceRequest, Polls, device_answer, timeout_of};
-ghost use Rattle.oauth2_device.specs.private.Round.{IsJudged, IsTurn, IsUnprepared};
+ghost use Rattle.oauth2_device.specs.private.Round.{IsJudged, IsTurn};
 
 use crate::device_access_token_request::DeviceAccessTokenRequest;
 use crate::poll_world::PollWorld;
-use crate::verdict::{PollError, Verdict, expired, judge, other};
+use crate::verdict::{PollError, Verdict, expired, judge_answer};
 use oauth2_codes::DeviceCodeErrorResponse;
-use oauth2_poll::{DevicePoll, PollReady, PollSettings, PollStep};
+use oauth2_poll::{DevicePoll, PollAnswer, PollReady, PollSettings, PollStep};
 use oauth2_replies::TokenResponse;
-use oauth2_wire::{HttpResponse, RequestFault, RequestTokenError};
+use oauth2_wire::{HttpResponse, RequestTokenError, endpoint_response_with};
 use std::alloc::Global;
 use std::time::Duration;
 
@@ -66,11 +66,11 @@ impl<'a, TR: TokenResponse, EF, T> DeviceAccessTokenRequest<'a, TR, EF, T> {
     {
         let settings = self.settings(max_polls);
         if !DevicePoll::timeout_fits(&timeout) {
-            return Err(other(alloc, "failed to convert the timeout", false));
+            return Err(RequestTokenError::with_text(alloc, "failed to convert the timeout", false));
         }
         let start = world.now();
         let Some(mut poll) = DevicePoll::new(start, timeout, settings) else {
-            return Err(other(alloc, "failed to calculate timeout", false));
+            return Err(RequestTokenError::with_text(alloc, "failed to calculate timeout", false));
         };
         let mut sent = false;
         'rounds: loop {
@@ -119,7 +119,7 @@ impl<'a, TR: TokenResponse, EF, T> DeviceAccessTokenRequest<'a, TR, EF, T> {
         }
         let request = match self.prepare_request(alloc) {
             Ok(request) => request,
-            Err(fault) => return Some(Err(unprepared(alloc, fault, sent))),
+            Err(fault) => return Some(Err(RequestTokenError::unprepared(alloc, fault, sent))),
         };
         let reply = world.send(request);
         match self.judge(alloc, reply) {
@@ -131,7 +131,7 @@ impl<'a, TR: TokenResponse, EF, T> DeviceAccessTokenRequest<'a, TR, EF, T> {
                 }
                 // `Done` follows a deciding answer alone, which is no `Again`.
                 PollStep::Limit | PollStep::Done => {
-                    Some(Err(other(alloc, "polling limit reached", true)))
+                    Some(Err(RequestTokenError::with_text(alloc, "polling limit reached", true)))
                 }
             },
         }
@@ -142,20 +142,9 @@ impl<'a, TR: TokenResponse, EF, T> DeviceAccessTokenRequest<'a, TR, EF, T> {
         ensures { IsJudged TR.meaning
             (device_answer self.now.request.base.reply_rule TR.reading) reply result }
     {
-        judge(alloc, self.reply_rule(), reply)
-    }
-}
-
-// The error of a request that could not be made.
-fn unprepared<RE>(alloc: Global, fault: RequestFault, sent: bool) -> PollError<RE>
-    ensures { IsUnprepared fault sent result }
-{
-    match fault {
-        RequestFault::NotHttp => other(
-            alloc,
-            "failed to prepare request: endpoint URL is not an HTTP target",
-            sent,
-        ),
-        RequestFault::Memory => RequestTokenError::Memory { sent },
+        match reply {
+            Ok(reply) => judge_answer(endpoint_response_with(alloc, self.reply_rule(), reply)),
+            Err(_) => Verdict::Again(PollAnswer::Failed),
+        }
     }
 }

@@ -1,14 +1,13 @@
 //! What an answer means to a device that polls (RFC 8628, section 3.5).
 
 ghost use Rattle.oauth2_wire.specs.Reply.{Answer, ShowsAnswer};
-ghost use Rattle.oauth2_device.specs.Poll.{DeviceError, SaysOther, SaysExpired};
-ghost use Rattle.oauth2_device.specs.Poll.{device_answer, device_error};
-ghost use Rattle.oauth2_device.specs.private.Round.{IsJudged, IsRefusal, IsVerdict, OrMemory};
+ghost use Rattle.oauth2_device.specs.Poll.{DeviceError, SaysExpired, device_error};
+ghost use Rattle.oauth2_device.specs.private.Round.{IsVerdict, OrMemory};
 
 use oauth2_codes::{DeviceCodeErrorResponse, DeviceCodeErrorResponseType};
 use oauth2_poll::PollAnswer;
 use oauth2_replies::TokenResponse;
-use oauth2_wire::{HttpResponse, ReplyRule, RequestTokenError, endpoint_response_with};
+use oauth2_wire::RequestTokenError;
 use std::alloc::{AllocError, Global};
 
 // Why a poll gave no token.
@@ -20,49 +19,22 @@ pub(crate) enum Verdict<TR, RE> {
     Decided(Result<TR, PollError<RE>>),
 }
 
-// What came of a request, whose reply is read by this rule.
-pub(crate) fn judge<RE: Drop, TR: TokenResponse>(
-    alloc: Global,
-    rule: ReplyRule,
-    reply: Result<HttpResponse, RE>,
-) -> Verdict<TR, RE>
-    ensures { IsJudged TR.meaning (device_answer rule TR.reading) reply result }
-{
-    match reply {
-        Ok(reply) => judge_answer(endpoint_response_with(alloc, rule, reply)),
-        Err(_) => Verdict::Again(PollAnswer::Failed),
-    }
-}
-
 // What a reply says.
-fn judge_answer<RE, TR: TokenResponse>(answer: Result<TR, PollError<RE>>) -> Verdict<TR, RE>
+pub(crate) fn judge_answer<RE, TR: TokenResponse>(
+    answer: Result<TR, PollError<RE>>,
+) -> Verdict<TR, RE>
     ensures { (said : Answer TR.Meaning DeviceError)
         → ShowsAnswer TR.meaning device_error said answer → IsVerdict TR.meaning said result }
 {
     match answer {
-        Err(RequestTokenError::ServerResponse(error)) => refusal(error),
+        Err(RequestTokenError::ServerResponse(error)) => match error.error() {
+            DeviceCodeErrorResponseType::AuthorizationPending => {
+                Verdict::Again(PollAnswer::Pending)
+            }
+            DeviceCodeErrorResponseType::SlowDown => Verdict::Again(PollAnswer::SlowDown),
+            _ => Verdict::Decided(Err(RequestTokenError::ServerResponse(error))),
+        },
         answer => Verdict::Decided(answer),
-    }
-}
-
-// What an error response says.
-fn refusal<RE, TR>(error: DeviceCodeErrorResponse) -> Verdict<TR, RE>
-    ensures { IsRefusal error result }
-{
-    match error.error() {
-        DeviceCodeErrorResponseType::AuthorizationPending => Verdict::Again(PollAnswer::Pending),
-        DeviceCodeErrorResponseType::SlowDown => Verdict::Again(PollAnswer::SlowDown),
-        _ => Verdict::Decided(Err(RequestTokenError::ServerResponse(error))),
-    }
-}
-
-// Another error, in words.
-pub(crate) fn other<RE>(alloc: Global, text: &str, sent: bool) -> PollError<RE>
-    ensures { OrMemory (SaysOther text.now) sent result }
-{
-    match String::from_str(alloc, text) {
-        Ok(text) => RequestTokenError::Other(text),
-        Err(AllocError) => RequestTokenError::Memory { sent },
     }
 }
 

@@ -3,7 +3,7 @@
 use Rattle.std.specs.Prelude.{◌≡◌, Result}
 use Rattle.std.specs.declared.time.Duration.{Duration}
 use Rattle.jiff.specs.Types.{Timestamp}
-use Rattle.oauth2_wire.specs.OneShot.{HttpRequest}
+use Rattle.oauth2_wire.specs.Request.{HttpRequest}
 use Rattle.oauth2_wire.specs.Reply.{HttpResponse}
 use Rattle.oauth2_device.specs.declared.joined_world.JoinedWorld.{JoinedWorld}
 

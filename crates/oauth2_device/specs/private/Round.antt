@@ -7,28 +7,17 @@ use Rattle.oauth2_poll.specs.declared.device_poll.PollAnswer.TheVariants.{Decidi
 use Rattle.oauth2_poll.specs.State.{PollState}
 use Rattle.oauth2_poll.specs.Step.{state_after}
 use Rattle.oauth2_wire.specs.declared.error.RequestTokenError.TheVariants as token
-use Rattle.oauth2_wire.specs.declared.request.RequestFault.{RequestFault}
-use Rattle.oauth2_wire.specs.declared.request.RequestFault.TheVariants as fault
-use Rattle.oauth2_wire.specs.OneShot.{HttpRequest, not_http_text}
+use Rattle.oauth2_wire.specs.Once.{not_http_text, SaysOther}
+use Rattle.oauth2_wire.specs.Request.{HttpRequest}
 use Rattle.oauth2_wire.specs.Reply.{HttpResponse, Answer, ShowsAnswer}
 use Rattle.oauth2_device.specs.declared.verdict.Verdict.{Verdict}
 use Rattle.oauth2_device.specs.declared.verdict.Verdict.TheVariants.{Again, Decided}
 use Rattle.oauth2_device.specs.Events.{Event, Reading, Sent, Slept}
-use Rattle.oauth2_device.specs.Poll.{DeviceError, DeviceErrorResponse, PollError, device_error, class_of, class_of_answer, class_of_code, SaysOther, SaysExpired}
+use Rattle.oauth2_device.specs.Poll.{DeviceError, PollError, device_error, class_of, class_of_answer, SaysExpired}
 
 -- the error is one of these, or memory ran out
 abbrev pub OrMemory : {RE : Type 0} → (PollError RE → Type 0) → Bool → PollError RE → Type 0
 OrMemory IsError sent error = IsError error ⊎ (error ≡ token.Memory sent)
-
--- the error of a request that could not be made
-abbrev pub IsUnprepared : {RE : Type 0} → RequestFault → Bool → PollError RE → Type 0
-IsUnprepared fault.NotHttp sent error = OrMemory (SaysOther not_http_text) sent error
-IsUnprepared fault.Memory sent error = error ≡ token.Memory sent
-
--- what an error response means to a poll
-abbrev pub IsRefusal : {D RE : Type 0} → DeviceErrorResponse → Verdict D RE → Type 0
-IsRefusal error (Again answer) = (class_of_code (device_error error).error ≡ answer) × (answer ≢ Deciding)
-IsRefusal error (Decided result) = (class_of_code (device_error error).error ≡ Deciding) × (result ≡ Err (token.ServerResponse error))
 
 module _ {D A RE : Type 0} (meaning : D → A) where
   -- the result decides, and is what was said

@@ -18,7 +18,7 @@ returns-then-not-timeout_fits-clause-poll g c =
       [],
       refl,
       polls g.TR.FromJson.meaning g.TR.FromJson.reading r (as_nanos c.args.timeout) c.args.max_polls [] _ interval tt
-          (too_long g.TR.FromJson.meaning (device_answer r.base.reply_rule g.TR.FromJson.reading) r (as_nanos c.args.timeout) c.args.max_polls c.other.result beyond c.other.ensures),
+          (too_long g.TR.FromJson.meaning (device_answer r.base.reply_rule g.TR.FromJson.reading) r (as_nanos c.args.timeout) c.args.max_polls c.with_text.result beyond c.with_text.ensures),
     )
 
 pub returns-in_default-clause-poll : goal.returns-in_default-clause-poll
@@ -32,7 +32,7 @@ returns-in_default-clause-poll g c =
       Reading t ∷ [],
       (c.now-start.new.self, c.now-start.ensures.reads, refl),
       polls g.TR.FromJson.meaning g.TR.FromJson.reading r (as_nanos c.args.timeout) c.args.max_polls (Reading t ∷ []) _ interval tt
-          (out_of_range g.TR.FromJson.meaning (device_answer r.base.reply_rule g.TR.FromJson.reading) r (as_nanos c.args.timeout) c.args.max_polls t c.other-in_default.result fits beyond c.other-in_default.ensures),
+          (out_of_range g.TR.FromJson.meaning (device_answer r.base.reply_rule g.TR.FromJson.reading) r (as_nanos c.args.timeout) c.args.max_polls t c.with_text-in_default.result fits beyond c.with_text-in_default.ensures),
     )
 
 pub rounds-init : goal.rounds-init

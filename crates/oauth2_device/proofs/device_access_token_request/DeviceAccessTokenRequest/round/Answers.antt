@@ -48,7 +48,7 @@ returns-in-Limit g c =
         Reading c.now-now.result ∷ Sent c.in-Ok.request c.send-reply.result ∷ [],
         (c.now-now.new.self, c.now-now.ensures.reads, (c.send-reply.new.self, c.send-reply.ensures.sends, refl)),
         (c.in-Ok.ensures.ok, tt),
-        inr (at_limit g.TR.FromJson.meaning (device_answer c.args.self.now.request.base.reply_rule g.TR.FromJson.reading) ⊥ c.args.poll.now c.args.sent c.now-now.result before c.in-Ok.request c.send-reply.result c.in-Again.answer c.in-Again.ensures c.answer.result c.answer.ensures.step c.other.result c.in-Limit.is c.other.ensures),
+        inr (at_limit g.TR.FromJson.meaning (device_answer c.args.self.now.request.base.reply_rule g.TR.FromJson.reading) ⊥ c.args.poll.now c.args.sent c.now-now.result before c.in-Ok.request c.send-reply.result c.in-Again.answer c.in-Again.ensures c.answer.result c.answer.ensures.step c.with_text.result c.in-Limit.is c.with_text.ensures),
       );
       ready = c.send-reply.ensures.ready;
     }
