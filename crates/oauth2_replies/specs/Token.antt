@@ -1,13 +1,13 @@
 -- RFC 6749, 5.1: the members of a token response.
-use Rattle.std.specs.Prelude.{ℕ, List, [], ◌∷◌, Option, Some, Ok, codes, option_map}
+use Rattle.std.specs.Prelude.{ℕ, List, Option, Some, Ok, codes, option_map}
 use Rattle.serde_json.specs.Data.{Data, Members, number, unsigned, string, object}
-use Rattle.serde_json.specs.Find.{get_member}
 use Rattle.oauth2_json.specs.Reading.{Reading, read_then, ◌⊛◌}
 use Rattle.oauth2_json.specs.Writing.{Writing, write_then}
 use Rattle.oauth2_json.specs.Members.{members_of_object, needed_member, optional_member, others, beside}
 use Rattle.oauth2_json.specs.Values.{text, whole_number, lowercase_reading, words_reading}
 use Rattle.oauth2_json.specs.Words.{joined_words}
 use Rattle.oauth2_json.specs.Puts.{Row, put_all}
+use Rattle.oauth2_body_members.specs.Table.{Table, column, ◌▸◌, end, names_of, table_reading, rows_of}
 use Rattle.oauth2_replies.specs.Kept.{IsTypeKept, AreFieldsKept, AreScopesKept}
 
 -- a token response; its lifetime is in whole seconds
@@ -26,46 +26,39 @@ token a t e r s x = record { access_token = a; token_type = t; expires_in = e; r
 abbrev pub token_seen : {E T F M : Type 0} → (E → F) → (T → M) → Token E T → Token F M
 token_seen f g r = token r.access_token (g r.token_type) r.expires_in r.refresh_token r.scopes (f r.extra_fields)
 
-abbrev pub own_names : List (List ℕ)
-own_names = codes "access_token" ∷ codes "token_type" ∷ codes "expires_in" ∷ codes "refresh_token" ∷ codes "scope" ∷ []
+-- each own member: how it is read, and how it is written once the token type is JSON
+abbrev pub token_table : {T : Type 0} → (Data → Reading T) → Table (Token (Unit {0}) Data)
+token_table token_type =
+    column (codes "access_token") (needed_member text) (λ r. Some (string r.access_token))
+    ▸ column (codes "token_type") (needed_member (lowercase_reading token_type)) (λ r. Some r.token_type)
+    ▸ column (codes "expires_in") (optional_member whole_number) (λ r. option_map (λ n. number (unsigned n)) r.expires_in)
+    ▸ column (codes "refresh_token") (optional_member text) (λ r. option_map string r.refresh_token)
+    ▸ column (codes "scope") (optional_member (words_reading text)) (λ r. option_map (λ scopes. string (joined_words scopes)) r.scopes)
+    ▸ end
 
--- the table, over what stands under each name and the object of the other members
-abbrev pub token_rows : {E T : Type 0} → (Data → Reading E) → (Data → Reading T)
-    → Option Data → Option Data → Option Data → Option Data → Option Data → Members → Reading (Token E T)
-token_rows extra_fields token_type a t e r s rest =
-    Ok token
-    ⊛ needed_member text (codes "access_token") a
-    ⊛ needed_member (lowercase_reading token_type) (codes "token_type") t
-    ⊛ optional_member whole_number (codes "expires_in") e
-    ⊛ optional_member text (codes "refresh_token") r
-    ⊛ optional_member (words_reading text) (codes "scope") s
-    ⊛ extra_fields (object rest)
+-- whatever reads the token type, the names are the same
+abbrev pub token_names : List (List ℕ)
+token_names = names_of (token_table Ok)
 
+-- what each own member reads to, and then the object of the others
 abbrev pub token_row : {E T : Type 0} → (Data → Reading E) → (Data → Reading T) → Members → Reading (Token E T)
 token_row extra_fields token_type ms =
-    token_rows extra_fields token_type (get_member (codes "access_token") ms) (get_member (codes "token_type") ms) (get_member (codes "expires_in") ms)
-    (get_member (codes "refresh_token") ms) (get_member (codes "scope") ms) (others own_names ms)
+    table_reading (token_table token_type) (Ok token) ms ⊛ extra_fields (object (others token_names ms))
 
 abbrev pub token_reading : {E T : Type 0} → (Data → Reading E) → (Data → Reading T) → Data → Reading (Token E T)
 token_reading extra_fields token_type d = read_then (members_of_object d) (token_row extra_fields token_type)
 
--- the type's own members, none of which is written where it is none
-abbrev pub own_rows : {E T : Type 0} → Data → Token E T → List Row
-own_rows token_type r =
-    (codes "access_token", Some (string r.access_token))
-    ∷ (codes "token_type", Some token_type)
-    ∷ (codes "expires_in", option_map (λ n. number (unsigned n)) r.expires_in)
-    ∷ (codes "refresh_token", option_map string r.refresh_token)
-    ∷ (codes "scope", option_map (λ scopes. string (joined_words scopes)) r.scopes)
-    ∷ []
+-- the type's own members, none of which is written where it is none; `type_written` is the token type's JSON
+abbrev pub token_rows : {E T : Type 0} → Data → Token E T → List Row
+token_rows type_written r = rows_of (token_table Ok) (token_seen (λ _. tt) (λ _. type_written) r)
 
 -- the type's own members beside those of its extra fields
 abbrev pub token_writing : {E T : Type 0} → (E → Writing) → (T → Writing) → Token E T → Writing
 token_writing extra_fields token_type r =
     write_then (token_type r.token_type) (λ t.
     write_then (extra_fields r.extra_fields) (λ x.
-    write_then (beside own_names x) (λ ms.
-    Ok (object (put_all (own_rows t r) ms)))))
+    write_then (beside token_names x) (λ ms.
+    Ok (object (put_all (token_rows t r) ms)))))
 
 -- what reads back as itself once it is written
 pub record IsTokenKept {E T F M : Type 0} (er : Data → Reading F) (em : E → F) (ew : E → Writing) (tr : Data → Reading M) (tm : T → M) (tw : T → Writing) (r : Token E T) : Type 0 where

@@ -1,4 +1,3 @@
-pub mod Groups
 pub mod TokenRows
 pub mod DeviceRows
 pub mod Address

@@ -2,31 +2,29 @@
 
 ghost use Rattle.std.specs.Prelude.{◌≡◌, Ok, IfOk, option_map};
 ghost use Rattle.serde_json.specs.Data.{string};
+ghost use Rattle.serde_json.specs.Find.{get_member};
 ghost use Rattle.serde_json.specs.View.{view, members_view};
 ghost use Rattle.oauth2_json.specs.Reading.{ReadsAs};
-ghost use Rattle.oauth2_json.specs.Members.{others};
+ghost use Rattle.oauth2_json.specs.Members.{without, others};
 ghost use Rattle.oauth2_json.specs.Writing.{WritesAs};
 ghost use Rattle.oauth2_json.specs.Puts.{put_all};
 ghost use Rattle.oauth2_body_members.specs.Object.{object_members};
+ghost use Rattle.oauth2_body_members.specs.Table.{names_of, group_reading};
 ghost use Rattle.oauth2_replies.specs.Kept.{AreFieldsKept};
 ghost use Rattle.oauth2_replies.specs.Device.{
   DeviceAuthorization,
   device_seen,
   device_reading,
   device_writing,
-  own_rows,
+  device_rows,
   address_reading,
 };
 ghost use Rattle.oauth2_replies.specs.private.Address.{IsAddress};
-ghost use Rattle.oauth2_replies.specs.private.Groups.{pair};
 ghost use Rattle.oauth2_replies.specs.private.DeviceRows.{
-  code_names,
-  codes_reading,
-  address_names,
-  addresses_reading,
-  time_names,
-  times_reading,
-  in_turn,
+  codes_table,
+  addresses_table,
+  times_table,
+  device_in_turn,
 };
 
 use crate::device::{
@@ -39,6 +37,17 @@ use oauth2_urls::EndUserVerificationUrl;
 use serde_json::{Map, Value};
 use std::alloc::{AllocError, Global};
 use std::ops::Deref;
+
+/// The own members; the fourth is another name of the third.
+const NAMES: [&str; 7] = [
+    "device_code",
+    "user_code",
+    "verification_uri",
+    "verification_url",
+    "verification_uri_complete",
+    "expires_in",
+    "interval",
+];
 
 impl<EF: ExtraDeviceAuthorizationFields + Drop> FromJson for DeviceAuthorizationResponse<EF> {
     ghost Meaning = { DeviceAuthorization EF.Meaning };
@@ -59,97 +68,75 @@ impl<EF: ExtraDeviceAuthorizationFields + Drop> FromJson for DeviceAuthorization
         alloc: Global,
         bytes: &[u8],
     ) -> Result<DeviceAuthorizationResponse<EF>, ReadError> {
-        let names = [
-            "device_code",
-            "user_code",
-            "verification_uri",
-            "verification_url",
-            "verification_uri_complete",
-            "expires_in",
-            "interval",
-        ];
-        let members = Object::of_body(alloc, bytes, &names, EF::reads_members())?;
+        let members = Object::of_body(alloc, bytes, &NAMES, EF::reads_members())?;
         from_members(alloc, members)
     }
 }
 
-// The URL where the user types in the code, under either of its names.
-fn verification_uri(
+// A URL under either of two names.
+fn take_address(
     alloc: Global,
-    found: Option<Value>,
-    other: Option<Value>,
+    members: &mut Object<'_>,
+    name: &str,
+    other: &str,
 ) -> Result<EndUserVerificationUrl, ReadError>
     ensures read { ReadsAs (λ uri. uri) result
-        (address_reading (option_map view found) (option_map view other)) }
+        (address_reading name.now (get_member name.now (object_members members.old))
+        (get_member other.now (without name.now (object_members members.old)))) }
+    ensures rest { object_members members.new
+        ≡ without other.now (without name.now (object_members members.old)) }
     ensures address { IfOk result IsAddress }
 {
-    members::either_name(alloc, "verification_uri", found, other)
+    members.either_name(alloc, name, other)
 }
 
-#[tactic(auto, unfolding(crate::specs::private::DeviceRows::codes_reading))]
+#[tactic(auto, unfolding(oauth2_body_members::specs::Table::group_reading))]
 fn take_codes(alloc: Global, members: &mut Object<'_>) -> Result<Codes, ReadError>
-    ensures read { ReadsAs (λ c. pair c.device_code c.user_code) result
-        (codes_reading (object_members members.old)) }
+    ensures read { ReadsAs (λ c. (c.device_code, (c.user_code, tt))) result
+        (group_reading codes_table (object_members members.old)) }
     ensures rest { IfOk result (λ _. object_members members.new
-        ≡ others code_names (object_members members.old)) }
+        ≡ others (names_of codes_table) (object_members members.old)) }
 {
-    let device_code = members.take("device_code");
-    let device_code = members::needed(alloc, "device_code", device_code)?;
-    let user_code = members.take("user_code");
-    let user_code = members::needed(alloc, "user_code", user_code)?;
     Ok(Codes {
-        device_code,
-        user_code,
+        device_code: members.needed(alloc, "device_code")?,
+        user_code: members.needed(alloc, "user_code")?,
     })
 }
 
-#[tactic(auto, unfolding(crate::specs::private::DeviceRows::addresses_reading))]
+#[tactic(auto, unfolding(oauth2_body_members::specs::Table::group_reading))]
 fn take_addresses(alloc: Global, members: &mut Object<'_>) -> Result<Addresses, ReadError>
-    ensures read { ReadsAs (λ a. pair a.verification_uri a.verification_uri_complete) result
-        (addresses_reading (object_members members.old)) }
+    ensures read { ReadsAs (λ a. (a.verification_uri, (a.verification_uri_complete, tt))) result
+        (group_reading addresses_table (object_members members.old)) }
     ensures address { IfOk result (λ a. IsAddress a.verification_uri) }
     ensures rest { IfOk result (λ _. object_members members.new
-        ≡ others address_names (object_members members.old)) }
+        ≡ others (names_of addresses_table) (object_members members.old)) }
 {
-    let uri = members.take("verification_uri");
-    let url = members.take("verification_url");
-    let verification_uri = verification_uri(alloc, uri, url)?;
-    let complete = members.take("verification_uri_complete");
-    let verification_uri_complete = members::optional(
-        alloc,
-        "verification_uri_complete",
-        complete,
-    )?;
     Ok(Addresses {
-        verification_uri,
-        verification_uri_complete,
+        verification_uri: take_address(alloc, members, "verification_uri", "verification_url")?,
+        verification_uri_complete: members.optional(alloc, "verification_uri_complete")?,
     })
 }
 
-#[tactic(auto, unfolding(crate::specs::private::DeviceRows::times_reading))]
+#[tactic(auto, unfolding(oauth2_body_members::specs::Table::group_reading))]
 fn take_times(alloc: Global, members: &mut Object<'_>) -> Result<Times, ReadError>
-    ensures read { ReadsAs (λ t. pair t.expires_in t.interval) result
-        (times_reading (object_members members.old)) }
+    ensures read { ReadsAs (λ t. (t.expires_in, (t.interval, tt))) result
+        (group_reading times_table (object_members members.old)) }
     ensures rest { IfOk result (λ _. object_members members.new
-        ≡ others time_names (object_members members.old)) }
+        ≡ others (names_of times_table) (object_members members.old)) }
 {
-    let expires_in = members.take("expires_in");
-    let expires_in = members::needed_number(alloc, "expires_in", expires_in)?;
-    let interval = members.take("interval");
-    let interval = members::number_or(alloc, "interval", 5, interval)?;
     Ok(Times {
-        expires_in,
-        interval,
+        expires_in: members.needed_number(alloc, "expires_in")?,
+        interval: members.number_or(alloc, "interval", 5)?,
     })
 }
 
-// The own members, pair by pair, and what is left of the others.
+// The own members, group by group, and what is left of the others.
 fn from_members<EF: ExtraDeviceAuthorizationFields + Drop>(
     alloc: Global,
     mut members: Object<'_>,
 ) -> Result<DeviceAuthorizationResponse<EF>, ReadError>
     ensures { ReadsAs (device_seen EF.meaning) result
-        (in_turn EF.reading (object_members members.entry)) }
+        (device_in_turn EF.reading (object_members members.entry)) }
 {
     let codes = take_codes(alloc, &mut members)?;
     let addresses = take_addresses(alloc, &mut members)?;
@@ -178,10 +165,7 @@ fn uri_complete_value(
 ) -> Result<Option<Value>, AllocError>
     ensures { IfOk result (λ v. option_map view v ≡ option_map string uri.now) }
 {
-    match uri {
-        Some(uri) => Ok(Some(Value::try_from_str(alloc, uri.secret().as_str())?)),
-        None => Ok(None),
-    }
+    members::text_value(alloc, &uri.as_ref().map(VerificationUriComplete::secret))
 }
 
 impl<EF: ExtraDeviceAuthorizationFields> DeviceAuthorizationResponse<EF> {
@@ -190,18 +174,7 @@ impl<EF: ExtraDeviceAuthorizationFields> DeviceAuthorizationResponse<EF> {
         ensures address { IsAddress self.now.verification_uri }
     {
         let extra = self.extra_fields.to_json(alloc)?;
-        let members = members::beside(
-            &[
-                "device_code",
-                "user_code",
-                "verification_uri",
-                "verification_url",
-                "verification_uri_complete",
-                "expires_in",
-                "interval",
-            ],
-            extra,
-        )?;
+        let members = members::beside(&NAMES, extra)?;
         Ok(Value::Object(self.with_members(alloc, members)?))
     }
 
@@ -211,7 +184,7 @@ impl<EF: ExtraDeviceAuthorizationFields> DeviceAuthorizationResponse<EF> {
         mut members: Map<String, Value>,
     ) -> Result<Map<String, Value>, AllocError>
         ensures { IfOk result (λ all. members_view all.entries
-            ≡ put_all (own_rows self.now) (members_view members.entries)) }
+            ≡ put_all (device_rows self.now) (members_view members.entries)) }
     {
         let interval = members::number_value(Some(self.interval));
         members::put_some(&mut members, alloc, "interval", interval)?;

@@ -1,28 +1,25 @@
 //! Token responses as JSON objects.
 
 ghost use Rattle.std.specs.Prelude.{◌≡◌, Ok, IfOk, option_map};
-ghost use Rattle.serde_json.specs.Data.{string};
 ghost use Rattle.serde_json.specs.View.{view, members_view};
 ghost use Rattle.oauth2_json.specs.Reading.{ReadsAs};
 ghost use Rattle.oauth2_json.specs.Members.{others};
 ghost use Rattle.oauth2_json.specs.Writing.{WritesAs};
 ghost use Rattle.oauth2_json.specs.Puts.{put_all};
 ghost use Rattle.oauth2_body_members.specs.Object.{object_members};
+ghost use Rattle.oauth2_body_members.specs.Table.{names_of, group_reading};
 ghost use Rattle.oauth2_replies.specs.Token.{
   Token,
   token_seen,
   token_reading,
   token_writing,
-  own_rows,
+  token_rows,
   IsTokenKept,
 };
-ghost use Rattle.oauth2_replies.specs.private.Groups.{pair, triple};
 ghost use Rattle.oauth2_replies.specs.private.TokenRows.{
-  credential_names,
-  credential_reading,
-  terms_names,
-  terms_reading,
-  in_turn,
+  credential_table,
+  terms_table,
+  token_in_turn,
 };
 
 use crate::scopes;
@@ -33,6 +30,15 @@ use oauth2_json::{FromJson, ReadError, ToJson, WriteError, members};
 use oauth2_types::{AccessToken, RefreshToken};
 use serde_json::{Map, Value};
 use std::alloc::{AllocError, Global};
+
+/// The own members.
+const NAMES: [&str; 5] = [
+    "access_token",
+    "token_type",
+    "expires_in",
+    "refresh_token",
+    "scope",
+];
 
 impl<EF, TT> FromJson for StandardTokenResponse<EF, TT>
 where
@@ -51,14 +57,7 @@ where
     }
 
     fn from_body(alloc: Global, bytes: &[u8]) -> Result<StandardTokenResponse<EF, TT>, ReadError> {
-        let names = [
-            "access_token",
-            "token_type",
-            "expires_in",
-            "refresh_token",
-            "scope",
-        ];
-        let members = Object::of_body(alloc, bytes, &names, EF::reads_members())?;
+        let members = Object::of_body(alloc, bytes, &NAMES, EF::reads_members())?;
         from_members(alloc, members)
     }
 }
@@ -70,44 +69,39 @@ struct Credential<TT> {
     token_type: TT,
 }
 
-#[tactic(auto, unfolding(crate::specs::private::TokenRows::credential_reading))]
+#[tactic(auto, unfolding(oauth2_body_members::specs::Table::group_reading))]
 fn take_credential<TT: TokenType + Drop>(
     alloc: Global,
     members: &mut Object<'_>,
 ) -> Result<Credential<TT>, ReadError>
-    ensures read { ReadsAs (λ c. pair c.access_token (TT.meaning c.token_type)) result
-        (credential_reading TT.reading (object_members members.old)) }
+    ensures read { ReadsAs (λ c. (c.access_token, (TT.meaning c.token_type, tt))) result
+        (group_reading (credential_table TT.reading) (object_members members.old)) }
     ensures rest { IfOk result (λ _. object_members members.new
-        ≡ others credential_names (object_members members.old)) }
+        ≡ others (names_of (credential_table TT.reading)) (object_members members.old)) }
 {
-    let access_token = members.take("access_token");
-    let access_token = members::needed(alloc, "access_token", access_token)?;
-    let token_type = members.take("token_type");
-    let token_type = members::needed_lowered(alloc, "token_type", token_type)?;
     Ok(Credential {
-        access_token,
-        token_type,
+        access_token: members.needed(alloc, "access_token")?,
+        token_type: members.needed_lowered(alloc, "token_type")?,
     })
 }
 
-#[tactic(auto, unfolding(crate::specs::private::TokenRows::terms_reading))]
+#[tactic(auto, unfolding(oauth2_body_members::specs::Table::group_reading))]
 fn take_terms(alloc: Global, members: &mut Object<'_>) -> Result<Terms, ReadError>
-    ensures read { ReadsAs (λ t. triple t.expires_in t.refresh_token
-        (option_map (λ list. list.items) t.scopes))
-        result (terms_reading (object_members members.old)) }
+    ensures read { ReadsAs (λ t. (
+      t.expires_in,
+      (
+        t.refresh_token,
+        (option_map (λ list. list.items) t.scopes, tt),
+      ),
+    ))
+        result (group_reading terms_table (object_members members.old)) }
     ensures rest { IfOk result (λ _. object_members members.new
-        ≡ others terms_names (object_members members.old)) }
+        ≡ others (names_of terms_table) (object_members members.old)) }
 {
-    let expires_in = members.take("expires_in");
-    let expires_in = members::optional_number(alloc, "expires_in", expires_in)?;
-    let refresh_token = members.take("refresh_token");
-    let refresh_token = members::optional(alloc, "refresh_token", refresh_token)?;
-    let scopes = members.take("scope");
-    let scopes = members::optional_words(alloc, "scope", scopes)?;
     Ok(Terms {
-        expires_in,
-        refresh_token,
-        scopes,
+        expires_in: members.optional_number(alloc, "expires_in")?,
+        refresh_token: members.optional(alloc, "refresh_token")?,
+        scopes: members.optional_words(alloc, "scope")?,
     })
 }
 
@@ -117,7 +111,7 @@ fn from_members<EF: ExtraTokenFields + Drop, TT: TokenType + Drop>(
     mut members: Object<'_>,
 ) -> Result<StandardTokenResponse<EF, TT>, ReadError>
     ensures { ReadsAs (token_seen EF.meaning TT.meaning) result
-        (in_turn EF.reading TT.reading (object_members members.entry)) }
+        (token_in_turn EF.reading TT.reading (object_members members.entry)) }
 {
     let credential = take_credential::<TT>(alloc, &mut members)?;
     let terms = take_terms(alloc, &mut members)?;
@@ -132,34 +126,13 @@ fn from_members<EF: ExtraTokenFields + Drop, TT: TokenType + Drop>(
     })
 }
 
-fn refresh_token_value(
-    alloc: Global,
-    token: &Option<RefreshToken>,
-) -> Result<Option<Value>, AllocError>
-    ensures { IfOk result (λ v. option_map view v ≡ option_map string token.now) }
-{
-    match token {
-        Some(token) => Ok(Some(Value::try_from_str(alloc, token.secret().as_str())?)),
-        None => Ok(None),
-    }
-}
-
 impl<EF: ExtraTokenFields, TT: TokenType> StandardTokenResponse<EF, TT> {
     fn written(&self, alloc: Global) -> Result<Value, WriteError>
         ensures { WritesAs result (token_writing EF.writing TT.writing self.now) }
     {
         let token_type = self.token_type.to_json(alloc)?;
         let extra = self.extra_fields.to_json(alloc)?;
-        let members = members::beside(
-            &[
-                "access_token",
-                "token_type",
-                "expires_in",
-                "refresh_token",
-                "scope",
-            ],
-            extra,
-        )?;
+        let members = members::beside(&NAMES, extra)?;
         Ok(Value::Object(self.with_members(alloc, token_type, members)?))
     }
 
@@ -170,11 +143,12 @@ impl<EF: ExtraTokenFields, TT: TokenType> StandardTokenResponse<EF, TT> {
         mut members: Map<String, Value>,
     ) -> Result<Map<String, Value>, AllocError>
         ensures { IfOk result (λ all. members_view all.entries
-            ≡ put_all (own_rows (view token_type) self.now) (members_view members.entries)) }
+            ≡ put_all (token_rows (view token_type) self.now) (members_view members.entries)) }
     {
         let scope = scopes::scopes_value(alloc, &self.scopes)?;
         members::put_some(&mut members, alloc, "scope", scope)?;
-        let refresh_token = refresh_token_value(alloc, &self.refresh_token)?;
+        let refresh_token = self.refresh_token.as_ref();
+        let refresh_token = members::text_value(alloc, &refresh_token.map(RefreshToken::secret))?;
         members::put_some(&mut members, alloc, "refresh_token", refresh_token)?;
         let expires_in = members::number_value(self.expires_in);
         members::put_some(&mut members, alloc, "expires_in", expires_in)?;

@@ -1,52 +1,26 @@
--- The members of a device authorization response, taken out in three pairs, each out of those that the pairs
+-- The members of a device authorization response, taken out in three groups, each out of those that the groups
 -- before it left.
-use Rattle.std.specs.Prelude.{ℕ, List, [], ◌∷◌, Option, Ok, codes}
+use Rattle.std.specs.Prelude.{Ok}
 use Rattle.serde_json.specs.Data.{Data, Members, object}
-use Rattle.serde_json.specs.Find.{get_member}
-use Rattle.oauth2_urls.specs.Addressed.{Addressed}
 use Rattle.oauth2_json.specs.Reading.{Reading, ◌⊛◌}
-use Rattle.oauth2_json.specs.Members.{needed_member, optional_member, member_or, others}
-use Rattle.oauth2_json.specs.Values.{text, whole_number}
-use Rattle.oauth2_replies.specs.Device.{DeviceAuthorization, device_authorization, address_reading}
-use Rattle.oauth2_replies.specs.private.Groups.{pair}
+use Rattle.oauth2_json.specs.Members.{others}
+use Rattle.oauth2_body_members.specs.Table.{Table, names_of, front, back, grouped_reading}
+use Rattle.oauth2_replies.specs.Device.{DeviceAuthorization, device_authorization, device_table}
 
-abbrev pub code_names : List (List ℕ)
-code_names = codes "device_code" ∷ codes "user_code" ∷ []
+abbrev pub codes_table : Table (DeviceAuthorization (Unit {0}))
+codes_table = front 2 device_table
 
-unfoldable pub codes_reading : Members → Reading (List ℕ × List ℕ)
-codes_reading ms =
-    Ok pair
-    ⊛ needed_member text (codes "device_code") (get_member (codes "device_code") ms)
-    ⊛ needed_member text (codes "user_code") (get_member (codes "user_code") (others (codes "device_code" ∷ []) ms))
+abbrev pub addresses_table : Table (DeviceAuthorization (Unit {0}))
+addresses_table = front 2 (back 2 device_table)
 
-abbrev pub address_names : List (List ℕ)
-address_names = codes "verification_uri" ∷ codes "verification_url" ∷ codes "verification_uri_complete" ∷ []
+abbrev pub times_table : Table (DeviceAuthorization (Unit {0}))
+times_table = back 4 device_table
 
-unfoldable pub addresses_reading : Members → Reading (Addressed × Option (List ℕ))
-addresses_reading ms =
-    Ok pair
-    ⊛ address_reading
-    (get_member (codes "verification_uri") ms)
-    (get_member (codes "verification_url") (others (codes "verification_uri" ∷ []) ms))
-    ⊛ optional_member text (codes "verification_uri_complete")
-    (get_member (codes "verification_uri_complete") (others (codes "verification_uri" ∷ codes "verification_url" ∷ []) ms))
-
-abbrev pub time_names : List (List ℕ)
-time_names = codes "expires_in" ∷ codes "interval" ∷ []
-
-unfoldable pub times_reading : Members → Reading (ℕ × ℕ)
-times_reading ms =
-    Ok pair
-    ⊛ needed_member whole_number (codes "expires_in") (get_member (codes "expires_in") ms)
-    ⊛ member_or whole_number (codes "interval") 5 (get_member (codes "interval") (others (codes "expires_in" ∷ []) ms))
-
-abbrev pub of_pairs : {E : Type 0} → List ℕ × List ℕ → Addressed × Option (List ℕ) → ℕ × ℕ → E → DeviceAuthorization E
-of_pairs c a t x = device_authorization c.0 c.1 a.0 a.1 t.0 t.1 x
-
-abbrev pub in_turn : {E : Type 0} → (Data → Reading E) → Members → Reading (DeviceAuthorization E)
-in_turn extra_fields ms =
-    Ok of_pairs
-    ⊛ codes_reading ms
-    ⊛ addresses_reading (others code_names ms)
-    ⊛ times_reading (others address_names (others code_names ms))
-    ⊛ extra_fields (object (others time_names (others address_names (others code_names ms))))
+abbrev pub device_in_turn : {E : Type 0} → (Data → Reading E) → Members → Reading (DeviceAuthorization E)
+device_in_turn extra_fields ms =
+    let after_codes = others (names_of codes_table) ms in
+    let after_addresses = others (names_of addresses_table) after_codes in
+    grouped_reading times_table
+    (grouped_reading addresses_table (grouped_reading codes_table (Ok device_authorization) ms) after_codes)
+    after_addresses
+    ⊛ extra_fields (object (others (names_of times_table) after_addresses))

@@ -3,10 +3,10 @@ use Rattle.serde_json.specs.View.{view}
 use Rattle.oauth2_json.specs.Reading.{ReadsAs}
 use Rattle.oauth2_body_members.specs.Object.{object_members}
 use Rattle.oauth2_replies.specs.Device.{device_seen}
-use Rattle.oauth2_replies.proofs.DeviceLaws.{read_in_turn}
+use Rattle.oauth2_replies.proofs.DeviceLaws.{rows_in_turn}
 use Rattle.oauth2_replies.proofs.device_json.DeviceAuthorizationResponseFromJson.from_json.Goals as goal
 
 pub returns : goal.returns
 returns g c =
     let E = g.EF.FromJson in
-    subst (λ w. ReadsAs (device_seen E.meaning) c.from_members.result w) (read_in_turn E.reading (view c.args.value) (object_members c.in_ok-members.members) c.in_ok-members.ensures) c.from_members.ensures
+    subst (λ w. ReadsAs (device_seen E.meaning) c.from_members.result w) (rows_in_turn E.reading (view c.args.value) (object_members c.in_ok-members.members) c.in_ok-members.ensures) c.from_members.ensures
