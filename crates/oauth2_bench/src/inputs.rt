@@ -24,7 +24,7 @@ pub fn long_token(alloc: Global, size: u32) -> Result<String, AllocError> {
     for i in 0..size {
         token.push((b'a' + (i % 26) as u8) as char)?;
     }
-    let body = format!(in alloc;
+    let mut body = format!(in alloc;
         "{{\"access_token\":\"{token}\",\"token_type\":\"bearer\",\"expires_in\":3600,\
          \"refresh_token\":\"r1\",\"scope\":\"read write\"}}"
     )?;
