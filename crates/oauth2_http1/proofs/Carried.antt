@@ -6,11 +6,10 @@ use Rattle.http_header.specs.HeaderMap.{Entries, get}
 use Rattle.http1.specs.Text.{eq_ignore_case}
 use Rattle.http1.specs.Fields.{Header, known_fields, values_named}
 use Rattle.http.specs.Request.{head_of, body_of}
-use Rattle.oauth2_wire.specs.OneShot.{HttpRequest}
 use Rattle.oauth2_form.specs.Pairs.{Pair}
 use Rattle.oauth2_form.specs.Basic.{basic}
 use Rattle.oauth2_wire.specs.Expected.{Configuration, expected_basic, headers_before, authorization_header}
-use Rattle.oauth2_wire.specs.Request.{IsRequestOf, view_of}
+use Rattle.oauth2_wire.specs.Request.{HttpRequest, IsRequestOf, view_of}
 use Rattle.oauth2_http1.specs.Origin.{Place, host_text, origin_form}
 use Rattle.http1.specs.Conn.{length_header, states_framing}
 use Rattle.oauth2_http1.specs.Message.{IsWire, seen_request, length_fields, sized, sent_fields}

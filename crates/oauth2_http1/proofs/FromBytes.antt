@@ -1,5 +1,5 @@
 -- What a request over an HTTP/1.1 client wrote and read.
-use Rattle.std.proofs.Common.{◌≡◌, ℕ, List, Option, Some, None, Ok, Err, inl, inr, true, false, String, Global, sym, ap, subst, ◌∙◌}
+use Rattle.std.proofs.Common.{◌≡◌, ℕ, List, Option, Some, None, Ok, Err, inl, inr, true, false, String, Global, refl, sym, ap, subst, ◌∙◌}
 use Rattle.std.specs.Prelude.{Result, Vec, IfSome, IsTrue, option_map, codes, string_bytes}
 use Rattle.http_header.specs.HeaderMap.{get}
 use Rattle.http_uri.specs.Uri.{SpellsNone}
@@ -16,9 +16,9 @@ use Rattle.oauth2_wire.specs.declared.error.RequestTokenError.TheVariants as tok
 use Rattle.oauth2_wire.specs.declared.request.RequestFault.{RequestFault}
 use Rattle.oauth2_wire.specs.declared.request.RequestFault.TheVariants as fault
 use Rattle.oauth2_wire.specs.Expected.{Configuration, expected_basic}
-use Rattle.oauth2_wire.specs.OneShot.{HttpRequest, not_http_text, AnswersUnsent, OneShot}
+use Rattle.oauth2_wire.specs.Once.{AsksOnce}
 use Rattle.oauth2_wire.specs.Reply.{HttpResponse, ReplyView, Answer, accepted, refused, unread, other, ShowsAnswer, reply_of}
-use Rattle.oauth2_wire.specs.Request.{IsRequestOf, view_of}
+use Rattle.oauth2_wire.specs.Request.{HttpRequest, IsRequestOf, view_of}
 use Rattle.oauth2_http1.specs.declared.client.Http1Client.{Http1Client}
 use Rattle.oauth2_http1.specs.declared.error.Http1Error.{Http1Error}
 use Rattle.oauth2_http1.specs.declared.error.Http1Error.TheVariants as http
@@ -31,41 +31,6 @@ use Rattle.oauth2_http1.specs.Client.{Writes, Exchanges, CannotSend, NoReply, re
 use Rattle.oauth2_http1.specs.FromBytes.{view_of_reply, BeginsWith, CannotPost, SendsBytes, Replied, NotReplied, FromBytes}
 use Rattle.oauth2_http1.proofs.Carried.{carried, unframed}
 use Rattle.oauth2_http1.proofs.Replies.{reply_unique}
-
--- what holds of each way that a request goes holds of its result
-module _ {D A T X RE C : Type 0} (meaning : D → A) (error_meaning : T → X) (step : C → HttpRequest → Result HttpResponse RE → C → Type 0)
-    (says : HttpResponse → Answer A X) (IsRequest : HttpRequest → Type 0) (NotHttp : Type 0) (before after : C)
-    (P : Result D (RequestTokenError RE T) → Type 0) where
-  of_one_shot :
-      (replied : (request : HttpRequest) (reply : HttpResponse) (result : Result D (RequestTokenError RE T)) → IsRequest request
-      → step before request (Ok reply) after → ShowsAnswer meaning error_meaning (says reply) result → P result)
-      (failed : (request : HttpRequest) (error : RE) → IsRequest request → step before request (Err error) after → P (Err (token.Request error)))
-      (not_http : (result : Result D (RequestTokenError RE T)) → AnswersUnsent fault.NotHttp result → NotHttp → after ≡ before → P result)
-      (no_memory : (result : Result D (RequestTokenError RE T)) → AnswersUnsent fault.Memory result → after ≡ before → P result)
-      (result : Result D (RequestTokenError RE T)) → OneShot meaning error_meaning step says IsRequest NotHttp before result after → P result
-  of_one_shot replied failed not_http no_memory result (inl (request, is, (Ok reply, did, shown))) = replied request reply result is did shown
-  of_one_shot replied failed not_http no_memory result (inl (request, is, (Err error, did, shown))) = subst P (sym shown) (failed request error is did)
-  of_one_shot replied failed not_http no_memory result (inr (inl (unsent, target), same)) = not_http result unsent target same
-  of_one_shot replied failed not_http no_memory result (inr (inr unsent, same)) = no_memory result unsent same
-
--- an answer of a request that was not sent
-module _ {D T RE : Type 0} (P : Result D (RequestTokenError RE T) → Type 0) where
-  of_no_memory : P (Err (token.Memory false)) → (result : Result D (RequestTokenError RE T)) → AnswersUnsent fault.Memory result → P result
-  of_no_memory none (Err (token.Memory sent)) unsent = subst (λ b. P (Err (token.Memory b))) (sym unsent) none
-  of_no_memory none (Err (token.Other what)) unsent = absurd unsent
-  of_no_memory none (Err (token.ServerResponse error)) unsent = absurd unsent
-  of_no_memory none (Err (token.Request error)) unsent = absurd unsent
-  of_no_memory none (Err (token.Parse f body)) unsent = absurd unsent
-  of_no_memory none (Ok value) unsent = absurd unsent
-
-  of_not_http : P (Err (token.Memory false)) → ((what : String Global) → string_bytes what ≡ not_http_text → P (Err (token.Other what)))
-      → (result : Result D (RequestTokenError RE T)) → AnswersUnsent fault.NotHttp result → P result
-  of_not_http none told (Err (token.Memory sent)) unsent = subst (λ b. P (Err (token.Memory b))) (sym unsent) none
-  of_not_http none told (Err (token.Other what)) unsent = told what unsent
-  of_not_http none told (Err (token.ServerResponse error)) unsent = absurd unsent
-  of_not_http none told (Err (token.Request error)) unsent = absurd unsent
-  of_not_http none told (Err (token.Parse f body)) unsent = absurd unsent
-  of_not_http none told (Ok value) unsent = absurd unsent
 
 -- an answer that a reply shows, by the result; of the reply R says
 module _ {D A T X RE : Type 0} (meaning : D → A) (error_meaning : T → X) (says : ReplyView → Answer A X) (R : (ReplyView → Type 0) → Type 0)
@@ -168,13 +133,14 @@ module _ {C S E D A T X : Type 0} (opens : C → Place → Result S E → C → 
   )
 
   pub from_bytes : (result : Result D (RequestTokenError (Http1Error E) T))
-      → OneShot meaning error_meaning (Exchanges opens contents remaining) (λ reply. says (reply_of reply))
-      (λ request. IsRequestOf c text (view_of request)) (SpellsNone text) before result after
+      → AsksOnce meaning error_meaning (Exchanges opens contents remaining) says (IsRequestOf c) text before result after
       → FromBytes opens contents remaining c text meaning error_meaning says before result after
-  from_bytes result asked =
-      of_one_shot meaning error_meaning (Exchanges opens contents remaining) (λ reply. says (reply_of reply))
-      (λ request. IsRequestOf c text (view_of request)) (SpellsNone text) before after Over
-      (λ request reply answer is did shown. replied request reply answer is did shown)
-      (λ request error is did. failed request error is did)
-      (λ answer unsent target same. of_not_http Over same (λ what is. inr (same, target, is)) answer unsent)
-      (λ answer unsent same. of_no_memory Over same answer unsent) result asked
+  from_bytes result (Ok request, is, target, (Ok reply, did, shown)) = replied request reply result is did shown
+  from_bytes result (Ok request, is, target, (Err error, did, shown)) = subst Over (sym shown) (failed request error is did)
+  from_bytes (Err (token.Memory sent)) (Err kind, is, target, (unsent, same)) = subst (λ b. Over (Err (token.Memory b))) (sym unsent) same
+  from_bytes (Err (token.Other what)) (Err fault.NotHttp, is, target, (told, same)) = inr (same, target refl, told)
+  from_bytes (Err (token.Other what)) (Err fault.Memory, is, target, unsent) = absurd unsent
+  from_bytes (Err (token.ServerResponse error)) (Err kind, is, target, unsent) = absurd unsent
+  from_bytes (Err (token.Request error)) (Err kind, is, target, unsent) = absurd unsent
+  from_bytes (Err (token.Parse f body)) (Err kind, is, target, unsent) = absurd unsent
+  from_bytes (Ok value) (Err kind, is, target, unsent) = absurd unsent

@@ -8,9 +8,9 @@ use Rattle.httparse.specs.Spans.{name_and_value}
 use Rattle.http1.specs.Message.{Response}
 use Rattle.oauth2_json.specs.Reading.{fault_of}
 use Rattle.oauth2_wire.specs.Expected.{Configuration}
-use Rattle.oauth2_wire.specs.OneShot.{HttpRequest, OneShot, not_http_text}
-use Rattle.oauth2_wire.specs.Reply.{ReplyView, Answer, reply_of, accepted, refused, unread, other}
-use Rattle.oauth2_wire.specs.Request.{IsRequestOf, view_of}
+use Rattle.oauth2_wire.specs.Once.{AsksOnce, not_http_text}
+use Rattle.oauth2_wire.specs.Reply.{ReplyView, Answer, accepted, refused, unread, other}
+use Rattle.oauth2_wire.specs.Request.{HttpRequest, IsRequestOf, view_of}
 use Rattle.oauth2_wire.specs.declared.error.RequestTokenError.{RequestTokenError}
 use Rattle.oauth2_wire.specs.declared.error.RequestTokenError.TheVariants as token
 use Rattle.oauth2_http1.specs.declared.client.Http1Client.{Http1Client}
@@ -99,6 +99,5 @@ module _ {C S E : Type 0} (opens : C → Place → Result S E → C → Type 0) 
   EachIsFromBytes =
       (c : Configuration) (text : List ℕ) (says : ReplyView → Answer A X) (before after : Http1Client C)
       (result : Result D (RequestTokenError (Http1Error E) T))
-      → OneShot meaning error_meaning (Exchanges opens contents remaining) (λ reply. says (reply_of reply))
-      (λ request. IsRequestOf c text (view_of request)) (SpellsNone text) before result after
+      → AsksOnce meaning error_meaning (Exchanges opens contents remaining) says (IsRequestOf c) text before result after
       → FromBytes opens contents remaining c text meaning error_meaning says before result after

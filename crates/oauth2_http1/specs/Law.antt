@@ -5,7 +5,7 @@ use Rattle.http.specs.Request.{head_of, body_of}
 use Rattle.http1.specs.declared.conn.Limits.{Limits}
 use Rattle.http1.specs.Fields.{values_named}
 use Rattle.http1.specs.ServerTrace.{SeenRequest}
-use Rattle.oauth2_wire.specs.OneShot.{HttpRequest}
+use Rattle.oauth2_wire.specs.Request.{HttpRequest}
 use Rattle.oauth2_form.specs.Pairs.{form}
 use Rattle.oauth2_form.specs.Basic.{basic}
 use Rattle.oauth2_wire.specs.ByName.{ReadsByName}
