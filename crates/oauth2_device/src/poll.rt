@@ -1,6 +1,6 @@
 //! The poll over a world (RFC 8628, section 3.5).
 
-ghost use Rattle.std.specs.Prelude.{◌≡◌, ◌<◌, List};
+ghost use Rattle.std.specs.Prelude.{◌≡◌, ◌<◌, List, Err, IfOk, IfSome};
 ghost use Rattle.std.specs.Duration.{as_nanos};
 ghost use Rattle.http_uri.specs.Uri.{SpellsNone};
 ghost use Rattle.url.specs.Parts.{serialize};
@@ -14,7 +14,10 @@ use crate::verdict::{PollError, Verdict, expired, judge_answer};
 use oauth2_codes::DeviceCodeErrorResponse;
 use oauth2_poll::{DevicePoll, PollAnswer, PollReady, PollSettings, PollStep};
 use oauth2_replies::TokenResponse;
-use oauth2_wire::{HttpResponse, RequestTokenError, endpoint_response_with};
+use oauth2_wire::{
+    HttpRequest, HttpResponse, RequestFault, RequestTokenError, copy_request,
+    endpoint_response_with,
+};
 use std::alloc::Global;
 use std::time::Duration;
 
@@ -72,9 +75,10 @@ impl<'a, TR: TokenResponse, EF, T> DeviceAccessTokenRequest<'a, TR, EF, T> {
         let Some(mut poll) = DevicePoll::new(start, timeout, settings) else {
             return Err(RequestTokenError::with_text(alloc, "failed to calculate timeout", false));
         };
+        let mut kept = None;
         let mut sent = false;
         'rounds: loop {
-            if let Some(result) = self.round(alloc, world, &mut poll, sent) {
+            if let Some(result) = self.round(alloc, world, &mut poll, &mut kept, sent) {
                 return result;
             }
             sent = true;
@@ -100,10 +104,12 @@ impl<'a, TR: TokenResponse, EF, T> DeviceAccessTokenRequest<'a, TR, EF, T> {
         alloc: Global,
         world: &mut W,
         poll: &mut DevicePoll,
+        kept: &mut Option<HttpRequest>,
         sent: bool,
     ) -> Option<Result<TR, PollError<W::Error>>>
         requires polls { 0 < poll.old.polls_left }
         requires ready { W.is_ready world.old }
+        requires kept { IfSome kept.old (IsDeviceRequest self.now.request) }
         ensures turn { (e : List (Event W.Error))
             × Leads W.reads W.sends W.sleeps world.old e world.new
             × EachRequest (IsDeviceRequest self.now.request) e
@@ -111,13 +117,14 @@ impl<'a, TR: TokenResponse, EF, T> DeviceAccessTokenRequest<'a, TR, EF, T> {
             (SpellsNone (serialize self.now.request.token_url.url))
             poll.old sent e result poll.new }
         ensures ready { W.is_ready world.new }
+        ensures kept { IfSome kept.new (IsDeviceRequest self.now.request) }
     {
         let now = world.now();
         match poll.ready(now) {
             PollReady::Expired => return Some(Err(expired(alloc, sent))),
             PollReady::Ask => {}
         }
-        let request = match self.prepare_request(alloc) {
+        let request = match self.next_request(alloc, kept) {
             Ok(request) => request,
             Err(fault) => return Some(Err(RequestTokenError::unprepared(alloc, fault, sent))),
         };
@@ -135,6 +142,27 @@ impl<'a, TR: TokenResponse, EF, T> DeviceAccessTokenRequest<'a, TR, EF, T> {
                 }
             },
         }
+    }
+
+    // The request of a round. The first is built and kept, and each one sent is a copy of it.
+    fn next_request(
+        &self,
+        alloc: Global,
+        kept: &mut Option<HttpRequest>,
+    ) -> Result<HttpRequest, RequestFault>
+        requires { IfSome kept.old (IsDeviceRequest self.now.request) }
+        ensures ok { IfOk result (IsDeviceRequest self.now.request) }
+        ensures not_http { result ≡ Err RequestFault.NotHttp
+            → SpellsNone (serialize self.now.request.token_url.url) }
+        ensures kept { IfSome kept.new (IsDeviceRequest self.now.request) }
+    {
+        if let Some(request) = &*kept {
+            return Ok(copy_request(alloc, request)?);
+        }
+        let request = self.prepare_request(alloc)?;
+        let copy = copy_request(alloc, &request)?;
+        *kept = Some(request);
+        Ok(copy)
     }
 
     // What came of the request.

@@ -43,6 +43,7 @@ rounds-init g c =
     let within : IsTimestampNanos (c.now-start.result.nanosecond +ℤ pos (as_nanos c.args.timeout)) = search rules in
     let is = rw (c.settings-settings.ensures.interval, c.settings-settings.ensures.cap, c.settings-settings.ensures.polls) at c.in-Some.ensures.value in (
       c.now-start.ensures.ready,
+      tt,
       (
         Reading t ∷ [],
         (c.now-start.new.self, c.now-start.ensures.reads, refl),
@@ -55,7 +56,7 @@ returns-in-Some-round-clause-poll g c =
     let r = c.args.self.now.request in
     let bound : as_nanos c.settings-settings.result.interval ≤ max_nanos = search rules in
     let interval = subst (λ (n : ℕ). n ≤ max_nanos) c.settings-settings.ensures.interval bound in
-    let h = c.rounds.invariant.1 in
+    let h = c.rounds.invariant.2 in
     let turn = c.in-Some-round.ensures.turn in (
       h.0 ++ turn.0,
       Leads-append _ _ _ _ h.0 turn.0 _ _ h.1 turn.1,
@@ -67,9 +68,10 @@ returns-in-Some-round-clause-poll g c =
 pub rounds-preserved : goal.rounds-preserved
 rounds-preserved g c =
     let r = c.args.self.now.request in
-    let h = c.rounds.invariant.1 in
+    let h = c.rounds.invariant.2 in
     let turn = c.in_default-round.ensures.turn in (
       c.round.ensures.ready,
+      c.round.ensures.kept,
       (
         h.0 ++ turn.0,
         Leads-append _ _ _ _ h.0 turn.0 _ _ h.1 turn.1,

@@ -19,7 +19,7 @@ returns-in-Err-clause-turn g c =
       Reading c.now-now.result ∷ [],
       (c.now-now.new.self, c.now-now.ensures.reads, refl),
       tt,
-      inl (unprepared g.TR.FromJson.meaning (device_answer c.args.self.now.request.base.reply_rule g.TR.FromJson.reading) _ c.args.poll.now c.args.sent c.now-now.result before c.in-Err.fault c.unprepared.result c.prepare_request.result c.in-Err.is c.prepare_request.ensures.not_http c.unprepared.ensures),
+      inl (unprepared g.TR.FromJson.meaning (device_answer c.args.self.now.request.base.reply_rule g.TR.FromJson.reading) _ c.args.poll.now c.args.sent c.now-now.result before c.in-Err.fault c.unprepared.result c.next_request.result c.in-Err.is c.next_request.ensures.not_http c.unprepared.ensures),
     )
 
 pub returns-in-Decided-clause-turn : goal.returns-in-Decided-clause-turn
@@ -51,4 +51,5 @@ returns-in-Limit g c =
         inr (at_limit g.TR.FromJson.meaning (device_answer c.args.self.now.request.base.reply_rule g.TR.FromJson.reading) ⊥ c.args.poll.now c.args.sent c.now-now.result before c.in-Ok.request c.send-reply.result c.in-Again.answer c.in-Again.ensures c.answer.result c.answer.ensures.step c.with_text.result c.in-Limit.is c.with_text.ensures),
       );
       ready = c.send-reply.ensures.ready;
+      kept = c.next_request.ensures.kept;
     }
