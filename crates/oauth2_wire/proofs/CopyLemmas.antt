@@ -5,11 +5,10 @@ use Rattle.std.specs.List.{AllZip}
 use Rattle.http_header.specs.FieldValue.{FieldValue}
 use Rattle.http_header.specs.HeaderMap.{Entries, IsMapClone, get}
 use Rattle.http_uri.specs.Grammar.{IsUriText}
-use Rattle.http_uri.specs.Uri.{HasParts, uri_scheme, uri_authority, uri_data}
 use Rattle.oauth2_form.specs.Pairs.{form}
 use Rattle.oauth2_form.specs.Basic.{basic}
 use Rattle.oauth2_wire.specs.Expected.{Configuration}
-use Rattle.oauth2_wire.specs.Request.{RequestView, IsRequestOf}
+use Rattle.oauth2_wire.specs.Request.{RequestView, IsCopyOf, IsRequestOf}
 
 copied_values : {X : Type 0} (values copy : List X) → AllZip (λ x y. y ≡ x) values copy → copy ≡ values
 copied_values [] [] h = refl
@@ -26,10 +25,8 @@ copied_headers (e ∷ es) (f ∷ fs) h = λ i. (h.0.0 i, copied_values e.1 f.1 h
 copied_target : (text : List ℕ) (s scheme a authority : Option (List ℕ)) (k kept : List ℕ) → s ≡ scheme → a ≡ authority → k ≡ kept → IsUriText text scheme authority kept → IsUriText text s a k
 copied_target text s scheme a authority k kept e f g is = rw (e, f, g) is
 
-pub IsRequestOf-copy : (c : Configuration) (text : List ℕ) (seen copy : RequestView) → copy.method ≡ seen.method
-    → HasParts copy.target (uri_scheme seen.target) (uri_authority seen.target) (uri_data seen.target)
-    → copy.version ≡ seen.version → copy.headers ≡ seen.headers → copy.body ≡ seen.body → IsRequestOf c text seen → IsRequestOf c text copy
-IsRequestOf-copy c text seen copy method target version headers body is = record {
+pub IsRequestOf-copy : (c : Configuration) (text : List ℕ) (seen copy : RequestView) → IsCopyOf seen copy → IsRequestOf c text seen → IsRequestOf c text copy
+IsRequestOf-copy c text seen copy (method, target, version, headers, body) is = record {
   method = method ∙ is.method;
   target = copied_target text _ _ _ _ _ _ target.0 target.1 target.2 is.target;
   version = version ∙ is.version;

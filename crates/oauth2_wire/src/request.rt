@@ -15,7 +15,7 @@ ghost use Rattle.oauth2_wire.specs.Expected.{basic_credentials, body_credentials
 ghost use Rattle.oauth2_wire.specs.Expected.{authorization_header};
 ghost use Rattle.oauth2_wire.specs.private.Headers.{headers_with, optional_authorization};
 ghost use Rattle.oauth2_form.specs.Basic.{basic};
-ghost use Rattle.oauth2_wire.specs.Request.{view_of, IsRequestOf};
+ghost use Rattle.oauth2_wire.specs.Request.{view_of, IsCopyOf, IsRequestOf};
 
 use crate::texts::ParamText;
 use http::request::Parts;
@@ -173,9 +173,12 @@ pub fn endpoint_request_encoded(
     Ok(Request::from_parts(head, body.into_bytes()))
 }
 
-/// A copy of a request: it is the request of each configuration that the other is.
+/// A copy of a request, for a client that takes the request itself.
 pub fn copy_request(alloc: Global, request: &HttpRequest) -> Result<HttpRequest, AllocError>
-    ensures { IfOk result (λ copy. (configuration : Configuration) (text : List ℕ)
+    ensures copy { IfOk result (λ copy. IsCopyOf (view_of request.now) (view_of copy)) }
+
+    // It is the request of each configuration that the other is.
+    ensures request { IfOk result (λ copy. (configuration : Configuration) (text : List ℕ)
         → IsRequestOf configuration text (view_of request.now)
         → IsRequestOf configuration text (view_of copy)) }
 {
