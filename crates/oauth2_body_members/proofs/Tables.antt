@@ -10,7 +10,7 @@ use Rattle.oauth2_json.proofs.Objects.{get_member-others, get_member-without, ab
 use Rattle.oauth2_json.proofs.Puts.{are_distinct}
 use Rattle.oauth2_body_members.specs.Object.{has_name, Keeps}
 use Rattle.oauth2_body_members.proofs.Keeping.{others_kept}
-use Rattle.oauth2_body_members.specs.Table.{NamedValues, values_under, values_in_turn, rows_before, Table, ◌▸◌, end, Builder, Meanings, curried, uncurried, names_of, rows_of, table_reading, turn_reading, group_reading, grouped_reading}
+use Rattle.oauth2_body_members.specs.Table.{NamedValues, values_under, values_in_turn, rows_before, Table, ◌▸◌, end, Builder, Meanings, curried, uncurried, names_of, rows_of, table_reading, turn_reading, group_reading, of_two, of_three, of_four}
 
 both : (a b : Bool) → a && b ≡ true → (a ≡ true) × (b ≡ true)
 both true b h = (refl, h)
@@ -112,7 +112,7 @@ IsReadBack end r m = Unit {0}
 IsReadBack (c ▸ t) r m = (c.reads (c.writes r) ≡ Ok m.0) × IsReadBack t r m.1
 
 -- under each name stands its row's value
-abbrev Holds : List Row → Members → Type 0
+abbrev pub Holds : List Row → Members → Type 0
 Holds [] ms = Unit {0}
 Holds (r ∷ rs) ms = (get_member r.0 ms ≡ r.1) × Holds rs ms
 
@@ -128,7 +128,7 @@ holds_past (r ∷ rs) k o ms h held =
     let w = both (not (bytes_eq k r.0)) (misses k (names rs)) h in
     (pass_some r.0 k o ms (flipped_at (bytes_eq r.0 k) r.0 k refl (turned (bytes_eq k r.0) w.0)) ∙ held.0, holds_past rs k o ms w.1 held.1)
 
-all_held : (rs : List Row) (ms : Members) → are_distinct (names rs) ≡ true → clashes (names rs) ms ≡ false → Holds rs (put_all rs ms)
+pub all_held : (rs : List Row) (ms : Members) → are_distinct (names rs) ≡ true → clashes (names rs) ms ≡ false → Holds rs (put_all rs ms)
 all_held [] ms h free = tt
 all_held (r ∷ rs) ms h free =
     let w = both (misses r.0 (names rs)) (are_distinct (names rs)) h in
@@ -136,13 +136,19 @@ all_held (r ∷ rs) ms h free =
     let below = put_all rs ms in
     (find_some r.0 r.1 below (absent r.0 rs ms w.0 ∙ a.0), holds_past rs r.0 r.1 below w.0 (all_held rs ms w.1 a.1))
 
+pub held_parts : (rs more : List Row) (ms : Members) → Holds (rs ++ more) ms → Holds rs ms × Holds more ms
+held_parts [] more ms held = (tt, held)
+held_parts (r ∷ rs) more ms held =
+    let p = held_parts rs more ms held.1 in
+    ((held.0, p.0), p.1)
+
 values_held : (ks : List (List ℕ)) (vs : NamedValues ks) (rs : List Row) (ms : Members) → Holds (rows_before ks vs rs) ms → (values_under ks ms ≡ vs) × Holds rs ms
 values_held [] vs rs ms held = (refl, held)
 values_held (k ∷ ks) vs rs ms held =
     let p = values_held ks vs.1 rs ms held.1 in
     (λ i. (held.0 i, p.0 i), p.1)
 
-read_held : {R X : Type 0} (t : Table R) (f : Builder t X) (r : R) (m : Meanings t) (ms : Members) → Holds (rows_of t r) ms → IsReadBack t r m → table_reading t (Ok f) ms ≡ Ok (uncurried t f m)
+pub read_held : {R X : Type 0} (t : Table R) (f : Builder t X) (r : R) (m : Meanings t) (ms : Members) → Holds (rows_of t r) ms → IsReadBack t r m → table_reading t (Ok f) ms ≡ Ok (uncurried t f m)
 read_held end f r m ms held back = refl
 read_held (c ▸ t) f r m ms held back =
     let p = values_held c.names (c.writes r) (rows_of t r) ms held in
@@ -184,11 +190,48 @@ curried_again : {R : Type 0} (X : Type 0) (t : Table R) (f : Builder t X) → cu
 curried_again X end f = refl
 curried_again X (c ▸ t) f = λ i a. curried_again X t (f a) i
 
-pub grouped : {R X : Type 0} (t : Table R) (f : Reading (Builder t X)) (ms : Members) → grouped_reading {X = X} t f ms ≡ turn_reading t f ms
-unfolding group_reading
+grouped : {R X : Type 0} (t : Table R) (f : Reading (Builder t X)) (ms : Members) → Ok (uncurried {X = X} t) ⊛ f ⊛ group_reading t ms ≡ turn_reading t f ms
 grouped {X = X} t (Err e) ms = sym (failed t e ms)
 grouped {X = X} t (Ok f) ms =
     sym (read_after t (uncurried t f) (Ok (curried t (λ m. m))) ms) ∙ ap (λ b. turn_reading t (Ok b) ms) (after_curried t (uncurried t f) (λ m. m) ∙ curried_again X t f)
+
+flat_two : {A B F X : Type 0} (f : A → F) (g : F → B → X) (a : Reading A) (b : Reading B) → Ok (λ x y. g (f x) y) ⊛ a ⊛ b ≡ Ok g ⊛ (Ok f ⊛ a) ⊛ b
+flat_two f g (Err e) b = refl
+flat_two f g (Ok a) (Err e) = refl
+flat_two f g (Ok a) (Ok b) = refl
+
+flat_three : {A B C F X : Type 0} (f : A → B → F) (g : F → C → X) (a : Reading A) (b : Reading B) (c : Reading C) → Ok (λ x y z. g (f x y) z) ⊛ a ⊛ b ⊛ c ≡ Ok g ⊛ (Ok f ⊛ a ⊛ b) ⊛ c
+flat_three f g (Err e) b c = refl
+flat_three f g (Ok a) (Err e) c = refl
+flat_three f g (Ok a) (Ok b) (Err e) = refl
+flat_three f g (Ok a) (Ok b) (Ok c) = refl
+
+flat_four : {A B C D F X : Type 0} (f : A → B → C → F) (g : F → D → X) (a : Reading A) (b : Reading B) (c : Reading C) (d : Reading D) → Ok (λ x y z w. g (f x y z) w) ⊛ a ⊛ b ⊛ c ⊛ d ≡ Ok g ⊛ (Ok f ⊛ a ⊛ b ⊛ c) ⊛ d
+flat_four f g (Err e) b c d = refl
+flat_four f g (Ok a) (Err e) c d = refl
+flat_four f g (Ok a) (Ok b) (Err e) d = refl
+flat_four f g (Ok a) (Ok b) (Ok c) (Err e) = refl
+flat_four f g (Ok a) (Ok b) (Ok c) (Ok d) = refl
+
+pub in_two : {R X : Type 0} (s t : Table R) (f : Builder s (Builder t X)) (a b : Members) → Ok (of_two {X = X} s t f) ⊛ group_reading s a ⊛ group_reading t b ≡ turn_reading t (turn_reading s (Ok f) a) b
+in_two {X = X} s t f a b =
+    flat_two (uncurried s f) (uncurried {X = X} t) (group_reading s a) (group_reading t b)
+    ∙ grouped t (Ok (uncurried s f) ⊛ group_reading s a) b
+    ∙ ap (λ r. turn_reading t r b) (grouped s (Ok f) a)
+
+pub in_three : {R X : Type 0} (s t u : Table R) (f : Builder s (Builder t (Builder u X))) (a b c : Members)
+    → Ok (of_three {X = X} s t u f) ⊛ group_reading s a ⊛ group_reading t b ⊛ group_reading u c ≡ turn_reading u (turn_reading t (turn_reading s (Ok f) a) b) c
+in_three {X = X} s t u f a b c =
+    flat_three (of_two s t f) (uncurried {X = X} u) (group_reading s a) (group_reading t b) (group_reading u c)
+    ∙ grouped u (Ok (of_two s t f) ⊛ group_reading s a ⊛ group_reading t b) c
+    ∙ ap (λ r. turn_reading u r c) (in_two s t f a b)
+
+pub in_four : {R X : Type 0} (s t u v : Table R) (f : Builder s (Builder t (Builder u (Builder v X)))) (a b c d : Members)
+    → Ok (of_four {X = X} s t u v f) ⊛ group_reading s a ⊛ group_reading t b ⊛ group_reading u c ⊛ group_reading v d ≡ turn_reading v (turn_reading u (turn_reading t (turn_reading s (Ok f) a) b) c) d
+in_four {X = X} s t u v f a b c d =
+    flat_four (of_three s t u f) (uncurried {X = X} v) (group_reading s a) (group_reading t b) (group_reading u c) (group_reading v d)
+    ∙ grouped v (Ok (of_three s t u f) ⊛ group_reading s a ⊛ group_reading t b ⊛ group_reading u c) d
+    ∙ ap (λ r. turn_reading v r d) (in_three s t u f a b c)
 
 -- ---- a table beside other members, which are read as one object
 

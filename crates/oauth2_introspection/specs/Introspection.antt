@@ -1,7 +1,6 @@
 -- RFC 7662, 2.2: the members of an introspection response.
-use Rattle.std.specs.Prelude.{ℕ, ℤ, List, [], ◌∷◌, Bool, Option, Some, IfSome, Ok, codes, option_map}
+use Rattle.std.specs.Prelude.{ℕ, ℤ, List, Bool, Option, Some, IfSome, Ok, codes, option_map}
 use Rattle.serde_json.specs.Data.{Data, Members, boolean, string, array, object}
-use Rattle.serde_json.specs.Find.{get_member}
 use Rattle.oauth2_json.specs.Reading.{Reading, read_then, ◌⊛◌}
 use Rattle.oauth2_json.specs.Writing.{Writing, write_then}
 use Rattle.oauth2_json.specs.Members.{members_of_object, needed_member, optional_member, present_member, others, beside, optional_writing}
@@ -9,6 +8,7 @@ use Rattle.oauth2_json.specs.Values.{text, flag, lowercase_reading, words_readin
 use Rattle.oauth2_introspection.specs.Instants.{instant, second_data, IsWholeSeconds}
 use Rattle.oauth2_json.specs.Words.{joined_words}
 use Rattle.oauth2_json.specs.Puts.{Row, put_all}
+use Rattle.oauth2_body_members.specs.Table.{Table, column, ◌▸◌, end, names_of, table_reading, rows_of}
 use Rattle.oauth2_replies.specs.Kept.{IsTypeKept, AreFieldsKept, AreScopesKept}
 
 -- an introspection response; its times are in nanoseconds since 1970-01-01T00:00:00Z
@@ -37,87 +37,51 @@ abbrev pub introspection_seen : {E T F M : Type 0} → (E → F) → (T → M) �
 introspection_seen f g r =
     introspection r.active r.scopes r.client_id r.username (option_map g r.token_type) r.exp r.iat r.nbf r.sub r.aud r.iss r.jti (f r.extra_fields)
 
-abbrev pub own_names : List (List ℕ)
-own_names =
-    codes "active"
-    ∷ codes "scope"
-    ∷ codes "client_id"
-    ∷ codes "username"
-    ∷ codes "token_type"
-    ∷ codes "exp"
-    ∷ codes "iat"
-    ∷ codes "nbf"
-    ∷ codes "sub"
-    ∷ codes "aud"
-    ∷ codes "iss"
-    ∷ codes "jti"
-    ∷ []
+-- a response without its extra fields, its token type as JSON
+abbrev pub introspection_written : {E T : Type 0} → Option Data → Introspection E T → Introspection (Unit {0}) Data
+introspection_written type_written r =
+    introspection r.active r.scopes r.client_id r.username type_written r.exp r.iat r.nbf r.sub r.aud r.iss r.jti tt
 
--- the table, over what stands under each name and the object of the other members
-abbrev pub introspection_rows : {E T : Type 0} → (Data → Reading E) → (Data → Reading T)
-    → Option Data → Option Data → Option Data → Option Data → Option Data → Option Data
-    → Option Data → Option Data → Option Data → Option Data → Option Data → Option Data
-    → Members → Reading (Introspection E T)
-introspection_rows extra_fields token_type a s c u t e i n b d o j rest =
-    Ok introspection
-    ⊛ needed_member flag (codes "active") a
-    ⊛ optional_member (words_reading text) (codes "scope") s
-    ⊛ optional_member text (codes "client_id") c
-    ⊛ optional_member text (codes "username") u
-    ⊛ present_member (lowercase_reading token_type) (codes "token_type") t
-    ⊛ optional_member instant (codes "exp") e
-    ⊛ optional_member instant (codes "iat") i
-    ⊛ optional_member instant (codes "nbf") n
-    ⊛ optional_member text (codes "sub") b
-    ⊛ optional_member texts (codes "aud") d
-    ⊛ optional_member text (codes "iss") o
-    ⊛ optional_member text (codes "jti") j
-    ⊛ extra_fields (object rest)
+-- each own member: how it is read, and how it is written once the token type is JSON
+abbrev pub introspection_table : {T : Type 0} → (Data → Reading T) → Table (Introspection (Unit {0}) Data)
+introspection_table token_type =
+    column (codes "active") (needed_member flag) (λ r. Some (boolean r.active))
+    ▸ column (codes "scope") (optional_member (words_reading text)) (λ r. option_map (λ scopes. string (joined_words scopes)) r.scopes)
+    ▸ column (codes "client_id") (optional_member text) (λ r. option_map string r.client_id)
+    ▸ column (codes "username") (optional_member text) (λ r. option_map string r.username)
+    ▸ column (codes "token_type") (present_member (lowercase_reading token_type)) (λ r. r.token_type)
+    ▸ column (codes "exp") (optional_member instant) (λ r. option_map second_data r.exp)
+    ▸ column (codes "iat") (optional_member instant) (λ r. option_map second_data r.iat)
+    ▸ column (codes "nbf") (optional_member instant) (λ r. option_map second_data r.nbf)
+    ▸ column (codes "sub") (optional_member text) (λ r. option_map string r.sub)
+    ▸ column (codes "aud") (optional_member texts) (λ r. option_map (λ list. array (text_items list)) r.aud)
+    ▸ column (codes "iss") (optional_member text) (λ r. option_map string r.iss)
+    ▸ column (codes "jti") (optional_member text) (λ r. option_map string r.jti)
+    ▸ end
 
+-- whatever reads the token type, the names are the same
+abbrev pub introspection_names : List (List ℕ)
+introspection_names = names_of (introspection_table Ok)
+
+-- what each own member reads to, and then the object of the others
 abbrev pub introspection_row : {E T : Type 0} → (Data → Reading E) → (Data → Reading T) → Members → Reading (Introspection E T)
 introspection_row extra_fields token_type ms =
-    introspection_rows extra_fields token_type
-    (get_member (codes "active") ms)
-    (get_member (codes "scope") ms)
-    (get_member (codes "client_id") ms)
-    (get_member (codes "username") ms)
-    (get_member (codes "token_type") ms)
-    (get_member (codes "exp") ms)
-    (get_member (codes "iat") ms)
-    (get_member (codes "nbf") ms)
-    (get_member (codes "sub") ms)
-    (get_member (codes "aud") ms)
-    (get_member (codes "iss") ms)
-    (get_member (codes "jti") ms)
-    (others own_names ms)
+    table_reading (introspection_table token_type) (Ok introspection) ms ⊛ extra_fields (object (others introspection_names ms))
 
 abbrev pub introspection_reading : {E T : Type 0} → (Data → Reading E) → (Data → Reading T) → Data → Reading (Introspection E T)
 introspection_reading extra_fields token_type d = read_then (members_of_object d) (introspection_row extra_fields token_type)
 
--- the type's own members, none of which is written where it is none
-abbrev pub own_rows : {E T : Type 0} → Option Data → Introspection E T → List Row
-own_rows token_type r =
-    (codes "active", Some (boolean r.active))
-    ∷ (codes "scope", option_map (λ scopes. string (joined_words scopes)) r.scopes)
-    ∷ (codes "client_id", option_map string r.client_id)
-    ∷ (codes "username", option_map string r.username)
-    ∷ (codes "token_type", token_type)
-    ∷ (codes "exp", option_map second_data r.exp)
-    ∷ (codes "iat", option_map second_data r.iat)
-    ∷ (codes "nbf", option_map second_data r.nbf)
-    ∷ (codes "sub", option_map string r.sub)
-    ∷ (codes "aud", option_map (λ list. array (text_items list)) r.aud)
-    ∷ (codes "iss", option_map string r.iss)
-    ∷ (codes "jti", option_map string r.jti)
-    ∷ []
+-- the type's own members, none of which is written where it is none; `type_written` is the token type's JSON
+abbrev pub introspection_rows : {E T : Type 0} → Option Data → Introspection E T → List Row
+introspection_rows type_written r = rows_of (introspection_table Ok) (introspection_written type_written r)
 
 -- the type's own members beside those of its extra fields
 abbrev pub introspection_writing : {E T : Type 0} → (E → Writing) → (T → Writing) → Introspection E T → Writing
 introspection_writing extra_fields token_type r =
     write_then (optional_writing token_type r.token_type) (λ t.
     write_then (extra_fields r.extra_fields) (λ x.
-    write_then (beside own_names x) (λ ms.
-    Ok (object (put_all (own_rows t r) ms)))))
+    write_then (beside introspection_names x) (λ ms.
+    Ok (object (put_all (introspection_rows t r) ms)))))
 
 -- what reads back as itself once it is written: no time is told but in whole seconds
 pub record IsIntrospectionKept {E T F M : Type 0} (er : Data → Reading F) (em : E → F) (ew : E → Writing) (tr : Data → Reading M) (tm : T → M) (tw : T → Writing) (r : Introspection E T) : Type 0 where

@@ -14,23 +14,20 @@ use Rattle.oauth2_json.specs.Puts.{put_all}
 use Rattle.oauth2_json.proofs.Puts.{rest}
 use Rattle.oauth2_json.proofs.Objects.{beside_taken, optional-text}
 use Rattle.oauth2_body_members.specs.Object.{Keeps}
-use Rattle.oauth2_body_members.specs.Table.{names_of, turn_reading, grouped_reading}
-use Rattle.oauth2_body_members.proofs.Tables.{grouped, kept_table, whole_table, read_back}
+use Rattle.oauth2_body_members.specs.Table.{names_of, turn_reading}
+use Rattle.oauth2_body_members.proofs.Tables.{in_three, kept_table, whole_table, read_back}
 use Rattle.oauth2_replies.specs.Kept.{AreFieldsKept}
 use Rattle.oauth2_replies.specs.Device.{DeviceAuthorization, device_authorization, device_seen, device_table, device_names, device_rows, address_reading, device_row, device_reading, device_writing}
 use Rattle.oauth2_replies.specs.private.Address.{IsAddress}
-use Rattle.oauth2_replies.specs.private.DeviceRows.{codes_table, addresses_table, times_table, device_in_turn}
+use Rattle.oauth2_replies.specs.private.DeviceRows.{codes_table, codes_reading, addresses_table, addresses_reading, times_table, times_reading, device_in_turn}
 
 -- group by group is row by row
 one_by_one : {E : Type 0} (er : Data → Reading E) (ms : Members) → device_in_turn er ms ≡ turn_reading device_table (Ok device_authorization) ms ⊛ er (object (others device_names ms))
+unfolding codes_reading addresses_reading times_reading
 one_by_one er ms =
     let after_codes = others (names_of codes_table) ms in
-    let after_addresses = others (names_of addresses_table) after_codes in
-    let codes_read = grouped_reading codes_table (Ok device_authorization) ms in
     ap (λ r. r ⊛ er (object (others device_names ms)))
-    (grouped times_table (grouped_reading addresses_table codes_read after_codes) after_addresses
-    ∙ ap (λ r. turn_reading times_table r after_addresses) (grouped addresses_table codes_read after_codes)
-    ∙ ap (λ r. turn_reading times_table (turn_reading addresses_table r after_codes) after_addresses) (grouped codes_table (Ok device_authorization) ms))
+    (in_three codes_table addresses_table times_table device_authorization ms after_codes (others (names_of addresses_table) after_codes))
 
 -- what is kept of the members reads as all of them
 pub kept_rows : {E : Type 0} (er : Data → Reading E) (b : Bool) (all kept : Members) → Keeps device_names b all kept → (b ≡ false → (x y : Members) → er (object x) ≡ er (object y))

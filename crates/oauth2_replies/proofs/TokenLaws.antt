@@ -10,19 +10,17 @@ use Rattle.oauth2_json.proofs.Puts.{rest}
 use Rattle.oauth2_json.proofs.Objects.{beside_taken, optional-text, optional-number}
 use Rattle.oauth2_json.proofs.Optionals.{optional-words}
 use Rattle.oauth2_body_members.specs.Object.{Keeps}
-use Rattle.oauth2_body_members.specs.Table.{names_of, turn_reading, grouped_reading}
-use Rattle.oauth2_body_members.proofs.Tables.{grouped, kept_table, whole_table, read_back}
+use Rattle.oauth2_body_members.specs.Table.{names_of, turn_reading}
+use Rattle.oauth2_body_members.proofs.Tables.{in_two, kept_table, whole_table, read_back}
 use Rattle.oauth2_replies.specs.Kept.{AreScopesKept}
 use Rattle.oauth2_replies.specs.Token.{Token, token, token_seen, token_table, token_names, token_rows, token_row, token_reading, token_writing, IsTokenKept}
-use Rattle.oauth2_replies.specs.private.TokenRows.{credential_table, terms_table, token_in_turn}
+use Rattle.oauth2_replies.specs.private.TokenRows.{credential_table, credential_reading, terms_table, terms_reading, token_in_turn}
 
 -- group by group is row by row
 one_by_one : {E T : Type 0} (er : Data → Reading E) (tr : Data → Reading T) (ms : Members) → token_in_turn er tr ms ≡ turn_reading (token_table tr) (Ok token) ms ⊛ er (object (others token_names ms))
+unfolding credential_reading terms_reading
 one_by_one er tr ms =
-    let left = others (names_of (credential_table tr)) ms in
-    ap (λ r. r ⊛ er (object (others token_names ms)))
-    (grouped terms_table (grouped_reading (credential_table tr) (Ok token) ms) left
-    ∙ ap (λ r. turn_reading terms_table r left) (grouped (credential_table tr) (Ok token) ms))
+    ap (λ r. r ⊛ er (object (others token_names ms))) (in_two (credential_table tr) terms_table token ms (others (names_of (credential_table tr)) ms))
 
 -- what is kept of the members reads as all of them
 pub kept_rows : {E T : Type 0} (er : Data → Reading E) (tr : Data → Reading T) (b : Bool) (all kept : Members) → Keeps token_names b all kept → (b ≡ false → (x y : Members) → er (object x) ≡ er (object y))

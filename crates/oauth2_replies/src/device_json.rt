@@ -9,7 +9,7 @@ ghost use Rattle.oauth2_json.specs.Members.{without, others};
 ghost use Rattle.oauth2_json.specs.Writing.{WritesAs};
 ghost use Rattle.oauth2_json.specs.Puts.{put_all};
 ghost use Rattle.oauth2_body_members.specs.Object.{object_members};
-ghost use Rattle.oauth2_body_members.specs.Table.{names_of, group_reading};
+ghost use Rattle.oauth2_body_members.specs.Table.{names_of, pair};
 ghost use Rattle.oauth2_replies.specs.Kept.{AreFieldsKept};
 ghost use Rattle.oauth2_replies.specs.Device.{
   DeviceAuthorization,
@@ -22,8 +22,11 @@ ghost use Rattle.oauth2_replies.specs.Device.{
 ghost use Rattle.oauth2_replies.specs.private.Address.{IsAddress};
 ghost use Rattle.oauth2_replies.specs.private.DeviceRows.{
   codes_table,
+  codes_reading,
   addresses_table,
+  addresses_reading,
   times_table,
+  times_reading,
   device_in_turn,
 };
 
@@ -90,10 +93,10 @@ fn take_address(
     members.either_name(alloc, name, other)
 }
 
-#[tactic(auto, unfolding(oauth2_body_members::specs::Table::group_reading))]
+#[tactic(auto, unfolding(crate::specs::private::DeviceRows::codes_reading))]
 fn take_codes(alloc: Global, members: &mut Object<'_>) -> Result<Codes, ReadError>
-    ensures read { ReadsAs (λ c. (c.device_code, (c.user_code, tt))) result
-        (group_reading codes_table (object_members members.old)) }
+    ensures read { ReadsAs (λ c. pair c.device_code c.user_code) result
+        (codes_reading (object_members members.old)) }
     ensures rest { IfOk result (λ _. object_members members.new
         ≡ others (names_of codes_table) (object_members members.old)) }
 {
@@ -103,10 +106,10 @@ fn take_codes(alloc: Global, members: &mut Object<'_>) -> Result<Codes, ReadErro
     })
 }
 
-#[tactic(auto, unfolding(oauth2_body_members::specs::Table::group_reading))]
+#[tactic(auto, unfolding(crate::specs::private::DeviceRows::addresses_reading))]
 fn take_addresses(alloc: Global, members: &mut Object<'_>) -> Result<Addresses, ReadError>
-    ensures read { ReadsAs (λ a. (a.verification_uri, (a.verification_uri_complete, tt))) result
-        (group_reading addresses_table (object_members members.old)) }
+    ensures read { ReadsAs (λ a. pair a.verification_uri a.verification_uri_complete) result
+        (addresses_reading (object_members members.old)) }
     ensures address { IfOk result (λ a. IsAddress a.verification_uri) }
     ensures rest { IfOk result (λ _. object_members members.new
         ≡ others (names_of addresses_table) (object_members members.old)) }
@@ -117,10 +120,10 @@ fn take_addresses(alloc: Global, members: &mut Object<'_>) -> Result<Addresses, 
     })
 }
 
-#[tactic(auto, unfolding(oauth2_body_members::specs::Table::group_reading))]
+#[tactic(auto, unfolding(crate::specs::private::DeviceRows::times_reading))]
 fn take_times(alloc: Global, members: &mut Object<'_>) -> Result<Times, ReadError>
-    ensures read { ReadsAs (λ t. (t.expires_in, (t.interval, tt))) result
-        (group_reading times_table (object_members members.old)) }
+    ensures read { ReadsAs (λ t. pair t.expires_in t.interval) result
+        (times_reading (object_members members.old)) }
     ensures rest { IfOk result (λ _. object_members members.new
         ≡ others (names_of times_table) (object_members members.old)) }
 {

@@ -7,7 +7,7 @@ ghost use Rattle.oauth2_json.specs.Members.{others};
 ghost use Rattle.oauth2_json.specs.Writing.{WritesAs};
 ghost use Rattle.oauth2_json.specs.Puts.{put_all};
 ghost use Rattle.oauth2_body_members.specs.Object.{object_members};
-ghost use Rattle.oauth2_body_members.specs.Table.{names_of, group_reading};
+ghost use Rattle.oauth2_body_members.specs.Table.{names_of, pair, triple};
 ghost use Rattle.oauth2_replies.specs.Token.{
   Token,
   token_seen,
@@ -18,7 +18,9 @@ ghost use Rattle.oauth2_replies.specs.Token.{
 };
 ghost use Rattle.oauth2_replies.specs.private.TokenRows.{
   credential_table,
+  credential_reading,
   terms_table,
+  terms_reading,
   token_in_turn,
 };
 
@@ -69,13 +71,13 @@ struct Credential<TT> {
     token_type: TT,
 }
 
-#[tactic(auto, unfolding(oauth2_body_members::specs::Table::group_reading))]
+#[tactic(auto, unfolding(crate::specs::private::TokenRows::credential_reading))]
 fn take_credential<TT: TokenType + Drop>(
     alloc: Global,
     members: &mut Object<'_>,
 ) -> Result<Credential<TT>, ReadError>
-    ensures read { ReadsAs (λ c. (c.access_token, (TT.meaning c.token_type, tt))) result
-        (group_reading (credential_table TT.reading) (object_members members.old)) }
+    ensures read { ReadsAs (λ c. pair c.access_token (TT.meaning c.token_type)) result
+        (credential_reading TT.reading (object_members members.old)) }
     ensures rest { IfOk result (λ _. object_members members.new
         ≡ others (names_of (credential_table TT.reading)) (object_members members.old)) }
 {
@@ -85,16 +87,11 @@ fn take_credential<TT: TokenType + Drop>(
     })
 }
 
-#[tactic(auto, unfolding(oauth2_body_members::specs::Table::group_reading))]
+#[tactic(auto, unfolding(crate::specs::private::TokenRows::terms_reading))]
 fn take_terms(alloc: Global, members: &mut Object<'_>) -> Result<Terms, ReadError>
-    ensures read { ReadsAs (λ t. (
-      t.expires_in,
-      (
-        t.refresh_token,
-        (option_map (λ list. list.items) t.scopes, tt),
-      ),
-    ))
-        result (group_reading terms_table (object_members members.old)) }
+    ensures read { ReadsAs (λ t. triple t.expires_in t.refresh_token
+        (option_map (λ list. list.items) t.scopes))
+        result (terms_reading (object_members members.old)) }
     ensures rest { IfOk result (λ _. object_members members.new
         ≡ others (names_of terms_table) (object_members members.old)) }
 {

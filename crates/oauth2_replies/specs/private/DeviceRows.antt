@@ -4,7 +4,7 @@ use Rattle.std.specs.Prelude.{Ok}
 use Rattle.serde_json.specs.Data.{Data, Members, object}
 use Rattle.oauth2_json.specs.Reading.{Reading, ◌⊛◌}
 use Rattle.oauth2_json.specs.Members.{others}
-use Rattle.oauth2_body_members.specs.Table.{Table, names_of, front, back, grouped_reading}
+use Rattle.oauth2_body_members.specs.Table.{Table, Meanings, names_of, front, back, group_reading, of_three}
 use Rattle.oauth2_replies.specs.Device.{DeviceAuthorization, device_authorization, device_table}
 
 abbrev pub codes_table : Table (DeviceAuthorization (Unit {0}))
@@ -16,11 +16,21 @@ addresses_table = front 2 (back 2 device_table)
 abbrev pub times_table : Table (DeviceAuthorization (Unit {0}))
 times_table = back 4 device_table
 
+unfoldable pub codes_reading : Members → Reading (Meanings codes_table)
+codes_reading ms = group_reading codes_table ms
+
+unfoldable pub addresses_reading : Members → Reading (Meanings addresses_table)
+addresses_reading ms = group_reading addresses_table ms
+
+unfoldable pub times_reading : Members → Reading (Meanings times_table)
+times_reading ms = group_reading times_table ms
+
 abbrev pub device_in_turn : {E : Type 0} → (Data → Reading E) → Members → Reading (DeviceAuthorization E)
 device_in_turn extra_fields ms =
     let after_codes = others (names_of codes_table) ms in
     let after_addresses = others (names_of addresses_table) after_codes in
-    grouped_reading times_table
-    (grouped_reading addresses_table (grouped_reading codes_table (Ok device_authorization) ms) after_codes)
-    after_addresses
+    Ok (of_three codes_table addresses_table times_table device_authorization)
+    ⊛ codes_reading ms
+    ⊛ addresses_reading after_codes
+    ⊛ times_reading after_addresses
     ⊛ extra_fields (object (others (names_of times_table) after_addresses))
