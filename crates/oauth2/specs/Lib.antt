@@ -34,7 +34,7 @@ pub use Rattle.oauth2_wire.specs.ByName
 pub use Rattle.oauth2_wire.specs.ServerView
 pub use Rattle.oauth2_wire.specs.ContentType
 pub use Rattle.oauth2_wire.specs.Reply
-pub use Rattle.oauth2_wire.specs.OneShot
+pub use Rattle.oauth2_wire.specs.Once
 pub use Rattle.oauth2_wire.specs.Display
 pub use Rattle.oauth2_wire.specs.ConfigurationError
 pub use Rattle.oauth2_form.specs.FormEncoding
@@ -47,7 +47,6 @@ pub use Rattle.oauth2_requests.specs.DeviceAuthorization
 pub use Rattle.oauth2_requests.specs.HintedToken
 pub use Rattle.oauth2_requests.specs.TokenIntrospection
 pub use Rattle.oauth2_requests.specs.TokenRevocation
-pub use Rattle.oauth2_requests.specs.Once
 pub use Rattle.oauth2_form.specs.Query
 pub use Rattle.oauth2_requests.specs.Authorization
 pub use Rattle.oauth2_device.specs.DeviceToken

@@ -13,16 +13,17 @@ use Rattle.oauth2_json.specs.Puts.{Row, put_all}
 use Rattle.oauth2_json.specs.Values.{text_items}
 use Rattle.oauth2_introspection.specs.Instants.{second_data, second_of}
 use Rattle.oauth2_json.specs.Words.{joined_words}
-use Rattle.oauth2_replies.specs.Device.{own_rows as device_rows}
-use Rattle.oauth2_introspection.specs.Introspection.{own_rows as introspection_rows}
+use Rattle.oauth2_replies.specs.Device.{device_rows}
+use Rattle.oauth2_introspection.specs.Introspection.{introspection_rows}
 use Rattle.oauth2_metadata.specs.Metadata.{metadata_rows, endpoint_rows, supported_rows, auth_method_rows, signing_algorithm_rows, page_rows, service_rows}
 use Rattle.oauth2_metadata.specs.Metadata.{EndpointMembers, SupportedMembers, AuthMethodMembers, SigningAlgorithmMembers, PageMembers, ServiceMembers}
 use Rattle.oauth2_openid.specs.Claims.{Claims}
+use Rattle.oauth2_openid.specs.Reading.{id_token_rows}
 use Rattle.oauth2_openid.specs.declared.access_token_hash.AccessTokenHash.{AccessTokenHash}
-use Rattle.oauth2_replies.specs.Token.{own_rows as token_rows}
+use Rattle.oauth2_replies.specs.Token.{token_rows}
 use Rattle.oauth2_commands.specs.Exchange.{BasicToken, token_data}
 use Rattle.oauth2_commands.specs.DeviceAuthorization.{BasicDevice, device_data}
-use Rattle.oauth2_commands.specs.IdToken.{claim_rows, claims_data, checked_data, hash_name}
+use Rattle.oauth2_commands.specs.IdToken.{claims_data, checked_data, hash_name}
 use Rattle.oauth2_commands.specs.Introspect.{BasicIntrospection, introspection_data}
 use Rattle.oauth2_commands.specs.Metadata.{BasicMetadata, metadata_data}
 
@@ -217,7 +218,7 @@ pub metadata_data-no_float : (m : BasicMetadata) → has_float (metadata_data m)
 unfolding metadata_data
 metadata_data-no_float m = put_all-no_float (metadata_rows m) no_members (metadata_rows_free m) refl
 
-claims_free : (c : Claims) → AreFree (claim_rows c)
+claims_free : (c : Claims) → AreFree (id_token_rows c)
 claims_free c = (
   refl,
   (
@@ -246,7 +247,7 @@ claims_free c = (
 
 claims_data-no_float : (c : Claims) → has_float (claims_data c) ≡ false
 unfolding claims_data
-claims_data-no_float c = put_all-no_float (claim_rows c) no_members (claims_free c) refl
+claims_data-no_float c = put_all-no_float (id_token_rows c) no_members (claims_free c) refl
 
 pub checked_data-no_float : (hash : AccessTokenHash) (c : Claims) → has_float (checked_data hash c) ≡ false
 unfolding checked_data

@@ -5,7 +5,7 @@ use Rattle.serde_json.specs.Written.{compact_text}
 use Rattle.oauth2_codes.specs.ErrorCodes.{ErrorCode, error_code_text, error_code_reading}
 use Rattle.oauth2_codes.specs.ErrorResponse.{ErrorParts, error_reading}
 use Rattle.oauth2_json.specs.Puts.{put_all}
-use Rattle.oauth2_replies.specs.Device.{DeviceAuthorization, device_reading, own_rows}
+use Rattle.oauth2_replies.specs.Device.{DeviceAuthorization, device_reading, device_rows}
 use Rattle.oauth2_replies.specs.Kept.{any_object}
 use Rattle.oauth2_urls.specs.Addressed.{Addressed}
 use Rattle.oauth2_wire.specs.declared.content_type.ReplyRule.{ReplyRule}
@@ -31,7 +31,7 @@ abbrev pub BasicDevice : Type 0
 BasicDevice = DeviceAuthorization (Unit {0})
 
 unfoldable pub device_data : BasicDevice → Data
-device_data r = object (put_all (own_rows r) no_members)
+device_data r = object (put_all (device_rows r) no_members)
 
 -- a device authorization response as compact JSON
 unfoldable pub device_json : BasicDevice → List ℕ

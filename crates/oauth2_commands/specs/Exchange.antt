@@ -13,7 +13,7 @@ use Rattle.oauth2_json.specs.Reading.{Fault}
 use Rattle.oauth2_json.specs.declared.read.ParseCause.{ParseCause}
 use Rattle.oauth2_json.specs.declared.read.ParseCause.TheVariants as cause
 use Rattle.oauth2_replies.specs.Kept.{any_object}
-use Rattle.oauth2_replies.specs.Token.{Token, token_reading, own_rows}
+use Rattle.oauth2_replies.specs.Token.{Token, token_reading, token_rows}
 use Rattle.oauth2_urls.specs.Addressed.{Addressed}
 use Rattle.oauth2_wire.specs.declared.content_type.ReplyRule.{ReplyRule}
 use Rattle.oauth2_wire.specs.Expected.{Configuration}
@@ -96,7 +96,7 @@ abbrev pub BasicToken : Type 0
 BasicToken = Token (Unit {0}) TokenCode
 
 unfoldable pub token_data : BasicToken → Data
-token_data r = object (put_all (own_rows (string (token_code_text r.token_type)) r) no_members)
+token_data r = object (put_all (token_rows (string (token_code_text r.token_type)) r) no_members)
 
 -- a token response as compact JSON
 unfoldable pub token_json : BasicToken → List ℕ

@@ -1,15 +1,13 @@
 -- The command `id_token`: an ID token is read, and its claims are checked (OpenID Connect Core 1.0, 3.1.3.7).
-use Rattle.std.specs.Prelude.{◌≡◌, ℕ, ℤ, List, [], ◌∷◌, ◌++◌, Some, option_map, Result, Ok, Err, codes}
-use Rattle.serde_json.specs.Data.{Data, string, array, object, no_members}
+use Rattle.std.specs.Prelude.{◌≡◌, ℕ, ℤ, List, [], ◌∷◌, ◌++◌, Some, Result, Ok, Err, codes}
+use Rattle.serde_json.specs.Data.{Data, string, object, no_members}
 use Rattle.serde_json.specs.Written.{compact_text}
 use Rattle.oauth2.specs.Settings.{Settings}
-use Rattle.oauth2_introspection.specs.Instants.{second_data}
 use Rattle.oauth2_json.specs.ErrorTexts.{parse_fault_text}
-use Rattle.oauth2_json.specs.Puts.{Row, put_all}
-use Rattle.oauth2_json.specs.Values.{text_items}
+use Rattle.oauth2_json.specs.Puts.{put_all}
 use Rattle.oauth2_openid.specs.Claims.{Claims, Expectation}
 use Rattle.oauth2_openid.specs.ErrorTexts.{claims_error_text, part_text}
-use Rattle.oauth2_openid.specs.Reading.{compact_token_reading}
+use Rattle.oauth2_openid.specs.Reading.{compact_token_reading, id_token_rows}
 use Rattle.oauth2_openid.specs.Token.{DecodedToken, TokenFault, TokenReading, not_three_parts, not_base64, at_fault}
 use Rattle.oauth2_openid.specs.TokenRules.{token_checked}
 use Rattle.oauth2_openid.specs.declared.access_token_hash.AccessTokenHash.{AccessTokenHash}
@@ -33,23 +31,8 @@ params_expectation client p = record {
 -- ---- a token whose rules hold
 
 -- the claims, by their names of section 2; none is shown that is not there
-abbrev pub claim_rows : Claims → List Row
-claim_rows c =
-    (codes "iss", Some (string c.issuer))
-    ∷ (codes "sub", Some (string c.subject))
-    ∷ (codes "aud", Some (array (text_items c.audience)))
-    ∷ (codes "exp", Some (second_data c.expires_at))
-    ∷ (codes "iat", Some (second_data c.issued_at))
-    ∷ (codes "auth_time", option_map second_data c.auth_time)
-    ∷ (codes "nonce", option_map string c.nonce)
-    ∷ (codes "acr", option_map string c.authentication_context_class)
-    ∷ (codes "amr", option_map (λ list. array (text_items list)) c.authentication_methods)
-    ∷ (codes "azp", option_map string c.authorized_party)
-    ∷ (codes "at_hash", option_map string c.access_token_hash)
-    ∷ []
-
 unfoldable pub claims_data : Claims → Data
-claims_data c = object (put_all (claim_rows c) no_members)
+claims_data c = object (put_all (id_token_rows c) no_members)
 
 -- 3.1.3.8: what the token's hash says of the access token
 abbrev pub hash_name : AccessTokenHash → List ℕ

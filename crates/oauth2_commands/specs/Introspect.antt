@@ -6,7 +6,7 @@ use Rattle.oauth2_codes.specs.Codes.{TokenCode, token_code_text, token_code_read
 use Rattle.oauth2_codes.specs.ErrorCodes.{ErrorCode, error_code_text, error_code_reading}
 use Rattle.oauth2_codes.specs.ErrorResponse.{ErrorParts, error_reading}
 use Rattle.oauth2_json.specs.Puts.{put_all}
-use Rattle.oauth2_introspection.specs.Introspection.{Introspection, introspection_reading, own_rows}
+use Rattle.oauth2_introspection.specs.Introspection.{Introspection, introspection_reading, introspection_rows}
 use Rattle.oauth2_replies.specs.Kept.{any_object}
 use Rattle.oauth2_urls.specs.Addressed.{Addressed}
 use Rattle.oauth2_wire.specs.declared.content_type.ReplyRule.{ReplyRule}
@@ -34,7 +34,7 @@ BasicIntrospection = Introspection (Unit {0}) TokenCode
 
 unfoldable pub introspection_data : BasicIntrospection → Data
 introspection_data r =
-    object (put_all (own_rows (option_map (λ t. string (token_code_text t)) r.token_type) r) no_members)
+    object (put_all (introspection_rows (option_map (λ t. string (token_code_text t)) r.token_type) r) no_members)
 
 -- an introspection response as compact JSON
 unfoldable pub introspection_json : BasicIntrospection → List ℕ

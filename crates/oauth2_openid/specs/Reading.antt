@@ -1,12 +1,14 @@
 -- What a text reads to as an ID token (OpenID Connect Core 1.0, section 2; RFC 7515).
-use Rattle.std.specs.Prelude.{ℕ, List, [], ◌∷◌, Option, Some, None, Ok, Err, codes}
-use Rattle.serde_json.specs.Data.{Data, Members, object}
+use Rattle.std.specs.Prelude.{ℕ, List, [], ◌∷◌, Option, Some, None, Ok, Err, codes, option_map}
+use Rattle.serde_json.specs.Data.{Data, Members, string, array, object}
 use Rattle.serde_json.specs.Find.{get_member}
 use Rattle.oauth2_json.specs.Body.{body_reading}
 use Rattle.oauth2_json.specs.Members.{members_of_object, needed_member, optional_member, others}
+use Rattle.oauth2_json.specs.Puts.{Row}
 use Rattle.oauth2_json.specs.Reading.{Reading, read_then, ◌⊛◌}
-use Rattle.oauth2_json.specs.Values.{text, texts, text_list}
-use Rattle.oauth2_introspection.specs.Instants.{instant}
+use Rattle.oauth2_json.specs.Values.{text, texts, text_list, text_items}
+use Rattle.oauth2_body_members.specs.Table.{Table, column, ◌▸◌, end, Builder, names_of, table_reading, rows_of}
+use Rattle.oauth2_introspection.specs.Instants.{instant, second_data}
 use Rattle.oauth2_openid.specs.declared.read_error.TokenPart.{TokenPart}
 use Rattle.oauth2_openid.specs.declared.read_error.TokenPart.TheVariants as part
 use Rattle.oauth2_openid.specs.Claims.{Claims, claims}
@@ -23,37 +25,35 @@ header_row ms =
 abbrev pub header_reading : Data → Reading (WithOthers Header)
 header_reading d = read_then (members_of_object d) header_row
 
-abbrev pub id_token_names : List (List ℕ)
-id_token_names =
-    codes "iss"
-    ∷ codes "sub"
-    ∷ codes "aud"
-    ∷ codes "exp"
-    ∷ codes "iat"
-    ∷ codes "auth_time"
-    ∷ codes "nonce"
-    ∷ codes "acr"
-    ∷ codes "amr"
-    ∷ codes "azp"
-    ∷ codes "at_hash"
-    ∷ []
+-- each claim: how it is read, and how it is shown as JSON
+abbrev pub id_token_table : Table Claims
+id_token_table =
+    column (codes "iss") (needed_member text) (λ c. Some (string c.issuer))
+    ▸ column (codes "sub") (needed_member text) (λ c. Some (string c.subject))
+    ▸ column (codes "aud") (needed_member texts) (λ c. Some (array (text_items c.audience)))
+    ▸ column (codes "exp") (needed_member instant) (λ c. Some (second_data c.expires_at))
+    ▸ column (codes "iat") (needed_member instant) (λ c. Some (second_data c.issued_at))
+    ▸ column (codes "auth_time") (optional_member instant) (λ c. option_map second_data c.auth_time)
+    ▸ column (codes "nonce") (optional_member text) (λ c. option_map string c.nonce)
+    ▸ column (codes "acr") (optional_member text) (λ c. option_map string c.authentication_context_class)
+    ▸ column (codes "amr") (optional_member text_list) (λ c. option_map (λ list. array (text_items list)) c.authentication_methods)
+    ▸ column (codes "azp") (optional_member text) (λ c. option_map string c.authorized_party)
+    ▸ column (codes "at_hash") (optional_member text) (λ c. option_map string c.access_token_hash)
+    ▸ end
 
--- the claims: absent and null are none, where a claim need not be there
+abbrev pub id_token_names : List (List ℕ)
+id_token_names = names_of id_token_table
+
+-- the claims beside the object of the other members
+abbrev pub claims_with : Builder id_token_table (Data → WithOthers Claims)
+claims_with i s a e t u n c m p h = with_others (claims i s a e t u n c m p h)
+
 abbrev pub claims_row : Members → Reading (WithOthers Claims)
-claims_row ms =
-    Ok (λ i s a e t u n c m p h o. with_others (claims i s a e t u n c m p h) o)
-    ⊛ needed_member text (codes "iss") (get_member (codes "iss") ms)
-    ⊛ needed_member text (codes "sub") (get_member (codes "sub") ms)
-    ⊛ needed_member texts (codes "aud") (get_member (codes "aud") ms)
-    ⊛ needed_member instant (codes "exp") (get_member (codes "exp") ms)
-    ⊛ needed_member instant (codes "iat") (get_member (codes "iat") ms)
-    ⊛ optional_member instant (codes "auth_time") (get_member (codes "auth_time") ms)
-    ⊛ optional_member text (codes "nonce") (get_member (codes "nonce") ms)
-    ⊛ optional_member text (codes "acr") (get_member (codes "acr") ms)
-    ⊛ optional_member text_list (codes "amr") (get_member (codes "amr") ms)
-    ⊛ optional_member text (codes "azp") (get_member (codes "azp") ms)
-    ⊛ optional_member text (codes "at_hash") (get_member (codes "at_hash") ms)
-    ⊛ Ok (object (others id_token_names ms))
+claims_row ms = table_reading id_token_table (Ok claims_with) ms ⊛ Ok (object (others id_token_names ms))
+
+-- the claims that are there, as members
+abbrev pub id_token_rows : Claims → List Row
+id_token_rows c = rows_of id_token_table c
 
 abbrev pub claims_reading : Data → Reading (WithOthers Claims)
 claims_reading d = read_then (members_of_object d) claims_row

@@ -5,19 +5,18 @@ ghost use Rattle.serde_json.specs.View.{view};
 ghost use Rattle.oauth2_json.specs.Reading.{ReadsAs};
 ghost use Rattle.oauth2_json.specs.Members.{others};
 ghost use Rattle.oauth2_body_members.specs.Object.{object_members};
+ghost use Rattle.oauth2_body_members.specs.Table.{names_of, pair, triple};
 ghost use Rattle.oauth2_openid.specs.Claims.{Claims};
 ghost use Rattle.oauth2_openid.specs.Token.{WithOthers, with_others};
 ghost use Rattle.oauth2_openid.specs.Reading.{claims_reading};
 ghost use Rattle.oauth2_openid.specs.private.Rows.{
-  triple,
-  pair,
-  names_names,
-  names_reading,
-  times_names,
-  times_reading,
-  login_names,
+  claim_names_table,
+  claim_names_reading,
+  claim_times_table,
+  claim_times_reading,
+  authentication_table,
   authentication_reading,
-  bindings_names,
+  bindings_table,
   bindings_reading,
   claims_in_turn,
 };
@@ -26,8 +25,8 @@ use crate::claims::IdTokenClaims;
 use crate::nonce::Nonce;
 use jiff::Timestamp;
 use oauth2_body_members::Object;
-use oauth2_introspection::{needed_time, optional_time};
-use oauth2_json::{FromJson, ReadError, members};
+use oauth2_introspection::{take_needed_time, take_optional_time};
+use oauth2_json::{FromJson, ReadError};
 use serde_json::Value;
 use std::alloc::Global;
 
@@ -82,45 +81,33 @@ impl FromJson for AllClaims {
     }
 }
 
-#[tactic(auto, unfolding(crate::specs::private::Rows::names_reading))]
+#[tactic(auto, unfolding(crate::specs::private::Rows::claim_names_reading))]
 fn take_names(alloc: Global, members: &mut Object<'_>) -> Result<Names, ReadError>
     ensures read { ReadsAs (λ n. triple (string_bytes n.issuer) (string_bytes n.subject)
         (map string_bytes n.audience.items))
-        result (names_reading (object_members members.old)) }
+        result (claim_names_reading (object_members members.old)) }
     ensures rest { IfOk result (λ _. object_members members.new
-        ≡ others names_names (object_members members.old)) }
+        ≡ others (names_of claim_names_table) (object_members members.old)) }
 {
-    let issuer = members.take("iss");
-    let issuer = members::needed::<String>(alloc, "iss", issuer)?;
-    let subject = members.take("sub");
-    let subject = members::needed::<String>(alloc, "sub", subject)?;
-    let audience = members.take("aud");
-    let audience = members::needed_texts(alloc, "aud", audience)?;
     Ok(Names {
-        issuer,
-        subject,
-        audience,
+        issuer: members.needed(alloc, "iss")?,
+        subject: members.needed(alloc, "sub")?,
+        audience: members.needed_texts(alloc, "aud")?,
     })
 }
 
-#[tactic(auto, unfolding(crate::specs::private::Rows::times_reading))]
+#[tactic(auto, unfolding(crate::specs::private::Rows::claim_times_reading))]
 fn take_times(alloc: Global, members: &mut Object<'_>) -> Result<Times, ReadError>
     ensures read { ReadsAs (λ t. triple t.expires_at.nanosecond t.issued_at.nanosecond
         (option_map (λ time. time.nanosecond) t.auth_time))
-        result (times_reading (object_members members.old)) }
+        result (claim_times_reading (object_members members.old)) }
     ensures rest { IfOk result (λ _. object_members members.new
-        ≡ others times_names (object_members members.old)) }
+        ≡ others (names_of claim_times_table) (object_members members.old)) }
 {
-    let expires_at = members.take("exp");
-    let expires_at = needed_time(alloc, "exp", expires_at)?;
-    let issued_at = members.take("iat");
-    let issued_at = needed_time(alloc, "iat", issued_at)?;
-    let auth_time = members.take("auth_time");
-    let auth_time = optional_time(alloc, "auth_time", auth_time)?;
     Ok(Times {
-        expires_at,
-        issued_at,
-        auth_time,
+        expires_at: take_needed_time(alloc, members, "exp")?,
+        issued_at: take_needed_time(alloc, members, "iat")?,
+        auth_time: take_optional_time(alloc, members, "auth_time")?,
     })
 }
 
@@ -131,18 +118,12 @@ fn take_login(alloc: Global, members: &mut Object<'_>) -> Result<Login, ReadErro
         (option_map (λ list. map string_bytes list.items) l.authentication_methods))
         result (authentication_reading (object_members members.old)) }
     ensures rest { IfOk result (λ _. object_members members.new
-        ≡ others login_names (object_members members.old)) }
+        ≡ others (names_of authentication_table) (object_members members.old)) }
 {
-    let nonce = members.take("nonce");
-    let nonce = members::optional::<Nonce>(alloc, "nonce", nonce)?;
-    let class = members.take("acr");
-    let authentication_context_class = members::optional::<String>(alloc, "acr", class)?;
-    let methods = members.take("amr");
-    let authentication_methods = members::optional_text_list(alloc, "amr", methods)?;
     Ok(Login {
-        nonce,
-        authentication_context_class,
-        authentication_methods,
+        nonce: members.optional(alloc, "nonce")?,
+        authentication_context_class: members.optional(alloc, "acr")?,
+        authentication_methods: members.optional_text_list(alloc, "amr")?,
     })
 }
 
@@ -152,15 +133,11 @@ fn take_bindings(alloc: Global, members: &mut Object<'_>) -> Result<Bindings, Re
         (option_map string_bytes b.access_token_hash))
         result (bindings_reading (object_members members.old)) }
     ensures rest { IfOk result (λ _. object_members members.new
-        ≡ others bindings_names (object_members members.old)) }
+        ≡ others (names_of bindings_table) (object_members members.old)) }
 {
-    let party = members.take("azp");
-    let authorized_party = members::optional::<String>(alloc, "azp", party)?;
-    let hash = members.take("at_hash");
-    let access_token_hash = members::optional::<String>(alloc, "at_hash", hash)?;
     Ok(Bindings {
-        authorized_party,
-        access_token_hash,
+        authorized_party: members.optional(alloc, "azp")?,
+        access_token_hash: members.optional(alloc, "at_hash")?,
     })
 }
 

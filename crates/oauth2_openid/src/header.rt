@@ -9,7 +9,7 @@ ghost use Rattle.oauth2_openid.specs.Reading.{header_reading};
 ghost use Rattle.oauth2_openid.specs.private.Rows.{header_in_turn};
 
 use oauth2_body_members::Object;
-use oauth2_json::{FromJson, ReadError, members};
+use oauth2_json::{FromJson, ReadError};
 use serde_json::Value;
 use std::alloc::Global;
 use std::marker::Model;
@@ -76,11 +76,10 @@ fn from_members(alloc: Global, mut members: Object<'_>) -> Result<WholeHeader, R
     ensures { ReadsAs (λ h. with_others h.header (view h.others)) result
         (header_in_turn (object_members members.entry)) }
 {
-    let algorithm = members.take("alg");
-    let algorithm = members::needed::<String>(alloc, "alg", algorithm)?;
-    let key_id = members.take("kid");
-    let key_id = members::optional::<String>(alloc, "kid", key_id)?;
+    let header = IdTokenHeader {
+        algorithm: members.needed(alloc, "alg")?,
+        key_id: members.optional(alloc, "kid")?,
+    };
     let others = members.into_value(alloc)?;
-    let header = IdTokenHeader { algorithm, key_id };
     Ok(WholeHeader { header, others })
 }

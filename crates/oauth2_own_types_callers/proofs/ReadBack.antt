@@ -6,7 +6,7 @@ use Rattle.oauth2_json.specs.Members.{beside}
 use Rattle.oauth2_json.specs.Puts.{put_all}
 use Rattle.oauth2_codes.specs.ErrorResponse.{IsReadBack}
 use Rattle.oauth2_replies.specs.Kept.{IsTypeKept, AreFieldsKept}
-use Rattle.oauth2_replies.specs.Token.{token, token_writing, own_names, own_rows}
+use Rattle.oauth2_replies.specs.Token.{token, token_writing, token_names, token_rows}
 use Rattle.oauth2_own_types_callers.specs.declared.colorful_error.ColorfulErrorResponseType.{ColorfulErrorResponseType}
 use Rattle.oauth2_own_types_callers.specs.declared.colorful_error.ColorfulErrorResponseType.TheVariants.{TooDark, TooLight, WrongColorSpace}
 use Rattle.oauth2_own_types_callers.specs.declared.colorful_fields.ColorfulFields.{ColorfulFields}
@@ -43,12 +43,12 @@ color_kept_if (Some color) = color_kept color
 
 -- ---- a token response is an object of texts and numbers alone
 
-beside_fields : (shape : Option (List ℕ)) (height : ℕ) → beside own_names (object (fields_members (shape, height))) ≡ Ok (fields_members (shape, height))
+beside_fields : (shape : Option (List ℕ)) (height : ℕ) → beside token_names (object (fields_members (shape, height))) ≡ Ok (fields_members (shape, height))
 beside_fields None height = refl
 beside_fields (Some shape) height = refl
 
 flat : (color a : List ℕ) (e : Option ℕ) (r : Option (List ℕ)) (s : Option (List (List ℕ))) (shape : Option (List ℕ)) (height : ℕ)
-    → depth (object (put_all (own_rows {E = Fields} (string color) (token a color e r s (shape, height))) (fields_members (shape, height)))) ≡ 1
+    → depth (object (put_all (token_rows {E = Fields} (string color) (token a color e r s (shape, height))) (fields_members (shape, height)))) ≡ 1
 flat color a None None None None height = refl
 flat color a None None None (Some shape) height = refl
 flat color a None None (Some s) None height = refl
@@ -69,5 +69,5 @@ flat color a (Some e) (Some r) (Some s) (Some shape) height = refl
 pub token_depth : (r : ColorfulToken) (d : Data) → token_writing (λ f. fields_writing (fields_seen f)) color_writing r ≡ Ok d → depth d ≡ 1
 token_depth r d written =
     let f = fields_seen r.extra_fields in
-    let is : object (put_all (own_rows (string (color_text r.token_type)) r) (fields_members f)) ≡ d = (let e = rw (beside_fields f.0 f.1) at written in cc) in
+    let is : object (put_all (token_rows (string (color_text r.token_type)) r) (fields_members f)) ≡ d = (let e = rw (beside_fields f.0 f.1) at written in cc) in
     rw (← is) (flat (color_text r.token_type) r.access_token r.expires_in r.refresh_token r.scopes f.0 f.1)
