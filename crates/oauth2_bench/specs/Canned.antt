@@ -1,7 +1,7 @@
 -- A client that hands back one reply.
 use Rattle.std.specs.Prelude.{◌≡◌, ℕ, List, None, Result, Ok, Err, string_bytes}
 use Rattle.std.specs.declared.alloc.AllocError.{AllocError}
-use Rattle.oauth2_wire.specs.OneShot.{HttpRequest}
+use Rattle.oauth2_wire.specs.Request.{HttpRequest}
 use Rattle.oauth2_wire.specs.Reply.{HttpResponse, ReplyView, reply_of}
 use Rattle.oauth2_bench.specs.declared.canned.CannedClient.{CannedClient}
 

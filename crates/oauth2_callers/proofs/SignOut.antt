@@ -1,18 +1,18 @@
 -- A revocation that was done.
-use Rattle.std.proofs.Common.{◌≡◌, ℕ, List, Bool, true, false, Option, Some, None, Ok, Err, inl, inr, refl, subst}
+use Rattle.std.proofs.Common.{◌≡◌, ℕ, List, Bool, true, false, Option, Some, None, Ok, Err, refl, subst}
 use Rattle.std.specs.Prelude.{◌==◌, Result, Decides, IsSome, IfSome, codes, length, if◌then◌else◌}
 use Rattle.std.proofs.lemmas.Bool.Decides.{Decides-eqb}
 use Rattle.std.proofs.lemmas.Slice.Eq.{bytes_eq-Decides}
 use Rattle.std.proofs.Common.{bytes_eq}
-use Rattle.http_uri.specs.Uri.{SpellsNone}
 use Rattle.serde_json.specs.Data.{Data}
 use Rattle.url.specs.Parts.{serialize}
 use Rattle.oauth2_json.specs.Body.{body_reading}
 use Rattle.oauth2_json.specs.Reading.{Reading}
 use Rattle.oauth2_urls.specs.Addressed.{Addressed}
-use Rattle.oauth2_wire.specs.OneShot.{HttpRequest, OneShot}
+use Rattle.oauth2_wire.specs.Once.{AsksOnce}
+use Rattle.oauth2_wire.proofs.OnceLemmas.{AsksOnce-accepted}
 use Rattle.oauth2_wire.specs.Reply.{HttpResponse, ReplyView, Answer, accepted, other, failure_answer, refused_reading, reply_of, status_answer_of}
-use Rattle.oauth2_wire.specs.Request.{IsRequestOf, view_of}
+use Rattle.oauth2_wire.specs.Request.{HttpRequest, IsRequestOf, view_of}
 use Rattle.oauth2_wire.specs.declared.error.RequestTokenError.{RequestTokenError}
 use Rattle.oauth2_requests.specs.TokenRevocation.{TokenRevocation, revocation_configuration}
 use Rattle.oauth2.specs.NewRequest.{IsHttps, new_revocation_request}
@@ -43,16 +43,15 @@ module _ {T E RE C : Type 0} (error_meaning : T → E) (error_reading : Data →
       → IfSome url (λ endpoint. IsHttps endpoint → r ≡ new_revocation_request client endpoint token hint)
       → IfSome url (λ endpoint. ¬ (IsHttps endpoint) → ⊥)
       → (done : Unit {0}) (result : Result (Unit {0}) (RequestTokenError RE T)) → result ≡ Ok done
-      → OneShot (λ it. it) error_meaning step (λ reply. status_answer_of error_reading (reply_of reply)) (λ request. IsRequestOf (revocation_configuration r) (serialize r.revocation_url.url) (view_of request)) (SpellsNone (serialize r.revocation_url.url)) before result after
+      → AsksOnce (λ it. it) error_meaning step (status_answer_of error_reading) (IsRequestOf (revocation_configuration r)) (serialize r.revocation_url.url) before result after
       → (endpoint : Addressed) × (url ≡ Some endpoint) × IsHttps endpoint × (request : HttpRequest)
       × IsRequestOf (revocation_configuration (new_revocation_request client endpoint token hint)) (serialize endpoint.url) (view_of request)
       × (reply : HttpResponse) × step before request (Ok reply) after × ((reply_of reply).status ≡ 200)
   OnOk-revoked None r there secure insecure done result is_done once = cc
-  OnOk-revoked (Some endpoint) r there secure insecure done (Ok value) is_done (inl (request, is, (Ok reply, did, shown))) =
+  OnOk-revoked (Some endpoint) r there secure insecure done (Ok value) is_done once =
       let https : IsHttps endpoint = stable (bytes_eq endpoint.url.scheme (codes "https")) (bytes_eq-Decides endpoint.url.scheme (codes "https")) insecure in
-      let asked = subst (λ q. IsRequestOf (revocation_configuration q) (serialize q.revocation_url.url) (view_of request)) (secure https) is in
-      (endpoint, refl, https, request, asked, reply, did, status-accepted error_reading (reply_of reply) shown)
-  OnOk-revoked (Some endpoint) r there secure insecure done (Ok value) is_done (inl (request, is, (Err error, did, shown))) = cc
-  OnOk-revoked (Some endpoint) r there secure insecure done (Ok value) is_done (inr (inl (refused, _), _)) = absurd refused
-  OnOk-revoked (Some endpoint) r there secure insecure done (Ok value) is_done (inr (inr refused, _)) = absurd refused
+      let sent =
+      AsksOnce-accepted {D = Unit {0}} {A = Unit {0}} (λ it. it) error_meaning step (status_answer_of error_reading) (IsRequestOf (revocation_configuration r)) (serialize r.revocation_url.url) before after value once in
+      let asked = subst (λ q. IsRequestOf (revocation_configuration q) (serialize q.revocation_url.url) (view_of sent.0)) (secure https) sent.1 in
+      (endpoint, refl, https, sent.0, asked, sent.2, sent.3, status-accepted error_reading (reply_of sent.2) sent.4)
   OnOk-revoked (Some endpoint) r there secure insecure done (Err error) is_done once = cc

@@ -7,9 +7,8 @@ use Rattle.oauth2_types.specs.Pkce.{sha256_challenge}
 use Rattle.oauth2_urls.specs.Addressed.{Addressed}
 use Rattle.oauth2_form.specs.Pairs.{Pair}
 use Rattle.oauth2_wire.specs.Expected.{optional_pair}
-use Rattle.oauth2_wire.specs.OneShot.{HttpRequest}
 use Rattle.oauth2_wire.specs.Reply.{HttpResponse, accepted, answer_of, reply_of}
-use Rattle.oauth2_wire.specs.Request.{IsRequestOf, view_of}
+use Rattle.oauth2_wire.specs.Request.{HttpRequest, IsRequestOf, view_of}
 use Rattle.oauth2_wire.specs.Texts.{given_text}
 use Rattle.oauth2_requests.specs.Code.{code_configuration}
 use Rattle.oauth2.specs.Settings.{Settings}

@@ -13,10 +13,9 @@ ghost use Rattle.std.specs.Prelude.{
 };
 ghost use Rattle.serde_json.specs.Find.{as_str, get_member};
 ghost use Rattle.oauth2_replies.specs.Extra.{extra_members};
-ghost use Rattle.oauth2_wire.specs.OneShot.{HttpRequest};
 ghost use Rattle.url.specs.Parts.{serialize};
 ghost use Rattle.oauth2_requests.specs.Code.{code_configuration};
-ghost use Rattle.oauth2_wire.specs.Request.{IsRequestOf, view_of};
+ghost use Rattle.oauth2_wire.specs.Request.{HttpRequest, IsRequestOf, view_of};
 ghost use Rattle.oauth2_wire.specs.Reply.{HttpResponse, accepted, answer_of, reply_of};
 
 use oauth2::basic::{

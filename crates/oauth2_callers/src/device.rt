@@ -1,10 +1,13 @@
 //! The sign-in of a device.
 
 ghost use Rattle.std.specs.Prelude.{◌≡◌, Some, None, List};
+ghost use Rattle.url.specs.Parts.{serialize};
 ghost use Rattle.oauth2_urls.specs.Addressed.{Addressed};
+ghost use Rattle.oauth2_wire.specs.Once.{AsksOnce};
+ghost use Rattle.oauth2_wire.specs.Reply.{answer_of};
+ghost use Rattle.oauth2_wire.specs.Request.{IsRequestOf};
 ghost use Rattle.oauth2_replies.specs.Device.{device_seen, device_reading};
 ghost use Rattle.oauth2_requests.specs.DeviceAuthorization.{device_authorization_configuration};
-ghost use Rattle.oauth2_requests.specs.Once.{AsksOnce};
 ghost use Rattle.oauth2_device.specs.Events.{Event, ClientLeads};
 ghost use Rattle.oauth2_device.specs.Poll.{Polls, timeout_of};
 ghost use Rattle.oauth2.specs.NewRequest.{new_device_request, new_device_token_request};
@@ -37,11 +40,12 @@ pub fn device_codes<C: SyncHttpClient>(
     requires { C.is_ready http_client.old }
     ensures once { (endpoint : Addressed) × (client.now.device_authorization_url ≡ Some endpoint)
         × AsksOnce (device_seen ⟦<EmptyExtraDeviceAuthorizationFields as FromJson>⟧.meaning)
-        ⟦<BasicErrorResponse as FromJson>⟧.meaning
+        ⟦<BasicErrorResponse as FromJson>⟧.meaning C.step
+        (answer_of client.now.reply_rule
         (device_reading ⟦<EmptyExtraDeviceAuthorizationFields as FromJson>⟧.reading)
-        ⟦<BasicErrorResponse as FromJson>⟧.reading C.step client.now.reply_rule
-        (device_authorization_configuration (new_device_request client.now endpoint)) endpoint
-        http_client.old result http_client.new }
+        ⟦<BasicErrorResponse as FromJson>⟧.reading)
+        (IsRequestOf (device_authorization_configuration (new_device_request client.now endpoint)))
+        (serialize endpoint.url) http_client.old result http_client.new }
     ensures ready { C.is_ready http_client.new }
 {
     client

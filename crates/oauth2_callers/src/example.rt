@@ -3,9 +3,8 @@
 ghost use Rattle.std.specs.Prelude.{◌≡◌, Some, None, Ok, Err, IfOk, IfErr, string_bytes};
 ghost use Rattle.url.specs.Parts.{serialize};
 ghost use Rattle.oauth2_urls.specs.Addressed.{Addressed, Addresses};
-ghost use Rattle.oauth2_wire.specs.OneShot.{HttpRequest};
 ghost use Rattle.oauth2_wire.specs.Reply.{HttpResponse, accepted, answer_of, reply_of};
-ghost use Rattle.oauth2_wire.specs.Request.{IsRequestOf, view_of};
+ghost use Rattle.oauth2_wire.specs.Request.{HttpRequest, IsRequestOf, view_of};
 ghost use Rattle.oauth2_requests.specs.Base.{configuration_of};
 ghost use Rattle.oauth2_requests.specs.Code.{code_pairs};
 ghost use Rattle.oauth2.specs.NewRequest.{base_of};

@@ -17,11 +17,10 @@ ghost use Rattle.std.specs.Prelude.{
 ghost use Rattle.http_uri.specs.Uri.{SpellsNone};
 ghost use Rattle.url.specs.Parts.{serialize};
 ghost use Rattle.oauth2_urls.specs.Addressed.{Addressed};
-ghost use Rattle.oauth2_wire.specs.OneShot.{HttpRequest};
 ghost use Rattle.oauth2_form.specs.Pairs.{form};
 ghost use Rattle.oauth2_form.specs.Params.{with_scopes};
 ghost use Rattle.oauth2_wire.specs.Reply.{HttpResponse, accepted, answer_of, reply_of};
-ghost use Rattle.oauth2_wire.specs.Request.{IsRequestOf, basic_of, view_of};
+ghost use Rattle.oauth2_wire.specs.Request.{HttpRequest, IsRequestOf, basic_of, view_of};
 ghost use Rattle.oauth2_requests.specs.Base.{configuration_of};
 ghost use Rattle.oauth2.specs.NewRequest.{base_of};
 ghost use Rattle.oauth2_requests.specs.Code.{code_pairs};

@@ -1,8 +1,11 @@
 //! A refresh that is sent.
 
 ghost use Rattle.std.specs.Prelude.{◌≡◌, Some};
+ghost use Rattle.url.specs.Parts.{serialize};
 ghost use Rattle.oauth2_urls.specs.Addressed.{Addressed};
-ghost use Rattle.oauth2_requests.specs.Once.{AsksOnce};
+ghost use Rattle.oauth2_wire.specs.Once.{AsksOnce};
+ghost use Rattle.oauth2_wire.specs.Reply.{answer_of};
+ghost use Rattle.oauth2_wire.specs.Request.{IsRequestOf};
 ghost use Rattle.oauth2_requests.specs.Refresh.{refresh_configuration};
 ghost use Rattle.oauth2.specs.NewRequest.{new_refresh_request};
 
@@ -22,11 +25,11 @@ pub fn refreshed_token<C: SyncHttpClient>(
     requires { C.is_ready http_client.old }
     ensures once { (endpoint : Addressed) × (client.now.token_url ≡ Some endpoint)
         × AsksOnce ⟦<BasicTokenResponse as FromJson>⟧.meaning
-        ⟦<BasicErrorResponse as FromJson>⟧.meaning
-        ⟦<BasicTokenResponse as FromJson>⟧.reading
-        ⟦<BasicErrorResponse as FromJson>⟧.reading C.step client.now.reply_rule
-        (refresh_configuration (new_refresh_request client.now endpoint token.now)) endpoint
-        http_client.old result http_client.new }
+        ⟦<BasicErrorResponse as FromJson>⟧.meaning C.step
+        (answer_of client.now.reply_rule ⟦<BasicTokenResponse as FromJson>⟧.reading
+        ⟦<BasicErrorResponse as FromJson>⟧.reading)
+        (IsRequestOf (refresh_configuration (new_refresh_request client.now endpoint token.now)))
+        (serialize endpoint.url) http_client.old result http_client.new }
     ensures ready { C.is_ready http_client.new }
 {
     client

@@ -3,9 +3,8 @@
 ghost use Rattle.std.specs.Prelude.{◌≡◌, Some, Ok, OnOk, IfSome, codes};
 ghost use Rattle.url.specs.Parts.{serialize};
 ghost use Rattle.oauth2_urls.specs.Addressed.{Addressed};
-ghost use Rattle.oauth2_wire.specs.OneShot.{HttpRequest};
 ghost use Rattle.oauth2_wire.specs.Reply.{HttpResponse, reply_of};
-ghost use Rattle.oauth2_wire.specs.Request.{IsRequestOf, view_of};
+ghost use Rattle.oauth2_wire.specs.Request.{HttpRequest, IsRequestOf, view_of};
 ghost use Rattle.oauth2_requests.specs.TokenRevocation.{revocation_configuration};
 ghost use Rattle.oauth2.specs.NewRequest.{IsHttps, new_revocation_request};
 

@@ -1,5 +1,5 @@
 -- What one request adds to the lines of a scripted client.
-use Rattle.std.proofs.Common.{◌≡◌, ℕ, List, ◌++◌, Bool, false, Option, Some, None, option_map, option_and_then, Result, Ok, Err, string_bytes, codes, map, inl, inr, refl, ap, ◌∙◌, append-nil, append_assoc, ◌⊎◌}
+use Rattle.std.proofs.Common.{String, Global, MatchResult, ◌≡◌, ℕ, List, ◌++◌, Bool, false, Option, Some, None, option_map, option_and_then, Result, Ok, Err, string_bytes, codes, map, inl, inr, refl, ap, ◌∙◌, append-nil, append_assoc, ◌⊎◌}
 use Rattle.form_urlencoded.specs.Form.{raw_pairs, split}
 use Rattle.http_header.specs.HeaderMap.{get}
 use Rattle.http_header.specs.FieldValue.{plain_value}
@@ -10,15 +10,14 @@ use Rattle.oauth2_form.specs.Pairs.{Pair}
 use Rattle.oauth2_form.specs.Basic.{basic, basic_value}
 use Rattle.oauth2_wire.specs.Expected.{Configuration, expected_basic, expected_pairs, authorization_header, headers_before}
 use Rattle.oauth2_metadata.specs.Request.{IsGetOf}
-use Rattle.oauth2_wire.specs.OneShot.{HttpRequest, not_http_text, AnswersUnsent, AnswersTo, OneShot}
+use Rattle.oauth2_wire.specs.Once.{AsksOnce, not_http_text}
 use Rattle.oauth2_wire.specs.Reply.{HttpResponse, Answer, ReplyView, reply_of, ShowsAnswer as ReplyShows}
-use Rattle.oauth2_wire.specs.Request.{RequestView, IsRequestOf, view_of, authorization_of}
+use Rattle.oauth2_wire.specs.Request.{HttpRequest, RequestView, IsRequestOf, view_of, authorization_of}
 use Rattle.oauth2_wire.specs.ServerView.{shown_pair}
 use Rattle.oauth2_wire.specs.declared.error.RequestTokenError.{RequestTokenError}
 use Rattle.oauth2_wire.specs.declared.error.RequestTokenError.TheVariants.{ServerResponse, Request, Parse, Other, Memory}
 use Rattle.oauth2_wire.specs.declared.request.RequestFault.TheVariants as fault
-use Rattle.oauth2_commands.specs.private.Asked.{Asks}
-use Rattle.oauth2_commands.specs.Exchange.{answer_output, reply_output, IsSent, IsRequestShown, IsExchange, other_text}
+use Rattle.oauth2_commands.specs.Exchange.{answer_output, reply_output, IsRequestShown, IsPostShown, other_text}
 use Rattle.oauth2_commands.specs.Metadata.{get_lines}
 use Rattle.oauth2_world.specs.Lines.{basic_line, pair_lines, expected_lines, authorization_text}
 use Rattle.oauth2_world.specs.RequestLines.{read_lines, view_lines, request_lines}
@@ -88,25 +87,26 @@ module _ {D A T E : Type 0} (meaning : D → A) (error_meaning : T → E) (shown
   judged view (Err (Request e)) h = absurd h
 
   answered_by : (replies : List Reply) (answer : Result HttpResponse NoReply) (result : Result D (RequestTokenError NoReply T)) → reply_seen answer ≡ next_reply replies
-      → AnswersTo meaning error_meaning (λ reply. says (reply_of reply)) answer result
+      → MatchResult answer (λ reply. ReplyShows meaning error_meaning (says (reply_of reply)) result) (λ failure. result ≡ Err (Request failure))
       → IsJudged result (reply_output shown text says (next_reply replies))
   answered_by replies (Ok reply) result e h = rw (← e) (judged (reply_of reply) result h)
   answered_by replies (Err failure) result e h = inl (rw (← e, h) refl)
 
   -- a request of some kind to a URL, which is shown by these lines
-  module _ (IsRequest : RequestView → Type 0) (lines_of : List ℕ → List ℕ) (url : Parts)
-      (shown_by : (v : RequestView) → IsRequest v → Spells (serialize url) v.target × (request_lines v ≡ lines_of (uri_text v.target)))
+  module _ (IsRequest : List ℕ → RequestView → Type 0) (lines_of : List ℕ → List ℕ) (url : Parts)
+      (shown_by : (v : RequestView) → IsRequest (serialize url) v → Spells (serialize url) v.target × (request_lines v ≡ lines_of (uri_text v.target)))
       (old new : ScriptedClient) (lines : List ℕ) (s : RunStatus) where
     abbrev IsOutput : Output → Type 0
     IsOutput o = IsRequestShown shown text says lines_of url (client_replies old) o
 
     ends_by : (target : List ℕ) (result : Result D (RequestTokenError NoReply T)) → IsJudged result (reply_output shown text says (next_reply (client_replies old)))
-        → IsSent shown text says lines_of (client_replies old) (Some target) (after (lines_of target) (output_of result))
+        → (after (lines_of target) (output_of result) ≡ after (lines_of target) (reply_output shown text says (next_reply (client_replies old))))
+        ⊎ (after (lines_of target) (output_of result) ≡ after (lines_of target) no_memory_output)
     ends_by target result (inl same) = inl (ap (after (lines_of target)) same)
     ends_by target result (inr (was_sent, e)) = inr (ap (λ (r : Result D (RequestTokenError NoReply T)). after (lines_of target) (output_of r)) e)
 
     -- one call
-    sent : (request : HttpRequest) → IsRequest (view_of request) → (answer : Result HttpResponse NoReply) → Replays old request answer new
+    sent : (request : HttpRequest) → IsRequest (serialize url) (view_of request) → (answer : Result HttpResponse NoReply) → Replays old request answer new
         → (result : Result D (RequestTokenError NoReply T)) → IsJudged result (reply_output shown text says (next_reply (client_replies old)))
         → AddsOutput (string_bytes new.lines) lines s (output_of result) → Adds (string_bytes old.lines) lines s IsOutput
     sent request is answer replays result judged (printed, ended) =
@@ -124,42 +124,36 @@ module _ {D A T E : Type 0} (meaning : D → A) (error_meaning : T → E) (shown
         let all : lines ≡ string_bytes old.lines ++ no_memory_output.lines = rw (printed, same, is) refl in
         (no_memory_output, inl refl, all, ended ∙ ap (λ (x : Output). x.status) is)
 
-    not_http : (result : Result D (RequestTokenError NoReply T)) → AnswersUnsent fault.NotHttp result → SpellsNone (serialize url) → string_bytes new.lines ≡ string_bytes old.lines
-        → AddsOutput (string_bytes new.lines) lines s (output_of result) → Adds (string_bytes old.lines) lines s IsOutput
-    not_http (Ok answer) h none same p = absurd h
-    not_http (Err (ServerResponse e)) h none same p = absurd h
-    not_http (Err (Request e)) h none same p = absurd h
-    not_http (Err (Parse f body)) h none same p = absurd h
-    not_http (Err (Other given)) h none same (printed, ended) =
+    -- no call, since there is no target
+    not_http : (given : String Global) → string_bytes given ≡ not_http_text → SpellsNone (serialize url) → string_bytes new.lines ≡ string_bytes old.lines
+        → AddsOutput (string_bytes new.lines) lines s (output_of (Err (Other given))) → Adds (string_bytes old.lines) lines s IsOutput
+    not_http given said none same (printed, ended) =
         let o = failure_output (other_text not_http_text) in
-        let all : lines ≡ string_bytes old.lines ++ o.lines = rw (printed, same, h) refl in
+        let all : lines ≡ string_bytes old.lines ++ o.lines = rw (printed, same, said) refl in
         (o, inr (None, none, refl), all, ended)
-    not_http (Err (Memory was_sent)) h none same p = unsent (Err (Memory was_sent)) same refl p
-
-    unfed : (result : Result D (RequestTokenError NoReply T)) → AnswersUnsent fault.Memory result → string_bytes new.lines ≡ string_bytes old.lines
-        → AddsOutput (string_bytes new.lines) lines s (output_of result) → Adds (string_bytes old.lines) lines s IsOutput
-    unfed (Ok answer) h same p = absurd h
-    unfed (Err (ServerResponse e)) h same p = absurd h
-    unfed (Err (Request e)) h same p = absurd h
-    unfed (Err (Parse f body)) h same p = absurd h
-    unfed (Err (Other given)) h same p = absurd h
-    unfed (Err (Memory was_sent)) h same p = unsent (Err (Memory was_sent)) same refl p
 
     pub request_told : (result : Result D (RequestTokenError NoReply T))
-        → OneShot meaning error_meaning ReplaysOrStarves (λ reply. says (reply_of reply)) (λ request. IsRequest (view_of request)) (SpellsNone (serialize url)) old result new
+        → AsksOnce meaning error_meaning ReplaysOrStarves says IsRequest (serialize url) old result new
         → new.is_starved ≡ false → AddsOutput (string_bytes new.lines) lines s (output_of result) → Adds (string_bytes old.lines) lines s IsOutput
-    request_told result (inl (request, is, (answer, inl out, answers))) fed p = cc
-    request_told result (inl (request, is, (answer, inr replays, answers))) fed p =
+    request_told result (Ok request, is, target, (answer, inl out, answers)) fed p = cc
+    request_told result (Ok request, is, target, (answer, inr replays, answers)) fed p =
         sent request is answer replays result (answered_by (client_replies old) answer result replays.answers answers) p
-    request_told result (inr (inl (h, none), same)) fed p = not_http result h none (ap (λ (x : ScriptedClient). string_bytes x.lines) same) p
-    request_told result (inr (inr h, same)) fed p = unfed result h (ap (λ (x : ScriptedClient). string_bytes x.lines) same) p
+    request_told (Err (Memory was_sent)) (Err kind, is, target, (no_memory, same)) fed p =
+        unsent (Err (Memory was_sent)) (ap (λ (x : ScriptedClient). string_bytes x.lines) same) refl p
+    request_told (Err (Other given)) (Err fault.NotHttp, is, target, (said, same)) fed p =
+        not_http given said (target refl) (ap (λ (x : ScriptedClient). string_bytes x.lines) same) p
+    request_told (Err (Other given)) (Err fault.Memory, is, target, none) fed p = absurd none
+    request_told (Err (ServerResponse e)) (Err kind, is, target, none) fed p = absurd none
+    request_told (Err (Request e)) (Err kind, is, target, none) fed p = absurd none
+    request_told (Err (Parse f body)) (Err kind, is, target, none) fed p = absurd none
+    request_told (Ok value) (Err kind, is, target, none) fed p = absurd none
 
 -- a request that a configuration asks for, and its answer as JSON
 module _ {D A T E : Type 0} (meaning : D → A) (error_meaning : T → E) (json : A → List ℕ) (text : E → List ℕ) (says : ReplyView → Answer A E) where
   pub exchange_told : (c : Configuration) (endpoint : Addressed) (old new : ScriptedClient) (lines : List ℕ) (s : RunStatus) (result : Result D (RequestTokenError NoReply T))
-      → Asks meaning error_meaning says c endpoint old result new → new.is_starved ≡ false
+      → AsksOnce meaning error_meaning ReplaysOrStarves says (IsRequestOf c) (serialize endpoint.url) old result new → new.is_starved ≡ false
       → AddsOutput (string_bytes new.lines) lines s (end_output (λ e. text (error_meaning e)) (λ d. success_output (json (meaning d))) result)
-      → Adds (string_bytes old.lines) lines s (IsExchange json text says c endpoint (client_replies old))
+      → Adds (string_bytes old.lines) lines s (IsPostShown json text says c endpoint (client_replies old))
   exchange_told c endpoint =
-      request_told meaning error_meaning (λ a. success_output (json a)) text says (IsRequestOf c (serialize endpoint.url)) (expected_lines c) endpoint.url
+      request_told meaning error_meaning (λ a. success_output (json a)) text says (IsRequestOf c) (expected_lines c) endpoint.url
       (λ v is. (is.target, request_lines-expected c (serialize endpoint.url) v is))

@@ -1,5 +1,5 @@
 -- What the calls of a keeper add to the lines of a run.
-use Rattle.std.proofs.Common.{◌≡◌, ℕ, ℤ, List, [], ◌∷◌, ◌++◌, true, false, Option, Some, None, Result, Ok, Err, string_bytes, inl, inr, refl, ap, sym, subst, ◌∙◌, append_assoc, append-nil, ◌+◌, ◌<◌, length, take, get_or, map, arith}
+use Rattle.std.proofs.Common.{◌≡◌, ℕ, ℤ, List, [], ◌∷◌, ◌++◌, true, false, Option, Some, None, Result, Ok, Err, String, Global, string_bytes, inl, inr, refl, ap, sym, subst, ◌∙◌, append_assoc, append-nil, ◌+◌, ◌<◌, length, take, get_or, map, arith}
 use Rattle.std.specs.Prelude.{◌≢◌, IsSomeAnd, IsTrue, Bool, not, ◌&&◌, pos, neg_ℤ, ◌+ℤ◌, int_lt, int_div, option_map, codes, if◌then◌else◌}
 use Rattle.std.specs.Fmt.{signed_decimal}
 use Rattle.jiff_core.specs.Timestamp.{IsTimestampNanos}
@@ -16,16 +16,17 @@ use Rattle.oauth2_codes.specs.ErrorResponse.{ErrorParts, parts_of, error_reading
 use Rattle.oauth2_replies.specs.Kept.{any_object}
 use Rattle.oauth2_replies.specs.Token.{token_reading}
 use Rattle.oauth2_urls.specs.Addressed.{Addressed}
-use Rattle.oauth2_wire.specs.OneShot.{HttpRequest, not_http_text, AnswersUnsent}
+use Rattle.oauth2_wire.specs.declared.content_type.ReplyRule.{ReplyRule}
+use Rattle.oauth2_wire.specs.Once.{AsksOnce, not_http_text}
 use Rattle.oauth2_wire.specs.Reply.{HttpResponse, reply_of, ShowsAnswer}
-use Rattle.oauth2_wire.specs.Request.{IsRequestOf, view_of}
+use Rattle.oauth2_wire.specs.Request.{HttpRequest, RequestView, IsRequestOf, view_of}
 use Rattle.oauth2_wire.specs.declared.error.RequestTokenError.TheVariants.{ServerResponse, Request, Parse, Other, Memory}
 use Rattle.oauth2_wire.specs.declared.request.RequestFault.TheVariants as fault
 use Rattle.oauth2_keeper.specs.Keeper.{Keeper, AcceptedToken, quiet, accepted, failed, is_good, accept, renewal, KeeperCalls}
 use Rattle.oauth2_keeper.specs.Patience.{Patient, counts, is_waiting_for, is_held_back, lasts, called, failed_call, IsUntil, PatientCalls}
 use Rattle.oauth2_keeper.specs.declared.patient_keeper.PatientError.{PatientError}
 use Rattle.oauth2_keeper.specs.declared.patient_keeper.PatientError.TheVariants as patient_error
-use Rattle.oauth2_keeper.proofs.SentFaults.{of_reply, shown as shown_counts, unsent as unsent_counts}
+use Rattle.oauth2_keeper.proofs.SentFaults.{of_reply, shown as shown_counts, not_http_counts}
 use Rattle.oauth2.specs.Settings.{Settings}
 use Rattle.oauth2_script.specs.KeeperParams.{KeeperParams}
 use Rattle.oauth2_script.specs.Replies.{Reply}
@@ -35,9 +36,8 @@ use Rattle.oauth2_commands.specs.Keeper.{Standing, is_early, end_text, waiting, 
 use Rattle.oauth2_world.specs.Lines.{expected_lines, quotation}
 use Rattle.oauth2_commands.specs.Out.{Output, after, success_output, failure_output as shown_fault, no_memory_output}
 use Rattle.oauth2_commands.specs.private.Added.{Adds, AddsOutput}
-use Rattle.oauth2_commands.specs.private.Asked.{AsksForToken}
 use Rattle.oauth2_commands.specs.private.Kept.{standing, end_of_wait, patient_standing, wait_after, told_by, AreKept, ShowsCall, ShowsError}
-use Rattle.oauth2_world.specs.Replay.{Replays, client_replies}
+use Rattle.oauth2_world.specs.Replay.{Replays, ReplaysOrStarves, client_replies}
 use Rattle.oauth2_commands.specs.private.Results.{ShownFault, ErrorResponse, TokenSeen, token_meaning, error_seen, fault_output}
 use Rattle.oauth2_world.specs.Replies.{next_reply, later_replies}
 use Rattle.oauth2_world.specs.declared.replay.NoReply.{NoReply}
@@ -137,6 +137,10 @@ module _ (retry_after : Option ℕ) (keeper kept : Keeper) (until later : Option
 
 -- ---- one call
 
+-- what a keeper asks of the client
+abbrev pub AsksForRenewal : ReplyRule → (List ℕ → RequestView → Type 0) → List ℕ → ScriptedClient → Result TokenSeen ShownFault → ScriptedClient → Type 0
+AsksForRenewal rule = AsksOnce token_meaning (parts_of error_code) ReplaysOrStarves (token_answer rule)
+
 module _ (retry_after : Option ℕ) (keeper kept : Keeper) (until later : Option ℤ) (now : ℤ) (before mid : ScriptedClient) (lines : List ℕ) (s : RunStatus) (fed : mid.is_starved ≡ false) where
   abbrev IsTold : Type 0
   IsTold = Told retry_after keeper kept until later now before mid lines s
@@ -152,17 +156,20 @@ module _ (retry_after : Option ℕ) (keeper kept : Keeper) (until later : Option
   goes_on error is waits = waits ∙ if-false (counts error) (wait_from retry_after now) until is
 
   module _ (stale : is_good keeper now ≡ false) (free : is_early now until ≡ false) (endpoint : Addressed) (there : keeper.client.token_url ≡ Some endpoint) where
+    -- what is asked of the client here
+    abbrev AsksHere : Result TokenSeen ShownFault → Type 0
+    AsksHere result = AsksForRenewal keeper.client.reply_rule (IsRequestOf (renewal keeper)) (serialize endpoint.url) before result mid
+
     -- the request's reply is accepted
-    accepted_told : (reply : TokenSeen) → AsksForToken keeper.client.reply_rule (renewal keeper) endpoint before (Ok reply) mid → kept ≡ accept keeper now (told_by reply) → later ≡ None
+    accepted_told : (reply : TokenSeen) → AsksHere (Ok reply) → kept ≡ accept keeper now (told_by reply) → later ≡ None
         → AddsOutput (string_bytes mid.lines) lines s (success_output (quotation reply.access_token)) → IsTold
-    accepted_told reply (inl (request, is, (answer, inl out, answers))) same waits p = cc
-    accepted_told reply (inl (request, is, (Ok response, inr replays, answers))) same waits p =
+    accepted_told reply (Ok request, is, target, (answer, inl out, answers)) same waits p = cc
+    accepted_told reply (Ok request, is, target, (Ok response, inr replays, answers)) same waits p =
         let next : next_reply (client_replies before) ≡ Some (reply_of response) = sym replays.answers in
         replied_to retry_after keeper kept until later now before mid lines s stale free endpoint there fed request is (Ok response) replays (success_output (quotation reply.access_token))
         (rw (next, answers) refl) (accept keeper now (told_by reply)) None (rw (next, answers) refl) same waits p
-    accepted_told reply (inl (request, is, (Err error, inr replays, answers))) same waits p = cc
-    accepted_told reply (inr (inl (unsent, none), stays)) same waits p = absurd unsent
-    accepted_told reply (inr (inr unsent, stays)) same waits p = absurd unsent
+    accepted_told reply (Ok request, is, target, (Err error, inr replays, answers)) same waits p = cc
+    accepted_told reply (Err kind, is, target, unsent) same waits p = absurd unsent
 
     -- what is told of a reply that is no token
     refused_by : (request : HttpRequest) → IsRequestOf (renewal keeper) (serialize endpoint.url) (view_of request) → (response : HttpResponse) → Replays before request (Ok response) mid
@@ -184,53 +191,46 @@ module _ (retry_after : Option ℕ) (keeper kept : Keeper) (until later : Option
     refused_by request is response replays (Memory sent) shows same waits p =
         starved_behind retry_after keeper kept until later now before mid lines s stale free endpoint there fed request is (Ok response) replays same waits p
 
-    not_http_told : (error : ShownFault) → AnswersUnsent {D = TokenSeen} fault.NotHttp (Err error) → SpellsNone (serialize endpoint.url) → mid ≡ before → kept ≡ keeper → later ≡ until
-        → AddsOutput (string_bytes mid.lines) lines s (fault_output error_seen error) → IsTold
-    not_http_told (ServerResponse e) h none stays same waits p = absurd h
-    not_http_told (Request e) h none stays same waits p = absurd h
-    not_http_told (Parse f body) h none stays same waits p = absurd h
-    not_http_told (Other given) h none stays same waits p =
-        no_target retry_after keeper kept until later now before mid lines s stale free endpoint there fed none stays same waits (rw h at p)
-    not_http_told (Memory sent) h none stays same waits p = starved_before retry_after keeper kept until later now before mid lines s stale free endpoint there fed stays same waits p
-
-    unfed_told : (error : ShownFault) → AnswersUnsent {D = TokenSeen} fault.Memory (Err error) → mid ≡ before → kept ≡ keeper → later ≡ until
-        → AddsOutput (string_bytes mid.lines) lines s (fault_output error_seen error) → IsTold
-    unfed_told (ServerResponse e) h stays same waits p = absurd h
-    unfed_told (Request e) h stays same waits p = absurd h
-    unfed_told (Parse f body) h stays same waits p = absurd h
-    unfed_told (Other given) h stays same waits p = absurd h
-    unfed_told (Memory sent) h stays same waits p = starved_before retry_after keeper kept until later now before mid lines s stale free endpoint there fed stays same waits p
+    not_http_told : (given : String Global) → string_bytes given ≡ not_http_text → SpellsNone (serialize endpoint.url) → mid ≡ before → kept ≡ keeper → later ≡ until
+        → AddsOutput (string_bytes mid.lines) lines s (fault_output error_seen (Other given)) → IsTold
+    not_http_told given said none stays same waits p =
+        no_target retry_after keeper kept until later now before mid lines s stale free endpoint there fed none stays same waits (rw said at p)
 
     -- the request failed
-    failed_told : (error : ShownFault) → AsksForToken keeper.client.reply_rule (renewal keeper) endpoint before (Err error) mid → kept ≡ keeper → IsWaitAfter error
+    failed_told : (error : ShownFault) → AsksHere (Err error) → kept ≡ keeper → IsWaitAfter error
         → AddsOutput (string_bytes mid.lines) lines s (fault_output error_seen error) → IsTold
-    failed_told error (inl (request, is, (answer, inl out, answers))) same waits p = cc
-    failed_told error (inl (request, is, (Ok response, inr replays, answers))) same waits p =
+    failed_told error (Ok request, is, target, (answer, inl out, answers)) same waits p = cc
+    failed_told error (Ok request, is, target, (Ok response, inr replays, answers)) same waits p =
         let is_counted : counts error ≡ true =
         shown_counts (parts_of error_code) (token_answer keeper.client.reply_rule (reply_of response))
         (of_reply BasicToken (ErrorParts ErrorCode) keeper.client.reply_rule (token_reading any_object token_code_reading) (error_reading error_code_reading) (reply_of response)) error answers in
         refused_by request is response replays error answers same (begins error is_counted waits) p
-    failed_told error (inl (request, is, (Err e, inr replays, answers))) same waits p =
+    failed_told error (Ok request, is, target, (Err e, inr replays, answers)) same waits p =
         let next : next_reply (client_replies before) ≡ None = sym replays.answers in
         let h : error ≡ Request e = cc in
         let q : AddsOutput (string_bytes mid.lines) lines s (fault_output error_seen (Request e)) = rw h at p in
         let later_waits : later ≡ wait_from retry_after now = rw h at waits in
         replied_to retry_after keeper kept until later now before mid lines s stale free endpoint there fed request is (Err e) replays (fault_output error_seen (Request e))
         (rw next refl) keeper (wait_from retry_after now) (rw next refl) same later_waits q
-    failed_told error (inr (inl (h, none), stays)) same waits p = not_http_told error h none stays same (goes_on error (unsent_counts fault.NotHttp error h) waits) p
-    failed_told error (inr (inr h, stays)) same waits p = unfed_told error h stays same (goes_on error (unsent_counts fault.Memory error h) waits) p
+    failed_told (Memory sent) (Err kind, is, target, (unsent, stays)) same waits p =
+        starved_before retry_after keeper kept until later now before mid lines s stale free endpoint there fed stays same (goes_on (Memory sent) unsent waits) p
+    failed_told (Other given) (Err fault.NotHttp, is, target, (said, stays)) same waits p =
+        not_http_told given said (target refl) stays same (goes_on (Other given) (not_http_counts given said) waits) p
+    failed_told (Other given) (Err fault.Memory, is, target, unsent) same waits p = absurd unsent
+    failed_told (ServerResponse e) (Err kind, is, target, unsent) same waits p = absurd unsent
+    failed_told (Request e) (Err kind, is, target, unsent) same waits p = absurd unsent
+    failed_told (Parse f body) (Err kind, is, target, unsent) same waits p = absurd unsent
 
     -- memory ran out while the reply was copied
-    copy_refused_told : (reply : TokenSeen) → AsksForToken keeper.client.reply_rule (renewal keeper) endpoint before (Ok reply) mid → kept ≡ keeper → later ≡ wait_from retry_after now
+    copy_refused_told : (reply : TokenSeen) → AsksHere (Ok reply) → kept ≡ keeper → later ≡ wait_from retry_after now
         → AddsOutput (string_bytes mid.lines) lines s no_memory_output → IsTold
-    copy_refused_told reply (inl (request, is, (answer, inl out, answers))) same waits p = cc
-    copy_refused_told reply (inl (request, is, (answer, inr replays, answers))) same waits p =
+    copy_refused_told reply (Ok request, is, target, (answer, inl out, answers)) same waits p = cc
+    copy_refused_told reply (Ok request, is, target, (answer, inr replays, answers)) same waits p =
         starved_behind retry_after keeper kept until later now before mid lines s stale free endpoint there fed request is answer replays same waits p
-    copy_refused_told reply (inr (inl (unsent, none), stays)) same waits p = absurd unsent
-    copy_refused_told reply (inr (inr unsent, stays)) same waits p = absurd unsent
+    copy_refused_told reply (Err kind, is, target, unsent) same waits p = absurd unsent
 
   -- a call that nothing holds back
-  pub call_told : (result : Result Unit ShownFault) → KeeperCalls AsksForToken told_by keeper now before result mid kept → later ≡ wait_after retry_after until now (is_good keeper now) result
+  pub call_told : (result : Result Unit ShownFault) → KeeperCalls AsksForRenewal told_by keeper now before result mid kept → later ≡ wait_after retry_after until now (is_good keeper now) result
       → (is_good keeper now ≡ false → is_early now until ≡ false) → ShowsCall (string_bytes mid.lines) lines s kept result → IsTold
   call_told (Ok done) (quiet, (good, same, stays), is) waits free p =
       shown retry_after keeper kept until later now before mid lines s good stays is (waits ∙ if-true (is_good keeper now) until None good) fed p
@@ -318,7 +318,7 @@ module _ (patient : Patient) (now : ℤ) (before mid : ScriptedClient) (lines : 
   free_if : is_held_back patient now ≡ false → is_good patient.keeper now ≡ false → is_early now until ≡ false
   free_if free stale = early_is patient.wait now patient.failed_at ∙ free_to_ask (is_good patient.keeper now) (is_waiting_for patient.wait now patient.failed_at) free stale
 
-  pub got_told : (kept : Patient) → PatientCalls AsksForToken told_by patient now before (Ok tt) mid kept
+  pub got_told : (kept : Patient) → PatientCalls AsksForRenewal told_by patient now before (Ok tt) mid kept
       → IsSomeAnd kept.keeper.token (λ token. AddsOutput (string_bytes mid.lines) lines s (success_output (quotation token.access_token))) → IsPatientTold kept
   got_told kept (inl (free, calls, is)) p =
       let told =
@@ -327,7 +327,7 @@ module _ (patient : Patient) (now : ℤ) (before mid : ScriptedClient) (lines : 
       subst IsPatientTold (sym is) told
   got_told kept (inr (held, same, is)) p = absurd (none-lasts (is_held_back patient now) patient.until_end _ hands_out_none held)
 
-  fault_told : (kept : Patient) (error : ShownFault) → PatientCalls AsksForToken told_by patient now before (Err (patient_error.Request error)) mid kept
+  fault_told : (kept : Patient) (error : ShownFault) → PatientCalls AsksForRenewal told_by patient now before (Err (patient_error.Request error)) mid kept
       → AddsOutput (string_bytes mid.lines) lines s (fault_output error_seen error) → IsPatientTold kept
   fault_told kept error (free, calls, is) p =
       let told =
@@ -344,12 +344,12 @@ module _ (patient : Patient) (now : ℤ) (before mid : ScriptedClient) (lines : 
       waited (Some patient.wait) patient.keeper patient.keeper until until now before mid lines s (not-true (is_good patient.keeper now) parts.0) (moment +ℤ pos patient.wait)
       (ap (end_of_wait patient.wait) e) (early_is patient.wait now patient.failed_at ∙ parts.1) same refl refl fed (p (moment +ℤ pos patient.wait) is)
 
-  wait_told : (kept : Patient) (ends : Option Timestamp) → PatientCalls AsksForToken told_by patient now before (Err (patient_error.Waits ends)) mid kept
+  wait_told : (kept : Patient) (ends : Option Timestamp) → PatientCalls AsksForRenewal told_by patient now before (Err (patient_error.Waits ends)) mid kept
       → ((end : ℤ) → IsUntil end ends → AddsOutput (string_bytes mid.lines) lines s (waiting end)) → IsPatientTold kept
   wait_told kept ends (held, is_until, same, is) p =
       subst IsPatientTold (sym is) (waited_told patient.failed_at refl (both-true (is_held_back patient now) (not (lasts patient now)) held).0 ends is_until same p)
 
-  pub no_token_told : (kept : Patient) (error : PatientError NoReply ErrorResponse) → PatientCalls AsksForToken told_by patient now before (Err error) mid kept
+  pub no_token_told : (kept : Patient) (error : PatientError NoReply ErrorResponse) → PatientCalls AsksForRenewal told_by patient now before (Err error) mid kept
       → ShowsError (string_bytes mid.lines) lines s error → IsPatientTold kept
   no_token_told kept (patient_error.Request error) calls p = fault_told kept error calls p
   no_token_told kept (patient_error.Waits ends) calls p = wait_told kept ends calls p

@@ -6,7 +6,7 @@ use Rattle.oauth2.specs.NewRequest.{base_of}
 use Rattle.oauth2_requests.specs.ClientCredentials.{ClientCredentialsRequest, client_credentials_configuration}
 use Rattle.oauth2.specs.Settings.{Settings}
 use Rattle.oauth2_commands.specs.Client.{WithToken}
-use Rattle.oauth2_commands.specs.Exchange.{IsTokenExchange}
+use Rattle.oauth2_commands.specs.Exchange.{IsTokenShown}
 use Rattle.oauth2_commands.specs.Out.{Output}
 use Rattle.oauth2_script.specs.ClientCredentialsParams.{ClientCredentialsParams}
 use Rattle.oauth2_script.specs.Replies.{Reply}
@@ -19,4 +19,4 @@ client_credentials_request client p url = record {
 
 abbrev pub IsClientCredentialsOutput : Settings → ClientCredentialsParams → List Reply → Output → Type 0
 IsClientCredentialsOutput client p replies o =
-    WithToken (λ url o. IsTokenExchange client.reply_rule (client_credentials_configuration (client_credentials_request client p url)) url replies o) client.token_url o
+    WithToken (λ url o. IsTokenShown client.reply_rule (client_credentials_configuration (client_credentials_request client p url)) url replies o) client.token_url o

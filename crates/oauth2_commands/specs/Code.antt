@@ -5,7 +5,7 @@ use Rattle.oauth2.specs.NewRequest.{base_of}
 use Rattle.oauth2_requests.specs.Code.{CodeRequest, code_configuration}
 use Rattle.oauth2.specs.Settings.{Settings}
 use Rattle.oauth2_commands.specs.Client.{WithToken, given_or}
-use Rattle.oauth2_commands.specs.Exchange.{IsTokenExchange}
+use Rattle.oauth2_commands.specs.Exchange.{IsTokenShown}
 use Rattle.oauth2_commands.specs.Out.{Output}
 use Rattle.oauth2_script.specs.CodeParams.{CodeParams}
 use Rattle.oauth2_script.specs.Replies.{Reply}
@@ -21,4 +21,4 @@ code_request client p url = record {
 
 abbrev pub IsCodeOutput : Settings → CodeParams → List Reply → Output → Type 0
 IsCodeOutput client p replies o =
-    WithToken (λ url o. IsTokenExchange client.reply_rule (code_configuration (code_request client p url)) url replies o) client.token_url o
+    WithToken (λ url o. IsTokenShown client.reply_rule (code_configuration (code_request client p url)) url replies o) client.token_url o

@@ -16,7 +16,7 @@ use Rattle.oauth2.specs.NewRequest.{base_of}
 use Rattle.oauth2.specs.Settings.{Settings}
 use Rattle.oauth2_requests.specs.DeviceAuthorization.{DeviceRequest, device_authorization_configuration}
 use Rattle.oauth2_commands.specs.Client.{WithEndpoint}
-use Rattle.oauth2_commands.specs.Exchange.{IsExchange, error_display}
+use Rattle.oauth2_commands.specs.Exchange.{IsPostShown, error_display}
 use Rattle.oauth2_commands.specs.Out.{Output}
 use Rattle.oauth2_script.specs.DeviceAuthorizationParams.{DeviceAuthorizationParams}
 use Rattle.oauth2_script.specs.Replies.{Reply}
@@ -41,7 +41,7 @@ abbrev pub device_authorization_answer : ReplyRule → ReplyView → Answer Basi
 device_authorization_answer rule = answer_of rule (device_reading any_object) (error_reading error_code_reading)
 
 abbrev pub IsDeviceAuthorized : ReplyRule → Configuration → Addressed → List Reply → Output → Type 0
-IsDeviceAuthorized rule = IsExchange device_json (error_display error_code_text) (device_authorization_answer rule)
+IsDeviceAuthorized rule = IsPostShown device_json (error_display error_code_text) (device_authorization_answer rule)
 
 abbrev pub IsDeviceAuthorizationOutput : Settings → DeviceAuthorizationParams → List Reply → Output → Type 0
 IsDeviceAuthorizationOutput client p replies o =

@@ -1,5 +1,5 @@
 -- A request to an endpoint, as a run shows it.
-use Rattle.std.specs.Prelude.{◌≡◌, ◌⊎◌, ℕ, List, ◌++◌, Option, Some, None, codes}
+use Rattle.std.specs.Prelude.{◌≡◌, ◌⊎◌, ℕ, List, ◌++◌, Option, Some, None, MatchOption, codes}
 use Rattle.http_uri.specs.declared.uri.Uri.{Uri}
 use Rattle.http_uri.specs.Uri.{Spells, SpellsNone, uri_text}
 use Rattle.serde_json.specs.Data.{Data, string, object, no_members}
@@ -17,7 +17,7 @@ use Rattle.oauth2_replies.specs.Token.{Token, token_reading, token_rows}
 use Rattle.oauth2_urls.specs.Addressed.{Addressed}
 use Rattle.oauth2_wire.specs.declared.content_type.ReplyRule.{ReplyRule}
 use Rattle.oauth2_wire.specs.Expected.{Configuration}
-use Rattle.oauth2_wire.specs.OneShot.{not_http_text}
+use Rattle.oauth2_wire.specs.Once.{not_http_text}
 use Rattle.oauth2_wire.specs.Reply.{Answer, accepted, refused, unread, other, ReplyView, answer_of}
 use Rattle.oauth2_world.specs.Lines.{line, quotation, expected_lines}
 use Rattle.oauth2_commands.specs.Out.{Output, success_output, failure_output, no_memory_output, after}
@@ -70,21 +70,18 @@ module _ {A E : Type 0} (shown : A → Output) (text : E → List ℕ) where
   reply_output says None = failure_output (codes "Request failed")
   reply_output says (Some reply) = answer_output (says reply)
 
-  -- of a request to this target: its lines, and what the reply says or that memory ran out behind
-  -- the request; none is made where the URL has no target
-  abbrev pub IsSent : (ReplyView → Answer A E) → (List ℕ → List ℕ) → List Reply → Option (List ℕ) → Output → Type 0
-  IsSent says lines replies None o = o ≡ failure_output (other_text not_http_text)
-  IsSent says lines replies (Some target) o =
-      (o ≡ after (lines target) (reply_output says (next_reply replies))) ⊎ (o ≡ after (lines target) no_memory_output)
-
-  -- a request with these lines and its answer, unless memory ran out before the request was made
+  -- of a request to the URL's target: its lines, and what the reply says or that memory ran out
+  -- behind the request; none is made where the URL has no target, or where memory ran out before
   abbrev pub IsRequestShown : (ReplyView → Answer A E) → (List ℕ → List ℕ) → Parts → List Reply → Output → Type 0
   IsRequestShown says lines url replies o =
-      (o ≡ no_memory_output) ⊎ ((target : Option (List ℕ)) × IsTarget (serialize url) target × IsSent says lines replies target o)
+      (o ≡ no_memory_output)
+      ⊎ ((target : Option (List ℕ)) × IsTarget (serialize url) target
+      × MatchOption target (o ≡ failure_output (other_text not_http_text))
+      (λ shown. (o ≡ after (lines shown) (reply_output says (next_reply replies))) ⊎ (o ≡ after (lines shown) no_memory_output)))
 
 -- a request that a configuration asks for, and its answer as JSON
-abbrev pub IsExchange : {A E : Type 0} → (A → List ℕ) → (E → List ℕ) → (ReplyView → Answer A E) → Configuration → Addressed → List Reply → Output → Type 0
-IsExchange json text says c endpoint = IsRequestShown (λ a. success_output (json a)) text says (expected_lines c) endpoint.url
+abbrev pub IsPostShown : {A E : Type 0} → (A → List ℕ) → (E → List ℕ) → (ReplyView → Answer A E) → Configuration → Addressed → List Reply → Output → Type 0
+IsPostShown json text says c endpoint = IsRequestShown (λ a. success_output (json a)) text says (expected_lines c) endpoint.url
 
 -- the text of an error response whose code is written as `code`
 unfoldable pub error_display : {C : Type 0} → (C → List ℕ) → ErrorParts C → List ℕ
@@ -106,5 +103,5 @@ abbrev pub token_answer : ReplyRule → ReplyView → Answer BasicToken (ErrorPa
 token_answer rule = answer_of rule (token_reading any_object token_code_reading) (error_reading error_code_reading)
 
 -- a request for a token
-abbrev pub IsTokenExchange : ReplyRule → Configuration → Addressed → List Reply → Output → Type 0
-IsTokenExchange rule = IsExchange token_json (error_display error_code_text) (token_answer rule)
+abbrev pub IsTokenShown : ReplyRule → Configuration → Addressed → List Reply → Output → Type 0
+IsTokenShown rule = IsPostShown token_json (error_display error_code_text) (token_answer rule)

@@ -16,7 +16,7 @@ use Rattle.oauth2.specs.NewRequest.{base_of}
 use Rattle.oauth2.specs.Settings.{Settings}
 use Rattle.oauth2_requests.specs.TokenIntrospection.{TokenIntrospection, introspection_configuration}
 use Rattle.oauth2_commands.specs.Client.{WithEndpoint}
-use Rattle.oauth2_commands.specs.Exchange.{IsExchange, error_display}
+use Rattle.oauth2_commands.specs.Exchange.{IsPostShown, error_display}
 use Rattle.oauth2_commands.specs.Out.{Output}
 use Rattle.oauth2_script.specs.IntrospectParams.{IntrospectParams}
 use Rattle.oauth2_script.specs.Replies.{Reply}
@@ -45,7 +45,7 @@ introspection_answer rule =
     answer_of rule (introspection_reading any_object token_code_reading) (error_reading error_code_reading)
 
 abbrev pub IsIntrospected : ReplyRule → Configuration → Addressed → List Reply → Output → Type 0
-IsIntrospected rule = IsExchange introspection_json (error_display error_code_text) (introspection_answer rule)
+IsIntrospected rule = IsPostShown introspection_json (error_display error_code_text) (introspection_answer rule)
 
 abbrev pub IsIntrospectOutput : Settings → IntrospectParams → List Reply → Output → Type 0
 IsIntrospectOutput client p replies o =

@@ -8,7 +8,7 @@ use Rattle.oauth2_form.specs.Params.{with_scopes}
 use Rattle.oauth2_introspection.specs.Instants.{is_instant}
 use Rattle.oauth2_urls.specs.Addressed.{Addressed}
 use Rattle.oauth2_wire.specs.declared.content_type.ReplyRule.{ReplyRule}
-use Rattle.oauth2_wire.specs.OneShot.{not_http_text}
+use Rattle.oauth2_wire.specs.Once.{not_http_text}
 use Rattle.oauth2_wire.specs.Reply.{Answer, accepted, refused, unread, other, ReplyView}
 use Rattle.oauth2.specs.Settings.{Settings}
 use Rattle.oauth2_keeper.specs.Keeper.{Keeper, Given, is_good, accept, renewal}

@@ -7,7 +7,7 @@ use Rattle.oauth2.specs.NewRequest.{base_of}
 use Rattle.oauth2_requests.specs.Password.{PasswordRequest, password_configuration}
 use Rattle.oauth2.specs.Settings.{Settings}
 use Rattle.oauth2_commands.specs.Client.{WithToken}
-use Rattle.oauth2_commands.specs.Exchange.{IsTokenExchange}
+use Rattle.oauth2_commands.specs.Exchange.{IsTokenShown}
 use Rattle.oauth2_commands.specs.Out.{Output}
 use Rattle.oauth2_script.specs.PasswordParams.{PasswordParams}
 use Rattle.oauth2_script.specs.Replies.{Reply}
@@ -22,4 +22,4 @@ password_request client p url = record {
 
 abbrev pub IsPasswordOutput : Settings → PasswordParams → List Reply → Output → Type 0
 IsPasswordOutput client p replies o =
-    WithToken (λ url o. IsTokenExchange client.reply_rule (password_configuration (password_request client p url)) url replies o) client.token_url o
+    WithToken (λ url o. IsTokenShown client.reply_rule (password_configuration (password_request client p url)) url replies o) client.token_url o

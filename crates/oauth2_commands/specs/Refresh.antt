@@ -6,7 +6,7 @@ use Rattle.oauth2.specs.NewRequest.{base_of}
 use Rattle.oauth2_requests.specs.Refresh.{RefreshRequest, refresh_configuration}
 use Rattle.oauth2.specs.Settings.{Settings}
 use Rattle.oauth2_commands.specs.Client.{WithToken}
-use Rattle.oauth2_commands.specs.Exchange.{IsTokenExchange}
+use Rattle.oauth2_commands.specs.Exchange.{IsTokenShown}
 use Rattle.oauth2_commands.specs.Out.{Output}
 use Rattle.oauth2_script.specs.RefreshParams.{RefreshParams}
 use Rattle.oauth2_script.specs.Replies.{Reply}
@@ -20,4 +20,4 @@ refresh_request client p url = record {
 
 abbrev pub IsRefreshOutput : Settings → RefreshParams → List Reply → Output → Type 0
 IsRefreshOutput client p replies o =
-    WithToken (λ url o. IsTokenExchange client.reply_rule (refresh_configuration (refresh_request client p url)) url replies o) client.token_url o
+    WithToken (λ url o. IsTokenShown client.reply_rule (refresh_configuration (refresh_request client p url)) url replies o) client.token_url o

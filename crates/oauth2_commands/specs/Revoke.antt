@@ -9,7 +9,7 @@ use Rattle.oauth2.specs.NewRequest.{IsHttps, base_of}
 use Rattle.oauth2.specs.Settings.{Settings}
 use Rattle.oauth2_requests.specs.TokenRevocation.{TokenRevocation, revocation_configuration}
 use Rattle.oauth2_commands.specs.Client.{WithEndpoint}
-use Rattle.oauth2_commands.specs.Exchange.{IsExchange, error_display}
+use Rattle.oauth2_commands.specs.Exchange.{IsPostShown, error_display}
 use Rattle.oauth2_commands.specs.Out.{Output, failure_output}
 use Rattle.oauth2_script.specs.RevokeParams.{RevokeParams}
 use Rattle.oauth2_script.specs.Replies.{Reply}
@@ -34,7 +34,7 @@ revocation_answer = status_answer_of (error_reading revocation_error_code_readin
 
 -- a success says nothing more
 abbrev pub IsRevoked : Configuration → Addressed → List Reply → Output → Type 0
-IsRevoked = IsExchange (λ done. codes "null") (error_display revocation_error_code_text) revocation_answer
+IsRevoked = IsPostShown (λ done. codes "null") (error_display revocation_error_code_text) revocation_answer
 
 abbrev pub insecure : List ℕ → Output
 insecure name = failure_output (codes "Scheme for " ++ name ++ codes " endpoint URL must be HTTPS")

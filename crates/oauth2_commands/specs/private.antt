@@ -1,6 +1,5 @@
 -- What only private clauses cite.
 pub mod Added
-pub mod Asked
 pub mod ClaimRows
 pub mod Discovery
 pub mod Extra

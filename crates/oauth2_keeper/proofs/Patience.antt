@@ -1,18 +1,17 @@
 -- A patient keeper's calls are its keeper's, and after a failed request it makes none.
-use Rattle.std.proofs.Common.{rules, ◌≡◌, List, [], ◌∷◌, Some, Result, Ok, Err, subst, sym, ap, ◌∙◌, inl, inr}
+use Rattle.std.proofs.Common.{rules, ◌≡◌, List, [], ◌∷◌, Some, Result, Ok, Err, subst, sym, ap, ◌∙◌, inl, inr, ℕ}
 use Rattle.std.specs.Prelude.{ℤ, false, IsTrue, All}
 use Rattle.std.proofs.lemmas.List.Elements.{All-head, All-tail}
-use Rattle.oauth2_urls.specs.Addressed.{Addressed}
 use Rattle.oauth2_wire.specs.declared.content_type.ReplyRule.{ReplyRule}
 use Rattle.oauth2_wire.specs.declared.error.RequestTokenError.{RequestTokenError}
-use Rattle.oauth2_wire.specs.Expected.{Configuration}
+use Rattle.oauth2_wire.specs.Request.{RequestView}
 use Rattle.oauth2_keeper.specs.declared.patient_keeper.PatientError.{PatientError}
 use Rattle.oauth2_keeper.specs.declared.patient_keeper.PatientError.TheVariants.{Request, Waits}
 use Rattle.oauth2_keeper.specs.Keeper.{Keeper, Given, quiet, accepted, failed, KeeperCalls}
 use Rattle.oauth2_keeper.specs.Patience.{Patient, is_waiting_for, is_held_back, counts, called, failed_call, PatientCalls, PatientRuns, EachPatientRunIsARun, EachFailureIsWaitedFor}
 use Rattle.oauth2_keeper.specs.Runs.{Call, Runs}
 
-module _ {D T RE C : Type 0} (asks : ReplyRule → Configuration → Addressed → C → Result D (RequestTokenError RE T) → C → Type 0) (told : D → Given) where
+module _ {D T RE C : Type 0} (asks : ReplyRule → (List ℕ → RequestView → Type 0) → List ℕ → C → Result D (RequestTokenError RE T) → C → Type 0) (told : D → Given) where
   pub by_success : (patient kept : Patient) (now : ℤ) (before after : C) (first keeper : Keeper) (done : Unit) → is_held_back patient now ≡ false → first ≡ patient.keeper
       → KeeperCalls asks told first now before (Ok done) after keeper → kept ≡ called patient now keeper → PatientCalls asks told patient now before (Ok tt) after kept
   by_success patient kept now before after first keeper done free same calls is =

@@ -1,11 +1,11 @@
 -- The request of a keeper is that of its configuration.
 use Rattle.std.proofs.Common.{rules, ◌≡◌, ℕ, List, Option, Some, None, Result, Ok, Err, subst, sym, refl, inl, inr}
 use Rattle.std.specs.Prelude.{ℤ, false, IsSomeAnd, option_map}
-use Rattle.oauth2_urls.specs.Addressed.{Addressed}
+use Rattle.url.specs.Parts.{serialize}
 use Rattle.oauth2_wire.specs.declared.content_type.ReplyRule.{ReplyRule}
 use Rattle.oauth2_wire.specs.declared.error.RequestTokenError.{RequestTokenError}
+use Rattle.oauth2_wire.specs.Request.{RequestView, IsRequestOf}
 use Rattle.oauth2_form.specs.Pairs.{Pair}
-use Rattle.oauth2_wire.specs.Expected.{Configuration}
 use Rattle.oauth2_requests.specs.Base.{configuration_of}
 use Rattle.oauth2_requests.specs.ClientCredentials.{ClientCredentialsRequest, client_credentials_pairs, client_credentials_configuration}
 use Rattle.oauth2_requests.specs.Refresh.{RefreshRequest, refresh_pairs, refresh_configuration}
@@ -29,24 +29,24 @@ pub client_renewal : (keeper : Keeper) → keeper.refresh_token ≡ None
     → configuration_of (with_params (base_of keeper.client) keeper.scope keeper.extra_params) client_credentials_pairs None ≡ renewal keeper
 client_renewal keeper none = rw none (with_none keeper keeper.scope client_credentials_pairs)
 
-module _ {D T RE C : Type 0} (asks : ReplyRule → Configuration → Addressed → C → Result D (RequestTokenError RE T) → C → Type 0) (keeper : Keeper) (before : C) (answer : Result D (RequestTokenError RE T)) (after : C) where
+module _ {D T RE C : Type 0} (asks : ReplyRule → (List ℕ → RequestView → Type 0) → List ℕ → C → Result D (RequestTokenError RE T) → C → Type 0) (keeper : Keeper) (before : C) (answer : Result D (RequestTokenError RE T)) (after : C) where
   pub by_refresh_token : (r sent : RefreshRequest) → keeper.refresh_token ≡ Some r.refresh_token → keeper.client.token_url ≡ Some r.token_url
       → r ≡ new_refresh_request keeper.client r.token_url r.refresh_token → sent ≡ record r { base = with_params r.base keeper.refresh_scope keeper.extra_params }
-      → asks sent.base.reply_rule (refresh_configuration sent) sent.token_url before answer after → Renews asks keeper before answer after
+      → asks sent.base.reply_rule (IsRequestOf (refresh_configuration sent)) (serialize sent.token_url.url) before answer after → Renews asks keeper before answer after
   by_refresh_token r sent there url new grown asked =
-      let same = subst (λ s. asks s.base.reply_rule (refresh_configuration s) s.token_url before answer after) grown asked in
-      let fresh = subst (λ (s : RefreshRequest). asks s.base.reply_rule (configuration_of (with_params s.base keeper.refresh_scope keeper.extra_params) (refresh_pairs r.refresh_token) None) r.token_url before answer after) new same in
-      (r.token_url, url, subst (λ configuration. asks keeper.client.reply_rule configuration r.token_url before answer after) (refresh_renewal keeper r.refresh_token there) fresh)
+      let same = subst (λ s. asks s.base.reply_rule (IsRequestOf (refresh_configuration s)) (serialize s.token_url.url) before answer after) grown asked in
+      let fresh = subst (λ (s : RefreshRequest). asks s.base.reply_rule (IsRequestOf (configuration_of (with_params s.base keeper.refresh_scope keeper.extra_params) (refresh_pairs r.refresh_token) None)) (serialize r.token_url.url) before answer after) new same in
+      (r.token_url, url, subst (λ configuration. asks keeper.client.reply_rule (IsRequestOf configuration) (serialize r.token_url.url) before answer after) (refresh_renewal keeper r.refresh_token there) fresh)
 
   pub by_client_credentials : (r sent : ClientCredentialsRequest) → keeper.refresh_token ≡ None → keeper.client.token_url ≡ Some r.token_url
       → r ≡ new_client_credentials_request keeper.client r.token_url → sent ≡ record r { base = with_params r.base keeper.scope keeper.extra_params }
-      → asks sent.base.reply_rule (client_credentials_configuration sent) sent.token_url before answer after → Renews asks keeper before answer after
+      → asks sent.base.reply_rule (IsRequestOf (client_credentials_configuration sent)) (serialize sent.token_url.url) before answer after → Renews asks keeper before answer after
   by_client_credentials r sent none url new grown asked =
-      let same = subst (λ s. asks s.base.reply_rule (client_credentials_configuration s) s.token_url before answer after) grown asked in
-      let fresh = subst (λ (s : ClientCredentialsRequest). asks s.base.reply_rule (configuration_of (with_params s.base keeper.scope keeper.extra_params) client_credentials_pairs None) r.token_url before answer after) new same in
-      (r.token_url, url, subst (λ configuration. asks keeper.client.reply_rule configuration r.token_url before answer after) (client_renewal keeper none) fresh)
+      let same = subst (λ s. asks s.base.reply_rule (IsRequestOf (client_credentials_configuration s)) (serialize s.token_url.url) before answer after) grown asked in
+      let fresh = subst (λ (s : ClientCredentialsRequest). asks s.base.reply_rule (IsRequestOf (configuration_of (with_params s.base keeper.scope keeper.extra_params) client_credentials_pairs None)) (serialize r.token_url.url) before answer after) new same in
+      (r.token_url, url, subst (λ configuration. asks keeper.client.reply_rule (IsRequestOf configuration) (serialize r.token_url.url) before answer after) (client_renewal keeper none) fresh)
 
-module _ {D T RE C : Type 0} (asks : ReplyRule → Configuration → Addressed → C → Result D (RequestTokenError RE T) → C → Type 0) (told : D → Given) (keeper : Keeper) (now : ℤ) (stale : is_good keeper now ≡ false) (before after : C) where
+module _ {D T RE C : Type 0} (asks : ReplyRule → (List ℕ → RequestView → Type 0) → List ℕ → C → Result D (RequestTokenError RE T) → C → Type 0) (told : D → Given) (keeper : Keeper) (now : ℤ) (stale : is_good keeper now ≡ false) (before after : C) where
   -- the answer to the request, and what it leaves, are what the call does
   pub settled : (answer : Result D (RequestTokenError RE T)) → Renews asks keeper before answer after → (result : Result Unit (RequestTokenError RE T)) (kept : Keeper)
       → Settles told keeper now answer result kept → KeeperCalls asks told keeper now before result after kept

@@ -1,11 +1,10 @@
 -- The laws of many calls, by induction over their list.
-use Rattle.std.proofs.Common.{rules, ◌≡◌, List, [], ◌∷◌, ◌++◌, Option, Some, None, Result, ap, ◌∙◌, refl}
+use Rattle.std.proofs.Common.{rules, ◌≡◌, List, [], ◌∷◌, ◌++◌, Option, Some, None, Result, ap, ◌∙◌, refl, ℕ}
 use Rattle.std.specs.Prelude.{ℤ, map}
 use Rattle.std.specs.Option.{option_or}
-use Rattle.oauth2_urls.specs.Addressed.{Addressed}
 use Rattle.oauth2_wire.specs.declared.content_type.ReplyRule.{ReplyRule}
 use Rattle.oauth2_wire.specs.declared.error.RequestTokenError.{RequestTokenError}
-use Rattle.oauth2_wire.specs.Expected.{Configuration}
+use Rattle.oauth2_wire.specs.Request.{RequestView}
 use Rattle.oauth2_keeper.specs.Keeper.{Keeper, Given, Outcome, quiet, accepted, failed, kept_after, IsOutcome}
 use Rattle.oauth2_keeper.specs.Runs.{Call, keeps_last, calls_at, replies_of_calls, reply_of_outcome, EachRunKeepsTheLast, EachRunFollowsFromItsReplies}
 
@@ -19,7 +18,7 @@ first_call keeper now quiet calls = search (rules, option_or-assoc)
 first_call keeper now (accepted given) calls = search (rules, option_or-assoc)
 first_call keeper now failed calls = search (rules, option_or-assoc)
 
-module _ {D T RE C : Type 0} (asks : ReplyRule → Configuration → Addressed → C → Result D (RequestTokenError RE T) → C → Type 0) (told : D → Given) where
+module _ {D T RE C : Type 0} (asks : ReplyRule → (List ℕ → RequestView → Type 0) → List ℕ → C → Result D (RequestTokenError RE T) → C → Type 0) (told : D → Given) where
   pub keeps_the_last : EachRunKeepsTheLast asks told
   keeps_the_last keeper kept before after [] run = run.1
   keeps_the_last keeper kept before after (call ∷ calls) run =

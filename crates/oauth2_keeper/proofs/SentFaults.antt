@@ -1,15 +1,15 @@
 -- A fault counts exactly if its request reached the client.
-use Rattle.std.proofs.Common.{rules, ◌≡◌, ℕ, List, Option, None, Some, Result, Ok, Err, subst, sym, ap, refl, inl, inr}
-use Rattle.std.specs.Prelude.{Bool, true, false, not, ◌==◌, length, bytes_eq, if◌then◌else◌}
+use Rattle.std.proofs.Common.{rules, ◌≡◌, ℕ, List, Option, None, Some, Result, Ok, Err, String, Global, subst, sym, ap, refl, inl, inr}
+use Rattle.std.specs.Prelude.{Bool, true, false, not, ◌==◌, length, bytes_eq, string_bytes, if◌then◌else◌}
 use Rattle.oauth2_wire.specs.ContentType.{is_json_type}
 use Rattle.oauth2_wire.specs.declared.content_type.ReplyRule.{ReplyRule}
 use Rattle.oauth2_wire.specs.declared.error.RequestTokenError.{RequestTokenError}
 use Rattle.oauth2_wire.specs.declared.error.RequestTokenError.TheVariants as token
-use Rattle.oauth2_wire.specs.declared.request.RequestFault.{RequestFault}
 use Rattle.oauth2_wire.specs.declared.request.RequestFault.TheVariants as fault
-use Rattle.oauth2_wire.specs.OneShot.{HttpRequest, OneShot, AnswersTo, IsUnsentError, not_http_text}
+use Rattle.oauth2_wire.specs.Once.{AsksOnce, not_http_text}
+use Rattle.oauth2_wire.specs.Request.{HttpRequest, RequestView, IsRequestOf}
 use Rattle.oauth2_wire.specs.Reply.{HttpResponse, Answer, accepted, refused, unread, other, ReplyView, reply_of, ShowsFault, accepted_reading, refused_reading, body_answer, success_answer, answer_of}
-use Rattle.oauth2_requests.specs.Once.{AsksOnce}
+use Rattle.oauth2_wire.proofs.OnceLemmas.{AsksOnce-accepted}
 use Rattle.oauth2_keeper.specs.Patience.{counts, IsCalledIf, EachSentFaultCounts}
 
 -- the answer is not what is said of an endpoint that is no HTTP target
@@ -52,42 +52,38 @@ module _ {A T E RE : Type 0} (error_meaning : T → E) where
   shown answer says (token.Memory sent) is = search (rules, is)
   shown answer says (token.Other text) is = ap not (subst SaysElse is says)
 
-pub unsent : {T RE : Type 0} (kind : RequestFault) (error : RequestTokenError RE T) → IsUnsentError kind error → counts error ≡ false
-unsent fault.NotHttp (token.Other text) is = rw is refl
-unsent fault.NotHttp (token.Memory sent) is = is
-unsent fault.NotHttp (token.ServerResponse error) is = absurd is
-unsent fault.NotHttp (token.Request error) is = absurd is
-unsent fault.NotHttp (token.Parse fault body) is = absurd is
-unsent fault.Memory (token.Other text) is = absurd is
-unsent fault.Memory (token.Memory sent) is = is
-unsent fault.Memory (token.ServerResponse error) is = absurd is
-unsent fault.Memory (token.Request error) is = absurd is
-unsent fault.Memory (token.Parse fault body) is = absurd is
+-- an error that says that the endpoint is no HTTP target does not count
+pub not_http_counts : {T RE : Type 0} (text : String Global) → string_bytes text ≡ not_http_text → counts {RE = RE} {T = T} (token.Other text) ≡ false
+not_http_counts text said = rw said refl
 
 module _ {D A T E RE C : Type 0} (meaning : D → A) (error_meaning : T → E) (step : C → HttpRequest → Result HttpResponse RE → C → Type 0) where
-  -- the answer to a call
-  pub answered : (says : HttpResponse → Answer A E) → ((reply : HttpResponse) → SaysElse (says reply)) → (answer : Result HttpResponse RE) (error : RequestTokenError RE T)
-      → AnswersTo {D = D} meaning error_meaning says answer (Err error) → counts error ≡ true
-  answered says differs (Ok reply) error is = shown error_meaning (says reply) (differs reply) error is
-  answered says differs (Err client_error) error is = search (rules, is)
+  module _ (says : ReplyView → Answer A E) (IsRequest : List ℕ → RequestView → Type 0) (url : List ℕ) (before after : C) where
+    abbrev CallsIf : RequestTokenError RE T → Type 0
+    CallsIf error = IsCalledIf step (counts error) before after
 
-  module _ (says : HttpResponse → Answer A E) (IsRequest : HttpRequest → Type 0) (NotHttp : Type 0) where
-    abbrev Sends : C → Result D (RequestTokenError RE T) → C → Type 0
-    Sends before result after = OneShot meaning error_meaning step says IsRequest NotHttp before result after
-
-    pub failed : ((reply : HttpResponse) → SaysElse (says reply)) → (before after : C) (error : RequestTokenError RE T) → Sends before (Err error) after → IsCalledIf step (counts error) before after
-    failed differs before after error (inl sent) = subst (λ b. IsCalledIf step b before after) (sym (answered says differs sent.2.0 error sent.2.2)) (sent.0, sent.2.0, sent.2.1)
-    failed differs before after error (inr (inl no_target, same)) = subst (λ b. IsCalledIf step b before after) (sym (unsent fault.NotHttp error no_target.0)) same
-    failed differs before after error (inr (inr starved, same)) = subst (λ b. IsCalledIf step b before after) (sym (unsent fault.Memory error starved)) same
+    pub failed : ((reply : ReplyView) → SaysElse (says reply)) → (error : RequestTokenError RE T)
+        → AsksOnce {D = D} meaning error_meaning step says IsRequest url before (Err error) after → CallsIf error
+    failed differs error (Ok request, is, target, (Ok reply, did, shows)) =
+        let sent : counts error ≡ true = shown error_meaning (says (reply_of reply)) (differs (reply_of reply)) error shows in
+        subst (λ b. IsCalledIf step b before after) (sym sent) (request, Ok reply, did)
+    failed differs error (Ok request, is, target, (Err cause, did, fails)) =
+        let same : error ≡ token.Request cause = cc in
+        subst CallsIf (sym same) (request, Err cause, did)
+    failed differs (token.Memory sent) (Err kind, is, target, (unsent, same)) = subst (λ b. IsCalledIf step b before after) (sym unsent) same
+    failed differs (token.Other text) (Err fault.NotHttp, is, target, (said, same)) =
+        subst (λ b. IsCalledIf step b before after) (sym (not_http_counts {T = T} {RE = RE} text said)) same
+    failed differs (token.Other text) (Err fault.Memory, is, target, unsent) = absurd unsent
+    failed differs (token.ServerResponse error) (Err kind, is, target, unsent) = absurd unsent
+    failed differs (token.Request error) (Err kind, is, target, unsent) = absurd unsent
+    failed differs (token.Parse fault body) (Err kind, is, target, unsent) = absurd unsent
 
     -- a request whose reply was accepted was sent
-    pub accepted_was_sent : (before after : C) (reply : D) → Sends before (Ok reply) after → IsCalledIf step true before after
-    accepted_was_sent before after reply (inl sent) = (sent.0, sent.2.0, sent.2.1)
-    accepted_was_sent before after reply (inr (inl no_target, same)) = absurd no_target.0
-    accepted_was_sent before after reply (inr (inr starved, same)) = absurd starved
+    pub accepted_was_sent : (reply : D) → AsksOnce {T = T} meaning error_meaning step says IsRequest url before (Ok reply) after → IsCalledIf step true before after
+    accepted_was_sent reply asked =
+        let sent = AsksOnce-accepted meaning error_meaning step says IsRequest url before after reply asked in (sent.0, Ok sent.2, sent.3)
 
-  pub sent_counts : (reading error_reading : _) → EachSentFaultCounts (AsksOnce meaning error_meaning reading error_reading step) step
+  pub sent_counts : (reading error_reading : _) → EachSentFaultCounts (λ rule. AsksOnce meaning error_meaning step (answer_of rule reading error_reading)) step
   sent_counts reading error_reading keeper before after error (inl renews) =
-      failed _ _ _ (λ reply. of_reply A E keeper.client.reply_rule reading error_reading (reply_of reply)) before after error renews.2
+      failed (answer_of keeper.client.reply_rule reading error_reading) (IsRequestOf _) _ before after (of_reply A E keeper.client.reply_rule reading error_reading) error renews.2
   sent_counts reading error_reading keeper before after error (inr (is, (reply, renews))) =
-      subst (λ e. IsCalledIf step (counts e) before after) (sym is) (accepted_was_sent _ _ _ before after reply renews.2)
+      subst (λ e. IsCalledIf step (counts e) before after) (sym is) (accepted_was_sent (answer_of keeper.client.reply_rule reading error_reading) (IsRequestOf _) _ before after reply renews.2)

@@ -2,9 +2,11 @@
 use Rattle.std.specs.Prelude.{◌≡◌, ◌⊎◌, ℕ, ℤ, pos, ◌+ℤ◌, ◌-ℤ◌, int_le, Bool, true, false, IsTrue, List, [], map, Option, Some, None, unwrap_or, Vec, IsSomeAnd, Result, Ok, Err}
 use Rattle.std.specs.Option.{option_or}
 use Rattle.std.specs.declared.alloc.Global.{Global}
+use Rattle.url.specs.Parts.{serialize}
 use Rattle.oauth2_urls.specs.Addressed.{Addressed}
 use Rattle.oauth2_wire.specs.declared.content_type.ReplyRule.{ReplyRule}
 use Rattle.oauth2_wire.specs.declared.error.RequestTokenError.{RequestTokenError}
+use Rattle.oauth2_wire.specs.Request.{RequestView, IsRequestOf}
 use Rattle.oauth2_wire.specs.declared.error.RequestTokenError.TheVariants.{Memory}
 use Rattle.oauth2_form.specs.Pairs.{Pair}
 use Rattle.oauth2_wire.specs.declared.texts.ParamText.{ParamText}
@@ -115,12 +117,12 @@ kept_after keeper now quiet = keeper
 kept_after keeper now (accepted given) = accept keeper now given
 kept_after keeper now failed = keeper
 
-module _ {D T RE C : Type 0} (asks : ReplyRule → Configuration → Addressed → C → Result D (RequestTokenError RE T) → C → Type 0) where
+module _ {D T RE C : Type 0} (asks : ReplyRule → (List ℕ → RequestView → Type 0) → List ℕ → C → Result D (RequestTokenError RE T) → C → Type 0) where
   -- another token is asked for, at the client's token endpoint
   abbrev pub Renews : Keeper → C → Result D (RequestTokenError RE T) → C → Type 0
   Renews keeper before answer after =
       (endpoint : Addressed) × (keeper.client.token_url ≡ Some endpoint)
-      × asks keeper.client.reply_rule (renewal keeper) endpoint before answer after
+      × asks keeper.client.reply_rule (IsRequestOf (renewal keeper)) (serialize endpoint.url) before answer after
 
   -- the error is the request's, or memory ran out while its reply was copied
   abbrev pub FailsWith : Keeper → C → RequestTokenError RE T → C → Type 0

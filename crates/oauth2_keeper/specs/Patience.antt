@@ -2,12 +2,11 @@
 use Rattle.std.specs.Prelude.{◌≡◌, ◌⊎◌, ℕ, ℤ, pos, ◌+ℤ◌, int_lt, Bool, true, false, not, ◌&&◌, IsTrue, All, List, [], ◌∷◌, Option, Some, None, IsSomeAnd, Result, Ok, Err, bytes_eq, string_bytes, if◌then◌else◌}
 use Rattle.jiff_core.specs.declared.timestamp.Timestamp.{Timestamp}
 use Rattle.jiff_core.specs.Timestamp.{IsTimestampNanos}
-use Rattle.oauth2_urls.specs.Addressed.{Addressed}
 use Rattle.oauth2_wire.specs.declared.content_type.ReplyRule.{ReplyRule}
 use Rattle.oauth2_wire.specs.declared.error.RequestTokenError.{RequestTokenError}
 use Rattle.oauth2_wire.specs.declared.error.RequestTokenError.TheVariants as token
-use Rattle.oauth2_wire.specs.Expected.{Configuration}
-use Rattle.oauth2_wire.specs.OneShot.{HttpRequest, not_http_text}
+use Rattle.oauth2_wire.specs.Once.{not_http_text}
+use Rattle.oauth2_wire.specs.Request.{HttpRequest, RequestView}
 use Rattle.oauth2_wire.specs.Reply.{HttpResponse}
 use Rattle.oauth2_keeper.specs.declared.patient_keeper.PatientError.{PatientError}
 use Rattle.oauth2_keeper.specs.declared.patient_keeper.PatientError.TheVariants.{Request, Waits}
@@ -54,7 +53,7 @@ called patient now kept = record patient { keeper = kept; failed_at = if is_good
 abbrev pub failed_call : {RE T : Type 0} → Patient → ℤ → RequestTokenError RE T → Patient
 failed_call patient now error = record patient { failed_at = if counts error then Some now else patient.failed_at }
 
-module _ {D T RE C : Type 0} (asks : ReplyRule → Configuration → Addressed → C → Result D (RequestTokenError RE T) → C → Type 0) (told : D → Given) where
+module _ {D T RE C : Type 0} (asks : ReplyRule → (List ℕ → RequestView → Type 0) → List ℕ → C → Result D (RequestTokenError RE T) → C → Type 0) (told : D → Given) where
   -- a call at a moment: that of the keeper; or, where it is held back, none, and the kept token is
   -- handed out if it lasts
   abbrev pub PatientCalls : Patient → ℤ → C → Result Unit (PatientError RE T) → C → Patient → Type 0
@@ -100,7 +99,7 @@ abbrev pub IsCalledIf : {RE C : Type 0} → (C → HttpRequest → Result HttpRe
 IsCalledIf {RE = RE} step true before after = (request : HttpRequest) × (answer : Result HttpResponse RE) × step before request answer after
 IsCalledIf step false before after = after ≡ before
 
-module _ {D T RE C : Type 0} (asks : ReplyRule → Configuration → Addressed → C → Result D (RequestTokenError RE T) → C → Type 0) (step : C → HttpRequest → Result HttpResponse RE → C → Type 0) where
+module _ {D T RE C : Type 0} (asks : ReplyRule → (List ℕ → RequestView → Type 0) → List ℕ → C → Result D (RequestTokenError RE T) → C → Type 0) (step : C → HttpRequest → Result HttpResponse RE → C → Type 0) where
   -- a keeper's fault counts exactly if its request reached the client
   abbrev pub EachSentFaultCounts : Type 0
   EachSentFaultCounts =

@@ -1,10 +1,9 @@
 -- A keeper over many calls.
 use Rattle.std.specs.Prelude.{◌≡◌, ℕ, ℤ, List, [], ◌∷◌, ◌++◌, map, drop, Option, Some, None, option_map, Result, if◌then◌else◌}
 use Rattle.std.specs.Option.{option_or}
-use Rattle.oauth2_urls.specs.Addressed.{Addressed}
 use Rattle.oauth2_wire.specs.declared.content_type.ReplyRule.{ReplyRule}
 use Rattle.oauth2_wire.specs.declared.error.RequestTokenError.{RequestTokenError}
-use Rattle.oauth2_wire.specs.Expected.{Configuration}
+use Rattle.oauth2_wire.specs.Request.{RequestView}
 use Rattle.oauth2_keeper.specs.Keeper.{AcceptedToken, Keeper, Given, Outcome, quiet, accepted, failed, is_good, kept_after, accepted_token, IsOutcome}
 
 -- a call: its moment, and what came of it
@@ -14,7 +13,7 @@ pub record Call : Type 0 where
 
 -- calls one after another, from what is kept and the client's state before the first to those after
 -- the last
-module _ {D T RE C : Type 0} (asks : ReplyRule → Configuration → Addressed → C → Result D (RequestTokenError RE T) → C → Type 0) (told : D → Given) where
+module _ {D T RE C : Type 0} (asks : ReplyRule → (List ℕ → RequestView → Type 0) → List ℕ → C → Result D (RequestTokenError RE T) → C → Type 0) (told : D → Given) where
   abbrev pub Runs : Keeper → C → List Call → C → Keeper → Type 0
   Runs keeper before [] after kept = (after ≡ before) × (kept ≡ keeper)
   Runs keeper before (call ∷ calls) after kept =
@@ -78,7 +77,7 @@ calls_at keeper (now ∷ moments) replies =
     record { now = now; outcome = outcome }
     ∷ calls_at (kept_after keeper now outcome) moments (if is_good keeper now then replies else drop 1 replies)
 
-module _ {D T RE C : Type 0} (asks : ReplyRule → Configuration → Addressed → C → Result D (RequestTokenError RE T) → C → Type 0) (told : D → Given) where
+module _ {D T RE C : Type 0} (asks : ReplyRule → (List ℕ → RequestView → Type 0) → List ℕ → C → Result D (RequestTokenError RE T) → C → Type 0) (told : D → Given) where
   -- the kept token is that of the last accepted reply, the refresh token that of the last accepted
   -- reply that gave one, at first the one that the keeper was made with
   abbrev pub EachRunKeepsTheLast : Type 0

@@ -1,6 +1,7 @@
 //! What a keeper keeps over many calls.
 
-ghost use Rattle.oauth2_requests.specs.Once.{AsksOnce};
+ghost use Rattle.oauth2_wire.specs.Once.{AsksOnce};
+ghost use Rattle.oauth2_wire.specs.Reply.{answer_of};
 ghost use Rattle.oauth2_keeper.specs.Keeper.{given_by};
 ghost use Rattle.oauth2_keeper.specs.Patience.{EachPatientRunIsARun, EachFailureIsWaitedFor, EachSentFaultCounts};
 ghost use Rattle.oauth2_keeper.specs.Runs.{EachRunKeepsTheLast, EachRunFollowsFromItsReplies};
@@ -11,7 +12,8 @@ use oauth2::{ErrorResponse, SyncHttpClient, TokenResponse};
 /// token that of the last accepted reply that gave one, at first the one given.
 #[tactic(auto, using(crate::proofs::RunLaws::keeps_the_last))]
 pub fn each_run_keeps_the_last<C: SyncHttpClient, TE: ErrorResponse, TR: TokenResponse>()
-    ensures { EachRunKeepsTheLast (AsksOnce TR.meaning TE.meaning TR.reading TE.reading C.step)
+    ensures { EachRunKeepsTheLast
+        (λ rule. AsksOnce TR.meaning TE.meaning C.step (answer_of rule TR.reading TE.reading))
         (given_by TR.access_token TR.expires_in TR.refresh_token) }
 {}
 
@@ -20,7 +22,7 @@ pub fn each_run_keeps_the_last<C: SyncHttpClient, TE: ErrorResponse, TR: TokenRe
 #[tactic(auto, using(crate::proofs::RunLaws::is_its_replies))]
 pub fn each_run_follows_from_its_replies<C: SyncHttpClient, TE: ErrorResponse, TR: TokenResponse>()
     ensures { EachRunFollowsFromItsReplies
-        (AsksOnce TR.meaning TE.meaning TR.reading TE.reading C.step)
+        (λ rule. AsksOnce TR.meaning TE.meaning C.step (answer_of rule TR.reading TE.reading))
         (given_by TR.access_token TR.expires_in TR.refresh_token) }
 {}
 
@@ -28,18 +30,21 @@ pub fn each_run_follows_from_its_replies<C: SyncHttpClient, TE: ErrorResponse, T
 /// laws hold for them.
 #[tactic(auto, using(crate::proofs::Patience::is_a_run))]
 pub fn each_patient_run_is_a_run<C: SyncHttpClient, TE: ErrorResponse, TR: TokenResponse>()
-    ensures { EachPatientRunIsARun (AsksOnce TR.meaning TE.meaning TR.reading TE.reading C.step)
+    ensures { EachPatientRunIsARun
+        (λ rule. AsksOnce TR.meaning TE.meaning C.step (answer_of rule TR.reading TE.reading))
         (given_by TR.access_token TR.expires_in TR.refresh_token) }
 {}
 
 /// After a request of a patient keeper that failed, no call sends one before the wait has passed.
 pub fn each_failure_is_waited_for<C: SyncHttpClient, TE: ErrorResponse, TR: TokenResponse>()
-    ensures { EachFailureIsWaitedFor (AsksOnce TR.meaning TE.meaning TR.reading TE.reading C.step)
+    ensures { EachFailureIsWaitedFor
+        (λ rule. AsksOnce TR.meaning TE.meaning C.step (answer_of rule TR.reading TE.reading))
         (given_by TR.access_token TR.expires_in TR.refresh_token) }
 {}
 
 /// A fault begins a wait exactly if its request reached the client.
 pub fn each_sent_fault_counts<C: SyncHttpClient, TE: ErrorResponse, TR: TokenResponse>()
     ensures { EachSentFaultCounts
-        (AsksOnce TR.meaning TE.meaning TR.reading TE.reading C.step) C.step }
+        (λ rule. AsksOnce TR.meaning TE.meaning C.step (answer_of rule TR.reading TE.reading))
+        C.step }
 {}

@@ -17,7 +17,8 @@ ghost use Rattle.std.specs.Prelude.{
 };
 ghost use Rattle.std.specs.Duration.{as_nanos};
 ghost use Rattle.std.specs.Fn.{FnOnceReturnsAt};
-ghost use Rattle.oauth2_requests.specs.Once.{AsksOnce};
+ghost use Rattle.oauth2_wire.specs.Once.{AsksOnce};
+ghost use Rattle.oauth2_wire.specs.Reply.{answer_of};
 ghost use Rattle.oauth2_keeper.specs.Keeper.{given_by};
 ghost use Rattle.oauth2_keeper.specs.Patience.{
   Patient,
@@ -273,7 +274,8 @@ where
         http_client: &mut C,
     ) -> Result<(), PatientError<C::Error, TE>>
         requires { C.is_ready http_client.old }
-        ensures call { PatientCalls (AsksOnce TR.meaning TE.meaning TR.reading TE.reading C.step)
+        ensures call { PatientCalls
+            (λ rule. AsksOnce TR.meaning TE.meaning C.step (answer_of rule TR.reading TE.reading))
             (given_by TR.access_token TR.expires_in TR.refresh_token)
             self.old now.nanosecond http_client.old result http_client.new self.new }
         ensures token { OnOk result (IsSome self.new.keeper.token) }
@@ -313,7 +315,8 @@ where
     ) -> Result<&AccessToken, PatientError<C::Error, TE>>
         requires { C.is_ready http_client.old }
         ensures call { (kept : Patient)
-            × PatientAnswers (AsksOnce TR.meaning TE.meaning TR.reading TE.reading C.step)
+            × PatientAnswers
+            (λ rule. AsksOnce TR.meaning TE.meaning C.step (answer_of rule TR.reading TE.reading))
             (given_by TR.access_token TR.expires_in TR.refresh_token)
             (λ text token. token.now ≡ text)
             self.old now.nanosecond http_client.old result http_client.new kept }
@@ -337,7 +340,8 @@ where
         F: Drop,
         requires ready { C.is_ready http_client.old }
         requires read { F.IsAlwaysCallable read }
-        ensures call { PatientAnswers (AsksOnce TR.meaning TE.meaning TR.reading TE.reading C.step)
+        ensures call { PatientAnswers
+            (λ rule. AsksOnce TR.meaning TE.meaning C.step (answer_of rule TR.reading TE.reading))
             (given_by TR.access_token TR.expires_in TR.refresh_token)
             (λ text value. FnOnceReturnsAt F.FnOnce read text value)
             self.old now.nanosecond http_client.old result http_client.new self.new }

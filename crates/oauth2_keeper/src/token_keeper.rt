@@ -25,7 +25,8 @@ ghost use Rattle.std.specs.Iterator.{Drains, IsFinite};
 ghost use Rattle.jiff_core.specs.Timestamp.{IsTimestampNanos};
 ghost use Rattle.oauth2_form.specs.Params.{with_scope, with_scopes};
 ghost use Rattle.oauth2_wire.specs.Texts.{param_bytes};
-ghost use Rattle.oauth2_requests.specs.Once.{AsksOnce};
+ghost use Rattle.oauth2_wire.specs.Once.{AsksOnce};
+ghost use Rattle.oauth2_wire.specs.Reply.{answer_of};
 ghost use Rattle.oauth2_keeper.specs.Keeper.{
   Keeper,
   given_by,
@@ -360,7 +361,8 @@ where
         http_client: &mut C,
     ) -> Result<(), RequestTokenError<C::Error, TE>>
         requires { C.is_ready http_client.old }
-        ensures call { KeeperCalls (AsksOnce TR.meaning TE.meaning TR.reading TE.reading C.step)
+        ensures call { KeeperCalls
+            (λ rule. AsksOnce TR.meaning TE.meaning C.step (answer_of rule TR.reading TE.reading))
             (given_by TR.access_token TR.expires_in TR.refresh_token)
             self.old now.nanosecond http_client.old result http_client.new self.new }
         ensures token { OnOk result (IsSome self.new.token) }
@@ -384,7 +386,8 @@ where
     ) -> Result<&AccessToken, RequestTokenError<C::Error, TE>>
         requires { C.is_ready http_client.old }
         ensures call { (kept : Keeper)
-            × Answers (AsksOnce TR.meaning TE.meaning TR.reading TE.reading C.step)
+            × Answers
+            (λ rule. AsksOnce TR.meaning TE.meaning C.step (answer_of rule TR.reading TE.reading))
             (given_by TR.access_token TR.expires_in TR.refresh_token)
             (λ text token. token.now ≡ text)
             self.old now.nanosecond http_client.old result http_client.new kept }
@@ -408,7 +411,8 @@ where
         F: Drop,
         requires ready { C.is_ready http_client.old }
         requires read { F.IsAlwaysCallable read }
-        ensures call { Answers (AsksOnce TR.meaning TE.meaning TR.reading TE.reading C.step)
+        ensures call { Answers
+            (λ rule. AsksOnce TR.meaning TE.meaning C.step (answer_of rule TR.reading TE.reading))
             (given_by TR.access_token TR.expires_in TR.refresh_token)
             (λ text value. FnOnceReturnsAt F.FnOnce read text value)
             self.old now.nanosecond http_client.old result http_client.new self.new }
@@ -429,7 +433,7 @@ where
     ) -> Result<(), RequestTokenError<C::Error, TE>>
         requires { C.is_ready http_client.old }
         ensures settles { RenewsAndSettles
-            (AsksOnce TR.meaning TE.meaning TR.reading TE.reading C.step)
+            (λ rule. AsksOnce TR.meaning TE.meaning C.step (answer_of rule TR.reading TE.reading))
             (given_by TR.access_token TR.expires_in TR.refresh_token)
             self.old now.nanosecond http_client.old result http_client.new self.new }
         ensures ready { C.is_ready http_client.new }
@@ -445,7 +449,8 @@ where
         http_client: &mut C,
     ) -> Result<TR, RequestTokenError<C::Error, TE>>
         requires { C.is_ready http_client.old }
-        ensures once { Renews (AsksOnce TR.meaning TE.meaning TR.reading TE.reading C.step)
+        ensures once { Renews
+            (λ rule. AsksOnce TR.meaning TE.meaning C.step (answer_of rule TR.reading TE.reading))
             self.now http_client.old result http_client.new }
         ensures ready { C.is_ready http_client.new }
     {
@@ -464,7 +469,8 @@ where
     ) -> Result<TR, RequestTokenError<C::Error, TE>>
         requires client { C.is_ready http_client.old }
         requires token { self.now.refresh_token ≡ Some refresh_token.now }
-        ensures once { Renews (AsksOnce TR.meaning TE.meaning TR.reading TE.reading C.step)
+        ensures once { Renews
+            (λ rule. AsksOnce TR.meaning TE.meaning C.step (answer_of rule TR.reading TE.reading))
             self.now http_client.old result http_client.new }
         ensures ready { C.is_ready http_client.new }
     {
@@ -484,7 +490,8 @@ where
     ) -> Result<TR, RequestTokenError<C::Error, TE>>
         requires client { C.is_ready http_client.old }
         requires token { self.now.refresh_token ≡ None }
-        ensures once { Renews (AsksOnce TR.meaning TE.meaning TR.reading TE.reading C.step)
+        ensures once { Renews
+            (λ rule. AsksOnce TR.meaning TE.meaning C.step (answer_of rule TR.reading TE.reading))
             self.now http_client.old result http_client.new }
         ensures ready { C.is_ready http_client.new }
     {

@@ -2,7 +2,7 @@
 use Rattle.std.specs.Prelude.{◌≡◌, ◌⊎◌, ℕ, List, [], codes, bytes_eq, if◌then◌else◌, Option, None, Some, Result, Ok, Err}
 use Rattle.serde_json.specs.Data.{Data}
 use Rattle.http.specs.declared.version.TheConstants.Version.{HTTP_11}
-use Rattle.http_uri.specs.Uri.{Spells, SpellsNone}
+use Rattle.http_uri.specs.Uri.{Spells}
 use Rattle.url.specs.Parts.{Parts, serialize}
 use Rattle.url.specs.Parser.{parse_url}
 use Rattle.oauth2_wire.specs.declared.content_type.ReplyRule.TheVariants.{Prefix}
@@ -13,9 +13,9 @@ use Rattle.oauth2_wire.specs.declared.content_type.ReplyRule.{ReplyRule}
 use Rattle.oauth2_wire.specs.declared.error.RequestTokenError.{RequestTokenError}
 use Rattle.oauth2_wire.specs.Display.{fault_text}
 use Rattle.oauth2_wire.specs.Expected.{one_header}
-use Rattle.oauth2_wire.specs.OneShot.{HttpRequest, OneShot}
-use Rattle.oauth2_wire.specs.Reply.{HttpResponse, answer_of, reply_of}
-use Rattle.oauth2_wire.specs.Request.{RequestView, view_of}
+use Rattle.oauth2_wire.specs.Once.{AsksOnce}
+use Rattle.oauth2_wire.specs.Reply.{HttpResponse, answer_of}
+use Rattle.oauth2_wire.specs.Request.{HttpRequest, RequestView}
 use Rattle.oauth2_metadata.specs.Metadata.{Metadata}
 use Rattle.oauth2_metadata.specs.declared.metadata_error.MetadataError.{MetadataError}
 use Rattle.oauth2_metadata.specs.declared.metadata_error.MetadataError.TheVariants.{OtherIssuer, Reply}
@@ -46,17 +46,13 @@ module _ {E T RE : Type 0} where
   checked issuer (Err error) = Err (Reply error)
 
 module _ {E A T F RE C : Type 0} where
-  -- the client makes exactly one step, with the GET, and the result is what its answer says, if it is
-  -- this issuer's; or it makes none, since the URL is no HTTP target or memory ran out before
+  -- the GET is asked for once, and the result is what its answer says, if it is this issuer's
   abbrev pub AsksForMetadata : (Metadata E → A) → (T → F) → (Data → Reading A) → (Data → Reading F)
       → (C → HttpRequest → Result HttpResponse RE → C → Type 0) → MetadataQuery → C → Result (Metadata E) (MetadataError RE T) → C → Type 0
   AsksForMetadata meaning error_meaning reading error_reading step query before result after =
       (outcome : Result (Metadata E) (RequestTokenError RE T)) × (result ≡ checked query.issuer outcome)
-      × OneShot meaning error_meaning step
-      (λ reply. answer_of query.reply_rule reading error_reading (reply_of reply))
-      (λ request. IsGetOf (serialize query.url) (view_of request))
-      (SpellsNone (serialize query.url))
-      before outcome after
+      × AsksOnce meaning error_meaning step (answer_of query.reply_rule reading error_reading)
+      IsGetOf (serialize query.url) before outcome after
 
 -- a request for the metadata of the issuer that a text is, at that place
 abbrev pub IsAsked : (Parts → Parts) → List ℕ → Result MetadataQuery IssuerError → Type 0

@@ -2,11 +2,11 @@
 use Rattle.std.specs.Prelude.{◌≡◌, ℕ, ℤ, ◌⊎◌, List, ◌++◌, codes, false, true, Option, Some, None, IsSome, option_map, Result, Ok, Err}
 use Rattle.serde_json.specs.Data.{Data}
 use Rattle.oauth2_json.specs.Reading.{Reading, fault_of}
-use Rattle.oauth2_wire.specs.OneShot.{HttpRequest}
+use Rattle.oauth2_wire.specs.Request.{HttpRequest}
 use Rattle.oauth2_wire.specs.Reply.{HttpResponse}
 use Rattle.oauth2.specs.Settings.{Settings}
 use Rattle.oauth2_redirect.specs.declared.login_error.LoginError.{LoginError}
-use Rattle.oauth2_redirect.specs.End.{EndsLogin, IsExchange, login_error_text}
+use Rattle.oauth2_redirect.specs.End.{EndsLogin, ExchangesCode, login_error_text}
 use Rattle.oauth2_redirect.specs.Redirect.{RedirectRefusal}
 use Rattle.oauth2_openid.specs.declared.read_error.IdTokenReadError.{IdTokenReadError}
 use Rattle.oauth2_openid.specs.declared.read_error.IdTokenReadError.TheVariants as read
@@ -68,7 +68,7 @@ module _ {D A T E RE C : Type 0} where
       → C → Result (OpenIdLoginEnd D) (OpenIdLoginError RE T) → C → Type 0
   EndsOpenIdLogin meaning error_meaning reading error_reading step access_token id_token client login expected now told before result after =
       ((code : List ℕ) × (told ≡ Ok code) × (response : D)
-      × IsExchange meaning error_meaning reading error_reading step client login.login code before (Ok response) after
+      × ExchangesCode meaning error_meaning reading error_reading step client login.login code before (Ok response) after
       × Judges access_token id_token expected now response result)
       ⊎ ((error : LoginError RE T) × (result ≡ Err (Login error))
       × EndsLogin meaning error_meaning reading error_reading step client login.login told before (Err error) after)

@@ -1,6 +1,7 @@
 -- What the requests of a client with types of its own ask for.
 use Rattle.std.specs.Prelude.{ℕ, List, Result}
 use Rattle.serde_json.specs.Data.{Data}
+use Rattle.url.specs.Parts.{serialize}
 use Rattle.oauth2_json.specs.Reading.{Reading}
 use Rattle.oauth2_urls.specs.Addressed.{Addressed}
 use Rattle.oauth2_codes.specs.declared.error_response.StandardErrorResponse.{StandardErrorResponse}
@@ -11,9 +12,9 @@ use Rattle.oauth2_replies.specs.Token.{Token, token_seen, token_reading}
 use Rattle.oauth2_wire.specs.declared.content_type.ReplyRule.{ReplyRule}
 use Rattle.oauth2_wire.specs.declared.error.RequestTokenError.{RequestTokenError}
 use Rattle.oauth2_wire.specs.Expected.{Configuration}
-use Rattle.oauth2_wire.specs.OneShot.{HttpRequest}
-use Rattle.oauth2_wire.specs.Reply.{HttpResponse}
-use Rattle.oauth2_requests.specs.Once.{AsksOnce, AsksOnceStatusOnly}
+use Rattle.oauth2_wire.specs.Once.{AsksOnce}
+use Rattle.oauth2_wire.specs.Request.{HttpRequest, IsRequestOf}
+use Rattle.oauth2_wire.specs.Reply.{HttpResponse, answer_of, status_answer_of}
 use Rattle.oauth2_device.specs.DeviceToken.{DeviceToken}
 use Rattle.oauth2_device.specs.Events.{Event}
 use Rattle.oauth2_device.specs.Poll.{PollError, Polls}
@@ -61,27 +62,32 @@ module _ {RE C : Type 0} (step : C → HttpRequest → Result HttpResponse RE �
   -- for a token
   abbrev pub AsksForToken : Result ColorfulToken (RequestTokenError RE ColorfulError) → C → Type 0
   AsksForToken result after =
-      AsksOnce colorful_token_seen colorful_error_seen colorful_token_reading colorful_error_reading step rule configuration endpoint before result after
+      AsksOnce colorful_token_seen colorful_error_seen step (answer_of rule colorful_token_reading colorful_error_reading)
+      (IsRequestOf configuration) (serialize endpoint.url) before result after
 
   -- the same where an error response is not the standard's
   abbrev pub AsksForCustomToken : Result ColorfulToken (RequestTokenError RE CustomErrorResponse) → C → Type 0
   AsksForCustomToken result after =
-      AsksOnce colorful_token_seen custom_seen colorful_token_reading custom_reading step rule configuration endpoint before result after
+      AsksOnce colorful_token_seen custom_seen step (answer_of rule colorful_token_reading custom_reading)
+      (IsRequestOf configuration) (serialize endpoint.url) before result after
 
   abbrev pub AsksForIntrospection : Result ColorfulIntrospection (RequestTokenError RE ColorfulError) → C → Type 0
   AsksForIntrospection result after =
-      AsksOnce colorful_introspection_seen colorful_error_seen colorful_introspection_reading colorful_error_reading step rule configuration endpoint before result after
+      AsksOnce colorful_introspection_seen colorful_error_seen step (answer_of rule colorful_introspection_reading colorful_error_reading)
+      (IsRequestOf configuration) (serialize endpoint.url) before result after
 
   -- for the codes of a device
   abbrev pub AsksForCodes : Result (DeviceAuthorization ColorfulFields) (RequestTokenError RE ColorfulError) → C → Type 0
   AsksForCodes result after =
-      AsksOnce (device_seen fields_seen) colorful_error_seen (device_reading fields_reading) colorful_error_reading step rule configuration endpoint before result after
+      AsksOnce (device_seen fields_seen) colorful_error_seen step (answer_of rule (device_reading fields_reading) colorful_error_reading)
+      (IsRequestOf configuration) (serialize endpoint.url) before result after
 
 module _ {RE C : Type 0} (step : C → HttpRequest → Result HttpResponse RE → C → Type 0) (configuration : Configuration) (endpoint : Addressed) (before : C) where
   -- for a revocation
   abbrev pub AsksForRevocation : Result Unit (RequestTokenError RE ColorfulError) → C → Type 0
   AsksForRevocation result after =
-      AsksOnceStatusOnly colorful_error_seen colorful_error_reading step configuration endpoint before result after
+      AsksOnce (λ done. done) colorful_error_seen step (status_answer_of colorful_error_reading)
+      (IsRequestOf configuration) (serialize endpoint.url) before result after
 
 -- the poll of a device for a token, as long as its code is good
 abbrev pub PollsForToken : {RE : Type 0} → DeviceToken → ℕ → List (Event RE) → Result ColorfulToken (PollError RE) → Type 0

@@ -6,7 +6,8 @@ use Rattle.oauth2_types.specs.Pkce.{sha256_challenge}
 use Rattle.oauth2_urls.specs.Addressed.{Addressed}
 use Rattle.oauth2_wire.specs.ByName.{read_by_name}
 use Rattle.oauth2_wire.specs.Expected.{expected_pairs}
-use Rattle.oauth2_wire.specs.Request.{RequestView, IsRequestOf}
+use Rattle.oauth2_wire.specs.Once.{AsksOnce}
+use Rattle.oauth2_wire.specs.Request.{HttpRequest, RequestView, IsRequestOf}
 use Rattle.oauth2_wire.specs.Texts.{given_text}
 use Rattle.oauth2_wire.specs.declared.request.AuthType.{AuthType}
 use Rattle.oauth2_wire.specs.declared.request.AuthType.TheVariants.{BasicAuth, RequestBody}
@@ -15,27 +16,18 @@ use Rattle.oauth2.specs.Settings.{Settings}
 use Rattle.oauth2_redirect.specs.Login.{Kept}
 use Rattle.oauth2_redirect.specs.Start.{ShowsLogin}
 use Rattle.oauth2.proofs.CodeFlowLaws.{exchange, verifier-read}
-use Rattle.oauth2_redirect.specs.End.{EndsLogin, IsExchange, RepeatsRedirectUri, login_exchange, with_redirect_uri}
+use Rattle.oauth2_redirect.specs.End.{EndsLogin, ExchangesCode, RepeatsRedirectUri, login_exchange, with_redirect_uri}
 use Rattle.oauth2_redirect.specs.declared.login_error.LoginError.{LoginError}
 use Rattle.serde_json.specs.Data.{Data}
 use Rattle.oauth2_json.specs.Reading.{Reading}
-use Rattle.oauth2_wire.specs.OneShot.{HttpRequest}
 use Rattle.oauth2_form.specs.Pairs.{Pair, form}
-use Rattle.oauth2_wire.specs.Reply.{HttpResponse}
+use Rattle.oauth2_wire.specs.Reply.{HttpResponse, answer_of}
+use Rattle.oauth2_wire.specs.declared.content_type.ReplyRule.{ReplyRule}
 use Rattle.oauth2_wire.specs.declared.error.RequestTokenError.{RequestTokenError}
 use Rattle.oauth2_requests.specs.Base.{Base}
 use Rattle.oauth2_requests.specs.Code.{CodeRequest, code_configuration}
-use Rattle.oauth2_requests.specs.Once.{AsksOnce}
 use Rattle.oauth2_redirect.specs.Query.{sole_text}
 use Rattle.oauth2_redirect.specs.Redirect.{RedirectRefusal, other_state, answer, is_state}
-
-module _ {D A T E RE C : Type 0} {meaning : D → A} {error_meaning : T → E} (reading : Data → Reading A) (error_reading : Data → Reading E) (step : C → HttpRequest → Result HttpResponse RE → C → Type 0) {before after : C} {result : Result D (RequestTokenError RE T)} where
-  -- exchanges of a code that are equal are asked for alike
-  pub AsksOnce-equal : (a b : CodeRequest) → a ≡ b
-      → AsksOnce meaning error_meaning reading error_reading step a.base.reply_rule (code_configuration a) a.token_url before result after
-      → AsksOnce meaning error_meaning reading error_reading step b.base.reply_rule (code_configuration b) b.token_url before result after
-  AsksOnce-equal a b a_is_b asks =
-      subst (λ r. AsksOnce meaning error_meaning reading error_reading step r.base.reply_rule (code_configuration r) r.token_url before result after) a_is_b asks
 
 -- a redirect URI that is set leaves the rest
 with-base : (u : Option Addressed) (r : CodeRequest) → (with_redirect_uri u r).base ≡ r.base
@@ -47,23 +39,28 @@ with-token_url None r = refl
 with-token_url (Some uri) r = refl
 
 module _ {D A T E RE C : Type 0} {meaning : D → A} {error_meaning : T → E} (reading : Data → Reading A) (error_reading : Data → Reading E) (step : C → HttpRequest → Result HttpResponse RE → C → Type 0) {before after : C} {result : Result D (RequestTokenError RE T)} where
+  -- by this rule, with this request, at this endpoint
+  abbrev Asks : ReplyRule → CodeRequest → Addressed → Type 0
+  Asks rule r url =
+      AsksOnce meaning error_meaning step (answer_of rule reading error_reading) (IsRequestOf (code_configuration r)) (serialize url.url) before result after
+
   -- what is asked with the request for a login's code is the login's exchange
-  pub IsExchange-of_request : (client : Settings) (url : Addressed) (login : Kept) (code : List ℕ) (r : CodeRequest) → client.token_url ≡ Some url → r ≡ login_exchange client url login code
-      → AsksOnce meaning error_meaning reading error_reading step r.base.reply_rule (code_configuration r) r.token_url before result after
-      → IsExchange meaning error_meaning reading error_reading step client login code before result after
-  IsExchange-of_request client url login code r there is asked =
+  pub ExchangesCode-of_request : (client : Settings) (url : Addressed) (login : Kept) (code : List ℕ) (r : CodeRequest) → client.token_url ≡ Some url → r ≡ login_exchange client url login code
+      → Asks r.base.reply_rule r r.token_url → ExchangesCode meaning error_meaning reading error_reading step client login code before result after
+  ExchangesCode-of_request client url login code r there is asked =
       let wanted = login_exchange client url login code in
       let plain = flow_exchange client url login.verifier code in
-      let by_rule = subst (λ rule. AsksOnce meaning error_meaning reading error_reading step rule (code_configuration wanted) wanted.token_url before result after) (ap (λ (b : Base). b.reply_rule) (with-base login.redirect_uri plain)) (AsksOnce-equal reading error_reading step r wanted is asked) in
-      (url, there, subst (λ u. AsksOnce meaning error_meaning reading error_reading step client.reply_rule (code_configuration wanted) u before result after) (with-token_url login.redirect_uri plain) by_rule)
+      let same : Asks wanted.base.reply_rule wanted wanted.token_url = subst (λ x. Asks x.base.reply_rule x x.token_url) is asked in
+      let by_rule : Asks client.reply_rule wanted wanted.token_url = subst (λ rule. Asks rule wanted wanted.token_url) (ap (λ (b : Base). b.reply_rule) (with-base login.redirect_uri plain)) same in
+      (url, there, subst (λ u. Asks client.reply_rule wanted u) (with-token_url login.redirect_uri plain) by_rule)
 
 module _ {D A T E RE C : Type 0} (meaning : D → A) (error_meaning : T → E) (reading : Data → Reading A) (error_reading : Data → Reading E) (step : C → HttpRequest → Result HttpResponse RE → C → Type 0) (client : Settings) (login : Kept) (told : Result (List ℕ) RedirectRefusal) (before after : C) where
   -- a login that gave a token exchanged the code that the redirect told
   pub IfOk-from_EndsLogin : (result : Result D (LoginError RE T)) → EndsLogin meaning error_meaning reading error_reading step client login told before result after
-      → IfOk result (λ token. (code : List ℕ) × (told ≡ Ok code) × IsExchange meaning error_meaning reading error_reading step client login code before (Ok token) after)
+      → IfOk result (λ token. (code : List ℕ) × (told ≡ Ok code) × ExchangesCode meaning error_meaning reading error_reading step client login code before (Ok token) after)
   IfOk-from_EndsLogin (Ok token) (inl (code, is, Ok t, same, asked)) =
       let e : t ≡ token = cc in
-      (code, is, subst (λ x. IsExchange meaning error_meaning reading error_reading step client login code before (Ok x) after) e asked)
+      (code, is, subst (λ x. ExchangesCode meaning error_meaning reading error_reading step client login code before (Ok x) after) e asked)
   IfOk-from_EndsLogin (Ok token) (inl (code, is, Err error, same, asked)) = cc
   IfOk-from_EndsLogin (Ok token) (inr (error, same, shown, stayed)) = cc
   IfOk-from_EndsLogin (Err error) ends = tt

@@ -1,16 +1,17 @@
 -- The end of a login.
 use Rattle.std.specs.Prelude.{◌≡◌, ℕ, ◌⊎◌, List, codes, Option, Some, None, Result, Ok, Err}
 use Rattle.serde_json.specs.Data.{Data}
+use Rattle.url.specs.Parts.{serialize}
 use Rattle.oauth2_json.specs.Reading.{Reading}
 use Rattle.oauth2_urls.specs.Addressed.{Addressed}
 use Rattle.oauth2_form.specs.Pairs.{Pair}
 use Rattle.oauth2_wire.specs.ByName.{read_by_name}
-use Rattle.oauth2_wire.specs.OneShot.{HttpRequest}
-use Rattle.oauth2_wire.specs.Reply.{HttpResponse}
+use Rattle.oauth2_wire.specs.Once.{AsksOnce}
+use Rattle.oauth2_wire.specs.Request.{HttpRequest, IsRequestOf}
+use Rattle.oauth2_wire.specs.Reply.{HttpResponse, answer_of}
 use Rattle.oauth2_wire.specs.declared.error.RequestTokenError.{RequestTokenError}
 use Rattle.oauth2_wire.specs.Display.{fault_text}
 use Rattle.oauth2_requests.specs.Code.{CodeRequest, code_configuration}
-use Rattle.oauth2_requests.specs.Once.{AsksOnce}
 use Rattle.oauth2.specs.CodeFlow.{flow_exchange}
 use Rattle.oauth2.specs.Settings.{Settings}
 use Rattle.oauth2_redirect.specs.declared.redirect.RedirectError.{RedirectError}
@@ -48,13 +49,13 @@ module _ {D T RE : Type 0} where
 
 module _ {D A T E RE C : Type 0} where
   -- the exchange of this login's code is asked for at most once, and this is its result
-  abbrev pub IsExchange : (D → A) → (T → E) → (Data → Reading A) → (Data → Reading E)
+  abbrev pub ExchangesCode : (D → A) → (T → E) → (Data → Reading A) → (Data → Reading E)
       → (C → HttpRequest → Result HttpResponse RE → C → Type 0) → Settings → Kept → List ℕ
       → C → Result D (RequestTokenError RE T) → C → Type 0
-  IsExchange meaning error_meaning reading error_reading step client login code before result after =
+  ExchangesCode meaning error_meaning reading error_reading step client login code before result after =
       (endpoint : Addressed) × (client.token_url ≡ Some endpoint)
-      × AsksOnce meaning error_meaning reading error_reading step client.reply_rule
-      (code_configuration (login_exchange client endpoint login code)) endpoint before result after
+      × AsksOnce meaning error_meaning step (answer_of client.reply_rule reading error_reading)
+      (IsRequestOf (code_configuration (login_exchange client endpoint login code))) (serialize endpoint.url) before result after
 
   -- a redirect that tells a code has that code exchanged for the login's token; another tells
   -- why it gives none, and the HTTP client is as it was, as it is where memory ran out
@@ -63,5 +64,5 @@ module _ {D A T E RE C : Type 0} where
       → C → Result D (LoginError RE T) → C → Type 0
   EndsLogin meaning error_meaning reading error_reading step client login told before result after =
       ((code : List ℕ) × (told ≡ Ok code) × (outcome : Result D (RequestTokenError RE T)) × (result ≡ of_exchange outcome)
-      × IsExchange meaning error_meaning reading error_reading step client login code before outcome after)
+      × ExchangesCode meaning error_meaning reading error_reading step client login code before outcome after)
       ⊎ ((error : RedirectError) × (result ≡ Err (Redirect error)) × TellsRefusal error told × (after ≡ before))

@@ -9,7 +9,7 @@ ghost use Rattle.oauth2_form.specs.Query.{query_form};
 ghost use Rattle.oauth2.specs.CodeFlow.{flow_authorization};
 ghost use Rattle.oauth2_redirect.specs.Query.{sole_text};
 ghost use Rattle.oauth2_redirect.specs.Redirect.{RedirectRefusal, answer, is_state};
-ghost use Rattle.oauth2_redirect.specs.End.{EndsLogin, IsExchange, login_exchange};
+ghost use Rattle.oauth2_redirect.specs.End.{EndsLogin, ExchangesCode, login_exchange};
 ghost use Rattle.oauth2_redirect.specs.Login.{kept_login};
 
 use crate::login_error::LoginError;
@@ -117,7 +117,7 @@ impl Login {
             http_client.old result http_client.new }
         ensures token { IfOk result (λ token. (code : List ℕ)
             × (answer self.state (option_copied issuer.entry) (query_form redirect.now) ≡ Ok code)
-            × IsExchange TR.meaning TE.meaning TR.reading TE.reading C.step client.now self code
+            × ExchangesCode TR.meaning TE.meaning TR.reading TE.reading C.step client.now self code
             http_client.old (Ok token) http_client.new) }
 
         // A redirect that tells no code sends nothing, so none with another state does.

@@ -2,7 +2,7 @@
 use Rattle.std.specs.Prelude.{◌≡◌, true, List, [], ◌∷◌, ◌++◌, Result}
 use Rattle.std.specs.declared.time.Duration.{Duration}
 use Rattle.jiff.specs.Types.{Timestamp}
-use Rattle.oauth2_wire.specs.OneShot.{HttpRequest}
+use Rattle.oauth2_wire.specs.Request.{HttpRequest}
 use Rattle.oauth2_wire.specs.Reply.{HttpResponse}
 use Rattle.oauth2_refused_memory_tests.specs.declared.counting_client.NoReply.{NoReply}
 use Rattle.oauth2_refused_memory_tests.specs.declared.recorder.Recorder.{Recorder}

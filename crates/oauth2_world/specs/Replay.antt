@@ -1,8 +1,7 @@
 -- The scripted client: what one call prints and answers.
 use Rattle.std.specs.Prelude.{◌≡◌, List, ◌++◌, true, Option, Some, None, Result, Ok, Err, map, string_bytes, ◌⊎◌}
-use Rattle.oauth2_wire.specs.OneShot.{HttpRequest}
 use Rattle.oauth2_wire.specs.Reply.{HttpResponse, ReplyView, reply_of}
-use Rattle.oauth2_wire.specs.Request.{view_of}
+use Rattle.oauth2_wire.specs.Request.{HttpRequest, view_of}
 use Rattle.oauth2_script.specs.Replies.{Reply}
 use Rattle.oauth2_world.specs.Replies.{next_reply, later_replies}
 use Rattle.oauth2_world.specs.RequestLines.{request_lines}

@@ -1,10 +1,9 @@
 -- What the answer to a keeper's request leaves.
-use Rattle.std.specs.Prelude.{◌≡◌, ℤ, true, Result, Ok, Err}
+use Rattle.std.specs.Prelude.{◌≡◌, ℤ, true, Result, Ok, Err, List, ℕ}
 use Rattle.oauth2_wire.specs.declared.content_type.ReplyRule.{ReplyRule}
 use Rattle.oauth2_wire.specs.declared.error.RequestTokenError.{RequestTokenError}
+use Rattle.oauth2_wire.specs.Request.{RequestView}
 use Rattle.oauth2_wire.specs.declared.error.RequestTokenError.TheVariants.{Memory}
-use Rattle.oauth2_wire.specs.Expected.{Configuration}
-use Rattle.oauth2_urls.specs.Addressed.{Addressed}
 use Rattle.oauth2_keeper.specs.Keeper.{Keeper, Given, accept, Renews}
 
 module _ {D T RE : Type 0} (told : D → Given) where
@@ -15,7 +14,7 @@ module _ {D T RE : Type 0} (told : D → Given) where
   Settles before now (Err fault) (Ok done) after = ⊥
   Settles before now (Err fault) (Err error) after = (error ≡ fault) × (after ≡ before)
 
-module _ {D T RE C : Type 0} (asks : ReplyRule → Configuration → Addressed → C → Result D (RequestTokenError RE T) → C → Type 0) (told : D → Given) where
+module _ {D T RE C : Type 0} (asks : ReplyRule → (List ℕ → RequestView → Type 0) → List ℕ → C → Result D (RequestTokenError RE T) → C → Type 0) (told : D → Given) where
   -- another token is asked for, and what the answer leaves
   abbrev pub RenewsAndSettles : Keeper → ℤ → C → Result Unit (RequestTokenError RE T) → C → Keeper → Type 0
   RenewsAndSettles keeper now before result after kept =

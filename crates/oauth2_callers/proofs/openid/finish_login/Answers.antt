@@ -1,13 +1,13 @@
 use Rattle.std.proofs.Common.{◌≡◌, Ok, Err, Some, None, false, true, inl, inr, ap, ◌∙◌, sym, subst}
 use Rattle.oauth2_openid_login.specs.End.{id_token_reading}
-use Rattle.oauth2_callers.proofs.Accepted.{IfOk-from_each, IsAnsweredBy-from_IsExchange, seen_as_itself}
+use Rattle.oauth2_callers.proofs.Accepted.{IfOk-from_each, IsAnsweredBy-from_ExchangesCode, seen_as_itself}
 use Rattle.oauth2_callers.proofs.openid.finish_login.Goals as goal
 
 pub returns-clause-user : goal.returns-clause-user
 returns-clause-user g c = IfOk-from_each _ c.finish.result (λ end is.
     elim c.finish.ensures.end [
       | inl h ↦
-          let answered = IsAnsweredBy-from_IsExchange _ _ g.C.SyncHttpClient.step c.args.client.now c.args.login.login h.0 (Ok h.2) h.3 in
+          let answered = IsAnsweredBy-from_ExchangesCode _ _ g.C.SyncHttpClient.step c.args.client.now c.args.login.login h.0 (Ok h.2) h.3 in
           let judged = rw is at h.4 in
           let rules = rw is at c.finish.ensures.rules in
           (h.0, h.1, _, answered, ap id_token_reading (seen_as_itself h.2.extra_fields.value) ∙ judged.1, rw judged.0 at rules)
@@ -18,7 +18,7 @@ pub returns-clause-no_id_token : goal.returns-clause-no_id_token
 returns-clause-no_id_token g c = λ none.
     elim c.finish.ensures.end [
       | inl h ↦
-          let answered = IsAnsweredBy-from_IsExchange _ _ g.C.SyncHttpClient.step c.args.client.now c.args.login.login h.0 (Ok h.2) h.3 in
+          let answered = IsAnsweredBy-from_ExchangesCode _ _ g.C.SyncHttpClient.step c.args.client.now c.args.login.login h.0 (Ok h.2) h.3 in
           let judged = rw none at h.4 in
           (h.0, h.1, _, answered, seen_as_itself h.2.extra_fields.value ∙ judged)
       | inr other ↦ elim other [ inl h ↦ absurd (cc) | inr h ↦ absurd (cc) ]
@@ -28,7 +28,7 @@ pub returns-clause-rule : goal.returns-clause-rule
 returns-clause-rule g c = λ error broken.
     elim c.finish.ensures.end [
       | inl h ↦
-          let answered = IsAnsweredBy-from_IsExchange _ _ g.C.SyncHttpClient.step c.args.client.now c.args.login.login h.0 (Ok h.2) h.3 in
+          let answered = IsAnsweredBy-from_ExchangesCode _ _ g.C.SyncHttpClient.step c.args.client.now c.args.login.login h.0 (Ok h.2) h.3 in
           let judged = rw broken at h.4 in
           (h.0, h.1, _, answered, judged.0, ap id_token_reading (seen_as_itself h.2.extra_fields.value) ∙ judged.1, judged.2)
       | inr other ↦ elim other [ inl h ↦ absurd (cc) | inr h ↦ absurd (cc) ]
@@ -38,7 +38,7 @@ pub returns-clause-unread : goal.returns-clause-unread
 returns-clause-unread g c = λ error unread.
     elim c.finish.ensures.end [
       | inl h ↦
-          let answered = IsAnsweredBy-from_IsExchange _ _ g.C.SyncHttpClient.step c.args.client.now c.args.login.login h.0 (Ok h.2) h.3 in
+          let answered = IsAnsweredBy-from_ExchangesCode _ _ g.C.SyncHttpClient.step c.args.client.now c.args.login.login h.0 (Ok h.2) h.3 in
           let judged = rw unread at h.4 in
           (h.0, h.1, _, answered, judged.0, judged.1, ap id_token_reading (seen_as_itself h.2.extra_fields.value) ∙ judged.2)
       | inr other ↦ elim other [ inl h ↦ absurd (cc) | inr h ↦ absurd (cc) ]

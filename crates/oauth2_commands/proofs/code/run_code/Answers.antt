@@ -5,7 +5,7 @@ use Rattle.oauth2.specs.NewRequest.{new_code_request}
 use Rattle.oauth2_script.specs.CodeParams.{CodeParams}
 use Rattle.oauth2_script.specs.Views.{code_view}
 use Rattle.oauth2_commands.specs.Client.{given_or}
-use Rattle.oauth2_commands.specs.Exchange.{IsTokenExchange}
+use Rattle.oauth2_commands.specs.Exchange.{IsTokenShown}
 use Rattle.oauth2_commands.specs.Code.{code_request}
 use Rattle.oauth2_world.specs.Replay.{client_replies}
 use Rattle.oauth2_commands.proofs.Commands.{given_or-none, missing_told, command_told}
@@ -28,7 +28,7 @@ returns-in_ok-request-in-Ok c =
     rw (c.in_ok-request-in-Ok.ensures, c.with_redirect-request.ensures, c.with_verifier-request.ensures, c.as_slice.ensures.value) refl in
     IfOk-weaker c.exchange.result _ _
     (λ status adds. λ fed.
-    command_told (codes "token") (λ r o. IsTokenExchange r.base.reply_rule (code_configuration r) r.token_url (client_replies c.args.http_client.now) o)
+    command_told (codes "token") (λ r o. IsTokenShown r.base.reply_rule (code_configuration r) r.token_url (client_replies c.args.http_client.now) o)
     (λ u. new_code_request c.args.client.now u p.code) (given p) (λ u. code_request c.args.client.now p u)
     (string_bytes c.args.http_client.now.lines) (string_bytes c.exchange.new.http_client.lines) status (λ u. rw (given_or-none p.verifier) refl)
     c.args.client.now.token_url c.in-Ok.request c.in_ok-request-in-Ok.request c.in-Ok.ensures.there c.in-Ok.ensures.missing asked (adds fed))

@@ -25,6 +25,6 @@ returns c =
     (let told : AddsOutput (string_bytes c.request-end.new.http_client.lines) (string_bytes c.show_metadata.new.lines) status
     (end_output error_seen (λ m. metadata_output query.issuer (metadata_meaning m)) outcome) = rw same at printed in
     request_told metadata_meaning (parts_of error_code) (metadata_output query.issuer) (error_display error_code_text) (metadata_answer query.reply_rule)
-    (IsGetOf (serialize query.url)) get_lines query.url (λ v is. (is.target, request_lines-get (serialize query.url) v is))
+    IsGetOf get_lines query.url (λ v is. (is.target, request_lines-get (serialize query.url) v is))
     c.args.http_client.now c.request-end.new.http_client (string_bytes c.show_metadata.new.lines) status outcome once.2 fed told))
     c.show_metadata.ensures

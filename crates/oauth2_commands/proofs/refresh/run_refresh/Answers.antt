@@ -6,7 +6,7 @@ use Rattle.oauth2_requests.specs.Refresh.{RefreshRequest, refresh_configuration}
 use Rattle.oauth2.specs.NewRequest.{new_refresh_request}
 use Rattle.oauth2_script.specs.RefreshParams.{RefreshParams}
 use Rattle.oauth2_script.specs.Views.{refresh_view}
-use Rattle.oauth2_commands.specs.Exchange.{IsTokenExchange}
+use Rattle.oauth2_commands.specs.Exchange.{IsTokenShown}
 use Rattle.oauth2_commands.specs.Refresh.{refresh_request}
 use Rattle.oauth2_world.specs.Replay.{client_replies}
 use Rattle.oauth2_commands.proofs.Commands.{missing_told, command_told}
@@ -34,7 +34,7 @@ returns-in_ok-asked-in-Ok c =
     let asked : c.in_ok-asked-in-Ok.asked ≡ given p c.in-Ok.request = rw (c.in_ok-asked-in-Ok.ensures, scoped, c.as_slice.ensures.value) refl in
     IfOk-weaker c.exchange.result _ _
     (λ status adds. λ fed.
-    command_told (codes "token") (λ r o. IsTokenExchange r.base.reply_rule (refresh_configuration r) r.token_url (client_replies c.args.http_client.now) o)
+    command_told (codes "token") (λ r o. IsTokenShown r.base.reply_rule (refresh_configuration r) r.token_url (client_replies c.args.http_client.now) o)
     (λ u. new_refresh_request c.args.client.now u p.refresh_token) (given p) (λ u. refresh_request c.args.client.now p u)
     (string_bytes c.args.http_client.now.lines) (string_bytes c.exchange.new.http_client.lines) status (λ u. refl)
     c.args.client.now.token_url c.in-Ok.request c.in_ok-asked-in-Ok.asked c.in-Ok.ensures.there c.in-Ok.ensures.missing asked (adds fed))

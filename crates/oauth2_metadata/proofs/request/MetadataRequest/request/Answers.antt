@@ -1,6 +1,4 @@
 use Rattle.std.proofs.Common.{Ok, Err, ap, refl, ◌∙◌}
-use Rattle.oauth2_wire.proofs.OneShotLemmas.{OneShot-from_SendsOnce}
-use Rattle.oauth2_metadata.specs.Metadata.{metadata_seen}
 use Rattle.oauth2_metadata.specs.Request.{MetadataQuery, checked}
 use Rattle.oauth2_metadata.proofs.request.MetadataRequest.request.Goals as goal
 
@@ -11,7 +9,7 @@ returns-in-Ok-clause-once g c =
     let named = c.as_str.ensures.value ∙ ap (λ (r : MetadataQuery). r.issuer) c.self.view_is in (
       Ok c.in-Ok.metadata,
       c.of_issuer.ensures ∙ ap (λ issuer. checked issuer (Ok c.in-Ok.metadata)) named,
-      OneShot-from_SendsOnce (metadata_seen g.EF.FromJson.meaning) _ g.C.SyncHttpClient.step _ _ _ _ _ _ prepared.result prepared.ensures.ok prepared.ensures.not_http once,
+      (prepared.result, prepared.ensures.ok, prepared.ensures.not_http, once),
     )
 
 pub returns-clause-once : goal.returns-clause-once
@@ -20,5 +18,5 @@ returns-clause-once g c =
     let once = rw (ap (λ (r : MetadataQuery). r.reply_rule) c.self.view_is) at c.in-Err.ensures.once in (
       Err c.in-Err.error,
       refl,
-      OneShot-from_SendsOnce (metadata_seen g.EF.FromJson.meaning) _ g.C.SyncHttpClient.step _ _ _ _ _ _ prepared.result prepared.ensures.ok prepared.ensures.not_http once,
+      (prepared.result, prepared.ensures.ok, prepared.ensures.not_http, once),
     )
