@@ -215,7 +215,7 @@ module _ (retry_after : Option ℕ) (keeper kept : Keeper) (until later : Option
     failed_told (Memory sent) (Err kind, is, target, (unsent, stays)) same waits p =
         starved_before retry_after keeper kept until later now before mid lines s stale free endpoint there fed stays same (goes_on (Memory sent) unsent waits) p
     failed_told (Other given) (Err fault.NotHttp, is, target, (said, stays)) same waits p =
-        not_http_told given said (target refl) stays same (goes_on (Other given) (not_http_counts given said) waits) p
+        not_http_told given said (target refl) stays same (goes_on (Other given) (not_http_counts ErrorResponse NoReply given said) waits) p
     failed_told (Other given) (Err fault.Memory, is, target, unsent) same waits p = absurd unsent
     failed_told (ServerResponse e) (Err kind, is, target, unsent) same waits p = absurd unsent
     failed_told (Request e) (Err kind, is, target, unsent) same waits p = absurd unsent

@@ -10,7 +10,7 @@ use Rattle.oauth2_codes.specs.Codes.{token_code_reading}
 use Rattle.oauth2_replies.specs.Kept.{any_object}
 use Rattle.oauth2_replies.specs.Token.{token_reading}
 use Rattle.oauth2_wire.specs.declared.content_type.ReplyRule.{ReplyRule}
-use Rattle.oauth2_wire.specs.Once.{not_http_text}
+use Rattle.oauth2_wire.specs.Once.{not_http_text, SaysOther}
 use Rattle.oauth2_wire.specs.Reply.{HttpResponse, Answer, ReplyView, reply_of}
 use Rattle.oauth2_wire.specs.Request.{HttpRequest, view_of}
 use Rattle.oauth2_wire.specs.declared.error.RequestTokenError.TheVariants.{ServerResponse, Request, Parse, Other, Memory}
@@ -19,7 +19,7 @@ use Rattle.oauth2_poll.specs.Trace as trace
 use Rattle.oauth2_poll.specs.Trace.{Ending, TooLong, OutOfRange, Late, Decided, Limited, readings_in, answers_in}
 use Rattle.oauth2_device.specs.DeviceToken.{DeviceToken, device_token_configuration}
 use Rattle.oauth2_device.specs.Events.{Event, Reading, Sent, Slept, Leads, EachRequest, last_reply}
-use Rattle.oauth2_device.specs.Poll.{DeviceError, device_answer, device_error, class_of, plain, input_of, IsDeviceRequest, SaysOther, SaysExpired, IsAnswerAt, IsPoll, Polls}
+use Rattle.oauth2_device.specs.Poll.{DeviceError, device_answer, device_error, class_of, plain, input_of, IsDeviceRequest, SaysExpired, IsAnswerAt, IsPoll, Polls}
 use Rattle.oauth2_world.specs.Clock.{reading_of, readings_of}
 use Rattle.oauth2_commands.specs.DevicePoll.{calls_of, last_call, poll_answer, class_of_call, AreLinesOf, device_error_display, shown_at, IsPolled}
 use Rattle.oauth2_commands.specs.Exchange.{BasicToken, other_text, token_json}

@@ -77,7 +77,7 @@ module _ {A E : Type 0} (shown : A → Output) (text : E → List ℕ) where
       (o ≡ no_memory_output)
       ⊎ ((target : Option (List ℕ)) × IsTarget (serialize url) target
       × MatchOption target (o ≡ failure_output (other_text not_http_text))
-      (λ shown. (o ≡ after (lines shown) (reply_output says (next_reply replies))) ⊎ (o ≡ after (lines shown) no_memory_output)))
+      (λ place. (o ≡ after (lines place) (reply_output says (next_reply replies))) ⊎ (o ≡ after (lines place) no_memory_output)))
 
 -- a request that a configuration asks for, and its answer as JSON
 abbrev pub IsPostShown : {A E : Type 0} → (A → List ℕ) → (E → List ℕ) → (ReplyView → Answer A E) → Configuration → Addressed → List Reply → Output → Type 0

@@ -53,8 +53,8 @@ module _ {A T E RE : Type 0} (error_meaning : T → E) where
   shown answer says (token.Other text) is = ap not (subst SaysElse is says)
 
 -- an error that says that the endpoint is no HTTP target does not count
-pub not_http_counts : {T RE : Type 0} (text : String Global) → string_bytes text ≡ not_http_text → counts {RE = RE} {T = T} (token.Other text) ≡ false
-not_http_counts text said = rw said refl
+pub not_http_counts : (T RE : Type 0) (text : String Global) → string_bytes text ≡ not_http_text → counts {RE = RE} {T = T} (token.Other text) ≡ false
+not_http_counts T RE text said = rw said refl
 
 module _ {D A T E RE C : Type 0} (meaning : D → A) (error_meaning : T → E) (step : C → HttpRequest → Result HttpResponse RE → C → Type 0) where
   module _ (says : ReplyView → Answer A E) (IsRequest : List ℕ → RequestView → Type 0) (url : List ℕ) (before after : C) where
@@ -71,7 +71,7 @@ module _ {D A T E RE C : Type 0} (meaning : D → A) (error_meaning : T → E) (
         subst CallsIf (sym same) (request, Err cause, did)
     failed differs (token.Memory sent) (Err kind, is, target, (unsent, same)) = subst (λ b. IsCalledIf step b before after) (sym unsent) same
     failed differs (token.Other text) (Err fault.NotHttp, is, target, (said, same)) =
-        subst (λ b. IsCalledIf step b before after) (sym (not_http_counts {T = T} {RE = RE} text said)) same
+        subst (λ b. IsCalledIf step b before after) (sym (not_http_counts T RE text said)) same
     failed differs (token.Other text) (Err fault.Memory, is, target, unsent) = absurd unsent
     failed differs (token.ServerResponse error) (Err kind, is, target, unsent) = absurd unsent
     failed differs (token.Request error) (Err kind, is, target, unsent) = absurd unsent

@@ -39,20 +39,21 @@ with-token_url None r = refl
 with-token_url (Some uri) r = refl
 
 module _ {D A T E RE C : Type 0} {meaning : D → A} {error_meaning : T → E} (reading : Data → Reading A) (error_reading : Data → Reading E) (step : C → HttpRequest → Result HttpResponse RE → C → Type 0) {before after : C} {result : Result D (RequestTokenError RE T)} where
-  -- by this rule, with this request, at this endpoint
-  abbrev Asks : ReplyRule → CodeRequest → Addressed → Type 0
-  Asks rule r url =
-      AsksOnce meaning error_meaning step (answer_of rule reading error_reading) (IsRequestOf (code_configuration r)) (serialize url.url) before result after
-
   -- what is asked with the request for a login's code is the login's exchange
   pub ExchangesCode-of_request : (client : Settings) (url : Addressed) (login : Kept) (code : List ℕ) (r : CodeRequest) → client.token_url ≡ Some url → r ≡ login_exchange client url login code
-      → Asks r.base.reply_rule r r.token_url → ExchangesCode meaning error_meaning reading error_reading step client login code before result after
+      → AsksOnce meaning error_meaning step (answer_of r.base.reply_rule reading error_reading) (IsRequestOf (code_configuration r)) (serialize r.token_url.url) before result after
+      → ExchangesCode meaning error_meaning reading error_reading step client login code before result after
   ExchangesCode-of_request client url login code r there is asked =
       let wanted = login_exchange client url login code in
       let plain = flow_exchange client url login.verifier code in
-      let same : Asks wanted.base.reply_rule wanted wanted.token_url = subst (λ x. Asks x.base.reply_rule x x.token_url) is asked in
-      let by_rule : Asks client.reply_rule wanted wanted.token_url = subst (λ rule. Asks rule wanted wanted.token_url) (ap (λ (b : Base). b.reply_rule) (with-base login.redirect_uri plain)) same in
-      (url, there, subst (λ u. Asks client.reply_rule wanted u) (with-token_url login.redirect_uri plain) by_rule)
+      let same =
+      subst (λ (x : CodeRequest). AsksOnce meaning error_meaning step (answer_of x.base.reply_rule reading error_reading) (IsRequestOf (code_configuration x)) (serialize x.token_url.url) before result after) is asked in
+      let by_rule =
+      subst (λ (rule : ReplyRule). AsksOnce meaning error_meaning step (answer_of rule reading error_reading) (IsRequestOf (code_configuration wanted)) (serialize wanted.token_url.url) before result after) (ap (λ (b : Base). b.reply_rule) (with-base login.redirect_uri plain)) same in (
+        url,
+        there,
+        subst (λ (u : Addressed). AsksOnce meaning error_meaning step (answer_of client.reply_rule reading error_reading) (IsRequestOf (code_configuration wanted)) (serialize u.url) before result after) (with-token_url login.redirect_uri plain) by_rule,
+      )
 
 module _ {D A T E RE C : Type 0} (meaning : D → A) (error_meaning : T → E) (reading : Data → Reading A) (error_reading : Data → Reading E) (step : C → HttpRequest → Result HttpResponse RE → C → Type 0) (client : Settings) (login : Kept) (told : Result (List ℕ) RedirectRefusal) (before after : C) where
   -- a login that gave a token exchanged the code that the redirect told

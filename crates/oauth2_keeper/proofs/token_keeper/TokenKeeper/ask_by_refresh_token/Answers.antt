@@ -12,4 +12,4 @@ returns-in-Ok-clause-once g c =
     c.exchange_refresh_token-request.result c.in-Ok.request (search rules) (search rules) (search rules) (search rules) c.request.ensures.once
 
 pub returns-in-Err-clause-once : goal.returns-in-Err-clause-once
-returns-in-Err-clause-once g c = (c.exchange_refresh_token-request.result.token_url, search rules, Err fault.Memory, tt, (λ no. cc), refl, refl)
+returns-in-Err-clause-once g c = (c.exchange_refresh_token-request.result.token_url, search rules, (Err fault.Memory, tt, (λ no. cc), (refl, refl)))
