@@ -1,5 +1,6 @@
 pub mod PlaceLaws
 pub mod Addresses
 pub mod TextLists
+pub mod Faults
 pub mod Grouped
 pub mod BackLaws

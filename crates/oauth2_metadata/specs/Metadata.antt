@@ -5,12 +5,13 @@ use Rattle.serde_json.specs.Find.{get_member}
 use Rattle.oauth2_urls.specs.Addressed.{Addressed}
 use Rattle.oauth2_json.specs.Reading.{Reading, read_then, ◌⊛◌}
 use Rattle.oauth2_json.specs.Writing.{Writing, write_then}
-use Rattle.oauth2_json.specs.Members.{members_of_object, needed_member, others, beside}
+use Rattle.oauth2_json.specs.Members.{members_of_object, needed_member, optional_member, others, beside}
 use Rattle.oauth2_json.specs.Values.{text, flag, url, text_list}
 use Rattle.oauth2_json.specs.Puts.{Row, put_all}
-use Rattle.oauth2_metadata.specs.Kinds.{list_data, address_data, told}
+use Rattle.oauth2_body_members.specs.Table.{Table, column, ◌▸◌, end, names_of, table_reading, rows_of}
+use Rattle.oauth2_metadata.specs.Kinds.{list_data, address_data}
 
--- Each group: its record, its names, its rows as they are read, and its rows as they are written.
+-- Each group: its record, and its table, with one row a member: how it is read and how it is written.
 
 -- the endpoints that this client calls (RFC 8414, 2; RFC 8628, 4)
 pub record EndpointMembers : Type 0 where
@@ -23,32 +24,20 @@ pub record EndpointMembers : Type 0 where
 abbrev pub endpoint_group : Option Addressed → Option Addressed → Option Addressed → Option Addressed → Option Addressed → EndpointMembers
 endpoint_group a b c d e = record { authorization_endpoint = a; token_endpoint = b; device_authorization_endpoint = c; introspection_endpoint = d; revocation_endpoint = e }
 
-abbrev pub endpoint_names : List (List ℕ)
-endpoint_names =
-    codes "authorization_endpoint"
-    ∷ codes "token_endpoint"
-    ∷ codes "device_authorization_endpoint"
-    ∷ codes "introspection_endpoint"
-    ∷ codes "revocation_endpoint"
-    ∷ []
+abbrev pub endpoint_table : Table EndpointMembers
+endpoint_table =
+    column (codes "authorization_endpoint") (optional_member url) (λ m. option_map address_data m.authorization_endpoint)
+    ▸ column (codes "token_endpoint") (optional_member url) (λ m. option_map address_data m.token_endpoint)
+    ▸ column (codes "device_authorization_endpoint") (optional_member url) (λ m. option_map address_data m.device_authorization_endpoint)
+    ▸ column (codes "introspection_endpoint") (optional_member url) (λ m. option_map address_data m.introspection_endpoint)
+    ▸ column (codes "revocation_endpoint") (optional_member url) (λ m. option_map address_data m.revocation_endpoint)
+    ▸ end
 
 unfoldable pub endpoint_row : Members → Reading EndpointMembers
-endpoint_row ms =
-    Ok endpoint_group
-    ⊛ told url (codes "authorization_endpoint") ms
-    ⊛ told url (codes "token_endpoint") ms
-    ⊛ told url (codes "device_authorization_endpoint") ms
-    ⊛ told url (codes "introspection_endpoint") ms
-    ⊛ told url (codes "revocation_endpoint") ms
+endpoint_row ms = table_reading endpoint_table (Ok endpoint_group) ms
 
 unfoldable pub endpoint_rows : EndpointMembers → List Row
-endpoint_rows m =
-    (codes "authorization_endpoint", option_map address_data m.authorization_endpoint)
-    ∷ (codes "token_endpoint", option_map address_data m.token_endpoint)
-    ∷ (codes "device_authorization_endpoint", option_map address_data m.device_authorization_endpoint)
-    ∷ (codes "introspection_endpoint", option_map address_data m.introspection_endpoint)
-    ∷ (codes "revocation_endpoint", option_map address_data m.revocation_endpoint)
-    ∷ []
+endpoint_rows m = rows_of endpoint_table m
 
 -- what the server's grants allow
 pub record SupportedMembers : Type 0 where
@@ -61,32 +50,20 @@ pub record SupportedMembers : Type 0 where
 abbrev pub supported_group : Option (List (List ℕ)) → Option (List (List ℕ)) → Option (List (List ℕ)) → Option (List (List ℕ)) → Option (List (List ℕ)) → SupportedMembers
 supported_group a b c d e = record { scopes_supported = a; response_types_supported = b; response_modes_supported = c; grant_types_supported = d; code_challenge_methods_supported = e }
 
-abbrev pub supported_names : List (List ℕ)
-supported_names =
-    codes "scopes_supported"
-    ∷ codes "response_types_supported"
-    ∷ codes "response_modes_supported"
-    ∷ codes "grant_types_supported"
-    ∷ codes "code_challenge_methods_supported"
-    ∷ []
+abbrev pub supported_table : Table SupportedMembers
+supported_table =
+    column (codes "scopes_supported") (optional_member text_list) (λ m. option_map list_data m.scopes_supported)
+    ▸ column (codes "response_types_supported") (optional_member text_list) (λ m. option_map list_data m.response_types_supported)
+    ▸ column (codes "response_modes_supported") (optional_member text_list) (λ m. option_map list_data m.response_modes_supported)
+    ▸ column (codes "grant_types_supported") (optional_member text_list) (λ m. option_map list_data m.grant_types_supported)
+    ▸ column (codes "code_challenge_methods_supported") (optional_member text_list) (λ m. option_map list_data m.code_challenge_methods_supported)
+    ▸ end
 
 unfoldable pub supported_row : Members → Reading SupportedMembers
-supported_row ms =
-    Ok supported_group
-    ⊛ told text_list (codes "scopes_supported") ms
-    ⊛ told text_list (codes "response_types_supported") ms
-    ⊛ told text_list (codes "response_modes_supported") ms
-    ⊛ told text_list (codes "grant_types_supported") ms
-    ⊛ told text_list (codes "code_challenge_methods_supported") ms
+supported_row ms = table_reading supported_table (Ok supported_group) ms
 
 unfoldable pub supported_rows : SupportedMembers → List Row
-supported_rows m =
-    (codes "scopes_supported", option_map list_data m.scopes_supported)
-    ∷ (codes "response_types_supported", option_map list_data m.response_types_supported)
-    ∷ (codes "response_modes_supported", option_map list_data m.response_modes_supported)
-    ∷ (codes "grant_types_supported", option_map list_data m.grant_types_supported)
-    ∷ (codes "code_challenge_methods_supported", option_map list_data m.code_challenge_methods_supported)
-    ∷ []
+supported_rows m = rows_of supported_table m
 
 -- how a client may show who it is, at each endpoint
 pub record AuthMethodMembers : Type 0 where
@@ -97,26 +74,18 @@ pub record AuthMethodMembers : Type 0 where
 abbrev pub auth_method_group : Option (List (List ℕ)) → Option (List (List ℕ)) → Option (List (List ℕ)) → AuthMethodMembers
 auth_method_group a b c = record { token_endpoint_auth_methods_supported = a; introspection_endpoint_auth_methods_supported = b; revocation_endpoint_auth_methods_supported = c }
 
-abbrev pub auth_method_names : List (List ℕ)
-auth_method_names =
-    codes "token_endpoint_auth_methods_supported"
-    ∷ codes "introspection_endpoint_auth_methods_supported"
-    ∷ codes "revocation_endpoint_auth_methods_supported"
-    ∷ []
+abbrev pub auth_method_table : Table AuthMethodMembers
+auth_method_table =
+    column (codes "token_endpoint_auth_methods_supported") (optional_member text_list) (λ m. option_map list_data m.token_endpoint_auth_methods_supported)
+    ▸ column (codes "introspection_endpoint_auth_methods_supported") (optional_member text_list) (λ m. option_map list_data m.introspection_endpoint_auth_methods_supported)
+    ▸ column (codes "revocation_endpoint_auth_methods_supported") (optional_member text_list) (λ m. option_map list_data m.revocation_endpoint_auth_methods_supported)
+    ▸ end
 
 unfoldable pub auth_method_row : Members → Reading AuthMethodMembers
-auth_method_row ms =
-    Ok auth_method_group
-    ⊛ told text_list (codes "token_endpoint_auth_methods_supported") ms
-    ⊛ told text_list (codes "introspection_endpoint_auth_methods_supported") ms
-    ⊛ told text_list (codes "revocation_endpoint_auth_methods_supported") ms
+auth_method_row ms = table_reading auth_method_table (Ok auth_method_group) ms
 
 unfoldable pub auth_method_rows : AuthMethodMembers → List Row
-auth_method_rows m =
-    (codes "token_endpoint_auth_methods_supported", option_map list_data m.token_endpoint_auth_methods_supported)
-    ∷ (codes "introspection_endpoint_auth_methods_supported", option_map list_data m.introspection_endpoint_auth_methods_supported)
-    ∷ (codes "revocation_endpoint_auth_methods_supported", option_map list_data m.revocation_endpoint_auth_methods_supported)
-    ∷ []
+auth_method_rows m = rows_of auth_method_table m
 
 -- by which algorithms it may sign a JWT that shows who it is, at each endpoint
 pub record SigningAlgorithmMembers : Type 0 where
@@ -127,26 +96,18 @@ pub record SigningAlgorithmMembers : Type 0 where
 abbrev pub signing_algorithm_group : Option (List (List ℕ)) → Option (List (List ℕ)) → Option (List (List ℕ)) → SigningAlgorithmMembers
 signing_algorithm_group a b c = record { token_endpoint_auth_signing_alg_values_supported = a; introspection_endpoint_auth_signing_alg_values_supported = b; revocation_endpoint_auth_signing_alg_values_supported = c }
 
-abbrev pub signing_algorithm_names : List (List ℕ)
-signing_algorithm_names =
-    codes "token_endpoint_auth_signing_alg_values_supported"
-    ∷ codes "introspection_endpoint_auth_signing_alg_values_supported"
-    ∷ codes "revocation_endpoint_auth_signing_alg_values_supported"
-    ∷ []
+abbrev pub signing_algorithm_table : Table SigningAlgorithmMembers
+signing_algorithm_table =
+    column (codes "token_endpoint_auth_signing_alg_values_supported") (optional_member text_list) (λ m. option_map list_data m.token_endpoint_auth_signing_alg_values_supported)
+    ▸ column (codes "introspection_endpoint_auth_signing_alg_values_supported") (optional_member text_list) (λ m. option_map list_data m.introspection_endpoint_auth_signing_alg_values_supported)
+    ▸ column (codes "revocation_endpoint_auth_signing_alg_values_supported") (optional_member text_list) (λ m. option_map list_data m.revocation_endpoint_auth_signing_alg_values_supported)
+    ▸ end
 
 unfoldable pub signing_algorithm_row : Members → Reading SigningAlgorithmMembers
-signing_algorithm_row ms =
-    Ok signing_algorithm_group
-    ⊛ told text_list (codes "token_endpoint_auth_signing_alg_values_supported") ms
-    ⊛ told text_list (codes "introspection_endpoint_auth_signing_alg_values_supported") ms
-    ⊛ told text_list (codes "revocation_endpoint_auth_signing_alg_values_supported") ms
+signing_algorithm_row ms = table_reading signing_algorithm_table (Ok signing_algorithm_group) ms
 
 unfoldable pub signing_algorithm_rows : SigningAlgorithmMembers → List Row
-signing_algorithm_rows m =
-    (codes "token_endpoint_auth_signing_alg_values_supported", option_map list_data m.token_endpoint_auth_signing_alg_values_supported)
-    ∷ (codes "introspection_endpoint_auth_signing_alg_values_supported", option_map list_data m.introspection_endpoint_auth_signing_alg_values_supported)
-    ∷ (codes "revocation_endpoint_auth_signing_alg_values_supported", option_map list_data m.revocation_endpoint_auth_signing_alg_values_supported)
-    ∷ []
+signing_algorithm_rows m = rows_of signing_algorithm_table m
 
 -- pages to read, and their languages
 pub record PageMembers : Type 0 where
@@ -158,29 +119,19 @@ pub record PageMembers : Type 0 where
 abbrev pub page_group : Option (List ℕ) → Option (List (List ℕ)) → Option (List ℕ) → Option (List ℕ) → PageMembers
 page_group a b c d = record { service_documentation = a; ui_locales_supported = b; op_policy_uri = c; op_tos_uri = d }
 
-abbrev pub page_names : List (List ℕ)
-page_names =
-    codes "service_documentation"
-    ∷ codes "ui_locales_supported"
-    ∷ codes "op_policy_uri"
-    ∷ codes "op_tos_uri"
-    ∷ []
+abbrev pub page_table : Table PageMembers
+page_table =
+    column (codes "service_documentation") (optional_member text) (λ m. option_map string m.service_documentation)
+    ▸ column (codes "ui_locales_supported") (optional_member text_list) (λ m. option_map list_data m.ui_locales_supported)
+    ▸ column (codes "op_policy_uri") (optional_member text) (λ m. option_map string m.op_policy_uri)
+    ▸ column (codes "op_tos_uri") (optional_member text) (λ m. option_map string m.op_tos_uri)
+    ▸ end
 
 unfoldable pub page_row : Members → Reading PageMembers
-page_row ms =
-    Ok page_group
-    ⊛ told text (codes "service_documentation") ms
-    ⊛ told text_list (codes "ui_locales_supported") ms
-    ⊛ told text (codes "op_policy_uri") ms
-    ⊛ told text (codes "op_tos_uri") ms
+page_row ms = table_reading page_table (Ok page_group) ms
 
 unfoldable pub page_rows : PageMembers → List Row
-page_rows m =
-    (codes "service_documentation", option_map string m.service_documentation)
-    ∷ (codes "ui_locales_supported", option_map list_data m.ui_locales_supported)
-    ∷ (codes "op_policy_uri", option_map string m.op_policy_uri)
-    ∷ (codes "op_tos_uri", option_map string m.op_tos_uri)
-    ∷ []
+page_rows m = rows_of page_table m
 
 -- where clients are registered, the server's keys, its metadata as a signed JWT (RFC 8414, 2.1), and
 -- whether it tells its issuer in the redirect (RFC 9207, 3)
@@ -193,29 +144,19 @@ pub record ServiceMembers : Type 0 where
 abbrev pub service_group : Option (List ℕ) → Option (List ℕ) → Option (List ℕ) → Option Bool → ServiceMembers
 service_group a b c d = record { registration_endpoint = a; jwks_uri = b; signed_metadata = c; authorization_response_iss_parameter_supported = d }
 
-abbrev pub service_names : List (List ℕ)
-service_names =
-    codes "registration_endpoint"
-    ∷ codes "jwks_uri"
-    ∷ codes "signed_metadata"
-    ∷ codes "authorization_response_iss_parameter_supported"
-    ∷ []
+abbrev pub service_table : Table ServiceMembers
+service_table =
+    column (codes "registration_endpoint") (optional_member text) (λ m. option_map string m.registration_endpoint)
+    ▸ column (codes "jwks_uri") (optional_member text) (λ m. option_map string m.jwks_uri)
+    ▸ column (codes "signed_metadata") (optional_member text) (λ m. option_map string m.signed_metadata)
+    ▸ column (codes "authorization_response_iss_parameter_supported") (optional_member flag) (λ m. option_map boolean m.authorization_response_iss_parameter_supported)
+    ▸ end
 
 unfoldable pub service_row : Members → Reading ServiceMembers
-service_row ms =
-    Ok service_group
-    ⊛ told text (codes "registration_endpoint") ms
-    ⊛ told text (codes "jwks_uri") ms
-    ⊛ told text (codes "signed_metadata") ms
-    ⊛ told flag (codes "authorization_response_iss_parameter_supported") ms
+service_row ms = table_reading service_table (Ok service_group) ms
 
 unfoldable pub service_rows : ServiceMembers → List Row
-service_rows m =
-    (codes "registration_endpoint", option_map string m.registration_endpoint)
-    ∷ (codes "jwks_uri", option_map string m.jwks_uri)
-    ∷ (codes "signed_metadata", option_map string m.signed_metadata)
-    ∷ (codes "authorization_response_iss_parameter_supported", option_map boolean m.authorization_response_iss_parameter_supported)
-    ∷ []
+service_rows m = rows_of service_table m
 
 -- ---- the whole document
 
@@ -239,7 +180,12 @@ metadata_seen f m = metadata m.issuer m.endpoints m.supported m.auth_methods m.s
 unfoldable pub metadata_names : List (List ℕ)
 metadata_names =
     codes "issuer"
-    ∷ (endpoint_names ++ (supported_names ++ (auth_method_names ++ (signing_algorithm_names ++ (page_names ++ (service_names))))))
+    ∷ (names_of endpoint_table
+    ++ (names_of supported_table
+    ++ (names_of auth_method_table
+    ++ (names_of signing_algorithm_table
+    ++ (names_of page_table
+    ++ names_of service_table)))))
 
 -- the table: the issuer alone has to be there
 abbrev pub metadata_row : {E : Type 0} → (Data → Reading E) → Members → Reading (Metadata E)

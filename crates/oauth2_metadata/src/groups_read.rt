@@ -19,7 +19,7 @@ ghost use Rattle.oauth2_metadata.specs.private.InTurn.{
 };
 
 use crate::groups::{AuthMethods, Endpoints, Pages, Services, SigningAlgorithms, Supported};
-use crate::kinds::{take_flag, take_optional, take_text, take_text_list};
+use crate::kinds::take_flag;
 use oauth2_body_members::Object;
 use oauth2_json::ReadError;
 use std::alloc::Global;
@@ -30,15 +30,11 @@ pub(crate) fn take_endpoints(alloc: Global, object: &mut Object<'_>) -> Result<E
     ensures rest { IfOk result (λ _. object_members object.new
         ≡ without_endpoints (object_members object.old)) }
 {
-    let authorization_endpoint = take_optional(alloc, object, "authorization_endpoint")?;
-    let token_endpoint = take_optional(alloc, object, "token_endpoint")?;
-    let device_authorization_endpoint = take_optional(
-        alloc,
-        object,
-        "device_authorization_endpoint",
-    )?;
-    let introspection_endpoint = take_optional(alloc, object, "introspection_endpoint")?;
-    let revocation_endpoint = take_optional(alloc, object, "revocation_endpoint")?;
+    let authorization_endpoint = object.optional(alloc, "authorization_endpoint")?;
+    let token_endpoint = object.optional(alloc, "token_endpoint")?;
+    let device_authorization_endpoint = object.optional(alloc, "device_authorization_endpoint")?;
+    let introspection_endpoint = object.optional(alloc, "introspection_endpoint")?;
+    let revocation_endpoint = object.optional(alloc, "revocation_endpoint")?;
     Ok(Endpoints {
         authorization_endpoint,
         token_endpoint,
@@ -54,13 +50,12 @@ pub(crate) fn take_supported(alloc: Global, object: &mut Object<'_>) -> Result<S
     ensures rest { IfOk result (λ _. object_members object.new
         ≡ without_supported (object_members object.old)) }
 {
-    let scopes_supported = take_text_list(alloc, object, "scopes_supported")?;
-    let response_types_supported = take_text_list(alloc, object, "response_types_supported")?;
-    let response_modes_supported = take_text_list(alloc, object, "response_modes_supported")?;
-    let grant_types_supported = take_text_list(alloc, object, "grant_types_supported")?;
-    let code_challenge_methods_supported = take_text_list(
+    let scopes_supported = object.optional_text_list(alloc, "scopes_supported")?;
+    let response_types_supported = object.optional_text_list(alloc, "response_types_supported")?;
+    let response_modes_supported = object.optional_text_list(alloc, "response_modes_supported")?;
+    let grant_types_supported = object.optional_text_list(alloc, "grant_types_supported")?;
+    let code_challenge_methods_supported = object.optional_text_list(
         alloc,
-        object,
         "code_challenge_methods_supported",
     )?;
     Ok(Supported {
@@ -81,19 +76,16 @@ pub(crate) fn take_auth_methods(
     ensures rest { IfOk result (λ _. object_members object.new
         ≡ without_auth_methods (object_members object.old)) }
 {
-    let token_endpoint_auth_methods_supported = take_text_list(
+    let token_endpoint_auth_methods_supported = object.optional_text_list(
         alloc,
-        object,
         "token_endpoint_auth_methods_supported",
     )?;
-    let introspection_endpoint_auth_methods_supported = take_text_list(
+    let introspection_endpoint_auth_methods_supported = object.optional_text_list(
         alloc,
-        object,
         "introspection_endpoint_auth_methods_supported",
     )?;
-    let revocation_endpoint_auth_methods_supported = take_text_list(
+    let revocation_endpoint_auth_methods_supported = object.optional_text_list(
         alloc,
-        object,
         "revocation_endpoint_auth_methods_supported",
     )?;
     Ok(AuthMethods {
@@ -112,19 +104,16 @@ pub(crate) fn take_signing_algorithms(
     ensures rest { IfOk result (λ _. object_members object.new
         ≡ without_signing_algorithms (object_members object.old)) }
 {
-    let token_endpoint_auth_signing_alg_values_supported = take_text_list(
+    let token_endpoint_auth_signing_alg_values_supported = object.optional_text_list(
         alloc,
-        object,
         "token_endpoint_auth_signing_alg_values_supported",
     )?;
-    let introspection_endpoint_auth_signing_alg_values_supported = take_text_list(
+    let introspection_endpoint_auth_signing_alg_values_supported = object.optional_text_list(
         alloc,
-        object,
         "introspection_endpoint_auth_signing_alg_values_supported",
     )?;
-    let revocation_endpoint_auth_signing_alg_values_supported = take_text_list(
+    let revocation_endpoint_auth_signing_alg_values_supported = object.optional_text_list(
         alloc,
-        object,
         "revocation_endpoint_auth_signing_alg_values_supported",
     )?;
     Ok(SigningAlgorithms {
@@ -140,10 +129,10 @@ pub(crate) fn take_pages(alloc: Global, object: &mut Object<'_>) -> Result<Pages
     ensures rest { IfOk result (λ _. object_members object.new
         ≡ without_pages (object_members object.old)) }
 {
-    let service_documentation = take_text(alloc, object, "service_documentation")?;
-    let ui_locales_supported = take_text_list(alloc, object, "ui_locales_supported")?;
-    let op_policy_uri = take_text(alloc, object, "op_policy_uri")?;
-    let op_tos_uri = take_text(alloc, object, "op_tos_uri")?;
+    let service_documentation = object.optional(alloc, "service_documentation")?;
+    let ui_locales_supported = object.optional_text_list(alloc, "ui_locales_supported")?;
+    let op_policy_uri = object.optional(alloc, "op_policy_uri")?;
+    let op_tos_uri = object.optional(alloc, "op_tos_uri")?;
     Ok(Pages {
         service_documentation,
         op_policy_uri,
@@ -158,9 +147,9 @@ pub(crate) fn take_services(alloc: Global, object: &mut Object<'_>) -> Result<Se
     ensures rest { IfOk result (λ _. object_members object.new
         ≡ without_services (object_members object.old)) }
 {
-    let registration_endpoint = take_text(alloc, object, "registration_endpoint")?;
-    let jwks_uri = take_text(alloc, object, "jwks_uri")?;
-    let signed_metadata = take_text(alloc, object, "signed_metadata")?;
+    let registration_endpoint = object.optional(alloc, "registration_endpoint")?;
+    let jwks_uri = object.optional(alloc, "jwks_uri")?;
+    let signed_metadata = object.optional(alloc, "signed_metadata")?;
     let authorization_response_iss_parameter_supported = take_flag(
         alloc,
         object,

@@ -89,8 +89,7 @@ fn from_members<EF: ExtraTokenFields + Drop>(
     ensures { ReadsAs (metadata_seen EF.meaning) result
         (metadata_in_turn EF.reading (object_members object.entry)) }
 {
-    let issuer = object.take("issuer");
-    let issuer = members::needed(alloc, "issuer", issuer)?;
+    let issuer = object.needed(alloc, "issuer")?;
     let endpoints = take_endpoints(alloc, &mut object)?;
     let supported = take_supported(alloc, &mut object)?;
     let auth_methods = take_auth_methods(alloc, &mut object)?;

@@ -1,22 +1,17 @@
-use Rattle.std.proofs.Common.{◌≡◌, Option, Ok, Err, codes}
+use Rattle.std.proofs.Common.{◌≡◌, Option, Ok, codes}
 use Rattle.std.proofs.lemmas.Result.{err_from_is_err_and}
 use Rattle.serde_json.specs.Data.{Members}
 use Rattle.oauth2_urls.specs.Addressed.{Addressed}
-use Rattle.oauth2_json.specs.Reading.{Reading, ErrsAs, ◌⊛◌}
+use Rattle.oauth2_json.specs.Reading.{ErrsAs}
 use Rattle.oauth2_json.specs.declared.read.ReadError.{ReadError}
-use Rattle.oauth2_json.specs.declared.read.ReadError.TheVariants as errors
 use Rattle.oauth2_json.specs.Members.{without}
 use Rattle.oauth2_json.specs.Values.{url}
 use Rattle.oauth2_body_members.specs.Object.{object_members}
 use Rattle.oauth2_metadata.specs.Kinds.{told}
 use Rattle.oauth2_metadata.specs.private.InTurn.{endpoints_in_turn}
 use Rattle.oauth2_metadata.proofs.Addresses.{told_address}
+use Rattle.oauth2_metadata.proofs.Faults.{errs_last}
 use Rattle.oauth2_metadata.proofs.groups_read.take_endpoints.Goals as goal
-
-errs_last : {A B : Type 0} (e : ReadError) (g : A → B) (r : Reading A) → ErrsAs e r → ErrsAs e (Ok g ⊛ r)
-errs_last errors.Memory g r h = tt
-errs_last (errors.Fault f) g (Ok a) h = cc
-errs_last (errors.Fault f) g (Err x) h = cc
 
 -- a fault of the fifth endpoint
 errs_fifth : (e : ReadError) (a b c d f : Members) (o p q r : Option Addressed)
@@ -42,8 +37,8 @@ returns-in_err-revocation_endpoint-clause-read c =
     let p = err_from_is_err_and r.result r.ensures.1 in
     rw (p.1, p.2)
     (errs_fifth c.in_err-revocation_endpoint.field-0.0
-    (object_members c.args.object.now) (object_members c.take_optional.new.object) (object_members c.take_optional-2.new.object)
-    (object_members c.take_optional-3.new.object) (object_members c.take_optional-4.new.object)
+    (object_members c.args.object.now) (object_members c.optional.new.self) (object_members c.optional-2.new.self)
+    (object_members c.optional-3.new.self) (object_members c.optional-4.new.self)
     _ _ _ _
     c.in_ok-authorization_endpoint.ensures.read c.in_ok-authorization_endpoint.ensures.rest
     c.in_ok-token_endpoint.ensures.read c.in_ok-token_endpoint.ensures.rest
@@ -54,8 +49,8 @@ returns-in_err-revocation_endpoint-clause-read c =
 pub invariant_of-result : goal.invariant_of-result
 invariant_of-result c = (
   told_address (codes "authorization_endpoint") (object_members c.args.object.now) c.in_ok-authorization_endpoint.authorization_endpoint c.in_ok-authorization_endpoint.ensures.read,
-  told_address (codes "token_endpoint") (object_members c.take_optional.new.object) c.in_ok-token_endpoint.token_endpoint c.in_ok-token_endpoint.ensures.read,
-  told_address (codes "device_authorization_endpoint") (object_members c.take_optional-2.new.object) (c.in_ok-device_authorization_endpoint).device_authorization_endpoint (c.in_ok-device_authorization_endpoint).ensures.read,
-  told_address (codes "introspection_endpoint") (object_members c.take_optional-3.new.object) c.in_ok-introspection_endpoint.introspection_endpoint c.in_ok-introspection_endpoint.ensures.read,
-  told_address (codes "revocation_endpoint") (object_members c.take_optional-4.new.object) c.in_ok-revocation_endpoint.revocation_endpoint c.in_ok-revocation_endpoint.ensures.read,
+  told_address (codes "token_endpoint") (object_members c.optional.new.self) c.in_ok-token_endpoint.token_endpoint c.in_ok-token_endpoint.ensures.read,
+  told_address (codes "device_authorization_endpoint") (object_members c.optional-2.new.self) (c.in_ok-device_authorization_endpoint).device_authorization_endpoint (c.in_ok-device_authorization_endpoint).ensures.read,
+  told_address (codes "introspection_endpoint") (object_members c.optional-3.new.self) c.in_ok-introspection_endpoint.introspection_endpoint c.in_ok-introspection_endpoint.ensures.read,
+  told_address (codes "revocation_endpoint") (object_members c.optional-4.new.self) c.in_ok-revocation_endpoint.revocation_endpoint c.in_ok-revocation_endpoint.ensures.read,
 )
