@@ -5,7 +5,7 @@ use Rattle.url.specs.Parts.{serialize}
 use Rattle.oauth2_json.specs.Reading.{Reading}
 use Rattle.oauth2_urls.specs.Addressed.{Addressed}
 use Rattle.oauth2_codes.specs.declared.error_response.StandardErrorResponse.{StandardErrorResponse}
-use Rattle.oauth2_codes.specs.ErrorResponse.{ErrorParts, parts_of, color_error_reading as response_reading}
+use Rattle.oauth2_codes.specs.ErrorResponse.{ErrorParts, parts_of, error_reading as response_reading}
 use Rattle.oauth2_replies.specs.Device.{DeviceAuthorization, device_seen, device_reading}
 use Rattle.oauth2_introspection.specs.Introspection.{Introspection, introspection_seen, introspection_reading}
 use Rattle.oauth2_replies.specs.Token.{Token, token_seen, token_reading}

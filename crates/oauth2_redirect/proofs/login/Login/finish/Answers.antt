@@ -7,14 +7,17 @@ use Rattle.oauth2_redirect.specs.End.{EndsLogin}
 use Rattle.oauth2_redirect.proofs.EndLaws.{state-of_code, IfOk-from_EndsLogin}
 use Rattle.oauth2_redirect.proofs.login.Login.finish.Goals as goal
 
+pub returns-in-Ok-clause-end : goal.returns-in-Ok-clause-end
+returns-in-Ok-clause-end g c =
+    let told = subst (λ (l : Kept). answer l.state (option_copied c.args.issuer) (query_form c.args.redirect.now) ≡ Ok c.in-Ok.code) c.self.view_is c.in-Ok.ensures in
+    let ends = EndsLogin g.TR.FromJson.meaning g.TE.FromJson.meaning g.TR.FromJson.reading g.TE.FromJson.reading g.C.SyncHttpClient.step c.args.client.now c.args.self in
+    subst (λ t. ends t c.args.http_client.now c.exchanged.result c.exchanged.new.http_client) (sym told) c.exchanged.ensures.end
+
 pub returns-in-Ok-clause-token : goal.returns-in-Ok-clause-token
 returns-in-Ok-clause-token g c =
-    let pairs = query_form c.args.redirect.now in
-    let issuer = option_copied c.args.issuer in
-    let told = subst (λ (l : Kept). answer l.state issuer pairs ≡ Ok c.in-Ok.code) c.self.view_is c.in-Ok.ensures in
-    let ends = EndsLogin g.TR.FromJson.meaning g.TE.FromJson.meaning g.TR.FromJson.reading g.TE.FromJson.reading g.C.SyncHttpClient.step c.args.client.now c.args.self in
-    IfOk-from_EndsLogin g.TR.FromJson.meaning g.TE.FromJson.meaning g.TR.FromJson.reading g.TE.FromJson.reading g.C.SyncHttpClient.step c.args.client.now c.args.self (answer c.args.self.state issuer pairs) c.args.http_client.now c.exchanged.new.http_client c.exchanged.result
-    (subst (λ t. ends t c.args.http_client.now c.exchanged.result c.exchanged.new.http_client) (sym told) c.exchanged.ensures.end)
+    let told = answer c.args.self.state (option_copied c.args.issuer) (query_form c.args.redirect.now) in
+    IfOk-from_EndsLogin g.TR.FromJson.meaning g.TE.FromJson.meaning g.TR.FromJson.reading g.TE.FromJson.reading g.C.SyncHttpClient.step c.args.client.now c.args.self told c.args.http_client.now c.exchanged.new.http_client c.exchanged.result
+    (returns-in-Ok-clause-end g c)
 
 pub returns-in-Ok-clause-no_code : goal.returns-in-Ok-clause-no_code
 returns-in-Ok-clause-no_code g c = λ why none.
