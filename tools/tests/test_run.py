@@ -68,7 +68,7 @@ class Page(unittest.TestCase):
     def defined(self, name):
         """The members that a file of definitions reads, and those of them that it needs."""
         text = sources.read(os.path.join(SPECS, name + '.antt'))
-        return [re.findall(r'(?:%s)[ (\w]* \(codes "(\w+)"\)' % kinds, text) for kinds in ('needed', 'needed|optional|listed|get')]
+        return [re.findall(r'(?:%s)[ (\w]* \(codes "(\w+)"\)' % kinds, text) for kinds in ('needed_part', 'needed_part|present_part|list_part|get')]
 
     def test_names_are_those_of_the_definitions(self):
         known, commands = script_faults.tables()
