@@ -10,7 +10,8 @@ use Rattle.oauth2_json.proofs.Objects.{get_member-others, get_member-without, ab
 use Rattle.oauth2_json.proofs.Puts.{are_distinct}
 use Rattle.oauth2_body_members.specs.Object.{has_name, Keeps}
 use Rattle.oauth2_body_members.proofs.Keeping.{others_kept}
-use Rattle.oauth2_body_members.specs.Table.{NamedValues, values_under, values_in_turn, rows_before, Table, ◌▸◌, end, Builder, Meanings, curried, uncurried, names_of, rows_of, table_reading, turn_reading, group_reading, of_two, of_three, of_four}
+use Rattle.oauth2_body_members.specs.Table.{NamedValues, values_under, rows_before, Table, ◌▸◌, end, Builder, names_of, rows_of, table_reading}
+use Rattle.oauth2_body_members.specs.private.Groups.{values_in_turn, Meanings, curried, uncurried, turn_reading, group_reading, of_two, of_three, of_four}
 
 both : (a b : Bool) → a && b ≡ true → (a ≡ true) × (b ≡ true)
 both true b h = (refl, h)

@@ -11,7 +11,7 @@ use Rattle.oauth2_json.specs.Reading.{Reading}
 use Rattle.oauth2_urls.specs.Addressed.{Addressed}
 use Rattle.oauth2_wire.specs.Once.{AsksOnce}
 use Rattle.oauth2_wire.proofs.OnceLemmas.{AsksOnce-accepted}
-use Rattle.oauth2_wire.specs.Reply.{HttpResponse, ReplyView, Answer, accepted, other, failure_answer, refused_reading, reply_of, status_answer_of}
+use Rattle.oauth2_wire.specs.Reply.{HttpResponse, ReplyView, Answer, accepted, refused, other, failure_answer, read_answer, reply_of, status_answer_of}
 use Rattle.oauth2_wire.specs.Request.{HttpRequest, IsRequestOf, view_of}
 use Rattle.oauth2_wire.specs.declared.error.RequestTokenError.{RequestTokenError}
 use Rattle.oauth2_requests.specs.TokenRevocation.{TokenRevocation, revocation_configuration}
@@ -23,7 +23,7 @@ stable true decides not_not = decides.0 refl
 stable false decides not_not = absurd (not_not (λ p. let no : false ≡ true = decides.1 p in cc))
 
 module _ {E : Type 0} (error_reading : Data → Reading E) where
-  not_failed : (b : Bool) (reading : Reading E) (body : List ℕ) → (if b then other (codes "server returned empty error response") else refused_reading {A = Unit {0}} body reading) ≡ accepted tt → ⊥
+  not_failed : (b : Bool) (reading : Reading E) (body : List ℕ) → (if b then other (codes "server returned empty error response") else read_answer {A = Unit {0}} refused body reading) ≡ accepted tt → ⊥
   not_failed true reading body e = cc
   not_failed false (Ok error) body e = cc
   not_failed false (Err fault) body e = cc

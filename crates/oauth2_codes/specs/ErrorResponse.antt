@@ -30,11 +30,9 @@ error_table code =
     ▸ column (codes "error_uri") (optional_member text) (λ r. option_map string r.uri)
     ▸ end
 
-abbrev pub error_row : {T : Type 0} → (Data → Reading T) → Members → Reading (ErrorParts T)
-error_row code ms = table_reading (error_table code) (Ok parts_of_error) ms
-
 abbrev pub error_reading : {T : Type 0} → (Data → Reading T) → Data → Reading (ErrorParts T)
-error_reading code d = read_then (members_of_object d) (error_row code)
+error_reading code d =
+    read_then (members_of_object d) (table_reading (error_table code) (Ok parts_of_error))
 
 -- the members of a response whose code is written as `code`
 abbrev pub error_rows : {T : Type 0} → Data → ErrorParts T → List Row

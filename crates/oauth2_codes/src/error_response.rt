@@ -1,9 +1,10 @@
 //! Error responses (RFC 6749, section 5.2).
 
-ghost use Rattle.std.specs.Prelude.{◌≡◌};
+ghost use Rattle.std.specs.Prelude.{◌≡◌, Ok};
 ghost use Rattle.oauth2_json.specs.Reading.{ReadsAs};
 ghost use Rattle.oauth2_body_members.specs.Object.{object_members};
-ghost use Rattle.oauth2_codes.specs.ErrorResponse.{parts_of, error_row};
+ghost use Rattle.oauth2_body_members.specs.Table.{table_reading};
+ghost use Rattle.oauth2_codes.specs.ErrorResponse.{parts_of, parts_of_error, error_table};
 
 use crate::basic_error::BasicErrorResponseType;
 use crate::device_error::DeviceCodeErrorResponseType;
@@ -97,7 +98,8 @@ fn from_members<T: FromJson + Drop>(
     mut members: Object<'_>,
 ) -> Result<StandardErrorResponse<T>, ReadError>
     ensures { ReadsAs (parts_of T.meaning) result
-        (error_row T.reading (object_members members.entry)) }
+        (table_reading (error_table T.reading) (Ok parts_of_error)
+        (object_members members.entry)) }
 {
     Ok(StandardErrorResponse {
         error: members.needed(alloc, "error")?,

@@ -12,7 +12,8 @@ use Rattle.oauth2_json.proofs.Lists.{optional-texts}
 use Rattle.oauth2_json.proofs.Optionals.{optional-words}
 use Rattle.oauth2_introspection.proofs.Seconds.{optional-instant}
 use Rattle.oauth2_body_members.specs.Object.{Keeps}
-use Rattle.oauth2_body_members.specs.Table.{names_of, turn_reading}
+use Rattle.oauth2_body_members.specs.Table.{names_of}
+use Rattle.oauth2_body_members.specs.private.Groups.{turn_reading}
 use Rattle.oauth2_body_members.proofs.Tables.{in_three, kept_table, whole_table, read_back}
 use Rattle.oauth2_replies.specs.Kept.{IsTypeKept, AreScopesKept}
 use Rattle.oauth2_introspection.specs.Instants.{IsWholeSeconds}

@@ -8,7 +8,8 @@ ghost use Rattle.oauth2_json.specs.Members.{others};
 ghost use Rattle.oauth2_json.specs.Writing.{WritesAs};
 ghost use Rattle.oauth2_json.specs.Puts.{put_all};
 ghost use Rattle.oauth2_body_members.specs.Object.{object_members};
-ghost use Rattle.oauth2_body_members.specs.Table.{names_of, quadruple};
+ghost use Rattle.oauth2_body_members.specs.Table.{names_of};
+ghost use Rattle.oauth2_body_members.specs.private.Groups.{quadruple};
 ghost use Rattle.oauth2_introspection.specs.Introspection.{
   Introspection,
   introspection_seen,

@@ -1,5 +1,7 @@
 -- A text, split at every space.
 use Rattle.std.proofs.Common.{◌≡◌, ◌≢◌, ◌↔◌, ℕ, suc, ◌<◌, List, [], ◌∷◌, ◌++◌, length, get_or, Bool, true, false, not, cond, ◌&&◌, eqb, Option, Some, None, option_map, IfSome, IsTrue, Ok, Err, Bor, length-append, append-nil, inl, inr, refl, sym, ap, ◌∙◌, arith, append_assoc}
+use Rattle.std.specs.List.{onto_first, slice_split}
+use Rattle.std.specs.Prelude.{◌==◌}
 use Rattle.std.proofs.lemmas.Bool.{ne_eqb}
 use Rattle.std.proofs.lemmas.Bool.Decides.{eqb_tells}
 use Rattle.std.proofs.lemmas.Option.{MatchOption-at_some, MatchOption-at_none}
@@ -7,11 +9,14 @@ use Rattle.std.proofs.lemmas.Str.Pattern.{IsSplitOnceResult, split_parts}
 use Rattle.serde_json.specs.Data.{Data, string}
 use Rattle.oauth2_json.specs.Reading.{Reading, Fault, fault_of, ErrsAs, at_member, ◌⊛◌}
 use Rattle.oauth2_json.specs.Values.{each_word, words_reading, text}
-use Rattle.oauth2_json.specs.Members.{optional_member, some_of}
+use Rattle.oauth2_json.specs.Members.{optional_member}
 use Rattle.oauth2_json.specs.Helpers.{nullable, words_data}
 use Rattle.oauth2_json.specs.declared.read.ReadError.{ReadError}
 use Rattle.oauth2_json.specs.declared.read.ReadError.TheVariants as errors
-use Rattle.oauth2_json.specs.Words.{onto_first, pieces, joined_words, has_no_space, are_words}
+use Rattle.oauth2_json.specs.Words.{joined_words, has_no_space, are_words}
+
+abbrev pub pieces : List ℕ → List (List ℕ)
+pieces = slice_split (λ c. c == 32)
 
 no_space : (x : List ℕ) → ((i : ℕ) → i < length x → get_or x i 0 ≢ 32) → has_no_space x ≡ true
 no_space [] h = refl
@@ -131,7 +136,7 @@ pub optional-words : (name : List ℕ) (o : Option (List (List ℕ))) → IfSome
 optional-words name None h = refl
 optional-words name (Some ps) h = rw (pieces-joined ps h, each-text ps) refl
 
-ok_inner : {A : Type 0} (a b : A) → some_of (at_member [] (Ok a)) ≡ Ok (Some b) → a ≡ b
+ok_inner : {A : Type 0} (a b : A) → Ok Some ⊛ at_member [] (Ok a) ≡ Ok (Some b) → a ≡ b
 ok_inner a b h = cc
 
 words_back_at : (o : Option (List (List ℕ))) → (nullable (words_reading text) (words_data o) ≡ Ok o) ↔ IfSome o (λ ps. IsTrue (are_words ps))

@@ -5,7 +5,7 @@ use Rattle.std.specs.Cmp.Lexicographic.{slice_cmp}
 use Rattle.serde_json.specs.Written.{members_have_float}
 use Rattle.serde_json.specs.Data.{Data, null, boolean, number, string, array, object, Members, no_members, member, put}
 use Rattle.serde_json.specs.Find.{get_member}
-use Rattle.oauth2_json.specs.Reading.{Reading, whole, at_member}
+use Rattle.oauth2_json.specs.Reading.{Reading, whole, at_member, ◌⊛◌}
 use Rattle.oauth2_json.specs.Writing.{Writing, WriteRefusal, name_clash, float as refused_float}
 use Rattle.oauth2_json.specs.declared.read.ParseCause.TheVariants as cause
 
@@ -23,20 +23,16 @@ needed_member kind name None = Err (record { member = name; cause = cause.Missin
 needed_member kind name (Some null) = Err (record { member = name; cause = cause.WrongType })
 needed_member kind name (Some d) = at_member name (kind d)
 
-abbrev pub some_of : {A : Type 0} → Reading A → Reading (Option A)
-some_of (Ok a) = Ok (Some a)
-some_of (Err e) = Err e
-
 -- absent and null are none
 abbrev pub optional_member : {A : Type 0} → (Data → Reading A) → List ℕ → Option Data → Reading (Option A)
 optional_member kind name None = Ok None
 optional_member kind name (Some null) = Ok None
-optional_member kind name (Some d) = some_of (at_member name (kind d))
+optional_member kind name (Some d) = Ok Some ⊛ at_member name (kind d)
 
 -- absent is none; what is there is read, null too
 abbrev pub present_member : {A : Type 0} → (Data → Reading A) → List ℕ → Option Data → Reading (Option A)
 present_member kind name None = Ok None
-present_member kind name (Some d) = some_of (at_member name (kind d))
+present_member kind name (Some d) = Ok Some ⊛ at_member name (kind d)
 
 -- absent and null are `a`
 abbrev pub member_or : {A : Type 0} → (Data → Reading A) → List ℕ → A → Option Data → Reading A

@@ -1,11 +1,11 @@
 -- The kinds of values that members hold.
 use Rattle.url.specs.Parser.{parse_url}
 use Rattle.oauth2_urls.specs.Addressed.{Addressed}
-use Rattle.std.specs.Prelude.{ℕ, List, [], ◌∷◌, map, Bool, None, Ok, Err}
+use Rattle.std.specs.Prelude.{ℕ, ◌==◌, List, [], ◌∷◌, map, Bool, None, Ok, Err}
 use Rattle.std.specs.Char.{to_ascii_lowercase}
+use Rattle.std.specs.List.{slice_split}
 use Rattle.serde_json.specs.Data.{Num, unsigned, negative, float, Data, null, boolean, number, string, array, object, Items, no_items, item}
 use Rattle.oauth2_json.specs.Reading.{Reading, whole, at_member, read_then, ◌⊛◌}
-use Rattle.oauth2_json.specs.Words.{pieces}
 use Rattle.oauth2_json.specs.declared.read.ParseCause.TheVariants as cause
 
 abbrev pub wrong_type : {A : Type 0} → Reading A
@@ -67,7 +67,7 @@ each_word kind (p ∷ ps) = Ok (λ first later. first ∷ later) ⊛ at_member [
 
 -- RFC 6749, 3.3: a text, split at every space, each piece as `kind` reads it
 abbrev pub words_reading : {A : Type 0} → (Data → Reading A) → Data → Reading (List A)
-words_reading kind d = read_then (text d) (λ s. each_word kind (pieces s))
+words_reading kind d = read_then (text d) (λ s. each_word kind (slice_split (λ c. c == 32) s))
 
 -- ---- lists of texts
 

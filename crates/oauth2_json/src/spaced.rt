@@ -1,14 +1,14 @@
 //! Texts that hold a list, with one space between two entries (RFC 6749, section 3.3).
 
-ghost use Rattle.std.specs.Prelude.{◌≡◌, List, IfOk, OnOk, string_bytes, [], ◌++◌, map};
+ghost use Rattle.std.specs.Prelude.{◌≡◌, ◌==◌, List, IfOk, OnOk, string_bytes, [], ◌++◌, map};
 ghost use Rattle.std.specs.Prelude.{codes, option_map};
-ghost use Rattle.std.specs.List.{flat_map};
+ghost use Rattle.std.specs.List.{flat_map, slice_split};
 ghost use Rattle.serde_json.specs.Data.{string};
 ghost use Rattle.serde_json.specs.View.{view};
 ghost use Rattle.oauth2_json.specs.Reading.{ReadsAs, at_member};
 ghost use Rattle.oauth2_json.specs.Members.{optional_member};
 ghost use Rattle.oauth2_json.specs.Values.{each_word, words_reading};
-ghost use Rattle.oauth2_json.specs.Words.{pieces, joined_words};
+ghost use Rattle.oauth2_json.specs.Words.{joined_words};
 
 use crate::member_readers;
 use crate::read::{FromJson, ReadError};
@@ -24,7 +24,8 @@ fn piece<T: FromJson>(alloc: Global, text: &str) -> Result<T, ReadError>
 
 /// Splits the text at every space, and reads each piece as a `T`.
 pub fn pieces<T: FromJson + Drop>(alloc: Global, text: &str) -> Result<Vec<T>, ReadError>
-    ensures { ReadsAs (λ v. map T.meaning v.items) result (each_word T.reading (pieces text.now)) }
+    ensures { ReadsAs (λ v. map T.meaning v.items) result
+        (each_word T.reading (slice_split (λ c. c == 32) text.now)) }
 {
     let mut read = Vec::new(alloc);
     let mut rest = text;

@@ -8,7 +8,7 @@ use Rattle.oauth2_wire.specs.declared.error.RequestTokenError.TheVariants as tok
 use Rattle.oauth2_wire.specs.declared.request.RequestFault.TheVariants as fault
 use Rattle.oauth2_wire.specs.Once.{AsksOnce, not_http_text}
 use Rattle.oauth2_wire.specs.Request.{HttpRequest, RequestView, IsRequestOf}
-use Rattle.oauth2_wire.specs.Reply.{HttpResponse, Answer, accepted, refused, unread, other, ReplyView, reply_of, ShowsFault, accepted_reading, refused_reading, body_answer, success_answer, answer_of}
+use Rattle.oauth2_wire.specs.Reply.{HttpResponse, Answer, accepted, refused, unread, other, ReplyView, reply_of, ShowsFault, read_answer, body_answer, success_answer, answer_of}
 use Rattle.oauth2_wire.proofs.OnceLemmas.{AsksOnce-accepted}
 use Rattle.oauth2_keeper.specs.Patience.{counts, IsCalledIf, EachSentFaultCounts}
 
@@ -24,11 +24,11 @@ module _ (A E : Type 0) where
   either true one two first second = first
   either false one two first second = second
 
-  pub of_success : (body : List ℕ) (read : _) → SaysElse (accepted_reading {A = A} {E = E} body read)
+  pub of_success : (body : List ℕ) (read : _) → SaysElse (read_answer {A = A} {E = E} accepted body read)
   of_success body (Ok value) = tt
   of_success body (Err fault) = tt
 
-  pub of_failure : (body : List ℕ) (read : _) → SaysElse (refused_reading {A = A} {E = E} body read)
+  pub of_failure : (body : List ℕ) (read : _) → SaysElse (read_answer {A = A} {E = E} refused body read)
   of_failure body (Ok error) = tt
   of_failure body (Err fault) = tt
 

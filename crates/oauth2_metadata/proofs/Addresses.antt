@@ -6,15 +6,15 @@ use Rattle.serde_json.specs.Find.{get_member}
 use Rattle.url.specs.Parser.{Parsed, parse_url}
 use Rattle.url.specs.Parts.{Parts}
 use Rattle.oauth2_urls.specs.Addressed.{Addressed}
-use Rattle.oauth2_json.specs.Reading.{Reading, whole, at_member}
+use Rattle.oauth2_json.specs.Reading.{Reading, whole, at_member, ◌⊛◌}
 use Rattle.oauth2_json.specs.declared.read.ParseCause.TheVariants as cause
-use Rattle.oauth2_json.specs.Members.{optional_member, some_of, optional_writing}
+use Rattle.oauth2_json.specs.Members.{optional_member, optional_writing}
 use Rattle.oauth2_json.specs.Values.{url}
 use Rattle.oauth2_metadata.specs.Kinds.{address_data, told}
 use Rattle.oauth2_replies.specs.private.Address.{IsAddress}
 
 abbrev text_and_url : List ℕ → List ℕ → Parsed Parts → Reading (Option Addressed)
-text_and_url name s p = some_of (at_member name (elim p [ Ok u ↦ Ok (record { text = s; url = u }) | Err e ↦ Err (whole cause.BadUrl) ]))
+text_and_url name s p = Ok Some ⊛ at_member name (elim p [ Ok u ↦ Ok (record { text = s; url = u }) | Err e ↦ Err (whole cause.BadUrl) ])
 
 address_at : (p : Parsed Parts) (name s : List ℕ) (a : Addressed) → parse_url None s ≡ p → text_and_url name s p ≡ Ok (Some a) → IsAddress a
 unfolding IsAddress

@@ -4,7 +4,8 @@ use Rattle.serde_json.specs.Data.{Data, Members, object}
 use Rattle.oauth2_json.specs.Reading.{Reading, ◌⊛◌}
 use Rattle.oauth2_json.specs.Members.{members_of_object, others}
 use Rattle.oauth2_json.proofs.Objects.{get_member-others}
-use Rattle.oauth2_body_members.specs.Table.{names_of, turn_reading}
+use Rattle.oauth2_body_members.specs.Table.{names_of}
+use Rattle.oauth2_body_members.specs.private.Groups.{turn_reading}
 use Rattle.oauth2_body_members.proofs.Tables.{in_four, whole_table}
 use Rattle.oauth2_openid.specs.Reading.{id_token_table, id_token_names, claims_with, claims_reading, header_reading}
 use Rattle.oauth2_openid.specs.private.Rows.{claim_names_table, claim_names_reading, claim_times_table, claim_times_reading, authentication_table, authentication_reading, bindings_table, bindings_reading, claims_in_turn, header_in_turn}

@@ -14,7 +14,8 @@ use Rattle.oauth2_json.specs.Puts.{put_all}
 use Rattle.oauth2_json.proofs.Puts.{rest}
 use Rattle.oauth2_json.proofs.Objects.{beside_taken, optional-text}
 use Rattle.oauth2_body_members.specs.Object.{Keeps}
-use Rattle.oauth2_body_members.specs.Table.{names_of, turn_reading}
+use Rattle.oauth2_body_members.specs.Table.{names_of}
+use Rattle.oauth2_body_members.specs.private.Groups.{turn_reading}
 use Rattle.oauth2_body_members.proofs.Tables.{in_three, kept_table, whole_table, read_back}
 use Rattle.oauth2_replies.specs.Kept.{AreFieldsKept}
 use Rattle.oauth2_replies.specs.Device.{DeviceAuthorization, device_authorization, device_seen, device_table, device_names, device_rows, address_reading, device_row, device_reading, device_writing}

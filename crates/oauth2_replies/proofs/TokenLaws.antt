@@ -10,10 +10,11 @@ use Rattle.oauth2_json.proofs.Puts.{rest}
 use Rattle.oauth2_json.proofs.Objects.{beside_taken, optional-text, optional-number}
 use Rattle.oauth2_json.proofs.Optionals.{optional-words}
 use Rattle.oauth2_body_members.specs.Object.{Keeps}
-use Rattle.oauth2_body_members.specs.Table.{names_of, turn_reading}
+use Rattle.oauth2_body_members.specs.Table.{names_of, table_reading}
+use Rattle.oauth2_body_members.specs.private.Groups.{turn_reading}
 use Rattle.oauth2_body_members.proofs.Tables.{in_two, kept_table, whole_table, read_back}
 use Rattle.oauth2_replies.specs.Kept.{AreScopesKept}
-use Rattle.oauth2_replies.specs.Token.{Token, token, token_seen, token_table, token_names, token_rows, token_row, token_reading, token_writing, IsTokenKept}
+use Rattle.oauth2_replies.specs.Token.{Token, token, token_seen, token_table, token_names, token_rows, token_reading, token_writing, IsTokenKept}
 use Rattle.oauth2_replies.specs.private.TokenRows.{credential_table, credential_reading, terms_table, terms_reading, token_in_turn}
 
 -- group by group is row by row
@@ -22,9 +23,13 @@ unfolding credential_reading terms_reading
 one_by_one er tr ms =
     ap (λ r. r ⊛ er (object (others token_names ms))) (in_two (credential_table tr) terms_table token ms (others (names_of (credential_table tr)) ms))
 
+-- what the members read to
+abbrev pub rows_reading : {E T : Type 0} → (Data → Reading E) → (Data → Reading T) → Members → Reading (Token E T)
+rows_reading er tr ms = table_reading (token_table tr) (Ok token) ms ⊛ er (object (others token_names ms))
+
 -- what is kept of the members reads as all of them
 pub kept_rows : {E T : Type 0} (er : Data → Reading E) (tr : Data → Reading T) (b : Bool) (all kept : Members) → Keeps token_names b all kept → (b ≡ false → (x y : Members) → er (object x) ≡ er (object y))
-    → token_in_turn er tr kept ≡ token_row er tr all
+    → token_in_turn er tr kept ≡ rows_reading er tr all
 kept_rows er tr b all kept k any = one_by_one er tr kept ∙ kept_table (token_table tr) (Ok token) er b all kept refl k any
 
 pub rows_in_turn : {E T : Type 0} (er : Data → Reading E) (tr : Data → Reading T) (d : Data) (ms : Members) → members_of_object d ≡ Ok ms → token_in_turn er tr ms ≡ token_reading er tr d
@@ -33,7 +38,7 @@ rows_in_turn er tr d ms h = one_by_one er tr ms ∙ whole_table (token_table tr)
 -- what was put beside the extra members is found again
 token_again : {E T : Type 0} (er : Data → Reading E) (tr : Data → Reading T) (type_text : List ℕ) (r : Token E T) (ms : Members)
     → clashes token_names ms ≡ false → map to_ascii_lowercase type_text ≡ type_text → tr (string type_text) ≡ Ok r.token_type → AreScopesKept r.scopes → er (object ms) ≡ Ok r.extra_fields
-    → token_row er tr (put_all (token_rows (string type_text) r) ms) ≡ Ok r
+    → rows_reading er tr (put_all (token_rows (string type_text) r) ms) ≡ Ok r
 token_again er tr type_text r ms free low back scopes again =
     let rows = token_rows (string type_text) r in
     let written = token_seen (λ _. tt) (λ _. string type_text) r in

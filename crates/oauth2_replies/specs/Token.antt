@@ -41,12 +41,9 @@ abbrev pub token_names : List (List ℕ)
 token_names = names_of (token_table Ok)
 
 -- what each own member reads to, and then the object of the others
-abbrev pub token_row : {E T : Type 0} → (Data → Reading E) → (Data → Reading T) → Members → Reading (Token E T)
-token_row extra_fields token_type ms =
-    table_reading (token_table token_type) (Ok token) ms ⊛ extra_fields (object (others token_names ms))
-
 abbrev pub token_reading : {E T : Type 0} → (Data → Reading E) → (Data → Reading T) → Data → Reading (Token E T)
-token_reading extra_fields token_type d = read_then (members_of_object d) (token_row extra_fields token_type)
+token_reading extra_fields token_type d = read_then (members_of_object d) (λ ms.
+    table_reading (token_table token_type) (Ok token) ms ⊛ extra_fields (object (others token_names ms)))
 
 -- the type's own members, none of which is written where it is none; `type_written` is the token type's JSON
 abbrev pub token_rows : {E T : Type 0} → Data → Token E T → List Row

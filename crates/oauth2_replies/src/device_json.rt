@@ -9,7 +9,8 @@ ghost use Rattle.oauth2_json.specs.Members.{without, others};
 ghost use Rattle.oauth2_json.specs.Writing.{WritesAs};
 ghost use Rattle.oauth2_json.specs.Puts.{put_all};
 ghost use Rattle.oauth2_body_members.specs.Object.{object_members};
-ghost use Rattle.oauth2_body_members.specs.Table.{names_of, pair};
+ghost use Rattle.oauth2_body_members.specs.Table.{names_of};
+ghost use Rattle.oauth2_body_members.specs.private.Groups.{pair};
 ghost use Rattle.oauth2_replies.specs.Kept.{AreFieldsKept};
 ghost use Rattle.oauth2_replies.specs.Device.{
   DeviceAuthorization,

@@ -30,11 +30,7 @@ abbrev pub shown_byte : ℕ → List ℕ
 shown_byte b =
     if b == 34 then codes "\\\"" else (if nat_lt 126 b then codes "\\x" ++ digit_char (b / 16) ∷ digit_char (b % 16) ∷ [] else b ∷ [])
 
--- a value as a text shows it
-abbrev pub shown_value : List ℕ → List ℕ
-shown_value value = flat_map shown_byte value
-
 -- what is said of a value that is not that of a JSON text
 abbrev pub unexpected_type_text : List ℕ → List ℕ
 unexpected_type_text value =
-    codes "unexpected response Content-Type: \"" ++ shown_value value ++ codes "\", should be `application/json`"
+    codes "unexpected response Content-Type: \"" ++ flat_map shown_byte value ++ codes "\", should be `application/json`"

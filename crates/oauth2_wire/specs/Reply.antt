@@ -37,19 +37,16 @@ pub data Answer (A E : Type 0) : Type 0 where
   other : List ℕ → Answer A E
 
 module _ {A E : Type 0} where
-  abbrev pub accepted_reading : List ℕ → Reading A → Answer A E
-  accepted_reading body (Ok value) = accepted value
-  accepted_reading body (Err fault) = unread fault body
-
-  abbrev pub refused_reading : List ℕ → Reading E → Answer A E
-  refused_reading body (Ok error) = refused error
-  refused_reading body (Err fault) = unread fault body
+  -- what a body is read to, said so, or its fault beside it
+  abbrev pub read_answer : {V : Type 0} → (V → Answer A E) → List ℕ → Reading V → Answer A E
+  read_answer says body (Ok value) = says value
+  read_answer says body (Err fault) = unread fault body
 
   -- the body of a success
   abbrev pub body_answer : (Data → Reading A) → List ℕ → Answer A E
   body_answer reading body =
       if length body == 0 then other (codes "server returned empty response body")
-      else accepted_reading body (body_reading reading body)
+      else read_answer accepted body (body_reading reading body)
 
   -- a success: a Content-Type, where there is one, is that of a JSON text by this rule
   abbrev pub success_answer : ReplyRule → (Data → Reading A) → Option (List ℕ) → List ℕ → Answer A E
@@ -61,7 +58,7 @@ module _ {A E : Type 0} where
   abbrev pub failure_answer : (Data → Reading E) → List ℕ → Answer A E
   failure_answer reading body =
       if length body == 0 then other (codes "server returned empty error response")
-      else refused_reading body (body_reading reading body)
+      else read_answer refused body (body_reading reading body)
 
   -- status 200 alone is a success (RFC 6749, section 5.1)
   abbrev pub answer_of : ReplyRule → (Data → Reading A) → (Data → Reading E) → ReplyView → Answer A E

@@ -1,10 +1,10 @@
 //! The Content-Type of a reply (RFC 9110, section 8.3).
 
-ghost use Rattle.std.specs.Prelude.{◌≡◌, ◌<◌, ◌++◌, take, drop, IfOk, OnOk, string_bytes};
+ghost use Rattle.std.specs.Prelude.{◌≡◌, ◌<◌, ◌++◌, take, drop, IfOk, OnOk, string_bytes, flat_map};
 ghost use Rattle.std.specs.List.{list_all};
 ghost use Rattle.std.specs.Char.{digit_char};
 ghost use Rattle.oauth2_wire.specs.ContentType.{is_text_byte, begins_with_json, ends_the_type};
-ghost use Rattle.oauth2_wire.specs.ContentType.{is_json_type, shown_byte, shown_value};
+ghost use Rattle.oauth2_wire.specs.ContentType.{is_json_type, shown_byte};
 ghost use Rattle.oauth2_wire.specs.ContentType.{unexpected_type_text};
 
 use oauth2_types::TryClone;
@@ -89,7 +89,7 @@ pub(crate) fn unexpected_type_text(alloc: Global, value: &[u8]) -> Result<String
 
 fn push_shown(text: &mut String, value: &[u8]) -> Result<(), AllocError>
     ensures { OnOk result (string_bytes text.new
-        ≡ string_bytes text.old ++ shown_value value.now) }
+        ≡ string_bytes text.old ++ flat_map shown_byte value.now) }
 {
     for &b in value {
         push_shown_byte(text, b)?;

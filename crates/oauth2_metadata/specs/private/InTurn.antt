@@ -5,7 +5,8 @@ use Rattle.serde_json.specs.Find.{get_member}
 use Rattle.oauth2_json.specs.Reading.{Reading, ◌⊛◌}
 use Rattle.oauth2_json.specs.Members.{needed_member, others, without}
 use Rattle.oauth2_json.specs.Values.{text}
-use Rattle.oauth2_body_members.specs.Table.{names_of, turn_reading}
+use Rattle.oauth2_body_members.specs.Table.{names_of}
+use Rattle.oauth2_body_members.specs.private.Groups.{turn_reading}
 use Rattle.oauth2_metadata.specs.Metadata.{Metadata, metadata, EndpointMembers, endpoint_group, endpoint_table, SupportedMembers, supported_group, supported_table, AuthMethodMembers, auth_method_group, auth_method_table, SigningAlgorithmMembers, signing_algorithm_group, signing_algorithm_table, PageMembers, page_group, page_table, ServiceMembers, service_group, service_table}
 
 unfoldable pub endpoints_in_turn : Members → Reading EndpointMembers

@@ -6,7 +6,8 @@ use Rattle.serde_json.specs.Find.{get_member}
 use Rattle.oauth2_json.specs.Reading.{Reading, ◌⊛◌}
 use Rattle.oauth2_json.specs.Members.{needed_member, optional_member, others}
 use Rattle.oauth2_json.specs.Values.{text}
-use Rattle.oauth2_body_members.specs.Table.{Table, Meanings, names_of, front, back, group_reading, of_four}
+use Rattle.oauth2_body_members.specs.Table.{Table, names_of}
+use Rattle.oauth2_body_members.specs.private.Groups.{Meanings, front, back, group_reading, of_four}
 use Rattle.oauth2_openid.specs.Claims.{Claims}
 use Rattle.oauth2_openid.specs.Reading.{id_token_table, claims_with}
 use Rattle.oauth2_openid.specs.Token.{Header, header, WithOthers, with_others}

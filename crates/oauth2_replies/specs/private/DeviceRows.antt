@@ -4,7 +4,8 @@ use Rattle.std.specs.Prelude.{Ok}
 use Rattle.serde_json.specs.Data.{Data, Members, object}
 use Rattle.oauth2_json.specs.Reading.{Reading, ◌⊛◌}
 use Rattle.oauth2_json.specs.Members.{others}
-use Rattle.oauth2_body_members.specs.Table.{Table, Meanings, names_of, front, back, group_reading, of_three}
+use Rattle.oauth2_body_members.specs.Table.{Table, names_of}
+use Rattle.oauth2_body_members.specs.private.Groups.{Meanings, front, back, group_reading, of_three}
 use Rattle.oauth2_replies.specs.Device.{DeviceAuthorization, device_authorization, device_table}
 
 abbrev pub codes_table : Table (DeviceAuthorization (Unit {0}))

@@ -3,7 +3,8 @@ use Rattle.std.specs.Prelude.{Ok}
 use Rattle.serde_json.specs.Data.{Data, Members, object}
 use Rattle.oauth2_json.specs.Reading.{Reading, ◌⊛◌}
 use Rattle.oauth2_json.specs.Members.{others}
-use Rattle.oauth2_body_members.specs.Table.{Table, Meanings, names_of, front, back, group_reading, of_two}
+use Rattle.oauth2_body_members.specs.Table.{Table, names_of}
+use Rattle.oauth2_body_members.specs.private.Groups.{Meanings, front, back, group_reading, of_two}
 use Rattle.oauth2_replies.specs.Token.{Token, token, token_table}
 
 abbrev pub credential_table : {T : Type 0} → (Data → Reading T) → Table (Token (Unit {0}) Data)

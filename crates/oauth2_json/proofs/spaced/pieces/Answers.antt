@@ -1,9 +1,8 @@
 use Rattle.std.proofs.Common.{[], ◌∙◌, map, Ok, sym, ap, append-nil, rules}
 use Rattle.std.proofs.lemmas.List.{map-append}
 use Rattle.std.proofs.lemmas.Result.{err_from_is_err_and}
-use Rattle.oauth2_json.specs.Words.{pieces}
 use Rattle.oauth2_json.specs.Values.{each_word}
-use Rattle.oauth2_json.proofs.Words.{in_front, some_parts, none_parts, each_turn, ends_with_fault}
+use Rattle.oauth2_json.proofs.Words.{pieces, in_front, some_parts, none_parts, each_turn, ends_with_fault}
 use Rattle.oauth2_json.proofs.spaced.pieces.Goals as goal
 
 pub returns-in_err-piece : goal.returns-in_err-piece

@@ -2,8 +2,7 @@ use Rattle.std.proofs.Common.{◌≡◌, map, length}
 use denote.Text.{Utf8}
 use denote.Shadow.{shadow}
 use Rattle.oauth2_json.specs.Values.{each_word}
-use Rattle.oauth2_json.specs.Words.{pieces}
-use Rattle.oauth2_json.proofs.Words.{in_front}
+use Rattle.oauth2_json.proofs.Words.{pieces, in_front}
 use Rattle.oauth2_json.proofs.spaced.pieces.Given as goal
 
 abbrev pub invariant-loop-first : goal.invariant-loop-first
