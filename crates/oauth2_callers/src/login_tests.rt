@@ -173,7 +173,10 @@ const STATE: &str = "AAAAAAAAAAAAAAAAAAAAAA";
 
 // A response with an ID token of this login, made and encoded by Python.
 const TOKENS: &str =
-    r#"{"access_token":"a","token_type":"bearer","id_token":"eyJhbGciOiJSUzI1NiJ9.eyJpc3MiOiJodHRwczovL2FzLmV4YW1wbGUiLCJzdWIiOiIyNDgyODk3NjEwMDEiLCJhdWQiOiJhYWEiLCJub25jZSI6IkFBQUFBQUFBQUFBQUFBQUFBQUFBQUEiLCJleHAiOjEzMTEyODE5NzAsImlhdCI6MTMxMTI4MDk3MCwiYXRfaGFzaCI6InlwZUJFc29idmNyNndqR3ptaVBjVFEifQ.c2ln"}"#;
+    "{\"access_token\":\"a\",\"token_type\":\"bearer\",\"id_token\":\"eyJhbGciOiJSUzI1NiJ9.eyJpc3\
+     MiOiJodHRwczovL2FzLmV4YW1wbGUiLCJzdWIiOiIyNDgyODk3NjEwMDEiLCJhdWQiOiJhYWEiLCJub25jZSI6IkFBQU\
+     FBQUFBQUFBQUFBQUFBQUFBQUEiLCJleHAiOjEzMTEyODE5NzAsImlhdCI6MTMxMTI4MDk3MCwiYXRfaGFzaCI6InlwZU\
+     JFc29idmNyNndqR3ptaVBjVFEifQ.c2ln\"}";
 
 #[test]
 fn open_id_login(rt: HostRuntime) {

@@ -69,7 +69,9 @@ fn a_login_is_started_with_more(rt: HostRuntime) {
          &state=twJcoQn0R3swMx26k_LSgw&code_challenge=H7ZdcLcbjjOKQshuaEBh45jlXGBfQdZSXs7wHPjiPgQ\
          &code_challenge_method=S256&redirect_uri=https%3A%2F%2Fapp.example%2Fcb\
          &scope=openid+profile+email&nonce=Jmh47R1EIjjXE6Eri4FbHA&prompt=consent&max_age=3600",
-        r#"{"max_age":3600,"nonce":"Jmh47R1EIjjXE6Eri4FbHA","redirect_uri":"https://app.example/cb","state":"twJcoQn0R3swMx26k_LSgw","verifier":"S3ikv25g7cuto8a_bf8vgVowH-aQSzj5_obbMvk1wB0"}"#,
+        "{\"max_age\":3600,\"nonce\":\"Jmh47R1EIjjXE6Eri4FbHA\",\
+         \"redirect_uri\":\"https://app.example/cb\",\"state\":\"twJcoQn0R3swMx26k_LSgw\",\
+         \"verifier\":\"S3ikv25g7cuto8a_bf8vgVowH-aQSzj5_obbMvk1wB0\"}",
     );
 }
 

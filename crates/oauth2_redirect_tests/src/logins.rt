@@ -187,7 +187,8 @@ fn a_login_is_stored(rt: HostRuntime) {
     assert_stored_and_shown(
         &rt,
         STORED_WITH_A_REDIRECT,
-        "Login { state: CsrfToken([redacted]), verifier: PkceCodeVerifier([redacted]), redirect_uri: Some(RedirectUrl(\"https://app.example/cb?a=1\")) }",
+        "Login { state: CsrfToken([redacted]), verifier: PkceCodeVerifier([redacted]), \
+         redirect_uri: Some(RedirectUrl(\"https://app.example/cb?a=1\")) }",
     );
 }
 
@@ -221,7 +222,9 @@ fn a_login_is_started(rt: HostRuntime) {
     assert_login(
         &rt,
         request,
-        "https://as.example/auth?response_type=code&client_id=aaa&state=twJcoQn0R3swMx26k_LSgw&code_challenge=H7ZdcLcbjjOKQshuaEBh45jlXGBfQdZSXs7wHPjiPgQ&code_challenge_method=S256&scope=read&nonce=n1",
+        "https://as.example/auth?response_type=code&client_id=aaa&state=twJcoQn0R3swMx26k_LSgw\
+         &code_challenge=H7ZdcLcbjjOKQshuaEBh45jlXGBfQdZSXs7wHPjiPgQ&code_challenge_method=S256\
+         &scope=read&nonce=n1",
         r#"{"state":"twJcoQn0R3swMx26k_LSgw","verifier":"S3ikv25g7cuto8a_bf8vgVowH-aQSzj5_obbMvk1wB0"}"#,
     );
 }
@@ -235,7 +238,10 @@ fn a_login_keeps_its_redirect_uri(rt: HostRuntime) {
     assert_login(
         &rt,
         started(&rt, &client).set_redirect_uri(&redirect),
-        "https://as.example/auth?response_type=code&client_id=aaa&state=twJcoQn0R3swMx26k_LSgw&code_challenge=H7ZdcLcbjjOKQshuaEBh45jlXGBfQdZSXs7wHPjiPgQ&code_challenge_method=S256&redirect_uri=https%3A%2F%2Fapp.example%2Fcb&scope=read",
-        r#"{"redirect_uri":"https://app.example/cb","state":"twJcoQn0R3swMx26k_LSgw","verifier":"S3ikv25g7cuto8a_bf8vgVowH-aQSzj5_obbMvk1wB0"}"#,
+        "https://as.example/auth?response_type=code&client_id=aaa&state=twJcoQn0R3swMx26k_LSgw\
+         &code_challenge=H7ZdcLcbjjOKQshuaEBh45jlXGBfQdZSXs7wHPjiPgQ&code_challenge_method=S256\
+         &redirect_uri=https%3A%2F%2Fapp.example%2Fcb&scope=read",
+        "{\"redirect_uri\":\"https://app.example/cb\",\"state\":\"twJcoQn0R3swMx26k_LSgw\",\
+         \"verifier\":\"S3ikv25g7cuto8a_bf8vgVowH-aQSzj5_obbMvk1wB0\"}",
     );
 }
