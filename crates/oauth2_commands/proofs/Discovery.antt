@@ -1,19 +1,52 @@
 -- The command `metadata`, from its request.
-use Rattle.std.proofs.Common.{◌≡◌, ℕ, List, Bool, true, false, Result, Ok, Err, inl, inr, refl}
-use Rattle.std.specs.Prelude.{bytes_eq}
+use Rattle.std.proofs.Common.{◌≡◌, ℕ, List, Bool, true, false, None, Result, Ok, Err, inl, inr, refl, append-nil}
+use Rattle.std.specs.Prelude.{bytes_eq, IsOkAnd}
+use Rattle.form_urlencoded.specs.Form.{raw_pairs, split}
+use Rattle.http_uri.specs.Uri.{uri_text}
+use Rattle.serde_json.specs.Data.{object, no_members}
+use Rattle.serde_json.specs.Written.{has_float}
 use Rattle.oauth2.specs.Settings.{Settings}
+use Rattle.oauth2_json.specs.Writing.{Writing}
 use Rattle.oauth2_metadata.specs.Issuer.{IsOutOfRoom, issuer_error_text}
-use Rattle.oauth2_metadata.specs.Request.{MetadataQuery, IsAsked, checked}
+use Rattle.oauth2_metadata.specs.Metadata.{metadata_writing, metadata_names, metadata_rows}
+use Rattle.oauth2_metadata.specs.Request.{MetadataQuery, IsAsked, IsGetOf, checked}
 use Rattle.oauth2_metadata.specs.declared.issuer.IssuerError.{IssuerError}
 use Rattle.oauth2_metadata.specs.declared.issuer.IssuerError.TheVariants.{NotUrl}
+use Rattle.oauth2_wire.specs.Request.{RequestView, authorization_of}
+use Rattle.oauth2_world.specs.Lines.{basic_line}
+use Rattle.oauth2_world.specs.RequestLines.{view_lines, request_lines}
 use Rattle.oauth2_script.specs.MetadataParams.{MetadataParams}
 use Rattle.oauth2_script.specs.Replies.{Reply}
-use Rattle.oauth2_commands.specs.Metadata.{IsDiscovered, IsMetadataOutput, metadata_output, place}
-use Rattle.oauth2_commands.specs.Out.{Output, failure_output}
-use Rattle.oauth2_commands.specs.private.Added.{Adds, AddsOutput}
+use Rattle.oauth2_commands.specs.Metadata.{IsDiscovered, IsMetadataOutput, get_lines, metadata_data, metadata_output, place}
 use Rattle.oauth2_commands.specs.private.Discovery.{MetadataSeen, discovery_output, metadata_meaning}
-use Rattle.oauth2_commands.specs.private.Results.{ShownFault, end_output, error_seen}
-use Rattle.oauth2_commands.specs.declared.status.RunStatus.{RunStatus}
+use Rattle.oauth2_commands.proofs.NoFloats.{metadata_data-no_float}
+use Rattle.oauth2_request_commands.specs.Out.{Output, failure_output, Adds, AddsOutput}
+use Rattle.oauth2_request_commands.specs.private.Results.{ShownFault, end_output, error_seen}
+use Rattle.oauth2_request_commands.specs.declared.status.RunStatus.{RunStatus}
+use Rattle.oauth2_request_commands.proofs.Results.{free_of}
+
+-- ---- the lines of a GET
+
+pub request_lines-get : (text : List ℕ) (v : RequestView) → IsGetOf text v → request_lines v ≡ get_lines (uri_text v.target)
+unfolding request_lines raw_pairs split
+request_lines-get text v is =
+    let a : authorization_of v ≡ None = rw is.headers refl in
+    let r : view_lines v ≡ basic_line None = rw (is.body, a) (append-nil (basic_line None)) in
+    rw (r, is.method, is.body, a) refl
+
+-- ---- metadata as JSON
+
+abbrev metadata_written : MetadataSeen → Writing
+metadata_written m = metadata_writing (λ _. Ok (object no_members)) m
+
+pub metadata_written-data : (m : MetadataSeen) → metadata_written m ≡ Ok (metadata_data (metadata_meaning m))
+unfolding metadata_data metadata_names metadata_rows
+metadata_written-data m = refl
+
+pub metadata_free : (m : MetadataSeen) → IsOkAnd (metadata_written m) (λ d. has_float d ≡ false)
+metadata_free m = free_of (metadata_written m) (metadata_data (metadata_meaning m)) (metadata_written-data m) (metadata_data-no_float (metadata_meaning m))
+
+-- ---- the end of the request
 
 -- metadata is shown by whether it names the issuer
 pub checked_shown : (issuer : List ℕ) (outcome : Result MetadataSeen ShownFault)

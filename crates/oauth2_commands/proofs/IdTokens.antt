@@ -12,9 +12,8 @@ use Rattle.oauth2_openid.specs.declared.read_error.IdTokenReadError.TheVariants 
 use Rattle.oauth2_script.specs.IdTokenParams.{IdTokenParams}
 use Rattle.oauth2_world.specs.Clock.{Clock, reading_of}
 use Rattle.oauth2_commands.specs.IdToken.{IsIdTokenOutput, params_expectation, reading_output, token_output, verdict_output}
-use Rattle.oauth2_commands.specs.Out.{Output, failure_output}
-use Rattle.oauth2_commands.specs.private.Added.{Adds, AddsOutput}
-use Rattle.oauth2_commands.specs.declared.status.RunStatus.{RunStatus}
+use Rattle.oauth2_request_commands.specs.Out.{Output, failure_output, Adds, AddsOutput}
+use Rattle.oauth2_request_commands.specs.declared.status.RunStatus.{RunStatus}
 
 -- why a text is no ID token
 pub read_error_shown : (error : IdTokenReadError) (shown : DecodedToken → Output) (read : TokenReading DecodedToken) (old new : List ℕ) (s : RunStatus) → (error ≡ errors.Memory → ⊥)

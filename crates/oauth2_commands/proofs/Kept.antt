@@ -30,21 +30,21 @@ use Rattle.oauth2_keeper.proofs.SentFaults.{of_reply, shown as shown_counts, not
 use Rattle.oauth2.specs.Settings.{Settings}
 use Rattle.oauth2_script.specs.KeeperParams.{KeeperParams}
 use Rattle.oauth2_script.specs.Replies.{Reply}
-use Rattle.oauth2_commands.specs.Client.{WithEndpoint, WithToken, missing}
-use Rattle.oauth2_commands.specs.Exchange.{BasicToken, other_text, token_answer}
+use Rattle.oauth2_request_commands.specs.Client.{WithEndpoint, WithToken, missing}
+use Rattle.oauth2_request_commands.specs.Exchange.{BasicToken, other_text, token_answer}
 use Rattle.oauth2_commands.specs.Keeper.{Standing, is_early, end_text, waiting, IsCall, IsRenewal, IsSentAt, AreCalls, IsKeeperOutput, kept_after_reply, renewal_output, both, both_outputs, nothing}
 use Rattle.oauth2_world.specs.Lines.{expected_lines, quotation}
-use Rattle.oauth2_commands.specs.Out.{Output, after, success_output, failure_output as shown_fault, no_memory_output}
-use Rattle.oauth2_commands.specs.private.Added.{Adds, AddsOutput}
+use Rattle.oauth2_request_commands.specs.Out.{Output, after, success_output, failure_output as shown_fault, no_memory_output, Adds, AddsOutput}
 use Rattle.oauth2_commands.specs.private.Kept.{standing, end_of_wait, patient_standing, wait_after, told_by, AreKept, ShowsCall, ShowsError}
 use Rattle.oauth2_world.specs.Replay.{Replays, ReplaysOrStarves, client_replies}
-use Rattle.oauth2_commands.specs.private.Results.{ShownFault, ErrorResponse, TokenSeen, token_meaning, error_seen, fault_output}
+use Rattle.oauth2_request_commands.specs.Faults.{fault_output}
+use Rattle.oauth2_request_commands.specs.private.Results.{ShownFault, ErrorResponse, TokenSeen, token_meaning, error_seen}
 use Rattle.oauth2_world.specs.Replies.{next_reply, later_replies}
 use Rattle.oauth2_world.specs.declared.replay.NoReply.{NoReply}
 use Rattle.oauth2_world.specs.declared.replay.ScriptedClient.{ScriptedClient}
-use Rattle.oauth2_commands.specs.declared.status.RunStatus.{RunStatus}
-use Rattle.oauth2_commands.specs.declared.status.RunStatus.TheVariants as status
-use Rattle.oauth2_commands.proofs.Exchanges.{request_lines-expected}
+use Rattle.oauth2_request_commands.specs.declared.status.RunStatus.{RunStatus}
+use Rattle.oauth2_request_commands.specs.declared.status.RunStatus.TheVariants as status
+use Rattle.oauth2_request_commands.proofs.Exchanges.{request_lines-expected}
 
 if-true : {A : Type 0} (b : Bool) (x y : A) → b ≡ true → (if b then x else y) ≡ x
 if-true true x y e = refl

@@ -1,11 +1,7 @@
 pub mod NoFloats
-pub mod Results
-pub mod Exchanges
 pub mod Discovery
-pub mod Commands
 pub mod Redirects
 pub mod IdTokens
-pub mod Scopes
-pub mod Polls
 pub mod Kept
+pub mod Written
 pub mod Reading

@@ -4,11 +4,10 @@ use Rattle.std.specs.Prelude.{IfSome}
 use Rattle.oauth2_redirect.specs.Redirect.{RedirectRefusal, TellsRefusal, redirect_error_text}
 use Rattle.oauth2_redirect.specs.declared.redirect.RedirectError.{RedirectError}
 use Rattle.oauth2_redirect.specs.declared.redirect.RedirectError.TheVariants as errors
-use Rattle.oauth2_commands.specs.Exchange.{error_display}
-use Rattle.oauth2_commands.specs.Out.{failure_output}
+use Rattle.oauth2_request_commands.specs.Exchange.{error_display}
+use Rattle.oauth2_request_commands.specs.Out.{failure_output, AddsOutput}
 use Rattle.oauth2_commands.specs.Redirect.{shown_answer}
-use Rattle.oauth2_commands.specs.private.Added.{AddsOutput}
-use Rattle.oauth2_commands.specs.declared.status.RunStatus.{RunStatus}
+use Rattle.oauth2_request_commands.specs.declared.status.RunStatus.{RunStatus}
 
 pub refusal_shown : (e : RedirectError) (told : Result (List ℕ) RedirectRefusal) (old new : List ℕ) (s : RunStatus) → (e ≡ errors.Memory → ⊥) → TellsRefusal e told
     → IfSome (redirect_error_text e) (λ text. AddsOutput old new s (failure_output text)) → AddsOutput old new s (shown_answer told)

@@ -14,7 +14,7 @@ use Rattle.oauth2_openid.specs.declared.access_token_hash.AccessTokenHash.{Acces
 use Rattle.oauth2_openid.specs.declared.access_token_hash.AccessTokenHash.TheVariants.{Absent, Matches, NotChecked}
 use Rattle.oauth2_openid.specs.declared.claims_error.ClaimsError.{ClaimsError}
 use Rattle.oauth2_world.specs.Clock.{Clock, reading_of}
-use Rattle.oauth2_commands.specs.Out.{Output, success_output, failure_output}
+use Rattle.oauth2_request_commands.specs.Out.{Output, success_output, failure_output}
 use Rattle.oauth2_script.specs.IdTokenParams.{IdTokenParams}
 
 -- what the client of a script expects of an ID token

@@ -12,13 +12,13 @@ use Rattle.oauth2_wire.specs.Once.{not_http_text}
 use Rattle.oauth2_wire.specs.Reply.{Answer, accepted, refused, unread, other, ReplyView}
 use Rattle.oauth2.specs.Settings.{Settings}
 use Rattle.oauth2_keeper.specs.Keeper.{Keeper, Given, is_good, accept, renewal}
-use Rattle.oauth2_commands.specs.Client.{WithToken}
-use Rattle.oauth2_commands.specs.Exchange.{BasicToken, IsTarget, error_display, other_text, reply_output, token_answer}
+use Rattle.oauth2_request_commands.specs.Client.{WithToken}
+use Rattle.oauth2_request_commands.specs.Exchange.{BasicToken, IsTarget, error_display, other_text, reply_output, token_answer}
 use Rattle.oauth2_world.specs.Lines.{line, expected_lines, quotation}
-use Rattle.oauth2_commands.specs.Out.{Output, after, success_output, failure_output, no_memory_output}
+use Rattle.oauth2_request_commands.specs.Out.{Output, after, success_output, failure_output, no_memory_output}
 use Rattle.oauth2_world.specs.Replies.{next_reply, later_replies}
-use Rattle.oauth2_commands.specs.declared.status.RunStatus.{RunStatus}
-use Rattle.oauth2_commands.specs.declared.status.RunStatus.TheVariants as status
+use Rattle.oauth2_request_commands.specs.declared.status.RunStatus.{RunStatus}
+use Rattle.oauth2_request_commands.specs.declared.status.RunStatus.TheVariants as status
 use Rattle.oauth2_script.specs.KeeperParams.{KeeperParams}
 use Rattle.oauth2_script.specs.Replies.{Reply}
 

@@ -16,8 +16,8 @@ use Rattle.oauth2_replies.specs.Kept.{any_object}
 use Rattle.oauth2_wire.specs.declared.content_type.ReplyRule.{ReplyRule}
 use Rattle.oauth2_wire.specs.Reply.{Answer, ReplyView, answer_of}
 use Rattle.oauth2_world.specs.Lines.{request_line, authorization_line, body_line, basic_line}
-use Rattle.oauth2_commands.specs.Exchange.{IsRequestShown, error_display}
-use Rattle.oauth2_commands.specs.Out.{Output, success_output, failure_output}
+use Rattle.oauth2_request_commands.specs.Exchange.{IsRequestShown, error_display}
+use Rattle.oauth2_request_commands.specs.Out.{Output, success_output, failure_output}
 use Rattle.oauth2_script.specs.MetadataParams.{MetadataParams}
 use Rattle.oauth2_script.specs.Replies.{Reply}
 use Rattle.oauth2_script.specs.declared.metadata_params.WellKnown.{WellKnown}

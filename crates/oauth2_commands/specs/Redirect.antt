@@ -4,8 +4,8 @@ use Rattle.oauth2_codes.specs.AuthorizationCodes.{authorization_error_code_text}
 use Rattle.oauth2_form.specs.Query.{query_form}
 use Rattle.oauth2_redirect.specs.Redirect.{RedirectRefusal, other_state, other_issuer, refused, no_code, answer}
 use Rattle.oauth2_world.specs.Lines.{quotation}
-use Rattle.oauth2_commands.specs.Exchange.{error_display}
-use Rattle.oauth2_commands.specs.Out.{Output, success_output, failure_output}
+use Rattle.oauth2_request_commands.specs.Exchange.{error_display}
+use Rattle.oauth2_request_commands.specs.Out.{Output, success_output, failure_output}
 use Rattle.oauth2_script.specs.RedirectParams.{RedirectParams}
 
 -- why there is no code; an error of the server is shown with its description and its page

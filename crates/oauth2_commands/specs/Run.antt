@@ -1,27 +1,28 @@
 -- What a run over an input writes, and how it ends.
 use Rattle.std.specs.Prelude.{◌≡◌, ℕ, List, Option, Some, None, codes}
 use Rattle.oauth2.specs.Settings.{Settings}
-use Rattle.oauth2_commands.specs.Authorize.{IsAuthorizeOutput}
-use Rattle.oauth2_commands.specs.ClientCredentials.{IsClientCredentialsOutput}
-use Rattle.oauth2_commands.specs.Code.{IsCodeOutput}
+use Rattle.oauth2_request_commands.specs.Authorize.{IsAuthorizeOutput}
+use Rattle.oauth2_request_commands.specs.ClientCredentials.{IsClientCredentialsOutput}
+use Rattle.oauth2_request_commands.specs.Code.{IsCodeOutput}
 use Rattle.oauth2_world.specs.Clock.{Clock, new_clock}
-use Rattle.oauth2_commands.specs.DeviceAuthorization.{IsDeviceAuthorizationOutput}
-use Rattle.oauth2_commands.specs.DevicePoll.{IsDevicePollOutput}
+use Rattle.oauth2_request_commands.specs.DeviceAuthorization.{IsDeviceAuthorizationOutput}
+use Rattle.oauth2_request_commands.specs.DevicePoll.{IsDevicePollOutput}
 use Rattle.oauth2_commands.specs.IdToken.{IsIdTokenOutput}
-use Rattle.oauth2_commands.specs.Introspect.{IsIntrospectOutput}
+use Rattle.oauth2_request_commands.specs.Introspect.{IsIntrospectOutput}
 use Rattle.oauth2_commands.specs.Keeper.{IsKeeperOutput}
 use Rattle.oauth2_commands.specs.Metadata.{IsMetadataOutput}
-use Rattle.oauth2_commands.specs.Password.{IsPasswordOutput}
+use Rattle.oauth2_request_commands.specs.Password.{IsPasswordOutput}
 use Rattle.oauth2_commands.specs.Redirect.{IsRedirectOutput}
-use Rattle.oauth2_commands.specs.Refresh.{IsRefreshOutput}
-use Rattle.oauth2_commands.specs.Revoke.{IsRevokeOutput}
+use Rattle.oauth2_request_commands.specs.Refresh.{IsRefreshOutput}
+use Rattle.oauth2_request_commands.specs.Revoke.{IsRevokeOutput}
 use Rattle.oauth2_world.specs.Lines.{line}
-use Rattle.oauth2_commands.specs.Out.{Output}
+use Rattle.oauth2_request_commands.specs.Out.{Output}
 use Rattle.oauth2_script.specs.Command.{Command, code, refresh, password, client_credentials, introspect, revoke, device_authorization, device_poll, keeper, metadata, id_token, authorize, redirect}
 use Rattle.oauth2_script.specs.Script.{Script, script_in}
-use Rattle.oauth2_commands.specs.Client.{settings_of}
+use Rattle.oauth2_request_commands.specs.Client.{settings_of}
 use Rattle.oauth2_script.specs.Replies.{Reply}
-use Rattle.oauth2_commands.specs.declared.status.RunStatus.TheVariants as status
+use Rattle.oauth2_request_commands.specs.declared.status.RunStatus.{RunStatus}
+use Rattle.oauth2_request_commands.specs.declared.status.RunStatus.TheVariants as status
 
 abbrev pub IsCommandOutput : Settings → Clock → List Reply → Command → Output → Type 0
 IsCommandOutput client clock replies (code p) o = IsCodeOutput client p replies o
@@ -44,6 +45,10 @@ bad_script = record { lines = line (codes "bad script"); status = status.BadScri
 abbrev pub IsScriptOutput : Option Script → Output → Type 0
 IsScriptOutput None o = o ≡ bad_script
 IsScriptOutput (Some s) o = IsCommandOutput (settings_of s.client) (new_clock s.readings) s.replies s.command o
+
+-- what was written, and how the run ended
+abbrev pub Shows : List ℕ → RunStatus → (Output → Type 0) → Type 0
+Shows written s IsOutput = (o : Output) × IsOutput o × (written ≡ o.lines) × (s ≡ o.status)
 
 -- a function of the input but for the target, which is the one that its URL's text has, and for
 -- where memory runs out inside a call of the client: before a request is made, behind it, or behind

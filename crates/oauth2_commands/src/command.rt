@@ -1,26 +1,20 @@
 //! The commands of a script.
 
 ghost use Rattle.std.specs.Prelude.{◌≡◌, false, string_bytes, IfOk};
-ghost use Rattle.oauth2_commands.specs.private.Added.{Adds};
+ghost use Rattle.oauth2_request_commands.specs.Out.{Adds};
 ghost use Rattle.oauth2_world.specs.Replay.{client_replies};
 ghost use Rattle.oauth2_commands.specs.Run.{IsCommandOutput};
 ghost use Rattle.oauth2_script.specs.Views.{command_view};
 
-use crate::authorize::run_authorize;
-use crate::client::ScriptClient;
-use crate::client_credentials::run_client_credentials;
-use crate::code::run_code;
-use crate::device_authorization::run_device_authorization;
-use crate::device_poll::run_device_poll;
 use crate::id_token::run_id_token;
-use crate::introspect::run_introspect;
 use crate::keeper::run_keeper;
 use crate::metadata::run_metadata;
-use crate::password::run_password;
 use crate::redirect::run_redirect;
-use crate::refresh::run_refresh;
-use crate::revoke::run_revoke;
-use crate::status::RunStatus;
+use oauth2_request_commands::{
+    RunStatus, ScriptClient, run_authorize, run_client_credentials, run_code,
+    run_device_authorization, run_device_poll, run_introspect, run_password, run_refresh,
+    run_revoke,
+};
 use oauth2_script::Command;
 use oauth2_world::ScriptedWorld;
 use std::alloc::{AllocError, Global};

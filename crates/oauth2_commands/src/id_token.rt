@@ -2,22 +2,19 @@
 
 ghost use Rattle.std.specs.Prelude.{◌≡◌, IfOk, option_map, string_bytes};
 ghost use Rattle.oauth2_commands.specs.IdToken as spec;
-ghost use Rattle.oauth2_commands.specs.Out.{Output};
-ghost use Rattle.oauth2_commands.specs.private.Added.{Adds, AddsOutput};
+ghost use Rattle.oauth2_request_commands.specs.Out.{Output, Adds, AddsOutput};
 ghost use Rattle.oauth2_openid.specs.Seen.{token_of};
 ghost use Rattle.oauth2_openid.specs.Token.{DecodedToken, TokenErrsAs, TokenReading};
 ghost use Rattle.oauth2_openid.specs.TokenRules.{token_checked};
 ghost use Rattle.oauth2_script.specs.Views.{id_token_view};
 
-use crate::answer::{show_answer, show_error_text};
-use crate::client::ScriptClient;
 use crate::id_token_json::CheckedToken;
-use crate::status::RunStatus;
 use jiff::Timestamp;
 use oauth2::TryClone;
 use oauth2_openid::{
     AccessTokenHash, ClaimsError, Expected, IdToken, IdTokenClaims, IdTokenReadError, Nonce,
 };
+use oauth2_request_commands::{RunStatus, ScriptClient, show_answer, show_error_text};
 use oauth2_script::IdTokenParams;
 use oauth2_world::ScriptedClock;
 use std::alloc::{AllocError, Global};

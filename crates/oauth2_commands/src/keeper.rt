@@ -3,22 +3,19 @@
 ghost use Rattle.std.specs.Prelude.{◌≡◌, ◌++◌, ℕ, Option, Some, false, string_bytes, codes};
 ghost use Rattle.std.specs.Prelude.{IfOk, map};
 ghost use Rattle.oauth2_commands.specs.Keeper as spec;
-ghost use Rattle.oauth2_commands.specs.Client.{missing};
-ghost use Rattle.oauth2_commands.specs.Out.{Output};
-ghost use Rattle.oauth2_commands.specs.private.Added.{Adds, AddsOutput};
+ghost use Rattle.oauth2_request_commands.specs.Client.{missing};
+ghost use Rattle.oauth2_request_commands.specs.Out.{Output, Adds, AddsOutput};
 ghost use Rattle.oauth2_commands.specs.private.Kept.{standing_of, WaitsFor, AreKept};
 ghost use Rattle.oauth2_wire.specs.ServerView.{pair_texts};
 ghost use Rattle.oauth2_world.specs.Replay.{client_replies};
 ghost use Rattle.oauth2_script.specs.Views.{keeper_view};
 
-use crate::answer::show_configuration_error;
-use crate::client::ScriptClient;
 use crate::script_keeper::{PlainKeeper, ScriptKeeper, show_call};
-use crate::status::RunStatus;
 use jiff::Timestamp;
 use oauth2::basic::BasicClient;
 use oauth2::{ConfigurationError, EndpointMaybeSet, EndpointSet, ParamText, TokenUrl, TryClone};
 use oauth2_keeper::TokenKeeper;
+use oauth2_request_commands::{RunStatus, ScriptClient, show_configuration_error};
 use oauth2_script::KeeperParams;
 use oauth2_world::ScriptedClient;
 use std::alloc::{AllocError, Global};

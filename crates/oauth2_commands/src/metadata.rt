@@ -2,8 +2,7 @@
 
 ghost use Rattle.std.specs.Prelude.{◌≡◌, false, string_bytes, IfOk};
 ghost use Rattle.oauth2_commands.specs.Metadata as spec;
-ghost use Rattle.oauth2_commands.specs.Out.{failure_output};
-ghost use Rattle.oauth2_commands.specs.private.Added.{Adds, AddsOutput};
+ghost use Rattle.oauth2_request_commands.specs.Out.{failure_output, Adds, AddsOutput};
 ghost use Rattle.oauth2_commands.specs.private.Discovery.{discovery_output};
 ghost use Rattle.oauth2_commands.specs.private.Discovery.{metadata_error_output};
 ghost use Rattle.oauth2_metadata.specs.Issuer.{IsOutOfRoom, issuer_error_text};
@@ -11,11 +10,9 @@ ghost use Rattle.oauth2_metadata.specs.Request.{IsAsked};
 ghost use Rattle.oauth2_script.specs.Views.{metadata_view};
 ghost use Rattle.oauth2_world.specs.Replay.{client_replies};
 
-use crate::answer::{show_answer, show_error_text, show_fault};
-use crate::client::ScriptClient;
-use crate::status::RunStatus;
 use oauth2::EmptyExtraTokenFields;
 use oauth2_metadata::{IssuerError, MetadataError, MetadataRequest, ServerMetadata};
+use oauth2_request_commands::{RunStatus, ScriptClient, show_answer, show_error_text, show_fault};
 use oauth2_script::{MetadataParams, WellKnown};
 use oauth2_world::{NoReply, ScriptedClient};
 use std::alloc::{AllocError, Global};

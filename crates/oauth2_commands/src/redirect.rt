@@ -1,17 +1,15 @@
 //! The command `redirect`: what the redirect says by which a user comes back.
 
 ghost use Rattle.std.specs.Prelude.{ℕ, List, Result, string_bytes, IfOk};
-ghost use Rattle.oauth2_commands.specs.Out.{success_output};
+ghost use Rattle.oauth2_request_commands.specs.Out.{success_output, Adds, AddsOutput};
 ghost use Rattle.oauth2_commands.specs.Redirect as spec;
-ghost use Rattle.oauth2_commands.specs.private.Added.{Adds, AddsOutput};
 ghost use Rattle.oauth2_redirect.specs.Redirect.{RedirectRefusal, Tells, TellsRefusal};
 ghost use Rattle.oauth2_script.specs.Views.{redirect_view};
 ghost use Rattle.oauth2_world.specs.Lines.{quotation};
 
-use crate::answer::show_error_text;
-use crate::status::RunStatus;
 use oauth2::AuthorizationCode;
 use oauth2_redirect::{RedirectError, read_redirect};
+use oauth2_request_commands::{RunStatus, show_error_text};
 use oauth2_script::RedirectParams;
 use oauth2_world::{print_answer, quoted};
 use std::alloc::{AllocError, Global};

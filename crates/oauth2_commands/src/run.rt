@@ -2,18 +2,17 @@
 
 ghost use Rattle.std.specs.Prelude.{◌≡◌, List, ℕ, Some, false, string_bytes, IfOk, IfSome};
 ghost use Rattle.std.specs.Io.KnownBytes.{Appends};
-ghost use Rattle.oauth2_commands.specs.Out.{Shows};
-ghost use Rattle.oauth2_commands.specs.Client.{settings_of};
+ghost use Rattle.oauth2_request_commands.specs.Out.{Adds};
+ghost use Rattle.oauth2_request_commands.specs.Client.{settings_of};
 ghost use Rattle.oauth2_commands.specs.Input.{Calls};
-ghost use Rattle.oauth2_commands.specs.Run.{IsCommandOutput, IsScriptOutput, IsOutputOf};
-ghost use Rattle.oauth2_commands.specs.private.Added.{Adds};
+ghost use Rattle.oauth2_commands.specs.Run.{IsCommandOutput, IsScriptOutput, IsOutputOf, Shows};
 ghost use Rattle.oauth2_script.specs.Views.{client_view, command_view, script_view};
 ghost use Rattle.oauth2_world.specs.Replay.{client_replies};
 
-use crate::client::client_of;
 use crate::command::run_command;
 use crate::input::{ScriptReader, read_input};
-use crate::status::{RunFault, RunStatus};
+use crate::status::RunFault;
+use oauth2_request_commands::{RunStatus, client_of};
 use oauth2_script::{ClientPart, Command, Script, ScriptError, script_in};
 use oauth2_world::{ScriptedClient, ScriptedClock, ScriptedWorld};
 use std::alloc::{AllocError, Global};

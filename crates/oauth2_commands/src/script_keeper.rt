@@ -5,14 +5,11 @@ ghost use Rattle.std.specs.Prelude.{◌++◌, string_bytes, IfOk, OnOk};
 ghost use Rattle.std.specs.Duration.{as_nanos};
 ghost use Rattle.oauth2_keeper.specs.Patience.{IsUntil, Patient};
 ghost use Rattle.oauth2_commands.specs.Keeper.{IsCall, end_text, wait_line, waiting};
-ghost use Rattle.oauth2_commands.specs.Out.{Output, success_output};
-ghost use Rattle.oauth2_commands.specs.private.Added.{AddsOutput};
+ghost use Rattle.oauth2_request_commands.specs.Out.{Output, success_output, AddsOutput};
 ghost use Rattle.oauth2_commands.specs.private.Kept as spec;
 ghost use Rattle.oauth2_world.specs.Lines.{quotation};
 ghost use Rattle.oauth2_world.specs.declared.replay.ScriptedClient.{ScriptedClient};
 
-use crate::answer::show_fault;
-use crate::status::RunStatus;
 use jiff::Timestamp;
 use oauth2::basic::{
     BasicErrorResponse, BasicRevocationErrorResponse, BasicTokenIntrospectionResponse,
@@ -20,6 +17,7 @@ use oauth2::basic::{
 };
 use oauth2::{AccessToken, EndpointMaybeSet, StandardRevocableToken};
 use oauth2_keeper::{BasicTokenKeeper, PatientError, PatientKeeper};
+use oauth2_request_commands::{RunStatus, show_fault};
 use oauth2_world::{NoReply, ScriptedClient, print_answer, quoted};
 use std::alloc::{AllocError, Global};
 use std::time::Duration;

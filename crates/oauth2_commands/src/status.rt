@@ -1,20 +1,9 @@
-//! How a run ends.
+//! Why a run has no status.
 
 ghost use Rattle.std.specs.Prelude.{◌≡◌};
 ghost use Rattle.oauth2_commands.specs.declared.status.RunFault.TheVariants.{Memory};
 
 use std::alloc::AllocError;
-
-/// How a run ended whose lines were written.
-#[derive(Clone, Copy, Debug, PartialEq, Eq)]
-pub enum RunStatus {
-    /// The command has an answer; a keeper's has one for each reading.
-    Answered,
-    /// The last line, or of a keeper one of the lines, names a fault or a wait.
-    Fault,
-    /// The input is no script.
-    BadScript,
-}
 
 /// Why a run has no status.
 #[derive(Clone, Copy, Debug, PartialEq, Eq)]

@@ -1,7 +1,7 @@
 -- The status that the process ends with.
 use Rattle.std.specs.Prelude.{ℕ, Result, Ok, Err}
-use Rattle.oauth2_commands.specs.declared.status.RunStatus.{RunStatus}
-use Rattle.oauth2_commands.specs.declared.status.RunStatus.TheVariants.{Answered, Fault, BadScript}
+use Rattle.oauth2_request_commands.specs.declared.status.RunStatus.{RunStatus}
+use Rattle.oauth2_request_commands.specs.declared.status.RunStatus.TheVariants.{Answered, Fault, BadScript}
 use Rattle.oauth2_commands.specs.declared.status.RunFault.{RunFault}
 
 abbrev pub run_exit_status : Result RunStatus RunFault → ℕ

@@ -5,8 +5,9 @@ use Rattle.oauth2_metadata.specs.declared.metadata_error.MetadataError.{Metadata
 use Rattle.oauth2_metadata.specs.declared.metadata_error.MetadataError.TheVariants.{OtherIssuer, Reply}
 use Rattle.oauth2_replies.specs.declared.token.EmptyExtraTokenFields.{EmptyExtraTokenFields}
 use Rattle.oauth2_commands.specs.Metadata.{BasicMetadata, metadata_json}
-use Rattle.oauth2_commands.specs.Out.{Output, success_output, failure_output}
-use Rattle.oauth2_commands.specs.private.Results.{ErrorResponse, error_seen, fault_output}
+use Rattle.oauth2_request_commands.specs.Out.{Output, success_output, failure_output}
+use Rattle.oauth2_request_commands.specs.Faults.{fault_output}
+use Rattle.oauth2_request_commands.specs.private.Results.{ErrorResponse, error_seen}
 use Rattle.oauth2_world.specs.declared.replay.NoReply.{NoReply}
 
 abbrev pub MetadataSeen : Type 0

@@ -9,15 +9,15 @@ use Rattle.oauth2_script.specs.KeeperParams.{KeeperParams}
 use Rattle.oauth2_script.specs.Replies.{Reply}
 use Rattle.oauth2_commands.specs.Keeper.{Standing, AreCalls, given_in, new_standing, waiting}
 use Rattle.oauth2_world.specs.Lines.{quotation}
-use Rattle.oauth2_commands.specs.Out.{Output, success_output}
-use Rattle.oauth2_commands.specs.private.Added.{AddsOutput}
+use Rattle.oauth2_request_commands.specs.Out.{Output, success_output, AddsOutput}
 use Rattle.oauth2_world.specs.Replay.{client_replies}
-use Rattle.oauth2_commands.specs.private.Results.{ShownFault, ErrorResponse, TokenSeen, token_meaning, error_seen, fault_output}
+use Rattle.oauth2_request_commands.specs.Faults.{fault_output}
+use Rattle.oauth2_request_commands.specs.private.Results.{ShownFault, ErrorResponse, TokenSeen, token_meaning, error_seen}
 use Rattle.oauth2_world.specs.declared.replay.NoReply.{NoReply}
 use Rattle.oauth2_world.specs.declared.replay.ScriptedClient.{ScriptedClient}
 use Rattle.oauth2_commands.specs.declared.script_keeper.ScriptKeeper.{ScriptKeeper}
 use Rattle.oauth2_commands.specs.declared.script_keeper.ScriptKeeper.TheVariants.{Plain, Waiting}
-use Rattle.oauth2_commands.specs.declared.status.RunStatus.{RunStatus}
+use Rattle.oauth2_request_commands.specs.declared.status.RunStatus.{RunStatus}
 
 abbrev pub standing : Keeper → Option ℤ → ScriptedClient → Standing
 standing keeper waits_until client = record { keeper = keeper; waits_until = waits_until; replies = client_replies client }

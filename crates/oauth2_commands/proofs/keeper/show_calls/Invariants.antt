@@ -1,7 +1,6 @@
 use Rattle.std.proofs.Common.{◌≡◌, ℕ, Option, false, map, take, string_bytes}
 use Rattle.oauth2_commands.specs.Keeper.{AreCalls}
-use Rattle.oauth2_commands.specs.Out.{Output}
-use Rattle.oauth2_commands.specs.private.Added.{AddsOutput}
+use Rattle.oauth2_request_commands.specs.Out.{Output, AddsOutput}
 use Rattle.oauth2_commands.specs.private.Kept.{standing_of, WaitsFor}
 use Rattle.oauth2_commands.proofs.keeper.show_calls.Given as goal
 

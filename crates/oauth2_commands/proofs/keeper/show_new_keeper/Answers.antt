@@ -6,7 +6,7 @@ use Rattle.oauth2_script.specs.Views.{keeper_view}
 use Rattle.oauth2_world.specs.Replay.{client_replies}
 use Rattle.oauth2_commands.specs.Keeper.{Standing, AreCalls, new_standing}
 use Rattle.oauth2_commands.specs.private.Kept.{standing_of}
-use Rattle.oauth2_commands.proofs.Scopes.{every_item}
+use Rattle.oauth2_request_commands.proofs.Scopes.{every_item}
 use Rattle.oauth2_commands.proofs.keeper.show_new_keeper.Goals as goal
 
 pub returns : goal.returns

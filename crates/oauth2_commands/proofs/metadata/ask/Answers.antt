@@ -4,13 +4,13 @@ use Rattle.url.specs.Parts.{serialize}
 use Rattle.oauth2_codes.specs.ErrorCodes.{error_code, error_code_text}
 use Rattle.oauth2_codes.specs.ErrorResponse.{parts_of}
 use Rattle.oauth2_metadata.specs.Request.{IsGetOf}
-use Rattle.oauth2_commands.specs.Exchange.{error_display}
+use Rattle.oauth2_request_commands.specs.Exchange.{error_display}
 use Rattle.oauth2_commands.specs.Metadata.{get_lines, metadata_answer, metadata_output}
-use Rattle.oauth2_commands.specs.private.Added.{AddsOutput}
+use Rattle.oauth2_request_commands.specs.Out.{AddsOutput}
 use Rattle.oauth2_commands.specs.private.Discovery.{discovery_output, metadata_meaning}
-use Rattle.oauth2_commands.specs.private.Results.{end_output, error_seen}
-use Rattle.oauth2_commands.proofs.Discovery.{checked_shown}
-use Rattle.oauth2_commands.proofs.Exchanges.{request_told, request_lines-get}
+use Rattle.oauth2_request_commands.specs.private.Results.{end_output, error_seen}
+use Rattle.oauth2_commands.proofs.Discovery.{checked_shown, request_lines-get}
+use Rattle.oauth2_request_commands.proofs.Exchanges.{request_told}
 use Rattle.oauth2_commands.proofs.metadata.ask.Goals as goal
 
 pub returns : goal.returns

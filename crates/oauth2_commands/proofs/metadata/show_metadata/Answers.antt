@@ -1,6 +1,6 @@
 use Rattle.std.proofs.lemmas.Result.{IfOk-weaker}
 use Rattle.oauth2_commands.specs.Metadata.{metadata_json}
-use Rattle.oauth2_commands.proofs.Results.{metadata_free, metadata_written-data}
+use Rattle.oauth2_commands.proofs.Discovery.{metadata_free, metadata_written-data}
 use Rattle.oauth2_commands.proofs.metadata.show_metadata.Goals as goal
 
 pub show_answer-requires : goal.show_answer-requires

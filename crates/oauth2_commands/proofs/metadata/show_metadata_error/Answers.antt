@@ -1,6 +1,6 @@
 use Rattle.std.proofs.lemmas.Result.{IfOk-weaker}
-use Rattle.oauth2_commands.specs.private.Results.{error_seen}
-use Rattle.oauth2_commands.proofs.Results.{error_told}
+use Rattle.oauth2_request_commands.specs.private.Results.{error_seen}
+use Rattle.oauth2_request_commands.proofs.Results.{error_told}
 use Rattle.oauth2_commands.proofs.metadata.show_metadata_error.Goals as goal
 
 pub returns-in-Reply : goal.returns-in-Reply

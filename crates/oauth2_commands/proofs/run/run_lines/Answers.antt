@@ -1,6 +1,6 @@
 use Rattle.std.proofs.Common.{◌≡◌, map, string_bytes}
 use Rattle.oauth2_world.specs.Clock.{new_clock}
-use Rattle.oauth2_commands.proofs.Commands.{Shows-from_Adds}
+use Rattle.oauth2_commands.proofs.Written.{Shows-from_Adds}
 use Rattle.oauth2_commands.proofs.run.run_lines.Goals as goal
 
 pub returns : goal.returns

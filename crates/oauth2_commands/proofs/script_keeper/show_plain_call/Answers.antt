@@ -1,9 +1,9 @@
 use Rattle.std.proofs.Common.{None, Ok, Err, string_bytes, refl, rules}
 use Rattle.std.proofs.lemmas.Result.{IfOk-weaker}
 use Rattle.oauth2_keeper.specs.Keeper.{is_good}
-use Rattle.oauth2_commands.specs.private.Results.{error_seen}
+use Rattle.oauth2_request_commands.specs.private.Results.{error_seen}
 use Rattle.oauth2_commands.proofs.Kept.{call_told, kept_shown, never_waits}
-use Rattle.oauth2_commands.proofs.Results.{error_told}
+use Rattle.oauth2_request_commands.proofs.Results.{error_told}
 use Rattle.oauth2_commands.proofs.script_keeper.show_plain_call.Goals as goal
 
 pub returns-in-Ok : goal.returns-in-Ok

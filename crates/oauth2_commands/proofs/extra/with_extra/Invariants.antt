@@ -1,6 +1,0 @@
-use Rattle.std.proofs.Common.{◌≡◌, map, take}
-use Rattle.oauth2_wire.specs.ServerView.{pair_texts}
-use Rattle.oauth2_commands.proofs.extra.with_extra.Given as goal
-
-abbrev pub invariant-loop-name : goal.invariant-loop-name
-invariant-loop-name g l = l.request ≡ g.T.Extensible.extended l.initial.request (map pair_texts (take l.name-index l.extra_params))

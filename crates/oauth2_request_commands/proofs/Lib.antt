@@ -1,0 +1,6 @@
+pub mod NoFloats
+pub mod Results
+pub mod Exchanges
+pub mod Commands
+pub mod Scopes
+pub mod Polls

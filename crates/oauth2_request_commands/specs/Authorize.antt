@@ -1,0 +1,37 @@
+-- The command `authorize`: the URL to send a user to (RFC 6749, 4.1.1).
+use Rattle.std.specs.Prelude.{◌≡◌, ℕ, List, ◌++◌, unwrap_or, codes}
+use Rattle.url.specs.Parts.{Parts, serialize}
+use Rattle.oauth2_urls.specs.Addressed.{Addressed}
+use Rattle.oauth2_requests.specs.Authorization.{Authorization, query_pairs}
+use Rattle.oauth2_form.specs.Query.{ExtendsQuery}
+use Rattle.oauth2_wire.specs.Expected.{optional_pair}
+use Rattle.oauth2.specs.Settings.{Settings}
+use Rattle.oauth2_request_commands.specs.Client.{WithEndpoint, given_or}
+use Rattle.oauth2_world.specs.Lines.{line, quotation}
+use Rattle.oauth2_request_commands.specs.Out.{Output, success_output, after}
+use Rattle.oauth2_script.specs.AuthorizeParams.{AuthorizeParams}
+
+-- a nonce goes before the extra parameters (OpenID Connect Core 1.0, 3.1.2.1)
+abbrev pub authorization : Settings → AuthorizeParams → Addressed → Authorization
+authorization client p url = record {
+  auth_url = url;
+  client_id = client.client_id;
+  state = p.state;
+  response_type = unwrap_or p.response_type (codes "code");
+  pkce_challenge = p.challenge;
+  redirect_url = given_or p.redirect client.redirect_url;
+  scopes = p.scopes;
+  extra_params = optional_pair (codes "nonce") p.nonce ++ p.extra_params;
+}
+
+unfoldable pub url_line : List ℕ → List ℕ
+url_line text = line (codes "url " ++ quotation text)
+
+-- the endpoint's URL with these pairs, and the state
+abbrev pub IsUrlShown : Authorization → Output → Type 0
+IsUrlShown r o =
+    (url : Parts) × ExtendsQuery r.auth_url.url url (query_pairs r) × (o ≡ after (url_line (serialize url)) (success_output (quotation r.state)))
+
+abbrev pub IsAuthorizeOutput : Settings → AuthorizeParams → Output → Type 0
+IsAuthorizeOutput client p o =
+    WithEndpoint (codes "authorization") (λ url o. IsUrlShown (authorization client p url) o) client.auth_url o

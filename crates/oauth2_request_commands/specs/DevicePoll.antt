@@ -1,0 +1,116 @@
+-- The command `device_poll`: a device asks for its token until that is decided (RFC 8628, 3.4 and 3.5).
+use Rattle.std.specs.Prelude.{◌≡◌, ◌⊎◌, ℕ, zero, suc, ℤ, List, [], ◌∷◌, ◌++◌, length, map, Option, Some, None, unwrap_or, codes}
+use Rattle.http_uri.specs.Uri.{SpellsNone}
+use Rattle.url.specs.Parts.{serialize}
+use Rattle.oauth2_codes.specs.Codes.{token_code_reading}
+use Rattle.oauth2_codes.specs.ErrorCodes.{DeviceErrorCode, expired_token, device_error_code_text, device_error_code_reading}
+use Rattle.oauth2_codes.specs.ErrorResponse.{ErrorParts, parts_of_error, error_reading}
+use Rattle.oauth2_replies.specs.Kept.{any_object}
+use Rattle.oauth2_replies.specs.Token.{token_reading}
+use Rattle.oauth2_urls.specs.Addressed.{Addressed}
+use Rattle.oauth2_wire.specs.declared.content_type.ReplyRule.{ReplyRule}
+use Rattle.oauth2_wire.specs.Expected.{Configuration}
+use Rattle.oauth2_wire.specs.Once.{not_http_text}
+use Rattle.oauth2_wire.specs.Reply.{Answer, ReplyView, answer_of}
+use Rattle.oauth2_poll.specs.declared.device_poll.PollAnswer.{PollAnswer}
+use Rattle.oauth2_poll.specs.declared.device_poll.PollAnswer.TheVariants.{Failed}
+use Rattle.oauth2_poll.specs.Laws.{IsTraceOf}
+use Rattle.oauth2_poll.specs.Trace.{TraceEvent, Reading, Asked, Answered, Slept, Ending, TooLong, OutOfRange, Late, Decided, Limited, IsLate, readings_in, answers_in}
+use Rattle.oauth2_device.specs.DeviceToken.{DeviceToken, seconds, device_token_configuration}
+use Rattle.oauth2_device.specs.Poll.{class_of_answer, input_of}
+use Rattle.oauth2.specs.NewRequest.{base_of}
+use Rattle.oauth2.specs.Settings.{Settings}
+use Rattle.oauth2_request_commands.specs.Client.{WithToken}
+use Rattle.oauth2_world.specs.Clock.{Clock, readings_of}
+use Rattle.oauth2_request_commands.specs.Exchange.{BasicToken, IsTarget, error_display, other_text, refused_text, reply_output, token_json}
+use Rattle.oauth2_world.specs.Lines.{expected_lines, sleep_line}
+use Rattle.oauth2_request_commands.specs.Out.{Output, after, success_output, failure_output, no_memory_output}
+use Rattle.oauth2_world.specs.Replies.{next_reply, later_replies}
+use Rattle.oauth2_script.specs.DevicePollParams.{DevicePollParams}
+use Rattle.oauth2_script.specs.Replies.{Reply}
+
+-- the cap is ten seconds where none is given
+abbrev pub device_token : Settings → DevicePollParams → Addressed → DeviceToken
+device_token client p url = record {
+  base = record (base_of client) { extra_params = p.extra_params };
+  token_url = url;
+  device_code = p.device.device_code;
+  expires_in = seconds p.device.expires_in;
+  interval = seconds p.device.interval;
+  max_backoff_interval = unwrap_or p.cap (seconds 10);
+}
+
+-- for how long the device polls: as long as its code is good, where nothing else is given
+abbrev pub timeout : DevicePollParams → ℕ
+timeout p = unwrap_or p.timeout (seconds p.device.expires_in)
+
+-- ---- the calls of the client
+
+-- what the first calls answer, so many
+abbrev pub calls_of : List Reply → ℕ → List (Option ReplyView)
+calls_of replies zero = []
+calls_of replies (suc n) = next_reply replies ∷ calls_of (later_replies replies) n
+
+-- the last of them, or this where there is none
+abbrev pub last_call : Option ReplyView → List (Option ReplyView) → Option ReplyView
+last_call before [] = before
+last_call before (call ∷ calls) = last_call call calls
+
+-- what a reply says to a device that waits for a token
+abbrev pub poll_answer : ReplyRule → ReplyView → Answer BasicToken (ErrorParts DeviceErrorCode)
+poll_answer rule = answer_of rule (token_reading any_object token_code_reading) (error_reading device_error_code_reading)
+
+-- what a call means to it
+abbrev pub class_of_call : ReplyRule → Option ReplyView → PollAnswer
+class_of_call rule None = Failed
+class_of_call rule (Some reply) = class_of_answer (poll_answer rule reply)
+
+-- ---- what is shown
+
+-- the lines of these events: each request goes to a target of the URL's text
+abbrev pub AreLinesOf : Configuration → List ℕ → List TraceEvent → List ℕ → Type 0
+AreLinesOf c url [] lines = lines ≡ []
+AreLinesOf c url (Reading t ∷ events) lines = AreLinesOf c url events lines
+AreLinesOf c url (Asked ∷ events) lines =
+    (target rest : List ℕ) × IsTarget url (Some target) × AreLinesOf c url events rest × (lines ≡ expected_lines c target ++ rest)
+AreLinesOf c url (Answered a ∷ events) lines = AreLinesOf c url events lines
+AreLinesOf c url (Slept d ∷ events) lines =
+    (rest : List ℕ) × AreLinesOf c url events rest × (lines ≡ sleep_line d ++ rest)
+
+abbrev pub device_error_display : ErrorParts DeviceErrorCode → List ℕ
+device_error_display e = error_display device_error_code_text e
+
+-- the answer at an end, after these calls
+abbrev pub shown_at : ReplyRule → Ending → List (Option ReplyView) → Output
+shown_at rule TooLong calls = failure_output (other_text (codes "failed to convert the timeout"))
+shown_at rule OutOfRange calls = failure_output (other_text (codes "failed to calculate timeout"))
+shown_at rule (Late n) calls =
+    failure_output (refused_text (device_error_display (parts_of_error expired_token (Some (codes "This device code has expired.")) None)))
+shown_at rule (Decided n) calls = reply_output (λ token. success_output (token_json token)) device_error_display (poll_answer rule) (last_call None calls)
+shown_at rule (Limited n) calls = failure_output (other_text (codes "polling limit reached"))
+
+-- a poll with a clock and the replies of a client: its events are those of the poll with what the
+-- clock showed and the client answered
+pub record IsPolled (r : DeviceToken) (timeout max_polls : ℕ) (clock : Clock) (replies : List Reply) (o : Output) : Type 0 where
+  pub events : List TraceEvent
+  pub shows : readings_in events ≡ readings_of clock (length (readings_in events))
+  pub calls : List (Option ReplyView)
+  pub are_calls : calls ≡ calls_of replies (length (answers_in events))
+  pub answers : answers_in events ≡ map (class_of_call r.base.reply_rule) calls
+  pub done : IsTraceOf (input_of r timeout max_polls events) events
+  pub lines : List ℕ
+  pub are_lines : AreLinesOf (device_token_configuration r) (serialize r.token_url.url) events lines
+  -- they are the whole poll, which its answer ends; or memory ran out behind a beginning of it; or
+  -- the endpoint is no HTTP target, which shows at the first request
+  pub end : (
+      ((done.rest ≡ []) × (o ≡ after lines (shown_at r.base.reply_rule done.ending calls)))
+      ⊎ ((o ≡ after lines no_memory_output)
+      ⊎ (SpellsNone (serialize r.token_url.url)
+      × ((start moment : ℤ) × (events ≡ Reading start ∷ Reading moment ∷ []))
+      × (¬ (IsLate (input_of r timeout max_polls events) 1))
+      × (o ≡ after lines (failure_output (other_text not_http_text)))))
+      )
+
+abbrev pub IsDevicePollOutput : Settings → DevicePollParams → Clock → List Reply → Output → Type 0
+IsDevicePollOutput client p clock replies o =
+    WithToken (λ url o. IsPolled (device_token client p url) (timeout p) p.max_polls clock replies o) client.token_url o

@@ -1,0 +1,26 @@
+-- What a run shows where a request has no answer.
+use Rattle.std.specs.Prelude.{ℕ, List, string_bytes, codes}
+use Rattle.oauth2_json.specs.Reading.{fault_of}
+use Rattle.oauth2_wire.specs.declared.error.ConfigurationError.{ConfigurationError}
+use Rattle.oauth2_wire.specs.declared.error.ConfigurationError.TheVariants.{MissingUrl, InsecureUrl}
+use Rattle.oauth2_wire.specs.declared.error.RequestTokenError.{RequestTokenError}
+use Rattle.oauth2_wire.specs.declared.error.RequestTokenError.TheVariants.{ServerResponse, Request, Parse, Other, Memory}
+use Rattle.oauth2_world.specs.declared.replay.NoReply.{NoReply}
+use Rattle.oauth2_request_commands.specs.Client.{missing}
+use Rattle.oauth2_request_commands.specs.Exchange.{not_read, refused_text, other_text}
+use Rattle.oauth2_request_commands.specs.Out.{Output, failure_output, no_memory_output}
+use Rattle.oauth2_request_commands.specs.Revoke.{insecure}
+
+module _ {T : Type 0} (text : T → List ℕ) where
+  -- the fault of a request, where the server's error is shown as `text`
+  abbrev pub fault_output : RequestTokenError NoReply T → Output
+  fault_output (ServerResponse e) = failure_output (refused_text (text e))
+  fault_output (Request e) = failure_output (codes "Request failed")
+  fault_output (Parse fault body) = not_read (fault_of fault)
+  fault_output (Other given) = failure_output (other_text (string_bytes given))
+  fault_output (Memory sent) = no_memory_output
+
+-- the client lacks an endpoint, or has one that is no `https` URL; its name is shown
+abbrev pub configuration_output : ConfigurationError → Output
+configuration_output (MissingUrl name) = missing name.now
+configuration_output (InsecureUrl name) = insecure name.now

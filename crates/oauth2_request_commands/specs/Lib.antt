@@ -1,0 +1,14 @@
+pub mod Out
+pub mod Client
+pub mod Exchange
+pub mod Authorize
+pub mod ClientCredentials
+pub mod Code
+pub mod DeviceAuthorization
+pub mod DevicePoll
+pub mod Introspect
+pub mod Password
+pub mod Refresh
+pub mod Revoke
+pub mod Faults
+pub mod private

@@ -1,0 +1,205 @@
+//! What a run shows of the end of a request.
+
+ghost use Rattle.std.specs.Prelude.{◌≡◌, ◌++◌, ℕ, List, Some, false, string_bytes, codes};
+ghost use Rattle.std.specs.Prelude.{IfOk, OnOk, IsOkAnd, IfSome};
+ghost use Rattle.serde_json.specs.Data.{Data};
+ghost use Rattle.serde_json.specs.Written.{compact_text, has_float};
+ghost use Rattle.oauth2_request_commands.specs.Exchange.{cause_name, unread_line};
+ghost use Rattle.oauth2_request_commands.specs.Out.{success_output, failure_output, AddsOutput};
+ghost use Rattle.oauth2_world.specs.Lines.{line};
+ghost use Rattle.oauth2_request_commands.specs.Faults.{configuration_output, fault_output};
+ghost use Rattle.oauth2_request_commands.specs.private.Results.{end_output};
+ghost use Rattle.oauth2_request_commands.specs.private.Results.{revocation_output};
+
+use crate::status::RunStatus;
+use oauth2::basic::{BasicErrorResponse, BasicRevocationErrorResponse};
+use oauth2::{
+    ConfigurationError, ParseCause, ParseFault, RequestTokenError, ToJson, WriteError, compact,
+};
+use oauth2_world::{NoReply, print_answer, print_fault, quoted};
+use std::alloc::{AllocError, Global};
+use std::fmt::Display;
+
+/// Why a run has no answer of the server.
+pub type Fault = RequestTokenError<NoReply, BasicErrorResponse>;
+
+/// Why a token is not revoked.
+pub type RevocationFault = RequestTokenError<NoReply, BasicRevocationErrorResponse>;
+
+fn cause_name(cause: ParseCause) -> &'static str
+    ensures { result.now ≡ cause_name cause }
+{
+    match cause {
+        ParseCause::NotJson => "NotJson",
+        ParseCause::NotObject => "NotObject",
+        ParseCause::Missing => "Missing",
+        ParseCause::WrongType => "WrongType",
+        ParseCause::NotWhole => "NotWhole",
+        ParseCause::OutOfRange => "OutOfRange",
+        ParseCause::BadUrl => "BadUrl",
+        ParseCause::BothNames => "BothNames",
+        ParseCause::Refused => "Refused",
+    }
+}
+
+// Four words in a line.
+fn print_words(
+    lines: &mut String,
+    first: &str,
+    second: &str,
+    third: &str,
+    fourth: &str,
+) -> Result<(), AllocError>
+    ensures { OnOk result (string_bytes lines.new ≡ string_bytes lines.old
+        ++ line (first.now ++ codes " " ++ second.now ++ codes " " ++ third.now ++ codes " "
+        ++ fourth.now)) }
+{
+    writeln!(lines, "{first} {second} {third} {fourth}")
+}
+
+#[tactic(auto, unfolding(crate::specs::Exchange::unread_line))]
+fn print_unread(
+    alloc: Global,
+    lines: &mut String,
+    member: &str,
+    cause: &str,
+) -> Result<(), AllocError>
+    ensures { OnOk result (string_bytes lines.new
+        ≡ string_bytes lines.old ++ unread_line member.now cause.now) }
+{
+    let display = quoted(alloc, "Failed to parse server response")?;
+    let member = quoted(alloc, member)?;
+    print_words(
+        lines,
+        "answer fault",
+        display.as_str(),
+        member.as_str(),
+        cause,
+    )?;
+    Ok(())
+}
+
+fn print_parse_fault(
+    alloc: Global,
+    lines: &mut String,
+    fault: &ParseFault,
+) -> Result<(), AllocError>
+    ensures { OnOk result (string_bytes lines.new ≡ string_bytes lines.old
+        ++ unread_line (string_bytes fault.now.member) (cause_name fault.now.cause)) }
+{
+    let cause = cause_name(fault.cause);
+    print_unread(alloc, lines, fault.member.as_str(), cause)
+}
+
+/// Shows an error by its text, and that the run ended in a fault.
+pub fn show_error_text<E: Display>(
+    alloc: Global,
+    lines: &mut String,
+    error: &E,
+) -> Result<RunStatus, AllocError>
+    ensures { IfOk result (λ status. IfSome (E.output error.now) (λ text.
+        AddsOutput (string_bytes lines.old) (string_bytes lines.new) status
+        (failure_output text))) }
+{
+    let text = error.to_string(alloc)?;
+    print_fault(alloc, lines, text.as_str())?;
+    Ok(RunStatus::Fault)
+}
+
+/// Shows the fault of a request: a body that could not be read by its member and the cause, and any
+/// other fault by its text.
+pub fn show_fault<T: Display>(
+    alloc: Global,
+    lines: &mut String,
+    fault: &RequestTokenError<NoReply, T>,
+) -> Result<RunStatus, AllocError>
+    ensures { IfOk result (λ status. (text : T → List ℕ) → ((e : T) → T.output e ≡ Some (text e))
+        → AddsOutput (string_bytes lines.old) (string_bytes lines.new) status
+        (fault_output text fault.now)) }
+{
+    if let RequestTokenError::Parse(fault, _) = fault {
+        print_parse_fault(alloc, lines, fault)?;
+        Ok(RunStatus::Fault)
+    } else {
+        show_error_text(alloc, lines, fault)
+    }
+}
+
+// The compact JSON of what is written without a fault and holds no float.
+fn json_of<T: ToJson>(alloc: Global, value: &T) -> Result<String, AllocError>
+    requires { IsOkAnd (T.writing value.now) (λ d. has_float d ≡ false) }
+    ensures { IfOk result (λ s. (d : Data) → T.writing value.now ≡ Ok d
+        → string_bytes s ≡ compact_text d) }
+{
+    match compact(alloc, value) {
+        Ok(json) => Ok(json),
+        Err(WriteError::Memory) => Err(AllocError),
+        Err(WriteError::NameClash) => unreachable!(),
+        Err(WriteError::Float) => unreachable!(),
+    }
+}
+
+/// Shows an answer as compact JSON, and that the run was answered. The answer has to be written
+/// without a fault and to hold no float.
+pub fn show_answer<A: ToJson>(
+    alloc: Global,
+    lines: &mut String,
+    answer: &A,
+) -> Result<RunStatus, AllocError>
+    requires { IsOkAnd (A.writing answer.now) (λ d. has_float d ≡ false) }
+    ensures { IfOk result (λ status. (d : Data) → A.writing answer.now ≡ Ok d
+        → AddsOutput (string_bytes lines.old) (string_bytes lines.new) status
+        (success_output (compact_text d))) }
+{
+    let json = json_of(alloc, answer)?;
+    print_answer(lines, json.as_str())?;
+    Ok(RunStatus::Answered)
+}
+
+/// The end of a request, whose answer is written without a fault and holds no float.
+pub fn show_end<A: ToJson, T: Display>(
+    alloc: Global,
+    lines: &mut String,
+    end: &Result<A, RequestTokenError<NoReply, T>>,
+) -> Result<RunStatus, AllocError>
+    requires { (a : A) → IsOkAnd (A.writing a) (λ d. has_float d ≡ false) }
+    ensures { IfOk result (λ status. (value : A → Data) → ((a : A) → A.writing a ≡ Ok (value a))
+        → (text : T → List ℕ) → ((e : T) → T.output e ≡ Some (text e))
+        → AddsOutput (string_bytes lines.old) (string_bytes lines.new) status
+        (end_output text (λ a. success_output (compact_text (value a))) end.now)) }
+{
+    match end {
+        Ok(answer) => show_answer(alloc, lines, answer),
+        Err(fault) => show_fault(alloc, lines, fault),
+    }
+}
+
+/// The end of a revocation.
+pub fn show_revocation(
+    alloc: Global,
+    lines: &mut String,
+    end: &Result<(), RevocationFault>,
+) -> Result<RunStatus, AllocError>
+    ensures { IfOk result (λ status. AddsOutput (string_bytes lines.old) (string_bytes lines.new)
+        status (revocation_output end.now)) }
+{
+    match end {
+        Ok(()) => {
+            print_answer(lines, "null")?;
+            Ok(RunStatus::Answered)
+        }
+        Err(fault) => show_fault(alloc, lines, fault),
+    }
+}
+
+/// Shows that the client lacks an endpoint, or that its URL is not an `https` URL.
+pub fn show_configuration_error(
+    alloc: Global,
+    lines: &mut String,
+    error: &ConfigurationError,
+) -> Result<RunStatus, AllocError>
+    ensures { IfOk result (λ status. AddsOutput (string_bytes lines.old) (string_bytes lines.new)
+        status (configuration_output error.now)) }
+{
+    show_error_text(alloc, lines, error)
+}

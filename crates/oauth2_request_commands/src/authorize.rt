@@ -1,0 +1,172 @@
+//! The command `authorize`: the URL to send a user to.
+
+ghost use Rattle.std.specs.Prelude.{◌≡◌, ◌++◌, Some, codes, option_copied, unwrap_or, string_bytes};
+ghost use Rattle.std.specs.Prelude.{IfSome, IfNone, IsOkAnd, IsErrAnd, OnOk, IfOk};
+ghost use Rattle.oauth2_wire.specs.ConfigurationError.{IsMissingUrl};
+ghost use Rattle.oauth2_wire.specs.Expected.{optional_pair};
+ghost use Rattle.oauth2_request_commands.specs.Authorize as spec;
+ghost use Rattle.oauth2.specs.NewRequest.{new_authorization};
+ghost use Rattle.oauth2_request_commands.specs.Client.{given_or};
+ghost use Rattle.oauth2_request_commands.specs.Out.{Adds};
+ghost use Rattle.oauth2_script.specs.Views.{authorize_view};
+
+use crate::answer::show_configuration_error;
+use crate::client::ScriptClient;
+use crate::extra::{Extensible, with_extra};
+use crate::status::RunStatus;
+use oauth2::{
+    AuthorizationRequest, ConfigurationError, CsrfToken, ParamText, PkceCodeChallenge, RedirectRef,
+    RedirectUrl, ResponseType,
+};
+use oauth2_script::AuthorizeParams;
+use oauth2_world::{print_answer, quoted};
+use std::alloc::{AllocError, Global};
+
+impl<'a> Extensible<'a> for AuthorizationRequest<'a> {
+    ghost use Rattle.std.proofs.Common.{List, ◌++◌, ap, append-nil, append_assoc};
+    ghost use Rattle.oauth2_form.specs.Pairs.{Pair};
+
+    ghost extended = { λ r added. record r { extra_params = r.extra_params ++ added } };
+
+    ghost none = { λ r.
+        ap (λ (pairs : List Pair). record r { extra_params = pairs })
+        (append-nil r.extra_params) };
+
+    ghost more = { λ r p q. ap (λ (pairs : List Pair). record r { extra_params = pairs })
+        (append_assoc r.extra_params p q) };
+
+    fn with_pair(
+        self,
+        name: &'a str,
+        value: &'a str,
+    ) -> Result<AuthorizationRequest<'a>, AllocError> {
+        self.add_extra_param(ParamText::Borrowed(name), ParamText::Borrowed(value))
+    }
+}
+
+fn start<'a>(
+    alloc: Global,
+    client: &'a ScriptClient,
+    state: CsrfToken,
+) -> Result<AuthorizationRequest<'a>, ConfigurationError>
+    ensures there { IfSome client.now.auth_url (λ url.
+        IsOkAnd result (λ r. r ≡ new_authorization client.now url state)) }
+    ensures missing { IfNone client.now.auth_url
+        (IsErrAnd result (IsMissingUrl (codes "authorization"))) }
+{
+    client.authorize_url(alloc, move || state)
+}
+
+fn with_challenge<'a>(
+    request: AuthorizationRequest<'a>,
+    challenge: Option<PkceCodeChallenge>,
+) -> AuthorizationRequest<'a>
+    ensures { result ≡ record request.entry {
+      pkce_challenge = given_or challenge request.entry.pkce_challenge;
+    } }
+{
+    match challenge {
+        Some(challenge) => request.set_pkce_challenge(challenge),
+        None => request,
+    }
+}
+
+fn with_redirect<'a>(
+    request: AuthorizationRequest<'a>,
+    redirect: Option<RedirectUrl>,
+) -> AuthorizationRequest<'a>
+    ensures { result ≡ record request.entry {
+      redirect_url = given_or redirect request.entry.redirect_url;
+    } }
+{
+    match redirect {
+        Some(redirect) => request.set_redirect_uri(RedirectRef::Owned(redirect)),
+        None => request,
+    }
+}
+
+fn with_response_type<'a>(
+    alloc: Global,
+    request: AuthorizationRequest<'a>,
+    response_type: Option<ResponseType>,
+) -> Result<AuthorizationRequest<'a>, AllocError>
+    ensures { IfOk result (λ r. r ≡ record request.entry {
+      response_type = unwrap_or response_type request.entry.response_type;
+    }) }
+{
+    match response_type {
+        Some(response_type) => request.set_response_type(alloc, &response_type),
+        None => Ok(request),
+    }
+}
+
+fn with_nonce<'a>(
+    request: AuthorizationRequest<'a>,
+    nonce: Option<&'a str>,
+) -> Result<AuthorizationRequest<'a>, AllocError>
+    ensures { IfOk result (λ r. r ≡ record request.entry {
+      extra_params = request.entry.extra_params
+          ++ optional_pair (codes "nonce") (option_copied nonce.entry);
+    }) }
+{
+    match nonce {
+        Some(nonce) => request.add_extra_param(
+            ParamText::Borrowed("nonce"),
+            ParamText::Borrowed(nonce),
+        ),
+        None => Ok(request),
+    }
+}
+
+#[tactic(auto, unfolding(crate::specs::Authorize::url_line))]
+fn print_url(alloc: Global, lines: &mut String, url: &str) -> Result<(), AllocError>
+    ensures { OnOk result (string_bytes lines.new
+        ≡ string_bytes lines.old ++ spec.url_line url.now) }
+{
+    let url = quoted(alloc, url)?;
+    writeln!(lines, "url {url}")
+}
+
+// The URL of the request, and its state.
+fn show_url(
+    alloc: Global,
+    lines: &mut String,
+    request: AuthorizationRequest<'_>,
+) -> Result<RunStatus, AllocError>
+    ensures { IfOk result (λ status. Adds (string_bytes lines.old) (string_bytes lines.new) status
+        (spec.IsUrlShown request.entry)) }
+{
+    match request.url(alloc) {
+        Ok((url, state)) => {
+            print_url(alloc, lines, url.as_str())?;
+            let json = quoted(alloc, state.secret().as_str())?;
+            print_answer(lines, json.as_str())?;
+            Ok(RunStatus::Answered)
+        }
+        Err(_) => Err(AllocError),
+    }
+}
+
+/// Shows the URL to send a user to, and the state.
+pub fn run_authorize(
+    alloc: Global,
+    client: &ScriptClient,
+    params: AuthorizeParams,
+    lines: &mut String,
+) -> Result<RunStatus, AllocError>
+    ensures { IfOk result (λ status. Adds (string_bytes lines.old) (string_bytes lines.new) status
+        (spec.IsAuthorizeOutput client.now (authorize_view params))) }
+{
+    match start(alloc, client, params.state) {
+        Ok(request) => {
+            let challenged = with_challenge(request, params.challenge);
+            let redirected = with_redirect(challenged, params.redirect);
+            let typed = with_response_type(alloc, redirected, params.response_type)?;
+            let scoped = typed.add_scopes(params.scopes)?;
+            let bound = with_nonce(scoped, params.nonce.as_deref())?;
+            let asked = with_extra(bound, params.extra_params.as_slice())?;
+            show_url(alloc, lines, asked)
+        }
+        Err(error) => show_configuration_error(alloc, lines, &error),
+    }
+}

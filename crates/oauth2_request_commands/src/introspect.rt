@@ -1,0 +1,93 @@
+//! The command `introspect`: the server is asked what a token is worth.
+
+ghost use Rattle.std.specs.Prelude.{◌≡◌, false, option_map, string_bytes, IfOk};
+ghost use Rattle.oauth2_requests.specs.TokenIntrospection.{introspection_configuration};
+ghost use Rattle.oauth2_request_commands.specs.Client.{given_or};
+ghost use Rattle.oauth2_request_commands.specs.Introspect as spec;
+ghost use Rattle.oauth2_request_commands.specs.Out.{Adds};
+ghost use Rattle.oauth2_world.specs.Replay.{client_replies};
+ghost use Rattle.oauth2_script.specs.Views.{introspect_view};
+
+use crate::answer::{show_configuration_error, show_end};
+use crate::client::ScriptClient;
+use crate::extra::{Extensible, with_extra};
+use crate::status::RunStatus;
+use oauth2::basic::{BasicErrorResponse, BasicTokenIntrospectionResponse};
+use oauth2::{IntrospectionRequest, ParamText};
+use oauth2_script::IntrospectParams;
+use oauth2_world::ScriptedClient;
+use std::alloc::{AllocError, Global};
+
+type Introspection<'a> = IntrospectionRequest<
+    'a,
+    BasicErrorResponse,
+    BasicTokenIntrospectionResponse,
+>;
+
+impl<'a> Extensible<'a> for Introspection<'a> {
+    ghost use Rattle.std.proofs.Common.{ap};
+    ghost use Rattle.oauth2_requests.specs.Base.{Base};
+    ghost use Rattle.oauth2_request_commands.specs.private.Extra.{with_pairs, with_pairs-none};
+    ghost use Rattle.oauth2_request_commands.specs.private.Extra.{with_pairs-more};
+
+    ghost extended = { λ r added. record r { base = with_pairs r.base added } };
+
+    ghost none = { λ r. ap (λ (b : Base). record r { base = b }) (with_pairs-none r.base) };
+
+    ghost more = { λ r p q.
+        ap (λ (b : Base). record r { base = b }) (with_pairs-more r.base p q) };
+
+    fn with_pair(self, name: &'a str, value: &'a str) -> Result<Introspection<'a>, AllocError> {
+        self.add_extra_param(ParamText::Borrowed(name), ParamText::Borrowed(value))
+    }
+}
+
+fn with_hint<'a>(request: Introspection<'a>, hint: Option<String>) -> Introspection<'a>
+    ensures { result ≡ record request.entry {
+      token_type_hint = given_or (option_map string_bytes hint) request.entry.token_type_hint;
+    } }
+{
+    match hint {
+        Some(hint) => request.set_token_type_hint(ParamText::Owned(hint)),
+        None => request,
+    }
+}
+
+// Sends the request, and shows what came of it.
+fn ask(
+    alloc: Global,
+    request: Introspection<'_>,
+    http_client: &mut ScriptedClient,
+) -> Result<RunStatus, AllocError>
+    ensures { IfOk result (λ status. http_client.new.is_starved ≡ false
+        → Adds (string_bytes http_client.old.lines) (string_bytes http_client.new.lines) status
+        (spec.IsIntrospected request.entry.base.reply_rule
+        (introspection_configuration request.entry)
+        request.entry.introspection_url (client_replies http_client.old))) }
+{
+    let end = request.request(alloc, http_client);
+    show_end(alloc, &mut http_client.lines, &end)
+}
+
+/// Asks what a token is worth, and shows what came of it.
+pub fn run_introspect(
+    alloc: Global,
+    client: &ScriptClient,
+    params: IntrospectParams,
+    http_client: &mut ScriptedClient,
+) -> Result<RunStatus, AllocError>
+    ensures { IfOk result (λ status. http_client.new.is_starved ≡ false
+        → Adds (string_bytes http_client.old.lines) (string_bytes http_client.new.lines) status
+        (spec.IsIntrospectOutput client.now (introspect_view params)
+        (client_replies http_client.old))) }
+{
+    let token = params.token;
+    match client.introspect(alloc, &token) {
+        Ok(request) => {
+            let hinted = with_hint(request, params.hint);
+            let asked = with_extra(hinted, params.extra_params.as_slice())?;
+            ask(alloc, asked, http_client)
+        }
+        Err(error) => show_configuration_error(alloc, &mut http_client.lines, &error),
+    }
+}

@@ -1,0 +1,35 @@
+//! The commands of a script that send a request or make its URL, and how answers and faults are
+//! shown.
+//!
+//! Each function that shows something appends it to the lines of the run. Its only error is that
+//! memory ran out, and then some of it may be there.
+
+#![tactic(auto)]
+
+mod answer;
+mod authorize;
+mod client;
+mod client_credentials;
+mod code;
+mod device_authorization;
+mod device_poll;
+mod extra;
+mod introspect;
+mod password;
+mod refresh;
+mod revoke;
+mod status;
+mod token_request;
+
+pub use answer::{show_answer, show_configuration_error, show_error_text, show_fault};
+pub use authorize::run_authorize;
+pub use client::{ScriptClient, client_of};
+pub use client_credentials::run_client_credentials;
+pub use code::run_code;
+pub use device_authorization::run_device_authorization;
+pub use device_poll::run_device_poll;
+pub use introspect::run_introspect;
+pub use password::run_password;
+pub use refresh::run_refresh;
+pub use revoke::run_revoke;
+pub use status::RunStatus;

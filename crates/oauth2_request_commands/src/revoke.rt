@@ -1,0 +1,84 @@
+//! The command `revoke`: a token is revoked.
+
+ghost use Rattle.std.specs.Prelude.{◌≡◌, false, string_bytes, IfOk};
+ghost use Rattle.oauth2_replies.specs.Revocable.{hint_of, secret_of};
+ghost use Rattle.oauth2_requests.specs.TokenRevocation.{revocation_configuration};
+ghost use Rattle.oauth2_request_commands.specs.Revoke as spec;
+ghost use Rattle.oauth2_request_commands.specs.Out.{Adds};
+ghost use Rattle.oauth2_world.specs.Replay.{client_replies};
+ghost use Rattle.oauth2_script.specs.Views.{revoke_view};
+
+use crate::answer::{show_configuration_error, show_revocation};
+use crate::client::ScriptClient;
+use crate::extra::{Extensible, with_extra};
+use crate::status::RunStatus;
+use oauth2::basic::BasicRevocationErrorResponse;
+use oauth2::{AccessToken, ParamText, RefreshToken, RevocationRequest, StandardRevocableToken};
+use oauth2_script::{RevokeParams, TokenKind};
+use oauth2_world::ScriptedClient;
+use std::alloc::{AllocError, Global};
+
+type Revocation<'a> = RevocationRequest<'a, StandardRevocableToken, BasicRevocationErrorResponse>;
+
+impl<'a> Extensible<'a> for Revocation<'a> {
+    ghost use Rattle.std.proofs.Common.{ap};
+    ghost use Rattle.oauth2_requests.specs.Base.{Base};
+    ghost use Rattle.oauth2_request_commands.specs.private.Extra.{with_pairs, with_pairs-none};
+    ghost use Rattle.oauth2_request_commands.specs.private.Extra.{with_pairs-more};
+
+    ghost extended = { λ r added. record r { base = with_pairs r.base added } };
+
+    ghost none = { λ r. ap (λ (b : Base). record r { base = b }) (with_pairs-none r.base) };
+
+    ghost more = { λ r p q.
+        ap (λ (b : Base). record r { base = b }) (with_pairs-more r.base p q) };
+
+    fn with_pair(self, name: &'a str, value: &'a str) -> Result<Revocation<'a>, AllocError> {
+        self.add_extra_param(ParamText::Borrowed(name), ParamText::Borrowed(value))
+    }
+}
+
+fn token_of(text: String, kind: TokenKind) -> StandardRevocableToken
+    ensures text { secret_of result ≡ string_bytes text }
+    ensures hint { hint_of result ≡ spec.hint_text kind }
+{
+    match kind {
+        TokenKind::Access => StandardRevocableToken::AccessToken(AccessToken::new(text)),
+        TokenKind::Refresh => StandardRevocableToken::RefreshToken(RefreshToken::new(text)),
+    }
+}
+
+// Sends the request, and shows what came of it.
+fn ask(
+    alloc: Global,
+    request: Revocation<'_>,
+    http_client: &mut ScriptedClient,
+) -> Result<RunStatus, AllocError>
+    ensures { IfOk result (λ status. http_client.new.is_starved ≡ false
+        → Adds (string_bytes http_client.old.lines) (string_bytes http_client.new.lines) status
+        (spec.IsRevoked (revocation_configuration request.entry) request.entry.revocation_url
+        (client_replies http_client.old))) }
+{
+    let end = request.request(alloc, http_client);
+    show_revocation(alloc, &mut http_client.lines, &end)
+}
+
+/// Revokes a token, and shows what came of it.
+pub fn run_revoke(
+    alloc: Global,
+    client: &ScriptClient,
+    params: RevokeParams,
+    http_client: &mut ScriptedClient,
+) -> Result<RunStatus, AllocError>
+    ensures { IfOk result (λ status. http_client.new.is_starved ≡ false
+        → Adds (string_bytes http_client.old.lines) (string_bytes http_client.new.lines) status
+        (spec.IsRevokeOutput client.now (revoke_view params) (client_replies http_client.old))) }
+{
+    match client.revoke_token(alloc, token_of(params.token, params.kind)) {
+        Ok(request) => {
+            let asked = with_extra(request, params.extra_params.as_slice())?;
+            ask(alloc, asked, http_client)
+        }
+        Err(error) => show_configuration_error(alloc, &mut http_client.lines, &error),
+    }
+}
