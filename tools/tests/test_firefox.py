@@ -20,7 +20,6 @@ class Firefox(unittest.TestCase):
     def setUp(self):
         self.server, self.asked = socket.create_server(('127.0.0.1', 0)), []
         self.addCleanup(self.server.close)
-        threading.Thread(target=self.serve, daemon=True).start()
         room = tempfile.TemporaryDirectory()
         self.addCleanup(room.cleanup)
         self.folder, self.it = room.name, firefox.Firefox(room.name, self.server.getsockname()[1])
@@ -46,6 +45,7 @@ class Firefox(unittest.TestCase):
         stream.flush()
 
     def test_a_session(self):
+        threading.Thread(target=self.serve, daemon=True).start()
         self.assertEqual(self.it.connect(), '9')
         self.assertEqual((self.it.find('a'), self.it.page()), ('e', ('http://127.0.0.1/', 'é')))
         with self.assertRaisesRegex(OSError, 'WebDriver:Navigate: no'):
