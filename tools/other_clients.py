@@ -31,7 +31,7 @@ ureq = { version = "2", default-features = false }
 TOOLS = os.path.join(repository.ROOT, 'tools')
 GO_PATH = '/usr/share/gocode'  # where Debian puts the sources of Go's packages
 X_OAUTH2 = 'golang-golang-x-oauth2-dev'
-WHICH_AUTHLIB = 'import authlib, platform; print("Authlib %s (Python %s)" % (authlib.__version__, platform.python_version()))'
+WHICH_AUTHLIB = 'import authlib, platform, requests; print("Authlib %s (Python %s)" % (authlib.__version__, platform.python_version()))'
 
 # A client's name with its version, and the command that calls it.
 Client = collections.namedtuple('Client', 'name command')
@@ -63,7 +63,7 @@ def x_oauth2():
 
 
 def authlib():
-    """Authlib, by the first Python that has it; None if there is none."""
+    """Authlib, by the first Python that has it and `requests`; None if there is none."""
     for python in dict.fromkeys(authlib_checks.PYTHONS):
         try:
             return Client(output(python, '-c', WHICH_AUTHLIB).rstrip(), [python, '-B', os.path.join(TOOLS, 'authlib_operations.py')])
