@@ -14,7 +14,7 @@ use Rattle.oauth2_body_members.specs.Table.{names_of}
 use Rattle.oauth2_body_members.proofs.Keeping.{others_kept}
 use Rattle.oauth2_body_members.proofs.Tables.{kept_in_turn}
 use Rattle.oauth2_metadata.specs.Metadata.{metadata, metadata_names, metadata_row, endpoint_group, endpoint_table, endpoint_row, supported_group, supported_table, supported_row, auth_method_group, auth_method_table, auth_method_row, signing_algorithm_group, signing_algorithm_table, signing_algorithm_row, page_group, page_table, page_row, service_group, service_table, service_row}
-use Rattle.oauth2_metadata.specs.private.InTurn.{metadata_in_turn, endpoints_in_turn, without_endpoints, supported_in_turn, without_supported, auth_methods_in_turn, without_auth_methods, signing_algorithms_in_turn, without_signing_algorithms, pages_in_turn, without_pages, services_in_turn, without_services, after_issuer, after_endpoints, after_supported, after_auth_methods, after_signing_algorithms, after_pages, after_services}
+use Rattle.oauth2_metadata.specs.private.Turn.{metadata_in_turn, endpoints_in_turn, without_endpoints, supported_in_turn, without_supported, auth_methods_in_turn, without_auth_methods, signing_algorithms_in_turn, without_signing_algorithms, pages_in_turn, without_pages, services_in_turn, without_services, after_issuer, after_endpoints, after_supported, after_auth_methods, after_signing_algorithms, after_pages, after_services}
 
 pass_at : (b : Bool) (test : List ℕ → Bool) (k name : List ℕ) (ks : List (List ℕ)) → bytes_eq k name ≡ b → test k && list_all test ks ≡ true → b || has_name name ks ≡ true → (list_all test ks ≡ true → has_name name ks ≡ true → test name ≡ true) → test name ≡ true
 pass_at true test k name ks is pass there later = rw (← (bytes_eq-Decides k name).0 is) (and_parts _ _ pass).0

@@ -1,3 +1,3 @@
 -- What only private clauses and lemmas cite.
-pub mod InTurn
+pub mod Turn
 pub mod Kept

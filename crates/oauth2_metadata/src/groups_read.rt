@@ -3,7 +3,7 @@
 ghost use Rattle.std.specs.Prelude.{◌≡◌, IfOk};
 ghost use Rattle.oauth2_json.specs.Reading.{ReadsAs};
 ghost use Rattle.oauth2_body_members.specs.Object.{object_members};
-ghost use Rattle.oauth2_metadata.specs.private.InTurn.{
+ghost use Rattle.oauth2_metadata.specs.private.Turn.{
   without_endpoints,
   without_supported,
   without_auth_methods,
@@ -24,7 +24,7 @@ use oauth2_body_members::Object;
 use oauth2_json::ReadError;
 use std::alloc::Global;
 
-#[tactic(auto, using(std::proofs::lemmas::Iterator::Adapters::option_map_id), unfolding(crate::specs::private::InTurn::endpoints_in_turn, crate::specs::private::InTurn::without_endpoints))]
+#[tactic(auto, unfolding(crate::specs::private::Turn::endpoints_in_turn, crate::specs::private::Turn::without_endpoints))]
 pub(crate) fn take_endpoints(alloc: Global, object: &mut Object<'_>) -> Result<Endpoints, ReadError>
     ensures read { ReadsAs (λ m. m) result (endpoints_in_turn (object_members object.old)) }
     ensures rest { IfOk result (λ _. object_members object.new
@@ -44,7 +44,7 @@ pub(crate) fn take_endpoints(alloc: Global, object: &mut Object<'_>) -> Result<E
     })
 }
 
-#[tactic(auto, unfolding(crate::specs::private::InTurn::supported_in_turn, crate::specs::private::InTurn::without_supported))]
+#[tactic(auto, unfolding(crate::specs::private::Turn::supported_in_turn, crate::specs::private::Turn::without_supported))]
 pub(crate) fn take_supported(alloc: Global, object: &mut Object<'_>) -> Result<Supported, ReadError>
     ensures read { ReadsAs (λ m. m) result (supported_in_turn (object_members object.old)) }
     ensures rest { IfOk result (λ _. object_members object.new
@@ -67,7 +67,7 @@ pub(crate) fn take_supported(alloc: Global, object: &mut Object<'_>) -> Result<S
     })
 }
 
-#[tactic(auto, unfolding(crate::specs::private::InTurn::auth_methods_in_turn, crate::specs::private::InTurn::without_auth_methods))]
+#[tactic(auto, unfolding(crate::specs::private::Turn::auth_methods_in_turn, crate::specs::private::Turn::without_auth_methods))]
 pub(crate) fn take_auth_methods(
     alloc: Global,
     object: &mut Object<'_>,
@@ -95,7 +95,7 @@ pub(crate) fn take_auth_methods(
     })
 }
 
-#[tactic(auto, unfolding(crate::specs::private::InTurn::signing_algorithms_in_turn, crate::specs::private::InTurn::without_signing_algorithms))]
+#[tactic(auto, unfolding(crate::specs::private::Turn::signing_algorithms_in_turn, crate::specs::private::Turn::without_signing_algorithms))]
 pub(crate) fn take_signing_algorithms(
     alloc: Global,
     object: &mut Object<'_>,
@@ -123,7 +123,7 @@ pub(crate) fn take_signing_algorithms(
     })
 }
 
-#[tactic(auto, unfolding(crate::specs::private::InTurn::pages_in_turn, crate::specs::private::InTurn::without_pages))]
+#[tactic(auto, unfolding(crate::specs::private::Turn::pages_in_turn, crate::specs::private::Turn::without_pages))]
 pub(crate) fn take_pages(alloc: Global, object: &mut Object<'_>) -> Result<Pages, ReadError>
     ensures read { ReadsAs (λ m. m) result (pages_in_turn (object_members object.old)) }
     ensures rest { IfOk result (λ _. object_members object.new
@@ -141,7 +141,7 @@ pub(crate) fn take_pages(alloc: Global, object: &mut Object<'_>) -> Result<Pages
     })
 }
 
-#[tactic(auto, unfolding(crate::specs::private::InTurn::services_in_turn, crate::specs::private::InTurn::without_services))]
+#[tactic(auto, unfolding(crate::specs::private::Turn::services_in_turn, crate::specs::private::Turn::without_services))]
 pub(crate) fn take_services(alloc: Global, object: &mut Object<'_>) -> Result<Services, ReadError>
     ensures read { ReadsAs (λ m. m) result (services_in_turn (object_members object.old)) }
     ensures rest { IfOk result (λ _. object_members object.new

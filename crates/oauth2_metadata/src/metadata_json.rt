@@ -14,7 +14,7 @@ ghost use Rattle.oauth2_metadata.specs.Metadata.{
   metadata_names,
   metadata_rows,
 };
-ghost use Rattle.oauth2_metadata.specs.private.InTurn.{metadata_in_turn};
+ghost use Rattle.oauth2_metadata.specs.private.Turn.{metadata_in_turn};
 ghost use Rattle.oauth2_metadata.specs.private.Kept.{AreAddresses};
 ghost use Rattle.oauth2_replies.specs.Kept.{AreFieldsKept};
 

@@ -8,7 +8,7 @@ use Rattle.oauth2_json.specs.Values.{text, text_list}
 use Rattle.oauth2_body_members.specs.Object.{object_members}
 use Rattle.oauth2_metadata.specs.Kinds.{told}
 use Rattle.oauth2_metadata.specs.Metadata.{page_group}
-use Rattle.oauth2_metadata.specs.private.InTurn.{pages_in_turn}
+use Rattle.oauth2_metadata.specs.private.Turn.{pages_in_turn}
 use Rattle.oauth2_metadata.proofs.Faults.{errs_last}
 use Rattle.oauth2_metadata.proofs.groups_read.take_pages.Goals as goal
 
