@@ -1,9 +1,9 @@
-use Rattle.std.proofs.Common.{◌≡◌, Option, Ok, codes, refl}
+use Rattle.std.proofs.Common.{◌≡◌, Option, Ok, arith, codes, refl}
 use Rattle.std.proofs.lemmas.Iterator.Adapters.{option_map_id}
 use Rattle.std.proofs.lemmas.Result.{err_from_is_err_and}
 use Rattle.serde_json.specs.Data.{Members}
 use Rattle.oauth2_urls.specs.Addressed.{Addressed}
-use Rattle.oauth2_json.specs.Reading.{◌⊛◌, ErrsAs}
+use Rattle.oauth2_json.specs.Reading.{◌⊛◌}
 use Rattle.oauth2_json.specs.Members.{without}
 use Rattle.oauth2_json.specs.Values.{url}
 use Rattle.oauth2_body_members.specs.Object.{object_members}
@@ -32,16 +32,8 @@ fifth_left a b c d f o p q r first after_first second after_second third after_t
     rw (first, second_of, third_of, fourth_of, f_is) refl
 
 pub returns-clause-read : goal.returns-clause-read
-returns-clause-read c =
-    let left = fifth_left
-    (object_members c.args.object.now) (object_members c.optional.new.self) (object_members c.optional-2.new.self)
-    (object_members c.optional-3.new.self) (object_members c.optional-4.new.self)
-    _ _ _ _
-    c.in_ok-authorization_endpoint.ensures.read c.in_ok-authorization_endpoint.ensures.rest
-    c.in_ok-token_endpoint.ensures.read c.in_ok-token_endpoint.ensures.rest
-    (c.in_ok-device_authorization_endpoint).ensures.read (c.in_ok-device_authorization_endpoint).ensures.rest
-    c.in_ok-introspection_endpoint.ensures.read c.in_ok-introspection_endpoint.ensures.rest in
-    rw (left, c.in_ok-revocation_endpoint.ensures.read) (simp option_map_id)
+unfolding endpoints_in_turn
+returns-clause-read c = grind (arith, option_map_id)
 
 pub returns-in_err-revocation_endpoint-clause-read : goal.returns-in_err-revocation_endpoint-clause-read
 returns-in_err-revocation_endpoint-clause-read c =

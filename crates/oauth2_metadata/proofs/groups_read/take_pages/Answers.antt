@@ -1,4 +1,5 @@
-use Rattle.std.proofs.Common.{◌≡◌, ℕ, List, Option, Ok, codes, refl}
+use Rattle.std.proofs.Common.{◌≡◌, ℕ, List, Option, Ok, arith, codes}
+use Rattle.std.proofs.lemmas.Iterator.Adapters.{option_map_id}
 use Rattle.std.proofs.lemmas.Result.{err_from_is_err_and}
 use Rattle.serde_json.specs.Data.{Members}
 use Rattle.oauth2_json.specs.Reading.{ErrsAs}
@@ -7,34 +8,13 @@ use Rattle.oauth2_json.specs.Members.{without}
 use Rattle.oauth2_json.specs.Values.{text, text_list}
 use Rattle.oauth2_body_members.specs.Object.{object_members}
 use Rattle.oauth2_metadata.specs.Kinds.{told}
-use Rattle.oauth2_metadata.specs.Metadata.{page_group}
 use Rattle.oauth2_metadata.specs.private.Turn.{pages_in_turn}
 use Rattle.oauth2_metadata.proofs.Faults.{errs_last}
 use Rattle.oauth2_metadata.proofs.groups_read.take_pages.Goals as goal
 
-all_four : (a b c d : Members) (o q r : Option (List ℕ)) (p : Option (List (List ℕ)))
-    → told text (codes "service_documentation") a ≡ Ok o → b ≡ without (codes "service_documentation") a
-    → told text_list (codes "ui_locales_supported") b ≡ Ok p → c ≡ without (codes "ui_locales_supported") b
-    → told text (codes "op_policy_uri") c ≡ Ok q → d ≡ without (codes "op_policy_uri") c
-    → told text (codes "op_tos_uri") d ≡ Ok r → pages_in_turn a ≡ Ok (page_group o p q r)
-unfolding pages_in_turn
-all_four a b c d o q r p first after_first second after_second third after_third fourth =
-    let second_of = rw after_first at second in
-    let c_is = rw after_first at after_second in
-    let third_of = rw c_is at third in
-    let d_is = rw c_is at after_third in
-    let fourth_of = rw d_is at fourth in
-    rw (first, second_of, third_of, fourth_of) refl
-
 pub returns-clause-read : goal.returns-clause-read
-returns-clause-read c =
-    all_four
-    (object_members c.args.object.now) (object_members c.optional.new.self) (object_members c.optional_text_list.new.self) (object_members c.optional-2.new.self)
-    _ _ _ _
-    c.in_ok-service_documentation.ensures.read c.in_ok-service_documentation.ensures.rest
-    c.in_ok-ui_locales_supported.ensures.read c.in_ok-ui_locales_supported.ensures.rest
-    c.in_ok-op_policy_uri.ensures.read c.in_ok-op_policy_uri.ensures.rest
-    c.in_ok-op_tos_uri.ensures.read
+unfolding pages_in_turn
+returns-clause-read c = grind (arith, option_map_id)
 
 -- a fault of the fourth page
 errs_fourth : (e : ReadError) (a b c d : Members) (o q : Option (List ℕ)) (p : Option (List (List ℕ)))
