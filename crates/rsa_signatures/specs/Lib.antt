@@ -1,0 +1,8 @@
+pub mod ErrorTexts
+pub mod HashFunction
+pub mod Octets
+pub mod Pkcs1
+pub mod Pss
+pub mod PublicKey
+pub mod Signature
+pub mod private

@@ -1,0 +1,26 @@
+-- EMSA-PKCS1-v1_5-ENCODE (RFC 8017, 9.2).
+use Rattle.std.specs.Prelude.{ℕ, ◌-◌, List, [], ◌∷◌, ◌++◌, length, replicate}
+use Rattle.rsa_signatures.specs.declared.hash_function.HashFunction.{HashFunction}
+use Rattle.rsa_signatures.specs.declared.hash_function.HashFunction.TheVariants.{Sha256, Sha384, Sha512}
+use Rattle.rsa_signatures.specs.HashFunction.{hashed}
+
+-- what comes before the digest in the DER of its DigestInfo (note 1)
+abbrev pub digest_prefix : HashFunction → List ℕ
+digest_prefix Sha256 =
+    0x30 ∷ 0x31 ∷ 0x30 ∷ 0x0d ∷ 0x06 ∷ 0x09 ∷ 0x60 ∷ 0x86 ∷ 0x48 ∷ 0x01
+    ∷ 0x65 ∷ 0x03 ∷ 0x04 ∷ 0x02 ∷ 0x01 ∷ 0x05 ∷ 0x00 ∷ 0x04 ∷ 0x20 ∷ []
+digest_prefix Sha384 =
+    0x30 ∷ 0x41 ∷ 0x30 ∷ 0x0d ∷ 0x06 ∷ 0x09 ∷ 0x60 ∷ 0x86 ∷ 0x48 ∷ 0x01
+    ∷ 0x65 ∷ 0x03 ∷ 0x04 ∷ 0x02 ∷ 0x02 ∷ 0x05 ∷ 0x00 ∷ 0x04 ∷ 0x30 ∷ []
+digest_prefix Sha512 =
+    0x30 ∷ 0x51 ∷ 0x30 ∷ 0x0d ∷ 0x06 ∷ 0x09 ∷ 0x60 ∷ 0x86 ∷ 0x48 ∷ 0x01
+    ∷ 0x65 ∷ 0x03 ∷ 0x04 ∷ 0x02 ∷ 0x03 ∷ 0x05 ∷ 0x00 ∷ 0x04 ∷ 0x40 ∷ []
+
+-- 00 01 FF .. FF 00 T, of so many octets (steps 3 to 6)
+abbrev pub padded : ℕ → List ℕ → List ℕ
+padded size t = 0x00 ∷ 0x01 ∷ replicate (size - length t - 3) 0xff ++ 0x00 ∷ t
+
+-- EM (steps 1 to 6): T is the DigestInfo of the message's digest. With keys of 2048 bits and more
+-- the encoding is never too short for it.
+abbrev pub pkcs1_encoded : HashFunction → ℕ → List ℕ → List ℕ
+pkcs1_encoded hash size message = padded size (digest_prefix hash ++ hashed hash message)

@@ -1,0 +1,59 @@
+//! The hash functions that signatures are made with.
+
+ghost use Rattle.std.specs.Prelude.{◌≡◌, ◌≤◌, ◌++◌, length, take};
+ghost use Rattle.rsa_signatures.specs.HashFunction.{hash_size, hashed};
+
+use sha2::{Digest, Sha256, Sha384, Sha512};
+
+/// A hash function of FIPS 180-4 that RFC 8017, B.1, recommends and RFC 7518, 3.1, uses.
+#[derive(Clone, Copy, Debug, PartialEq, Eq, Drop)]
+pub enum HashFunction {
+    Sha256,
+    Sha384,
+    Sha512,
+}
+
+// The octets, and zeros.
+fn filled(octets: &[u8]) -> [u8; 64]
+    requires { length octets.now ≤ 64 }
+    ensures { take (length octets.now) result ≡ octets.now }
+{
+    let mut filled = [0u8; 64];
+    filled[..octets.len()].copy_from_slice(octets);
+    filled
+}
+
+impl HashFunction {
+    // The octets of a digest.
+    pub(crate) fn size(self) -> usize
+        ensures value { result ≡ hash_size self }
+        ensures least { 32 ≤ result }
+        ensures most { result ≤ 64 }
+    {
+        match self {
+            HashFunction::Sha256 => 32,
+            HashFunction::Sha384 => 48,
+            HashFunction::Sha512 => 64,
+        }
+    }
+
+    // The digest of a message in three parts, as the first octets.
+    pub(crate) fn digest(self, first: &[u8], second: &[u8], third: &[u8]) -> [u8; 64]
+        ensures { take (hash_size self) result ≡ hashed self (first.now ++ second.now ++ third.now) }
+    {
+        match self {
+            HashFunction::Sha256 => {
+                let hasher = Sha256::new_with_prefix(first);
+                filled(&hasher.chain_update(second).chain_update(third).finalize())
+            }
+            HashFunction::Sha384 => {
+                let hasher = Sha384::new_with_prefix(first);
+                filled(&hasher.chain_update(second).chain_update(third).finalize())
+            }
+            HashFunction::Sha512 => {
+                let hasher = Sha512::new_with_prefix(first);
+                filled(&hasher.chain_update(second).chain_update(third).finalize())
+            }
+        }
+    }
+}

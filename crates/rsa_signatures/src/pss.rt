@@ -1,0 +1,169 @@
+// The check of an encoding for RSASSA-PSS (RFC 8017, 9.1.2).
+
+ghost use Rattle.std.specs.Prelude.{
+  ◌≡◌,
+  ℕ,
+  ◌+◌,
+  ◌-◌,
+  ◌*◌,
+  ◌/◌,
+  ◌%◌,
+  ◌^◌,
+  ◌<◌,
+  ◌≤◌,
+  ◌++◌,
+  ◌∷◌,
+  [],
+  ◌↔◌,
+  length,
+  take,
+  replicate,
+  slice_index,
+  IsTrue,
+  EachIndex,
+};
+ghost use Rattle.rsa_signatures.specs.HashFunction.{hashed, hash_size};
+ghost use Rattle.rsa_signatures.specs.Octets.{HasBits, octets_of};
+ghost use Rattle.rsa_signatures.specs.Pss.{
+  IsPssEncoding,
+  IsPssRepresentative,
+  block_size,
+  data_block,
+  mgf1,
+  xored,
+};
+ghost use Rattle.modular_arithmetic.specs.Limbs.{value_below};
+
+use crate::hash_function::HashFunction;
+use crate::octets::{LIMBS, OCTETS, octets_of};
+
+// A block of MGF1's mask (RFC 8017, B.2.1), as the first octets.
+fn mask_block(hash: HashFunction, seed: &[u8], counter: usize) -> [u8; 64]
+    requires { counter < 2 ^ 32 }
+    ensures { take (hash_size hash) result ≡ hashed hash (seed.now ++ octets_of 4 counter) }
+{
+    hash.digest(seed, &(counter as u32).to_be_bytes(), &[])
+}
+
+// The block that octet i of the mask is in, where that before it is given.
+fn block_at(hash: HashFunction, seed: &[u8], i: usize, before: [u8; 64]) -> [u8; 64]
+    requires i { i < 2 ^ 32 }
+    requires before { (i % hash_size hash ≡ 0 → ⊥) → take (hash_size hash) before
+        ≡ hashed hash (seed.now ++ octets_of 4 (i / hash_size hash)) }
+    ensures { take (hash_size hash) result
+        ≡ hashed hash (seed.now ++ octets_of 4 (i / hash_size hash)) }
+{
+    if i % hash.size() == 0 {
+        mask_block(hash, seed, i / hash.size())
+    } else {
+        before
+    }
+}
+
+// Octets with MGF1's mask added, as the first octets.
+fn unmasked(hash: HashFunction, seed: &[u8], masked: &[u8]) -> [u8; OCTETS]
+    requires { length masked.now ≤ OCTETS }
+    ensures { take (length masked.now) result
+        ≡ xored masked.now (mgf1 hash seed.now (length masked.now)) }
+{
+    let size = hash.size();
+    let mut block = [0u8; 64];
+    let mut octets = [0u8; OCTETS];
+    for i in 0..masked.len() {
+        block = block_at(hash, seed, i, block);
+        octets[i] = masked[i] ^ block[i % size];
+    }
+    octets
+}
+
+// What the first octet of an encoding is below, where so many of its bits are unused.
+fn first_limit(unused: usize) -> u16
+    requires { unused < 8 }
+    ensures { result ≡ 2 ^ (8 - unused) }
+{
+    1 << (8 - unused)
+}
+
+// The data block of an encoding, as the first octets.
+fn data_block(hash: HashFunction, unused: usize, em: &[u8]) -> [u8; OCTETS]
+    requires least { 130 ≤ length em.now }
+    requires most { length em.now ≤ OCTETS }
+    requires unused { unused < 8 }
+    ensures { take (block_size hash em.now) result ≡ data_block hash unused em.now }
+{
+    let size = em.len() - hash.size() - 1;
+    let seed = &em[size..size + hash.size()];
+    let mut octets = unmasked(hash, seed, &em[..size]);
+    octets[0] = (octets[0] as u16 % first_limit(unused)) as u8;
+    octets
+}
+
+fn is_zero(octets: &[u8]) -> bool
+    ensures { IsTrue result ↔ EachIndex octets.now (λ k. slice_index octets.now k ≡ 0) }
+{
+    octets.iter().all(|octet| *octet == 0)
+}
+
+// Whether octets are zeros and then a one.
+fn is_padding(octets: &[u8]) -> bool
+    requires { 0 < length octets.now }
+    ensures { IsTrue result
+        ↔ (octets.now ≡ replicate (length octets.now - 1) 0 ++ 0x01 ∷ []) }
+{
+    let last = octets.len() - 1;
+    is_zero(&octets[..last]) && octets[last] == 1
+}
+
+// Whether octets are the digest of eight zeros, the message's digest and the salt.
+fn is_salted_digest(hash: HashFunction, message: &[u8], salt: &[u8], found: &[u8]) -> bool
+    ensures { IsTrue result
+        ↔ (found.now
+        ≡ hashed hash (replicate 8 0 ++ hashed hash message.now ++ salt.now)) }
+{
+    let digest = hash.digest(message, &[], &[]);
+    let expected = hash.digest(&[0; 8], &digest[..hash.size()], salt);
+    found == &expected[..hash.size()]
+}
+
+// Whether an encoding ends as it has to, and its unused bits are zero.
+fn has_ends(unused: usize, em: &[u8]) -> bool
+    requires least { 130 ≤ length em.now }
+    requires unused { unused < 8 }
+    ensures { IsTrue result ↔ ((slice_index em.now (length em.now - 1) ≡ 0xbc)
+        × (slice_index em.now 0 < 2 ^ (8 - unused))) }
+{
+    em[em.len() - 1] == 0xbc && (em[0] as u16) < first_limit(unused)
+}
+
+fn is_encoding(hash: HashFunction, unused: usize, message: &[u8], em: &[u8]) -> bool
+    requires least { 130 ≤ length em.now }
+    requires most { length em.now ≤ OCTETS }
+    requires unused { unused < 8 }
+    ensures { IsTrue result ↔ IsPssEncoding hash unused message.now em.now }
+{
+    let size = em.len() - hash.size() - 1;
+    let octets = data_block(hash, unused, em);
+    let (padding, salt) = octets[..size].split_at(size - hash.size());
+    let found = &em[size..size + hash.size()];
+    has_ends(unused, em) && is_padding(padding) && is_salted_digest(hash, message, salt, found)
+}
+
+// Whether the representative is that of an encoding of the message, for a modulus of so many bits.
+pub(crate) fn is_pss(
+    hash: HashFunction,
+    message: &[u8],
+    representative: &[u64; LIMBS],
+    bits: usize,
+    len: usize,
+) -> bool
+    requires len { len ≤ LIMBS }
+    requires least { 2041 ≤ bits }
+    requires most { bits ≤ 8192 }
+    ensures { (n : ℕ) → HasBits n bits → (IsTrue result
+        ↔ IsPssRepresentative hash n message.now (value_below representative.now len)) }
+{
+    let size = (bits - 1 + 7) / 8;
+    let octets = octets_of(representative, len);
+    let (front, em) = octets.split_at(OCTETS - size);
+    is_zero(front) && is_encoding(hash, 8 * size - (bits - 1), message, em)
+}

@@ -1,0 +1,228 @@
+//! A public key, and the check of a signature by it.
+
+ghost use Rattle.std.specs.Prelude.{
+  ⊤,
+  ◌≡◌,
+  ◌+◌,
+  ◌*◌,
+  ◌%◌,
+  ◌^◌,
+  ◌<◌,
+  ◌≤◌,
+  ◌↔◌,
+  length,
+  slice_index,
+  take,
+  IsTrue,
+  MatchOption,
+  nat_eq,
+  nat_lt,
+  nat_le,
+};
+ghost use Rattle.modular_arithmetic.specs.Octets.{number};
+ghost use Rattle.rsa_signatures.specs.Octets.{HasBits, HasOctets};
+ghost use Rattle.rsa_signatures.specs.PublicKey.{PublicKey, key_of, least_modulus, modulus_limit};
+ghost use Rattle.rsa_signatures.specs.Signature.{IsSignature};
+ghost use Rattle.rsa_signatures.specs.private.KeyFields.{IsKey};
+
+use crate::key_error::RsaKeyError;
+use crate::octets::{LIMBS, OCTETS, filled};
+use crate::signature_scheme::SignatureScheme;
+use modular_arithmetic::{is_less, limb, negated_inverse, number, power, weight_square};
+use std::alloc::AllocError;
+use std::fmt;
+use std::marker::Model;
+
+/// A public key (RFC 8017, 3.1) of 2048 to 8192 bits. It takes no memory but its own.
+#[derive(Drop)]
+pub struct RsaPublicKey {
+    n: [u64; LIMBS],
+    octets: [u8; OCTETS],
+    square: [u64; LIMBS],
+    inverse: u64,
+    exponent: u64,
+    size: usize,
+    bits: usize,
+    len: usize,
+}
+
+impl Model for RsaPublicKey {
+    ghost Value = { PublicKey };
+
+    ghost view = { λ k. record {
+      modulus = number (take k.size k.octets);
+      exponent = k.exponent;
+    } };
+
+    ghost invariant = { λ k. IsKey k.n k.octets k.square k.inverse k.size k.bits k.len };
+}
+
+impl Clone for RsaPublicKey {
+    ghost is_clone = { λ key copy. copy ≡ key };
+
+    ghost is_infallible = { λ _. ⊤ };
+
+    fn clone(&self) -> Result<RsaPublicKey, AllocError> {
+        Ok(RsaPublicKey {
+            n: self.n,
+            octets: self.octets,
+            square: self.square,
+            inverse: self.inverse,
+            exponent: self.exponent,
+            size: self.size,
+            bits: self.bits,
+            len: self.len,
+        })
+    }
+}
+
+impl fmt::Debug for RsaPublicKey {
+    fn fmt<W: fmt::Write>(&self, f: &mut fmt::Formatter<W>) -> fmt::Result {
+        f.debug_struct("RsaPublicKey")
+            .field("modulus", &self.modulus())
+            .field("exponent", &self.exponent)
+            .finish()
+    }
+}
+
+// The octets after the zeros in front.
+fn significant(bytes: &[u8]) -> &[u8]
+    ensures number { number result.now ≡ number bytes.now }
+    ensures first { 0 < length result.now → 0 < slice_index result.now 0 }
+{
+    let mut start = 0;
+    while start < bytes.len() && bytes[start] == 0 {
+        start += 1;
+    }
+    &bytes[start..]
+}
+
+// The exponent that octets hold, unless it is 2 ^ 64 or more.
+fn exponent_from_octets(bytes: &[u8]) -> Option<u64>
+    ensures { MatchOption result (2 ^ 64 ≤ number bytes.now) (λ e. e ≡ number bytes.now) }
+{
+    let mut exponent = 0u64;
+    for byte in bytes {
+        if exponent >= 0x100_0000_0000_0000 {
+            return None;
+        }
+        exponent = exponent * 256 + *byte as u64;
+    }
+    Some(exponent)
+}
+
+fn is_short(bytes: &[u8]) -> bool
+    requires { 0 < length bytes.now → 0 < slice_index bytes.now 0 }
+    ensures { result ≡ nat_lt (number bytes.now) least_modulus }
+{
+    bytes.len() < 256 || bytes.len() == 256 && bytes[0] < 128
+}
+
+fn is_long(bytes: &[u8]) -> bool
+    requires { 0 < length bytes.now → 0 < slice_index bytes.now 0 }
+    ensures { result ≡ nat_le modulus_limit (number bytes.now) }
+{
+    bytes.len() > 1024
+}
+
+// The bits of the number that octets hold.
+fn bits(bytes: &[u8]) -> usize
+    requires some { 0 < length bytes.now }
+    requires most { length bytes.now ≤ OCTETS }
+    requires first { 0 < slice_index bytes.now 0 }
+    ensures has_bits { HasBits (number bytes.now) result }
+    ensures least { 8 * length bytes.now < result + 8 }
+    ensures most { result ≤ 8 * length bytes.now }
+{
+    8 * bytes.len() - bytes[0].leading_zeros() as usize
+}
+
+impl RsaPublicKey {
+    /// The key with this modulus and this exponent, or its first fault. Both are octets, the
+    /// highest first (RFC 8017, 4.2), as `n` and `e` of a JWK (RFC 7518, 6.3.1) hold them in
+    /// base64url. Zeros in front do not count.
+    pub fn new(modulus: &[u8], exponent: &[u8]) -> Result<RsaPublicKey, RsaKeyError>
+        ensures { result ≡ key_of (number modulus.now) (number exponent.now) }
+    {
+        let bytes = significant(modulus);
+        if is_short(bytes) {
+            return Err(RsaKeyError::ModulusTooSmall);
+        }
+        if is_long(bytes) {
+            return Err(RsaKeyError::ModulusTooLarge);
+        }
+        let size = bytes.len();
+        let len = size.div_ceil(8);
+        let n = number(bytes, len);
+        if n[0] % 2 == 0 {
+            return Err(RsaKeyError::ModulusEven);
+        }
+        let Some(exponent) = exponent_from_octets(exponent) else {
+            return Err(RsaKeyError::ExponentTooLarge);
+        };
+        if exponent < 3 {
+            return Err(RsaKeyError::ExponentTooSmall);
+        }
+        if exponent % 2 == 0 {
+            return Err(RsaKeyError::ExponentEven);
+        }
+        let square = weight_square(&n, len);
+        Ok(RsaPublicKey {
+            inverse: negated_inverse(n[0]),
+            n,
+            octets: filled(bytes),
+            square,
+            exponent,
+            size,
+            bits: bits(bytes),
+            len,
+        })
+    }
+
+    /// The modulus, the highest octet first, which is not 0.
+    pub fn modulus(&self) -> &[u8]
+        ensures number { number result.now ≡ self.now.modulus }
+        ensures first { 0 < slice_index result.now 0 }
+    {
+        &self.octets[..self.size]
+    }
+
+    /// The exponent.
+    pub fn exponent(&self) -> u64
+        ensures { result ≡ self.now.exponent }
+    {
+        self.exponent
+    }
+
+    /// The octets of the modulus, which are as many as those of a signature.
+    pub fn size(&self) -> usize
+        ensures { HasOctets self.now.modulus result }
+    {
+        self.size
+    }
+
+    /// Whether these octets are a signature of the message by this key.
+    pub fn verify(&self, scheme: SignatureScheme, message: &[u8], signature: &[u8]) -> bool
+        ensures { IsTrue result
+            ↔ IsSignature scheme self.now.modulus self.now.exponent message.now signature.now }
+    {
+        if signature.len() != self.size {
+            return false;
+        }
+        let len = self.len;
+        let signed = number(signature, len);
+        if !is_less(&signed, &self.n, len) {
+            return false;
+        }
+        let representative = power(
+            &signed,
+            &limb(self.exponent),
+            64 - self.exponent.leading_zeros() as usize,
+            &self.n,
+            &self.square,
+            self.inverse,
+            len,
+        );
+        scheme.is_encoded(message, &representative, self.size, self.bits, len)
+    }
+}
