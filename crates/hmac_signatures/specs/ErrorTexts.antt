@@ -1,0 +1,7 @@
+-- What `Display` writes of the error.
+use Rattle.std.specs.Prelude.{ℕ, List, codes}
+use Rattle.hmac_signatures.specs.declared.key_error.HmacKeyError.{HmacKeyError}
+use Rattle.hmac_signatures.specs.declared.key_error.HmacKeyError.TheVariants.{TooShort}
+
+abbrev pub key_error_text : HmacKeyError → List ℕ
+key_error_text TooShort = codes "the key is shorter than a digest"

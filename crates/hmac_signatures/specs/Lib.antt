@@ -1,0 +1,4 @@
+pub mod ErrorTexts
+pub mod HashFunction
+pub mod Hmac
+pub mod SecretKey

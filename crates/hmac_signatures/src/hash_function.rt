@@ -1,0 +1,79 @@
+//! The hash functions that HMAC is used with.
+
+ghost use Rattle.std.specs.Prelude.{◌≡◌, ◌≤◌, ◌++◌, length, take};
+ghost use Rattle.hmac_signatures.specs.HashFunction.{block_size, hash_size, hashed};
+
+use sha2::{Digest, Sha256, Sha384, Sha512};
+
+/// A hash function of FIPS 180-4 that RFC 7518, 3.2, uses.
+#[derive(Clone, Copy, Debug, PartialEq, Eq, Drop)]
+pub enum HashFunction {
+    Sha256,
+    Sha384,
+    Sha512,
+}
+
+// The octets, and zeros.
+fn filled(octets: &[u8]) -> [u8; 64]
+    requires { length octets.now ≤ 64 }
+    ensures { take (length octets.now) result ≡ octets.now }
+{
+    let mut filled = [0u8; 64];
+    filled[..octets.len()].copy_from_slice(octets);
+    filled
+}
+
+impl HashFunction {
+    // The octets of a digest.
+    pub(crate) fn size(self) -> usize
+        ensures value { result ≡ hash_size self }
+        ensures most { result ≤ 64 }
+    {
+        match self {
+            HashFunction::Sha256 => 32,
+            HashFunction::Sha384 => 48,
+            HashFunction::Sha512 => 64,
+        }
+    }
+
+    // The octets of a block that is hashed at a time.
+    pub(crate) fn block_size(self) -> usize
+        ensures value { result ≡ block_size self }
+        ensures least { 64 ≤ result }
+        ensures most { result ≤ 128 }
+    {
+        match self {
+            HashFunction::Sha256 => 64,
+            HashFunction::Sha384 | HashFunction::Sha512 => 128,
+        }
+    }
+
+    // The digest of a message in two parts, as the first octets.
+    pub(crate) fn digest(self, first: &[u8], second: &[u8]) -> [u8; 64]
+        ensures { take (hash_size self) result ≡ hashed self (first.now ++ second.now) }
+    {
+        match self {
+            HashFunction::Sha256 => {
+                filled(
+                    &Sha256::new_with_prefix(first)
+                        .chain_update(second)
+                        .finalize(),
+                )
+            }
+            HashFunction::Sha384 => {
+                filled(
+                    &Sha384::new_with_prefix(first)
+                        .chain_update(second)
+                        .finalize(),
+                )
+            }
+            HashFunction::Sha512 => {
+                filled(
+                    &Sha512::new_with_prefix(first)
+                        .chain_update(second)
+                        .finalize(),
+                )
+            }
+        }
+    }
+}

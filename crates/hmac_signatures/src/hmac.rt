@@ -1,0 +1,78 @@
+// HMAC (RFC 2104, 2).
+
+ghost use Rattle.std.specs.Prelude.{
+  ◌≡◌,
+  ◌-◌,
+  ◌≤◌,
+  ◌++◌,
+  ◌↔◌,
+  length,
+  map,
+  replicate,
+  take,
+  bit_xor,
+  IsTrue,
+};
+ghost use Rattle.hmac_signatures.specs.HashFunction.{block_size, hash_size, hashed};
+ghost use Rattle.hmac_signatures.specs.Hmac.{hmac, hmac_of_block, zero_filled};
+
+use crate::hash_function::HashFunction;
+
+const LARGEST_BLOCK: usize = 128;
+
+// The key, filled with zeros to the largest block, with an octet added to each bit by bit.
+fn padded(key: &[u8], with: u8) -> [u8; LARGEST_BLOCK]
+    requires { length key.now ≤ LARGEST_BLOCK }
+    ensures { result ≡ map (λ octet. bit_xor octet with)
+        (key.now ++ replicate (LARGEST_BLOCK - length key.now) 0) }
+{
+    let mut block = [with; LARGEST_BLOCK];
+    for i in 0..key.len() {
+        block[i] = key[i] ^ with;
+    }
+    block
+}
+
+// The digest of a padded key and a text, as the first octets.
+fn digest_after_key(hash: HashFunction, key: &[u8], with: u8, text: &[u8]) -> [u8; 64]
+    requires { length key.now ≤ block_size hash }
+    ensures { take (hash_size hash) result ≡ hashed hash
+        (map (λ octet. bit_xor octet with) (zero_filled hash key.now) ++ text.now) }
+{
+    let padded = padded(key, with);
+    hash.digest(&padded[..hash.block_size()], text)
+}
+
+// The HMAC by a key of at most a block, as the first octets.
+fn hmac_of_block(hash: HashFunction, key: &[u8], text: &[u8]) -> [u8; 64]
+    requires { length key.now ≤ block_size hash }
+    ensures { take (hash_size hash) result
+        ≡ hmac_of_block hash (zero_filled hash key.now) text.now }
+{
+    let inner = digest_after_key(hash, key, 0x36, text);
+    digest_after_key(hash, key, 0x5c, &inner[..hash.size()])
+}
+
+// The HMAC of a text, as the first octets.
+pub(crate) fn hmac(hash: HashFunction, key: &[u8], text: &[u8]) -> [u8; 64]
+    ensures { take (hash_size hash) result ≡ hmac hash key.now text.now }
+{
+    if key.len() > hash.block_size() {
+        let digest = hash.digest(key, &[]);
+        hmac_of_block(hash, &digest[..hash.size()], text)
+    } else {
+        hmac_of_block(hash, key, text)
+    }
+}
+
+// Looks at all octets, wherever they differ.
+pub(crate) fn is_same(a: &[u8], b: &[u8]) -> bool
+    requires { length a.now ≡ length b.now }
+    ensures { IsTrue result ↔ (a.now ≡ b.now) }
+{
+    let mut differences = 0u8;
+    for i in 0..a.len() {
+        differences |= a[i] ^ b[i];
+    }
+    differences == 0
+}
