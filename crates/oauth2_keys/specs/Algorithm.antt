@@ -1,0 +1,55 @@
+-- The algorithms of signatures by a public key (RFC 7518, 3.1).
+use Rattle.std.specs.Prelude.{ℕ, List, codes, bytes_eq, if◌then◌else◌, Option, Some, None}
+use Rattle.rsa_signatures.specs.declared.signature_scheme.SignatureScheme.{SignatureScheme}
+use Rattle.rsa_signatures.specs.declared.signature_scheme.SignatureScheme.TheVariants.{Pkcs1v15, Pss}
+use Rattle.rsa_signatures.specs.declared.hash_function.HashFunction.TheVariants.{Sha256, Sha384, Sha512}
+use Rattle.rsa_signatures.specs.Signature.{IsSignature as IsRsaSignature}
+use Rattle.ecdsa_signatures.specs.Signature.{IsSignature as IsEcdsaSignature}
+use Rattle.oauth2_keys.specs.declared.algorithm.SignatureAlgorithm.{SignatureAlgorithm}
+use Rattle.oauth2_keys.specs.declared.algorithm.SignatureAlgorithm.TheVariants.{Rs256, Rs384, Rs512, Ps256, Ps384, Ps512, Es256}
+use Rattle.oauth2_keys.specs.declared.public_key.PublicKey.{PublicKey}
+use Rattle.oauth2_keys.specs.declared.public_key.PublicKey.TheVariants.{Rsa, P256}
+
+-- the value of `alg`
+abbrev pub algorithm_name : SignatureAlgorithm → List ℕ
+algorithm_name Rs256 = codes "RS256"
+algorithm_name Rs384 = codes "RS384"
+algorithm_name Rs512 = codes "RS512"
+algorithm_name Ps256 = codes "PS256"
+algorithm_name Ps384 = codes "PS384"
+algorithm_name Ps512 = codes "PS512"
+algorithm_name Es256 = codes "ES256"
+
+-- the algorithm of that name
+abbrev pub algorithm_named : List ℕ → Option SignatureAlgorithm
+algorithm_named name =
+    if bytes_eq name (codes "RS256") then Some Rs256
+    else (if bytes_eq name (codes "RS384") then Some Rs384
+    else (if bytes_eq name (codes "RS512") then Some Rs512
+    else (if bytes_eq name (codes "PS256") then Some Ps256
+    else (if bytes_eq name (codes "PS384") then Some Ps384
+    else (if bytes_eq name (codes "PS512") then Some Ps512
+    else (if bytes_eq name (codes "ES256") then Some Es256
+    else None))))))
+
+-- RFC 7518, 3.3 and 3.5: the RSA scheme; ES256 has none
+abbrev pub rsa_scheme : SignatureAlgorithm → Option SignatureScheme
+rsa_scheme Rs256 = Some (Pkcs1v15 Sha256)
+rsa_scheme Rs384 = Some (Pkcs1v15 Sha384)
+rsa_scheme Rs512 = Some (Pkcs1v15 Sha512)
+rsa_scheme Ps256 = Some (Pss Sha256)
+rsa_scheme Ps384 = Some (Pss Sha384)
+rsa_scheme Ps512 = Some (Pss Sha512)
+rsa_scheme Es256 = None
+
+-- octets are the signature of a message by that RSA scheme, or else by ES256 (RFC 7518, 3.4), and by
+-- that key, which is of the type that it asks for
+abbrev pub IsSignatureIn : Option SignatureScheme → PublicKey → List ℕ → List ℕ → Type 0
+IsSignatureIn (Some scheme) (Rsa key) message signature = IsRsaSignature scheme key.modulus key.exponent message signature
+IsSignatureIn (Some scheme) (P256 key) message signature = ⊥
+IsSignatureIn None (Rsa key) message signature = ⊥
+IsSignatureIn None (P256 key) message signature = IsEcdsaSignature key.x key.y message signature
+
+-- octets are the signature of a message by that algorithm and that key
+abbrev pub IsSignatureBy : SignatureAlgorithm → PublicKey → List ℕ → List ℕ → Type 0
+IsSignatureBy algorithm key message signature = IsSignatureIn (rsa_scheme algorithm) key message signature

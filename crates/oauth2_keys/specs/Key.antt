@@ -1,0 +1,87 @@
+-- A JSON Web Key that signatures can be checked by (RFC 7517, 4; RFC 7518, 6).
+use Rattle.std.specs.Prelude.{ℕ, List, length, codes, bytes_eq, ◌==◌, if◌then◌else◌, Option, option_and_then, Result, Ok, Err}
+use Rattle.serde_json.specs.Data.{Data}
+use Rattle.serde_json.specs.Find.{get, as_str}
+use Rattle.modular_arithmetic.specs.Octets.{number}
+use Rattle.rsa_signatures.specs.PublicKey.{PublicKey as RsaKey, key_of as rsa_key_of}
+use Rattle.rsa_signatures.specs.declared.key_error.RsaKeyError.{RsaKeyError}
+use Rattle.ecdsa_signatures.specs.PublicKey.{PublicKey as P256Key, key_of as p256_key_of}
+use Rattle.ecdsa_signatures.specs.declared.key_error.P256KeyError.{P256KeyError}
+use Rattle.oauth2_keys.specs.declared.key_error.KeyMember.{KeyMember}
+use Rattle.oauth2_keys.specs.declared.key_error.KeyMember.TheVariants as member
+use Rattle.oauth2_keys.specs.declared.key_error.KeyError.{KeyError}
+use Rattle.oauth2_keys.specs.declared.key_error.KeyError.TheVariants as error
+use Rattle.oauth2_keys.specs.declared.public_key.PublicKey.{PublicKey}
+use Rattle.oauth2_keys.specs.declared.public_key.PublicKey.TheVariants as kind
+use Rattle.oauth2_keys.specs.Members.{KeyReading, ◌⊛◌, key_then, is_private, optional_text, optional_texts, needed_text, octets}
+
+-- what it says of its use (RFC 7517, 4.2 to 4.5), and the key
+pub record Key : Type 0 where
+  pub key_use : Option (List ℕ)
+  pub operations : Option (List (List ℕ))
+  pub algorithm : Option (List ℕ)
+  pub key_id : Option (List ℕ)
+  pub public_key : PublicKey
+
+abbrev pub key : Option (List ℕ) → Option (List (List ℕ)) → Option (List ℕ) → Option (List ℕ) → PublicKey → Key
+key u o a i k = record { key_use = u; operations = o; algorithm = a; key_id = i; public_key = k }
+
+-- RFC 7518, 6.3.1: the modulus and the exponent
+abbrev pub rsa_of : Result RsaKey RsaKeyError → KeyReading PublicKey
+rsa_of (Ok k) = Ok (kind.Rsa k)
+rsa_of (Err e) = Err (error.Rsa e)
+
+abbrev pub rsa_key : Data → KeyReading PublicKey
+rsa_key d =
+    key_then (octets member.Modulus d) (λ n.
+    key_then (octets member.Exponent d) (λ e. rsa_of (rsa_key_of (number n) (number e))))
+
+-- RFC 7518, 6.2.1: a point of the curve; each coordinate of P-256 has 32 octets
+abbrev pub coordinate : KeyMember → Data → KeyReading (List ℕ)
+coordinate m d = key_then (octets m d) (λ c. if length c == 32 then Ok c else Err (error.WrongSize m))
+
+abbrev pub p256_of : Result P256Key P256KeyError → KeyReading PublicKey
+p256_of (Ok k) = Ok (kind.P256 k)
+p256_of (Err e) = Err (error.P256 e)
+
+abbrev pub curve_key : Data → KeyReading PublicKey
+curve_key d =
+    key_then (coordinate member.X d) (λ x.
+    key_then (coordinate member.Y d) (λ y. p256_of (p256_key_of (number x) (number y))))
+
+abbrev pub elliptic_key : Data → KeyReading PublicKey
+elliptic_key d =
+    key_then (needed_text member.Curve d) (λ curve.
+    if bytes_eq curve (codes "P-256") then curve_key d else Err error.UnknownCurve)
+
+-- RFC 7517, 4.1; RFC 7518, 6.1
+abbrev pub of_type : List ℕ → Data → KeyReading PublicKey
+of_type key_type d =
+    if bytes_eq key_type (codes "RSA") then rsa_key d
+    else (if bytes_eq key_type (codes "EC") then elliptic_key d
+    else Err error.UnknownType)
+
+unfoldable pub public_key : Data → KeyReading PublicKey
+public_key d = key_then (needed_text member.KeyType d) (λ key_type. of_type key_type d)
+
+-- a private key is none; other members are ignored (RFC 7517, 4)
+abbrev pub key_reading : Data → KeyReading Key
+key_reading d =
+    if is_private d then Err error.Private
+    else (Ok key
+    ⊛ optional_text member.Use d
+    ⊛ optional_texts member.Operations d
+    ⊛ optional_text member.Algorithm d
+    ⊛ optional_text member.KeyId d
+    ⊛ public_key d)
+
+-- ---- a key that is of no use
+
+-- what it is called, if it says so, and its fault
+pub record Unusable : Type 0 where
+  pub key_id : Option (List ℕ)
+  pub fault : KeyError
+
+-- its key identifier, if that is a text
+abbrev pub told_key_id : Data → Option (List ℕ)
+told_key_id d = option_and_then as_str (get (codes "kid") d)

@@ -1,0 +1,37 @@
+-- A JSON Web Key Set (RFC 7517, 5).
+use Rattle.std.specs.Prelude.{ℕ, List, [], ◌∷◌, Option, Ok, Err, codes}
+use Rattle.serde_json.specs.Data.{Data, null, boolean, number, string, array, object, Items, no_items, item}
+use Rattle.serde_json.specs.Find.{get_member}
+use Rattle.oauth2_json.specs.Members.{members_of_object, needed_member}
+use Rattle.oauth2_json.specs.Reading.{Reading, read_then}
+use Rattle.oauth2_json.specs.Values.{wrong_type}
+use Rattle.oauth2_keys.specs.declared.json_web_key.ListedKey.{ListedKey}
+use Rattle.oauth2_keys.specs.declared.json_web_key.ListedKey.TheVariants.{Usable, Unusable as OfNoUse}
+use Rattle.oauth2_keys.specs.Members.{KeyReading}
+use Rattle.oauth2_keys.specs.Key.{Key, key_reading, told_key_id}
+
+-- a key that signatures can be checked by, or what it is called and its fault
+abbrev pub listed_as : Option (List ℕ) → KeyReading Key → ListedKey
+listed_as key_id (Ok k) = Usable k
+listed_as key_id (Err e) = OfNoUse (record { key_id = key_id; fault = e })
+
+unfoldable pub listed_key : Data → ListedKey
+listed_key d = listed_as (told_key_id d) (key_reading d)
+
+abbrev pub listed_keys : Items → List ListedKey
+listed_keys no_items = []
+listed_keys (item d ds) = listed_key d ∷ listed_keys ds
+
+-- `keys` is an array (5.1)
+abbrev pub keys_reading : Data → Reading (List ListedKey)
+keys_reading null = wrong_type
+keys_reading (boolean b) = wrong_type
+keys_reading (number n) = wrong_type
+keys_reading (string s) = wrong_type
+keys_reading (array ds) = Ok (listed_keys ds)
+keys_reading (object ms) = wrong_type
+
+-- other members of the set are ignored
+abbrev pub set_reading : Data → Reading (List ListedKey)
+set_reading d =
+    read_then (members_of_object d) (λ ms. needed_member keys_reading (codes "keys") (get_member (codes "keys") ms))

@@ -1,0 +1,116 @@
+-- The members of a JSON Web Key (RFC 7517, 4; RFC 7518, 6).
+use Rattle.std.specs.Prelude.{◌≡◌, ℕ, List, [], ◌∷◌, codes, Bool, ◌||◌, Option, Some, None, is_some, Result, Ok, Err}
+use Rattle.serde_json.specs.Data.{Data, null, boolean, number, string, array, object, Items, no_items, item}
+use Rattle.serde_json.specs.Find.{get}
+use Rattle.oauth2_openid.specs.Token.{bytes_of}
+use Rattle.oauth2_keys.specs.declared.key_error.KeyMember.{KeyMember}
+use Rattle.oauth2_keys.specs.declared.key_error.KeyMember.TheVariants as member
+use Rattle.oauth2_keys.specs.declared.key_error.KeyError.{KeyError}
+use Rattle.oauth2_keys.specs.declared.key_error.KeyError.TheVariants.{Missing, WrongType, NotBase64}
+use Rattle.oauth2_keys.specs.declared.key_members.KeyReadError.{KeyReadError}
+use Rattle.oauth2_keys.specs.declared.key_members.KeyReadError.TheVariants as errors
+
+-- the names (RFC 7517, 4.1 to 4.5; RFC 7518, 6.2.1 and 6.3.1)
+abbrev pub member_name : KeyMember → List ℕ
+member_name member.KeyType = codes "kty"
+member_name member.Use = codes "use"
+member_name member.Operations = codes "key_ops"
+member_name member.Algorithm = codes "alg"
+member_name member.KeyId = codes "kid"
+member_name member.Modulus = codes "n"
+member_name member.Exponent = codes "e"
+member_name member.Curve = codes "crv"
+member_name member.X = codes "x"
+member_name member.Y = codes "y"
+
+-- What a member reads to, or the key's fault.
+abbrev pub KeyReading : Type 0 → Type 0
+KeyReading M = Result M KeyError
+
+-- The rows of a key, from left to right: of several faults the first.
+infixl 10 ◌⊛◌
+abbrev pub ◌⊛◌ : {A B : Type 0} → KeyReading (A → B) → KeyReading A → KeyReading B
+(Ok f) ⊛ (Ok a) = Ok (f a)
+(Ok f) ⊛ (Err e) = Err e
+(Err e) ⊛ r = Err e
+
+abbrev pub key_then : {A B : Type 0} → KeyReading A → (A → KeyReading B) → KeyReading B
+key_then (Ok a) f = f a
+key_then (Err e) f = Err e
+
+-- a private key has a member `d`, and a secret one a member `k` (RFC 7518, 6.2.2.1, 6.3.2.1 and 6.4.1)
+abbrev pub is_private : Data → Bool
+is_private key = is_some (get (codes "d") key) || is_some (get (codes "k") key)
+
+-- a text; absent and null are none
+abbrev pub text_of : KeyMember → Option Data → KeyReading (Option (List ℕ))
+text_of m None = Ok None
+text_of m (Some null) = Ok None
+text_of m (Some (boolean b)) = Err (WrongType m)
+text_of m (Some (number n)) = Err (WrongType m)
+text_of m (Some (string s)) = Ok (Some s)
+text_of m (Some (array ds)) = Err (WrongType m)
+text_of m (Some (object ms)) = Err (WrongType m)
+
+abbrev pub optional_text : KeyMember → Data → KeyReading (Option (List ℕ))
+optional_text m key = text_of m (get (member_name m) key)
+
+-- a text that has to be there
+abbrev pub there : {A : Type 0} → KeyMember → Option A → KeyReading A
+there m None = Err (Missing m)
+there m (Some a) = Ok a
+
+abbrev pub needed_text : KeyMember → Data → KeyReading (List ℕ)
+needed_text m key = key_then (optional_text m key) (there m)
+
+-- texts in an array
+abbrev pub texts_in : KeyMember → Items → KeyReading (List (List ℕ))
+texts_in m no_items = Ok []
+texts_in m (item (string s) ds) = Ok (λ later. s ∷ later) ⊛ texts_in m ds
+texts_in m (item null ds) = Err (WrongType m)
+texts_in m (item (boolean b) ds) = Err (WrongType m)
+texts_in m (item (number n) ds) = Err (WrongType m)
+texts_in m (item (array es) ds) = Err (WrongType m)
+texts_in m (item (object ms) ds) = Err (WrongType m)
+
+-- an array of texts; absent and null are none
+abbrev pub texts_of : KeyMember → Option Data → KeyReading (Option (List (List ℕ)))
+texts_of m None = Ok None
+texts_of m (Some null) = Ok None
+texts_of m (Some (boolean b)) = Err (WrongType m)
+texts_of m (Some (number n)) = Err (WrongType m)
+texts_of m (Some (string s)) = Err (WrongType m)
+texts_of m (Some (array ds)) = Ok Some ⊛ texts_in m ds
+texts_of m (Some (object ms)) = Err (WrongType m)
+
+abbrev pub optional_texts : KeyMember → Data → KeyReading (Option (List (List ℕ)))
+optional_texts m key = texts_of m (get (member_name m) key)
+
+-- octets in base64url without padding (RFC 7518, 2)
+abbrev pub octets_of : KeyMember → Option (List ℕ) → KeyReading (List ℕ)
+octets_of m None = Err (NotBase64 m)
+octets_of m (Some octets) = Ok octets
+
+abbrev pub octets : KeyMember → Data → KeyReading (List ℕ)
+octets m key = key_then (needed_text m key) (λ text. octets_of m (bytes_of text))
+
+-- a text that is octets in base64url without padding
+abbrev pub text_with : KeyMember → List ℕ → Option (List ℕ) → KeyReading (List ℕ)
+text_with m text None = Err (NotBase64 m)
+text_with m text (Some octets) = Ok text
+
+abbrev pub base64_text : KeyMember → Data → KeyReading (List ℕ)
+base64_text m key = key_then (needed_text m key) (λ text. text_with m text (bytes_of text))
+
+-- ---- what a function returned
+
+-- it is what the reading gives
+abbrev pub FindsAs : {T M : Type 0} → (T → M) → Result T KeyError → KeyReading M → Type 0
+FindsAs meaning (Ok t) expected = expected ≡ Ok (meaning t)
+FindsAs meaning (Err e) expected = expected ≡ Err e
+
+-- it is what the reading gives, unless memory ran out
+abbrev pub KeyReadsAs : {T M : Type 0} → (T → M) → Result T KeyReadError → KeyReading M → Type 0
+KeyReadsAs meaning (Ok t) expected = expected ≡ Ok (meaning t)
+KeyReadsAs meaning (Err (errors.Fault e)) expected = expected ≡ Err e
+KeyReadsAs meaning (Err errors.Memory) expected = Unit {0}

@@ -1,0 +1,37 @@
+-- The thumbprint of a JSON Web Key (RFC 7638).
+use Rattle.std.specs.Prelude.{ℕ, List, ◌++◌, codes, bytes_eq, if◌then◌else◌, Ok, Err}
+use Rattle.serde_json.specs.Data.{Data}
+use Rattle.sha2.specs.Sha256.{sha256}
+use Rattle.oauth2_types.specs.Pkce.{base64url}
+use Rattle.oauth2_keys.specs.declared.key_error.KeyMember.TheVariants as member
+use Rattle.oauth2_keys.specs.declared.key_error.KeyError.TheVariants as error
+use Rattle.oauth2_keys.specs.Members.{KeyReading, ◌⊛◌, key_then, needed_text, base64_text}
+
+-- 3.2 and 3.3: the required members alone, in the order of their names, with no white space between
+abbrev pub rsa_text : List ℕ → List ℕ → List ℕ
+rsa_text e n = codes "{\"e\":\"" ++ e ++ codes "\",\"kty\":\"RSA\",\"n\":\"" ++ n ++ codes "\"}"
+
+abbrev pub elliptic_text : List ℕ → List ℕ → List ℕ
+elliptic_text x y = codes "{\"crv\":\"P-256\",\"kty\":\"EC\",\"x\":\"" ++ x ++ codes "\",\"y\":\"" ++ y ++ codes "\"}"
+
+-- such a text of a key: each member is base64url, which needs no escape in JSON
+abbrev pub rsa_canonical : Data → KeyReading (List ℕ)
+rsa_canonical key = Ok rsa_text ⊛ base64_text member.Exponent key ⊛ base64_text member.Modulus key
+
+abbrev pub elliptic_canonical : Data → KeyReading (List ℕ)
+elliptic_canonical key =
+    key_then (needed_text member.Curve key) (λ curve.
+    if bytes_eq curve (codes "P-256")
+    then Ok elliptic_text ⊛ base64_text member.X key ⊛ base64_text member.Y key
+    else Err error.UnknownCurve)
+
+abbrev pub canonical : Data → KeyReading (List ℕ)
+canonical key =
+    key_then (needed_text member.KeyType key) (λ key_type.
+    if bytes_eq key_type (codes "RSA") then rsa_canonical key
+    else (if bytes_eq key_type (codes "EC") then elliptic_canonical key
+    else Err error.UnknownType))
+
+-- 3: the digest of that text, in base64url
+abbrev pub thumbprint : Data → KeyReading (List ℕ)
+thumbprint key = key_then (canonical key) (λ text. Ok (base64url (sha256 text)))

@@ -1,0 +1,73 @@
+//! The algorithms that a client can register for the signature of its ID tokens.
+
+ghost use Rattle.std.specs.Prelude.{◌≡◌};
+ghost use Rattle.oauth2_keys.specs.Algorithm.{algorithm_name, algorithm_named, rsa_scheme};
+
+use rsa_signatures::{HashFunction, SignatureScheme};
+
+/// An algorithm by which a public key checks a signature (RFC 7518, 3.1). `none` is none of them.
+#[derive(Clone, Copy, Debug, PartialEq, Eq, Drop)]
+pub enum SignatureAlgorithm {
+    /// `RS256`
+    Rs256,
+    /// `RS384`
+    Rs384,
+    /// `RS512`
+    Rs512,
+    /// `PS256`
+    Ps256,
+    /// `PS384`
+    Ps384,
+    /// `PS512`
+    Ps512,
+    /// `ES256`
+    Es256,
+}
+
+impl SignatureAlgorithm {
+    /// The algorithm of that name, if it is one of these.
+    pub fn from_name(name: &str) -> Option<SignatureAlgorithm>
+        ensures { result ≡ algorithm_named name.now }
+    {
+        match name {
+            "RS256" => Some(SignatureAlgorithm::Rs256),
+            "RS384" => Some(SignatureAlgorithm::Rs384),
+            "RS512" => Some(SignatureAlgorithm::Rs512),
+            "PS256" => Some(SignatureAlgorithm::Ps256),
+            "PS384" => Some(SignatureAlgorithm::Ps384),
+            "PS512" => Some(SignatureAlgorithm::Ps512),
+            "ES256" => Some(SignatureAlgorithm::Es256),
+            _ => None,
+        }
+    }
+
+    /// The name, as `alg` has it.
+    pub fn name(self) -> &'static str
+        ensures { result.now ≡ algorithm_name self }
+    {
+        match self {
+            SignatureAlgorithm::Rs256 => "RS256",
+            SignatureAlgorithm::Rs384 => "RS384",
+            SignatureAlgorithm::Rs512 => "RS512",
+            SignatureAlgorithm::Ps256 => "PS256",
+            SignatureAlgorithm::Ps384 => "PS384",
+            SignatureAlgorithm::Ps512 => "PS512",
+            SignatureAlgorithm::Es256 => "ES256",
+        }
+    }
+
+    // How an RSA key checks it; `None` where it asks for a key on a curve.
+    pub(crate) fn rsa_scheme(self) -> Option<SignatureScheme>
+        ensures { result ≡ rsa_scheme self }
+    {
+        match self {
+            SignatureAlgorithm::Rs256 => Some(SignatureScheme::Pkcs1v15(HashFunction::Sha256)),
+            SignatureAlgorithm::Rs384 => Some(SignatureScheme::Pkcs1v15(HashFunction::Sha384)),
+            SignatureAlgorithm::Rs512 => Some(SignatureScheme::Pkcs1v15(HashFunction::Sha512)),
+            SignatureAlgorithm::Ps256 => Some(SignatureScheme::Pss(HashFunction::Sha256)),
+            SignatureAlgorithm::Ps384 => Some(SignatureScheme::Pss(HashFunction::Sha384)),
+            SignatureAlgorithm::Ps512 => Some(SignatureScheme::Pss(HashFunction::Sha512)),
+            SignatureAlgorithm::Es256 => None,
+        }
+    }
+}

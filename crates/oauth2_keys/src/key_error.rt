@@ -1,0 +1,75 @@
+//! Why a key cannot be used.
+
+ghost use Rattle.std.specs.Prelude.{◌≡◌, Some};
+ghost use Rattle.oauth2_keys.specs.Members.{member_name};
+
+use ecdsa_signatures::P256KeyError;
+use rsa_signatures::RsaKeyError;
+
+/// A member of a JSON Web Key (RFC 7517, 4; RFC 7518, 6.2.1 and 6.3.1).
+#[derive(Clone, Copy, Debug, PartialEq, Eq, Drop)]
+pub enum KeyMember {
+    /// `kty`
+    KeyType,
+    /// `use`
+    Use,
+    /// `key_ops`
+    Operations,
+    /// `alg`
+    Algorithm,
+    /// `kid`
+    KeyId,
+    /// `n`
+    Modulus,
+    /// `e`
+    Exponent,
+    /// `crv`
+    Curve,
+    /// `x`
+    X,
+    /// `y`
+    Y,
+}
+
+/// The first fault of a key that a set lists.
+#[derive(Clone, Copy, Debug, PartialEq, Eq, Drop)]
+pub enum KeyError {
+    /// It is a private key or a secret: it has a member `d` or `k` (RFC 7518, 6.2.2, 6.3.2 and
+    /// 6.4.1). Whoever can read the set can sign by it.
+    Private,
+    /// The member has to be there.
+    Missing(KeyMember),
+    /// The member is of another type.
+    WrongType(KeyMember),
+    /// The text of the member is not base64url without padding.
+    NotBase64(KeyMember),
+    /// The key type (`kty`) is none of `RSA` and `EC`.
+    UnknownType,
+    /// The curve (`crv`) is not `P-256`.
+    UnknownCurve,
+    /// The coordinate is not as long as the curve asks (RFC 7518, 6.2.1.2 and 6.2.1.3).
+    WrongSize(KeyMember),
+    /// An RSA key is refused.
+    Rsa(RsaKeyError),
+    /// A key on P-256 is refused.
+    P256(P256KeyError),
+}
+
+impl KeyMember {
+    pub(crate) fn name(self) -> &'static str
+        ensures { result.now ≡ member_name self }
+    {
+        match self {
+            KeyMember::KeyType => "kty",
+            KeyMember::Use => "use",
+            KeyMember::Operations => "key_ops",
+            KeyMember::Algorithm => "alg",
+            KeyMember::KeyId => "kid",
+            KeyMember::Modulus => "n",
+            KeyMember::Exponent => "e",
+            KeyMember::Curve => "crv",
+            KeyMember::X => "x",
+            KeyMember::Y => "y",
+        }
+    }
+}
