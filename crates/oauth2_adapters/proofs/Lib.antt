@@ -1,0 +1,6 @@
+mod Bodies
+mod ObjectTokens
+mod ErrorTurns
+mod RewritingTurns
+mod Headers
+mod LawLemmas

@@ -1,0 +1,24 @@
+-- A call of a client whose replies are adapted.
+use Rattle.std.specs.Prelude.{◌≡◌, Bool, IsTrue, Result, Ok, Err}
+use Rattle.oauth2_wire.specs.Reply.{HttpResponse}
+use Rattle.oauth2_wire.specs.Request.{HttpRequest}
+use Rattle.oauth2_adapters.specs.Reply.{Reply, seen}
+use Rattle.oauth2_adapters.specs.declared.error.AdapterError.{AdapterError}
+use Rattle.oauth2_adapters.specs.declared.error.AdapterError.TheVariants as error
+
+module _ {E : Type 0} (adapted : Reply → Reply) (needs_memory : Reply → Bool) where
+  -- the answer is what is made of the inner client's reply, or the inner client's error; want of
+  -- memory is told only of a reply that needs memory
+  abbrev pub IsAdapted : Result HttpResponse E → Result HttpResponse (AdapterError E) → Type 0
+  IsAdapted (Ok reply) (Ok new) = seen new ≡ adapted (seen reply)
+  IsAdapted (Ok reply) (Err error.Memory) = IsTrue (needs_memory (seen reply))
+  IsAdapted (Ok reply) (Err (error.Client fault)) = ⊥
+  IsAdapted (Err fault) result = result ≡ Err (error.Client fault)
+
+-- one call of the inner client with this request, and then the adapter's function of its reply
+abbrev pub CallsAndAdapts : {C A E : Type 0} → (C → HttpRequest → Result HttpResponse E → C → Type 0)
+    → (A → Reply → Reply) → (A → Reply → Bool)
+    → C × A → HttpRequest → Result HttpResponse (AdapterError E) → C × A → Type 0
+CallsAndAdapts {E = E} step adapted needs_memory before request result after =
+    (answer : Result HttpResponse E) × step before.0 request answer after.0 × (after.1 ≡ before.1)
+    × IsAdapted (adapted before.1) (needs_memory before.1) answer result

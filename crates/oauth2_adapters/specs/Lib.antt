@@ -1,0 +1,12 @@
+pub mod Reply
+pub mod ErrorTexts
+pub mod AdaptedCall
+pub mod Objects
+pub mod ErrorsAtStatus200
+pub mod Rewriting
+pub mod CommasInScopes
+pub mod NumbersAsTexts
+pub mod OtherMediaTypes
+pub mod FormBodies
+pub mod Laws
+pub mod private
