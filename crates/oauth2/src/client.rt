@@ -1,6 +1,8 @@
 //! The configuration of a client.
 
-ghost use Rattle.std.specs.Prelude.{◌≡◌, Some, None, IfOk, option_copied};
+ghost use Rattle.std.specs.Prelude.{◌≡◌, Some, None, IfOk, IfSome, IfNone, IsOkAnd, IsErrAnd};
+ghost use Rattle.std.specs.Prelude.{codes, option_copied};
+ghost use Rattle.oauth2_wire.specs.ConfigurationError.{IsMissingUrl};
 ghost use Rattle.oauth2_wire.specs.declared.content_type.ReplyRule.TheVariants.{Prefix};
 ghost use Rattle.oauth2_wire.specs.declared.request.AuthType.TheVariants.{BasicAuth};
 
@@ -14,7 +16,7 @@ use oauth2_types::{ClientId, ClientSecret, TryClone};
 use oauth2_urls::{
     AuthUrl, DeviceAuthorizationUrl, IntrospectionUrl, RedirectUrl, RevocationUrl, TokenUrl,
 };
-use oauth2_wire::{AuthType, ReplyRule};
+use oauth2_wire::{AuthType, ConfigurationError, ReplyRule};
 use std::alloc::{AllocError, Global};
 use std::fmt;
 use std::fmt::Debug;
@@ -27,7 +29,6 @@ use std::marker::{Model, PhantomData};
 /// other five are the states of the endpoints, which `impl` blocks call `A` (authorization), `D`
 /// (device authorization), `I` (introspection), `R` (revocation) and `T` (token).
 /// Contracts see a client of any type as its `Settings`.
-#[derive(Drop)]
 pub struct Client<
     TE,
     TR,
@@ -63,6 +64,46 @@ where
             HasTokenUrl,
         ),
     >,
+}
+
+impl<
+    TE,
+    TR,
+    TIR,
+    RT,
+    TRE,
+    HasAuthUrl,
+    HasDeviceAuthUrl,
+    HasIntrospectionUrl,
+    HasRevocationUrl,
+    HasTokenUrl,
+> Drop
+    for Client<
+        TE,
+        TR,
+        TIR,
+        RT,
+        TRE,
+        HasAuthUrl,
+        HasDeviceAuthUrl,
+        HasIntrospectionUrl,
+        HasRevocationUrl,
+        HasTokenUrl,
+    >
+where
+    HasAuthUrl: EndpointState,
+    HasDeviceAuthUrl: EndpointState,
+    HasIntrospectionUrl: EndpointState,
+    HasRevocationUrl: EndpointState,
+    HasTokenUrl: EndpointState,
+{
+    fn drop(self) {
+        let Client {
+            parts: _,
+            endpoints: _,
+            phantom: _,
+        } = self;
+    }
 }
 
 // What a client of any type holds beside its endpoints.
@@ -324,11 +365,16 @@ where
     ) -> Client<TE, TR, TIR, RT, TRE, EndpointSet, D, I, R, T>
         ensures { result ≡ record self { auth_url = Some auth_url } }
     {
+        let Client {
+            parts,
+            endpoints,
+            phantom: _,
+        } = self;
         Client {
-            parts: self.parts,
+            parts,
             endpoints: Endpoints {
                 auth_url: Some(auth_url),
-                ..self.endpoints
+                ..endpoints
             },
             phantom: PhantomData,
         }
@@ -341,11 +387,16 @@ where
     ) -> Client<TE, TR, TIR, RT, TRE, EndpointMaybeSet, D, I, R, T>
         ensures { result ≡ record self { auth_url = auth_url } }
     {
+        let Client {
+            parts,
+            endpoints,
+            phantom: _,
+        } = self;
         Client {
-            parts: self.parts,
+            parts,
             endpoints: Endpoints {
                 auth_url,
-                ..self.endpoints
+                ..endpoints
             },
             phantom: PhantomData,
         }
@@ -360,11 +411,16 @@ where
           device_authorization_url = Some device_authorization_url;
         } }
     {
+        let Client {
+            parts,
+            endpoints,
+            phantom: _,
+        } = self;
         Client {
-            parts: self.parts,
+            parts,
             endpoints: Endpoints {
                 device_authorization_url: Some(device_authorization_url),
-                ..self.endpoints
+                ..endpoints
             },
             phantom: PhantomData,
         }
@@ -377,11 +433,16 @@ where
     ) -> Client<TE, TR, TIR, RT, TRE, A, EndpointMaybeSet, I, R, T>
         ensures { result ≡ record self { device_authorization_url = device_authorization_url } }
     {
+        let Client {
+            parts,
+            endpoints,
+            phantom: _,
+        } = self;
         Client {
-            parts: self.parts,
+            parts,
             endpoints: Endpoints {
                 device_authorization_url,
-                ..self.endpoints
+                ..endpoints
             },
             phantom: PhantomData,
         }
@@ -394,11 +455,16 @@ where
     ) -> Client<TE, TR, TIR, RT, TRE, A, D, EndpointSet, R, T>
         ensures { result ≡ record self { introspection_url = Some introspection_url } }
     {
+        let Client {
+            parts,
+            endpoints,
+            phantom: _,
+        } = self;
         Client {
-            parts: self.parts,
+            parts,
             endpoints: Endpoints {
                 introspection_url: Some(introspection_url),
-                ..self.endpoints
+                ..endpoints
             },
             phantom: PhantomData,
         }
@@ -411,11 +477,16 @@ where
     ) -> Client<TE, TR, TIR, RT, TRE, A, D, EndpointMaybeSet, R, T>
         ensures { result ≡ record self { introspection_url = introspection_url } }
     {
+        let Client {
+            parts,
+            endpoints,
+            phantom: _,
+        } = self;
         Client {
-            parts: self.parts,
+            parts,
             endpoints: Endpoints {
                 introspection_url,
-                ..self.endpoints
+                ..endpoints
             },
             phantom: PhantomData,
         }
@@ -428,11 +499,16 @@ where
     ) -> Client<TE, TR, TIR, RT, TRE, A, D, I, EndpointSet, T>
         ensures { result ≡ record self { revocation_url = Some revocation_url } }
     {
+        let Client {
+            parts,
+            endpoints,
+            phantom: _,
+        } = self;
         Client {
-            parts: self.parts,
+            parts,
             endpoints: Endpoints {
                 revocation_url: Some(revocation_url),
-                ..self.endpoints
+                ..endpoints
             },
             phantom: PhantomData,
         }
@@ -445,11 +521,16 @@ where
     ) -> Client<TE, TR, TIR, RT, TRE, A, D, I, EndpointMaybeSet, T>
         ensures { result ≡ record self { revocation_url = revocation_url } }
     {
+        let Client {
+            parts,
+            endpoints,
+            phantom: _,
+        } = self;
         Client {
-            parts: self.parts,
+            parts,
             endpoints: Endpoints {
                 revocation_url,
-                ..self.endpoints
+                ..endpoints
             },
             phantom: PhantomData,
         }
@@ -462,11 +543,16 @@ where
     ) -> Client<TE, TR, TIR, RT, TRE, A, D, I, R, EndpointSet>
         ensures { result ≡ record self { token_url = Some token_url } }
     {
+        let Client {
+            parts,
+            endpoints,
+            phantom: _,
+        } = self;
         Client {
-            parts: self.parts,
+            parts,
             endpoints: Endpoints {
                 token_url: Some(token_url),
-                ..self.endpoints
+                ..endpoints
             },
             phantom: PhantomData,
         }
@@ -479,11 +565,16 @@ where
     ) -> Client<TE, TR, TIR, RT, TRE, A, D, I, R, EndpointMaybeSet>
         ensures { result ≡ record self { token_url = token_url } }
     {
+        let Client {
+            parts,
+            endpoints,
+            phantom: _,
+        } = self;
         Client {
-            parts: self.parts,
+            parts,
             endpoints: Endpoints {
                 token_url,
-                ..self.endpoints
+                ..endpoints
             },
             phantom: PhantomData,
         }
@@ -518,6 +609,30 @@ where
     {
         self.endpoints.auth_url.as_ref()
     }
+
+    /// This client, as one that has the URL of the authorization endpoint; an error where it has
+    /// none. `auth_uri` tells before, since the error does not give the client back.
+    pub fn require_auth_uri(
+        self,
+    ) -> Result<Client<TE, TR, TIR, RT, TRE, EndpointSet, D, I, R, T>, ConfigurationError>
+        ensures there { IfSome self.auth_url (λ _. IsOkAnd result (λ client. client ≡ self)) }
+        ensures missing { IfNone self.auth_url
+            (IsErrAnd result (IsMissingUrl (codes "authorization"))) }
+    {
+        if self.endpoints.auth_url.is_none() {
+            return Err(ConfigurationError::MissingUrl("authorization"));
+        }
+        let Client {
+            parts,
+            endpoints,
+            phantom: _,
+        } = self;
+        Ok(Client {
+            parts,
+            endpoints,
+            phantom: PhantomData,
+        })
+    }
 }
 
 impl<TE, TR, TIR, RT, TRE, A, I, R, T> Client<TE, TR, TIR, RT, TRE, A, EndpointSet, I, R, T>
@@ -547,6 +662,30 @@ where
         ensures { option_copied result ≡ self.now.device_authorization_url }
     {
         self.endpoints.device_authorization_url.as_ref()
+    }
+
+    /// This client, as one that has the URL of the device authorization endpoint; an error where it has
+    /// none. `device_authorization_url` tells before, since the error does not give the client back.
+    pub fn require_device_authorization_url(
+        self,
+    ) -> Result<Client<TE, TR, TIR, RT, TRE, A, EndpointSet, I, R, T>, ConfigurationError>
+        ensures there { IfSome self.device_authorization_url (λ _. IsOkAnd result (λ client. client ≡ self)) }
+        ensures missing { IfNone self.device_authorization_url
+            (IsErrAnd result (IsMissingUrl (codes "device authorization"))) }
+    {
+        if self.endpoints.device_authorization_url.is_none() {
+            return Err(ConfigurationError::MissingUrl("device authorization"));
+        }
+        let Client {
+            parts,
+            endpoints,
+            phantom: _,
+        } = self;
+        Ok(Client {
+            parts,
+            endpoints,
+            phantom: PhantomData,
+        })
     }
 }
 
@@ -578,6 +717,30 @@ where
     {
         self.endpoints.introspection_url.as_ref()
     }
+
+    /// This client, as one that has the URL of the introspection endpoint; an error where it has
+    /// none. `introspection_url` tells before, since the error does not give the client back.
+    pub fn require_introspection_url(
+        self,
+    ) -> Result<Client<TE, TR, TIR, RT, TRE, A, D, EndpointSet, R, T>, ConfigurationError>
+        ensures there { IfSome self.introspection_url (λ _. IsOkAnd result (λ client. client ≡ self)) }
+        ensures missing { IfNone self.introspection_url
+            (IsErrAnd result (IsMissingUrl (codes "introspection"))) }
+    {
+        if self.endpoints.introspection_url.is_none() {
+            return Err(ConfigurationError::MissingUrl("introspection"));
+        }
+        let Client {
+            parts,
+            endpoints,
+            phantom: _,
+        } = self;
+        Ok(Client {
+            parts,
+            endpoints,
+            phantom: PhantomData,
+        })
+    }
 }
 
 impl<TE, TR, TIR, RT, TRE, A, D, I, T> Client<TE, TR, TIR, RT, TRE, A, D, I, EndpointSet, T>
@@ -608,6 +771,30 @@ where
     {
         self.endpoints.revocation_url.as_ref()
     }
+
+    /// This client, as one that has the URL of the revocation endpoint; an error where it has
+    /// none. `revocation_url` tells before, since the error does not give the client back.
+    pub fn require_revocation_url(
+        self,
+    ) -> Result<Client<TE, TR, TIR, RT, TRE, A, D, I, EndpointSet, T>, ConfigurationError>
+        ensures there { IfSome self.revocation_url (λ _. IsOkAnd result (λ client. client ≡ self)) }
+        ensures missing { IfNone self.revocation_url
+            (IsErrAnd result (IsMissingUrl (codes "revocation"))) }
+    {
+        if self.endpoints.revocation_url.is_none() {
+            return Err(ConfigurationError::MissingUrl("revocation"));
+        }
+        let Client {
+            parts,
+            endpoints,
+            phantom: _,
+        } = self;
+        Ok(Client {
+            parts,
+            endpoints,
+            phantom: PhantomData,
+        })
+    }
 }
 
 impl<TE, TR, TIR, RT, TRE, A, D, I, R> Client<TE, TR, TIR, RT, TRE, A, D, I, R, EndpointSet>
@@ -637,6 +824,30 @@ where
         ensures { option_copied result ≡ self.now.token_url }
     {
         self.endpoints.token_url.as_ref()
+    }
+
+    /// This client, as one that has the URL of the token endpoint; an error where it has
+    /// none. `token_uri` tells before, since the error does not give the client back.
+    pub fn require_token_uri(
+        self,
+    ) -> Result<Client<TE, TR, TIR, RT, TRE, A, D, I, R, EndpointSet>, ConfigurationError>
+        ensures there { IfSome self.token_url (λ _. IsOkAnd result (λ client. client ≡ self)) }
+        ensures missing { IfNone self.token_url
+            (IsErrAnd result (IsMissingUrl (codes "token"))) }
+    {
+        if self.endpoints.token_url.is_none() {
+            return Err(ConfigurationError::MissingUrl("token"));
+        }
+        let Client {
+            parts,
+            endpoints,
+            phantom: _,
+        } = self;
+        Ok(Client {
+            parts,
+            endpoints,
+            phantom: PhantomData,
+        })
     }
 }
 

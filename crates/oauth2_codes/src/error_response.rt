@@ -19,11 +19,21 @@ use std::alloc::{AllocError, Global};
 use std::fmt;
 
 /// An error response: a code, and a description and a page about it for people.
-#[derive(Debug, PartialEq, Eq, Drop)]
+#[derive(Debug, PartialEq, Eq)]
 pub struct StandardErrorResponse<T> {
     error: T,
     error_description: Option<String>,
     error_uri: Option<String>,
+}
+
+impl<T: Drop> Drop for StandardErrorResponse<T> {
+    fn drop(self) {
+        let StandardErrorResponse {
+            error: _,
+            error_description: _,
+            error_uri: _,
+        } = self;
+    }
 }
 
 impl<T> StandardErrorResponse<T> {

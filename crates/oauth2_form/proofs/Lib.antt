@@ -3,3 +3,4 @@ pub mod FormLaws
 pub mod WrittenLemmas
 pub mod FormEncodingLemmas
 pub mod QueryLaws
+pub mod LengthLaws

@@ -3,5 +3,6 @@ pub mod Basic
 pub mod Params
 pub mod FormEncoding
 pub mod ExtendsForm
+pub mod Length
 pub mod Query
 pub mod private

@@ -1,12 +1,13 @@
 //! Texts and pairs as a form encodes them (URL Standard, section 5.2), appended to what there is.
 
 ghost use Rattle.std.specs.Prelude.{◌≡◌, ◌≤◌, ◌+◌, ◌∷◌, [], ◌++◌, OnOk, OnErr, vec_len};
-ghost use Rattle.std.specs.Prelude.{vec_capacity};
+ghost use Rattle.std.specs.Prelude.{vec_capacity, List, ℕ, length};
 ghost use Rattle.percent_encoding.specs.Percent.{percent_encode_byte};
 ghost use Rattle.form_urlencoded.specs.Form.{append_pair, byte_serialize, equals_sign, separator};
-ghost use Rattle.form_urlencoded.specs.Form.{serialize_pair, IsPrefix};
+ghost use Rattle.form_urlencoded.specs.Form.{serialize_byte, serialize_pair, IsPrefix};
 ghost use Rattle.oauth2_form.specs.ExtendsForm.{ExtendsForm};
 ghost use Rattle.oauth2_form.specs.FormEncoding.{form_text};
+ghost use Rattle.oauth2_form.specs.Length.{counted};
 ghost use Rattle.oauth2_form.specs.private.EncodingTable.{single_byte};
 
 use percent_encoding::percent_encode_byte;
@@ -61,6 +62,38 @@ pub fn append_pair(form: &mut Vec<u8>, name: &str, value: &str) -> Result<(), Al
         return Err(refused);
     }
     Ok(())
+}
+
+/// How many bytes the text has where a form encodes it. `usize::MAX` stands for more.
+pub fn encoded_len(text: &str) -> usize
+    ensures { result ≡ counted (byte_serialize text.now) }
+{
+    let mut len: usize = 0;
+    for &byte in text.as_bytes() {
+        len = len.saturating_add(byte_len(byte));
+    }
+    len
+}
+
+/// How many bytes a form of `form_len` bytes has with one more pair, whose value has `value_len`
+/// bytes where it is encoded. `usize::MAX` stands for more.
+pub fn len_with_pair(form_len: usize, name: &str, value_len: usize) -> usize
+    ensures { (form value : List ℕ) → form_len ≡ counted form
+        → value_len ≡ counted (byte_serialize value)
+        → result ≡ counted (append_pair form name.now value) }
+{
+    let separator = if form_len == 0 { 0 } else { "&".len() };
+    let name = form_len
+        .saturating_add(separator)
+        .saturating_add(encoded_len(name));
+    name.saturating_add("=".len()).saturating_add(value_len)
+}
+
+// How many bytes stand for the byte.
+fn byte_len(byte: u8) -> usize
+    ensures { result ≡ length (serialize_byte byte) }
+{
+    if single_byte(byte) == 0 { 3 } else { 1 }
 }
 
 // Appends `&` unless the form is empty, the name, `=` and the value. A refused growth may leave a

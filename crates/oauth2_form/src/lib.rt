@@ -13,6 +13,6 @@ mod query;
 pub use basic::basic_header;
 pub use encoded_text::EncodedText;
 pub use form_body::FormBody;
-pub use form_encoding::{append_encoded_text, append_pair};
+pub use form_encoding::{append_encoded_text, append_pair, encoded_len, len_with_pair};
 pub use param_buffer::ParamBuffer;
 pub use query::{append_plain_pair, query_text, with_query};

@@ -13,11 +13,21 @@ use std::marker::Model;
 ///
 /// Contracts see the scopes as one text with a space between each two (RFC 6749, section 3.3), and
 /// the parameters as their list.
-#[derive(Debug, Drop)]
+#[derive(Debug)]
 pub struct ParamBuffer {
     scope: Option<EncodedText>,
     extra_params: FormBody,
     alloc: Global,
+}
+
+impl Drop for ParamBuffer {
+    fn drop(self) {
+        let ParamBuffer {
+            scope: _,
+            extra_params: _,
+            alloc: _,
+        } = self;
+    }
 }
 
 impl Model for ParamBuffer {

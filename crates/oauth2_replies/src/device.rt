@@ -31,7 +31,7 @@ pub trait ExtraDeviceAuthorizationFields: FromJson + ToJson + fmt::Debug {
 
 /// The device authorization response of the standard, with extra fields `EF`. It is made by
 /// reading one.
-#[derive(Debug, Drop)]
+#[derive(Debug)]
 pub struct DeviceAuthorizationResponse<EF> {
     pub(crate) device_code: DeviceCode,
     pub(crate) user_code: UserCode,
@@ -40,6 +40,20 @@ pub struct DeviceAuthorizationResponse<EF> {
     pub(crate) expires_in: u64,
     pub(crate) interval: u64,
     pub(crate) extra_fields: EF,
+}
+
+impl<EF: Drop> Drop for DeviceAuthorizationResponse<EF> {
+    fn drop(self) {
+        let DeviceAuthorizationResponse {
+            device_code: _,
+            user_code: _,
+            verification_uri: _,
+            verification_uri_complete: _,
+            expires_in: _,
+            interval: _,
+            extra_fields: _,
+        } = self;
+    }
 }
 
 impl<EF> Model for DeviceAuthorizationResponse<EF> {

@@ -67,7 +67,7 @@ pub trait TokenResponse: FromJson + ToJson + fmt::Debug {
 }
 
 /// The token response of the standard, with extra fields `EF` and token types `TT`.
-#[derive(Debug, Drop)]
+#[derive(Debug)]
 pub struct StandardTokenResponse<EF, TT> {
     pub(crate) access_token: AccessToken,
     pub(crate) token_type: TT,
@@ -75,6 +75,19 @@ pub struct StandardTokenResponse<EF, TT> {
     pub(crate) refresh_token: Option<RefreshToken>,
     pub(crate) scopes: Option<Vec<Scope>>,
     pub(crate) extra_fields: EF,
+}
+
+impl<EF: Drop, TT: Drop> Drop for StandardTokenResponse<EF, TT> {
+    fn drop(self) {
+        let StandardTokenResponse {
+            access_token: _,
+            token_type: _,
+            expires_in: _,
+            refresh_token: _,
+            scopes: _,
+            extra_fields: _,
+        } = self;
+    }
 }
 
 impl<EF, TT> Model for StandardTokenResponse<EF, TT> {

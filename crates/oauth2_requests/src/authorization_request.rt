@@ -12,9 +12,12 @@ ghost use Rattle.oauth2_wire.specs.Texts.{param_bytes, param_pair, redirect_of, 
 ghost use Rattle.oauth2_requests.specs.Authorization.{IsTooLong, asked_url, query_pairs};
 ghost use Rattle.oauth2_requests.specs.Authorization.{challenge_pairs, scope_pairs};
 ghost use Rattle.oauth2_requests.specs.Authorization.{required_pairs, optional_pairs};
+ghost use Rattle.form_urlencoded.specs.Form.{extend_pairs};
+ghost use Rattle.oauth2_form.specs.Length.{counted};
 ghost use Rattle.oauth2_form.specs.Query.{ExtendsQuery};
 ghost use Rattle.oauth2_form.specs.ExtendsForm.{ExtendsForm};
 
+use crate::query_len::{with_challenge, with_extra_params, with_pair, with_redirect, with_scopes};
 use oauth2_form::{append_pair, append_plain_pair, query_text, with_query};
 use oauth2_json::members;
 use oauth2_types::{ClientId, CsrfToken, PkceCodeChallenge, ResponseType, Scope};
@@ -174,7 +177,7 @@ impl<'a> AuthorizationRequest<'a> {
             ExtendsQuery self.entry.auth_url.url r.0 (query_pairs self.entry)) }
         ensures state { IfOk result (λ r. r.1 ≡ self.entry.state) }
         ensures refusal { IfErr result IsOutOfRoom }
-        ensures overflow { result ≡ Err ParseError.Overflow → IsTooLong (asked_url self.entry) }
+        ensures overflow { result ≡ Err ParseError.Overflow ↔ IsTooLong (asked_url self.entry) }
     {
         let url = self.authorization_url(alloc)?;
         Ok((url, self.state))
@@ -185,18 +188,56 @@ impl<'a> AuthorizationRequest<'a> {
         ensures ok { IfOk result (λ url.
             ExtendsQuery self.now.auth_url.url url (query_pairs self.now)) }
         ensures refusal { IfErr result IsOutOfRoom }
-        ensures overflow { result ≡ Err ParseError.Overflow → IsTooLong (asked_url self.now) }
+        ensures overflow { result ≡ Err ParseError.Overflow ↔ IsTooLong (asked_url self.now) }
     {
         let url = self.auth_url.url();
-        let form = self.extended_query(alloc)?;
+        let Ok(form) = self.extended_query(alloc) else {
+            return Err(self.refusal());
+        };
         // Tested first, since `with_query` leaves open which of its two errors tells what.
-        if is_too_long(url, form.as_slice()) {
+        if is_too_long(url, form.len()) {
             return Err(ParseError::Overflow);
         }
         match with_query(url, form.as_slice()) {
             Ok(extended) => Ok(extended),
             Err(_) => Err(ParseError::OutOfMemory),
         }
+    }
+
+    // Why there is no URL where memory ran out for its query. The query is counted, which takes no
+    // memory, so that a URL that is too long is told as that.
+    fn refusal(&self) -> ParseError
+        ensures room { IsOutOfRoom result }
+        ensures overflow { result ≡ ParseError.Overflow ↔ IsTooLong (asked_url self.now) }
+    {
+        if is_too_long(self.auth_url.url(), self.query_len()) {
+            ParseError::Overflow
+        } else {
+            ParseError::OutOfMemory
+        }
+    }
+
+    // How many bytes the query has that is asked for; `usize::MAX` stands for more.
+    fn query_len(&self) -> usize
+        ensures { let query = unwrap_or self.now.auth_url.url.query [] in
+            result ≡ counted (extend_pairs query (query_pairs self.now)) }
+    {
+        let own = own_query(self.auth_url.url());
+        let len = self.required_len(own.len());
+        let len = with_challenge(len, &self.pkce_challenge);
+        let len = with_redirect(len, &self.redirect_url);
+        let len = with_scopes(len, &self.scopes);
+        with_extra_params(len, &self.extra_params)
+    }
+
+    // The count of a query's bytes with the pairs that each request sends.
+    fn required_len(&self, own: usize) -> usize
+        ensures { (query : List ℕ) → own ≡ counted query
+            → result ≡ counted (extend_pairs query (required_pairs self.now)) }
+    {
+        let len = with_pair(own, "response_type", self.response_type.as_str());
+        let len = with_pair(len, "client_id", self.client_id.as_str());
+        with_pair(len, "state", self.state.secret().as_str())
     }
 
     // The text of the endpoint's query, with the request's pairs after its own.
@@ -234,14 +275,22 @@ impl<'a> AuthorizationRequest<'a> {
     }
 }
 
-// Whether the URL with this text as its query would be longer than a `Url` can be.
-fn is_too_long(url: &Url, query: &[u8]) -> bool
-    ensures longer { IsTrue result ↔ IsTooLong (record url.now { query = Some query.now }) }
+// The text of a URL's query, empty where there is none.
+fn own_query(url: &Url) -> &str
+    ensures { result.now ≡ unwrap_or url.now.query [] }
+{
+    url.query().unwrap_or("")
+}
+
+// Whether the URL with a query of so many bytes would be longer than a `Url` can be.
+fn is_too_long(url: &Url, query_len: usize) -> bool
+    ensures longer { (query : List ℕ) → query_len ≡ counted query
+        → (IsTrue result ↔ IsTooLong (record url.now { query = Some query })) }
     ensures valid { IsValid url.now }
 {
     let fragment = url.as_str().len() - url.index(Position::AfterQuery);
     let others = url.index(Position::AfterPath) + "?".len() + fragment;
-    others.saturating_add(query.len()) > u32::MAX as usize
+    others.saturating_add(query_len) > u32::MAX as usize
 }
 
 fn push_challenge(

@@ -27,13 +27,25 @@ use url::Url;
 
 /// What each request to an endpoint holds: who asks, the scopes and the extra parameters that were
 /// added, and the rule by which its reply is read. Contracts see it as a `Base`.
-#[derive(Debug, Drop)]
+#[derive(Debug)]
 pub struct BaseRequest<'a> {
     auth_type: &'a AuthType,
     client_id: &'a ClientId,
     client_secret: Option<&'a ClientSecret>,
     buffer: ParamBuffer,
     reply_rule: ReplyRule,
+}
+
+impl Drop for BaseRequest<'_> {
+    fn drop(self) {
+        let BaseRequest {
+            auth_type: _,
+            client_id: _,
+            client_secret: _,
+            buffer: _,
+            reply_rule: _,
+        } = self;
+    }
 }
 
 impl<'a> Model for BaseRequest<'a> {

@@ -10,6 +10,7 @@ mod code_token_request;
 mod device_authorization_request;
 mod introspection_request;
 mod password_token_request;
+mod query_len;
 mod refresh_token_request;
 mod revocation_request;
 

@@ -3,7 +3,7 @@
 ghost use Rattle.std.specs.Prelude.{◌≡◌, ◌++◌, ◌∷◌, [], IfOk, Err};
 ghost use Rattle.http_uri.specs.Uri.{SpellsNone};
 ghost use Rattle.url.specs.Parts.{serialize};
-ghost use Rattle.oauth2_wire.specs.Once.{AsksOnce};
+ghost use Rattle.oauth2_wire.specs.Once.{AsksOnce, KeepsSuccess};
 ghost use Rattle.oauth2_wire.specs.Reply.{status_answer_of};
 ghost use Rattle.oauth2_wire.specs.Request.{IsRequestOf, view_of};
 ghost use Rattle.oauth2_wire.specs.Texts.{param_bytes};
@@ -115,6 +115,7 @@ impl<'a, RT: RevocableToken + Drop, TRE: ErrorResponse> RevocationRequest<'a, RT
         ensures once { AsksOnce (λ done. done) TRE.meaning C.step
             (status_answer_of TRE.reading) (IsRequestOf (revocation_configuration self.entry))
             (serialize self.entry.revocation_url.url) http_client.old result http_client.new }
+        ensures success { KeepsSuccess C.step http_client.old result http_client.new }
         ensures ready { C.is_ready http_client.new }
     {
         let prepared = self.prepare_request(alloc);

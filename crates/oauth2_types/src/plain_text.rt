@@ -16,9 +16,14 @@ use std::fmt;
 use std::hash::{Hash, Hasher};
 use std::marker::Model;
 
-#[derive(Drop)]
 pub(crate) struct PlainText {
     text: String,
+}
+
+impl Drop for PlainText {
+    fn drop(self) {
+        let PlainText { text: _ } = self;
+    }
 }
 
 impl Model for PlainText {
@@ -43,7 +48,8 @@ impl PlainText {
     pub(crate) fn into_text(self) -> String
         ensures { string_bytes result ≡ self }
     {
-        self.text
+        let PlainText { text } = self;
+        text
     }
 
     pub(crate) fn copy(&self, alloc: Global) -> Result<PlainText, AllocError>

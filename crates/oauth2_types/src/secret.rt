@@ -11,9 +11,14 @@ use std::alloc::{AllocError, Global};
 use std::hash::{Hash, Hasher};
 use std::marker::Model;
 
-#[derive(Drop)]
 pub(crate) struct Secret {
     text: String,
+}
+
+impl Drop for Secret {
+    fn drop(self) {
+        let Secret { text: _ } = self;
+    }
 }
 
 impl Model for Secret {
@@ -38,7 +43,8 @@ impl Secret {
     pub(crate) fn into_text(self) -> String
         ensures { string_bytes result ≡ self }
     {
-        self.text
+        let Secret { text } = self;
+        text
     }
 
     pub(crate) fn copy(&self, alloc: Global) -> Result<Secret, AllocError>

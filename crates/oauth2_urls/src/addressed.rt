@@ -21,10 +21,15 @@ use std::hash::{Hash, Hasher};
 use std::marker::Model;
 use url::{ParseError, Url};
 
-#[derive(Drop)]
 pub(crate) struct AddressedUrl {
     text: String,
     url: Url,
+}
+
+impl Drop for AddressedUrl {
+    fn drop(self) {
+        let AddressedUrl { text: _, url: _ } = self;
+    }
 }
 
 impl Model for AddressedUrl {

@@ -1,5 +1,5 @@
 -- Requests that are sent once.
-use Rattle.std.proofs.Common.{◌≡◌, ◌⊎◌, ℕ, List, false, Ok, Err, ap, refl, sym, subst, inl, inr}
+use Rattle.std.proofs.Common.{◌≡◌, ◌≢◌, ◌⊎◌, ℕ, List, false, Ok, Err, ap, refl, sym, subst, inl, inr}
 use Rattle.std.specs.Prelude.{Result}
 use Rattle.oauth2_wire.specs.Reply.{HttpResponse, ReplyView, Answer, accepted, reply_of, ShowsAnswer}
 use Rattle.oauth2_wire.specs.Request.{HttpRequest, RequestView, view_of}
@@ -50,6 +50,17 @@ module _ {D A T E RE C : Type 0} (meaning : D → A) (error_meaning : T → E) (
       subst (λ e. SendsOnce meaning error_meaning step says before (Err kind) (Err e) after) (sym is) (refl, stays)
 
 -- a result that is a value: the client was called, once, and a reply came that says it
+-- the reply of the one call is none of success, so it is what the step gave
+pub KeepsSuccess-failed : {RE C : Type 0} (T : Type 0) (step : C → HttpRequest → Result HttpResponse RE → C → Type 0) (before after : C)
+    (prepared : Result HttpRequest RequestFault) (reply : HttpResponse) → SendsOnce {RE = RE} reply_of (λ (error : T). error) step accepted before prepared (Ok reply) after
+    → (reply_of reply).status ≢ 200
+    → (request : HttpRequest) × (came : HttpResponse) × step before request (Ok came) after × ((reply_of came).status ≢ 200)
+KeepsSuccess-failed T step before after (Ok request) reply (Ok came, did, same) other =
+    let view : reply_of reply ≡ reply_of came = cc in
+    (request, came, did, subst (λ view. view.status ≢ 200) view other)
+KeepsSuccess-failed T step before after (Ok request) reply (Err error, did, same) other = cc
+KeepsSuccess-failed T step before after (Err kind) reply called other = absurd called
+
 module _ {D A T E RE C : Type 0} (meaning : D → A) (error_meaning : T → E) (step : C → HttpRequest → Result HttpResponse RE → C → Type 0) (says : ReplyView → Answer A E) (IsRequest : List ℕ → RequestView → Type 0) (url : List ℕ) (before after : C) where
   pub AsksOnce-accepted : (value : D) → AsksOnce meaning error_meaning step says IsRequest url before (Ok value) after
       → (request : HttpRequest) × IsRequest url (view_of request) × (reply : HttpResponse) × step before request (Ok reply) after

@@ -1,5 +1,5 @@
 -- One request: at most one step of the client, and what its answer is.
-use Rattle.std.specs.Prelude.{◌≡◌, ℕ, false, List, Result, Ok, Err, IfOk, MatchResult, string_bytes, codes}
+use Rattle.std.specs.Prelude.{◌≡◌, ◌≢◌, ℕ, true, false, List, Result, Ok, Err, IfOk, MatchResult, string_bytes, codes}
 use Rattle.http_uri.specs.Uri.{SpellsNone}
 use Rattle.oauth2_wire.specs.Reply.{HttpResponse, ReplyView, Answer, ShowsAnswer, reply_of}
 use Rattle.oauth2_wire.specs.Request.{HttpRequest, RequestView, view_of}
@@ -38,3 +38,10 @@ module _ {D A T E RE C : Type 0} (meaning : D → A) (error_meaning : T → E)
       × IfOk prepared (λ request. IsRequest url (view_of request))
       × (prepared ≡ Err fault.NotHttp → SpellsNone url)
       × SendsOnce before prepared result after
+
+-- where memory ran out after the sending, the one step of the client gave a reply that is no success:
+-- what a success says by its status alone (RFC 7009, section 2.2) is never lost for want of memory
+abbrev pub KeepsSuccess : {D T RE C : Type 0} → (C → HttpRequest → Result HttpResponse RE → C → Type 0) → C → Result D (RequestTokenError RE T) → C → Type 0
+KeepsSuccess step before result after =
+    result ≡ Err (token.Memory true)
+    → (request : HttpRequest) × (reply : HttpResponse) × step before request (Ok reply) after × ((reply_of reply).status ≢ 200)

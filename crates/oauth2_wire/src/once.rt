@@ -1,7 +1,9 @@
 //! One request and its answer.
 
 ghost use Rattle.oauth2_wire.specs.Reply.{accepted, reply_of, answer_of, status_answer_of};
-ghost use Rattle.oauth2_wire.specs.Once.{SendsOnce};
+ghost use Rattle.oauth2_wire.specs.Once.{KeepsSuccess, SendsOnce};
+ghost use Rattle.oauth2_wire.specs.declared.error.RequestTokenError.TheVariants.{Memory};
+ghost use Rattle.std.specs.Prelude.{◌≢◌, true, IfErr};
 
 use crate::content_type::ReplyRule;
 use crate::error::RequestTokenError;
@@ -39,6 +41,7 @@ pub fn send_once_status_only<C: SyncHttpClient, TE: FromJson>(
     requires { C.is_ready http_client.old }
     ensures once { SendsOnce (λ done. done) TE.meaning C.step (status_answer_of TE.reading)
         http_client.old prepared result http_client.new }
+    ensures success { KeepsSuccess C.step http_client.old result http_client.new }
     ensures ready { C.is_ready http_client.new }
 {
     match call(alloc, prepared, http_client) {
@@ -56,6 +59,7 @@ fn call<C: SyncHttpClient, TE>(
     requires { C.is_ready http_client.old }
     ensures once { SendsOnce reply_of (λ error. error) C.step accepted
         http_client.old prepared result http_client.new }
+    ensures unsent { IfErr result (λ error. error ≢ Memory true) }
     ensures ready { C.is_ready http_client.new }
 {
     match prepared {

@@ -1,6 +1,6 @@
 //! What a reply says (RFC 6749, sections 5.1 and 5.2).
 
-ghost use Rattle.std.specs.Prelude.{◌≡◌, ◌==◌};
+ghost use Rattle.std.specs.Prelude.{◌≡◌, ◌==◌, Ok};
 ghost use Rattle.oauth2_wire.specs.declared.content_type.ReplyRule.TheVariants.{Prefix};
 ghost use Rattle.oauth2_wire.specs.ContentType.{unexpected_type_text};
 ghost use Rattle.oauth2_wire.specs.Reply.{reply_of, answer_of, status_answer_of, success_answer};
@@ -48,8 +48,9 @@ pub fn endpoint_response_status_only<RE, TE: FromJson>(
     alloc: Global,
     reply: HttpResponse,
 ) -> Result<(), RequestTokenError<RE, TE>>
-    ensures { ShowsAnswer (λ done. done) TE.meaning
+    ensures answer { ShowsAnswer (λ done. done) TE.meaning
         (status_answer_of TE.reading (reply_of reply)) result }
+    ensures success { (reply_of reply).status ≡ 200 → result ≡ Ok tt }
 {
     if is_success(&reply) {
         Ok(())
