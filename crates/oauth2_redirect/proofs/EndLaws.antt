@@ -18,6 +18,8 @@ use Rattle.oauth2_redirect.specs.Start.{ShowsLogin}
 use Rattle.oauth2.proofs.CodeFlowLaws.{exchange, verifier-read}
 use Rattle.oauth2_redirect.specs.End.{EndsLogin, ExchangesCode, RepeatsRedirectUri, login_exchange, with_redirect_uri}
 use Rattle.oauth2_redirect.specs.declared.login_error.LoginError.{LoginError}
+use Rattle.oauth2_redirect.specs.declared.login_error.LoginError.TheVariants.{Redirect}
+use Rattle.oauth2_redirect.specs.declared.redirect.RedirectError.{RedirectError}
 use Rattle.serde_json.specs.Data.{Data}
 use Rattle.oauth2_json.specs.Reading.{Reading}
 use Rattle.oauth2_form.specs.Pairs.{Pair, form}
@@ -27,7 +29,7 @@ use Rattle.oauth2_wire.specs.declared.error.RequestTokenError.{RequestTokenError
 use Rattle.oauth2_requests.specs.Base.{Base}
 use Rattle.oauth2_requests.specs.Code.{CodeRequest, code_configuration}
 use Rattle.oauth2_redirect.specs.Query.{sole_text}
-use Rattle.oauth2_redirect.specs.Redirect.{RedirectRefusal, other_state, answer, is_state}
+use Rattle.oauth2_redirect.specs.Redirect.{IssuerExpectation, RedirectRefusal, other_state, answer, is_state}
 
 -- a redirect URI that is set leaves the rest
 with-base : (u : Option Addressed) (r : CodeRequest) → (with_redirect_uri u r).base ≡ r.base
@@ -66,12 +68,19 @@ module _ {D A T E RE C : Type 0} (meaning : D → A) (error_meaning : T → E) (
   IfOk-from_EndsLogin (Ok token) (inr (error, same, shown, stayed)) = cc
   IfOk-from_EndsLogin (Err error) ends = tt
 
+  -- a login that is given back is the login
+  pub login-given_back : (result : Result D (LoginError RE T)) → EndsLogin meaning error_meaning reading error_reading step client login told before result after
+      → (error : RedirectError) (kept : Kept) → result ≡ Err (Redirect error kept) → kept ≡ login
+  login-given_back result (inl (code, is, Ok token, same, asked)) error kept is_redirect = cc
+  login-given_back result (inl (code, is, Err fault, same, asked)) error kept is_redirect = cc
+  login-given_back result (inr (why, same, shown, stayed)) error kept is_redirect = cc
+
 only_with : (b : Bool) (told : Result (List ℕ) RedirectRefusal) (code : List ℕ) → (if b then told else Err other_state) ≡ Ok code → b ≡ true
 only_with true told code is = refl
 only_with false told code is = cc
 
 -- a code is told only with the login's state
-pub state-of_code : (state : List ℕ) (issuer : Option (List ℕ)) (pairs : List Pair) (code : List ℕ) → answer state issuer pairs ≡ Ok code → is_state state (sole_text (codes "state") pairs) ≡ true
+pub state-of_code : (state : List ℕ) (issuer : IssuerExpectation) (pairs : List Pair) (code : List ℕ) → answer state issuer pairs ≡ Ok code → is_state state (sole_text (codes "state") pairs) ≡ true
 state-of_code state issuer pairs code is = only_with (is_state state (sole_text (codes "state") pairs)) _ code is
 
 -- ---- what a server reads of the request for the token

@@ -1,4 +1,4 @@
-pub mod Names
+pub mod Visible
 pub mod Values
 pub mod StartLaws
 pub mod EndLaws

@@ -22,8 +22,13 @@ use Rattle.oauth2_redirect.specs.Redirect.{RedirectRefusal, TellsRefusal, redire
 
 -- the text of an error
 abbrev pub login_error_text : {RE T : Type 0} → (T → Option (List ℕ)) → LoginError RE T → Option (List ℕ)
-login_error_text text (Redirect error) = redirect_error_text error
+login_error_text text (Redirect error login) = redirect_error_text error
 login_error_text text (Token error) = fault_text text error
+
+-- the debug text of an error, which hides what it holds
+abbrev pub login_error_debug : {RE T : Type 0} → LoginError RE T → List ℕ
+login_error_debug (Redirect error login) = codes "Redirect([redacted])"
+login_error_debug (Token error) = codes "Token([redacted])"
 
 abbrev pub with_redirect_uri : Option Addressed → CodeRequest → CodeRequest
 with_redirect_uri None r = r
@@ -58,11 +63,12 @@ module _ {D A T E RE C : Type 0} where
       (IsRequestOf (code_configuration (login_exchange client endpoint login code))) (serialize endpoint.url) before result after
 
   -- a redirect that tells a code has that code exchanged for the login's token; another tells
-  -- why it gives none, and the HTTP client is as it was, as it is where memory ran out
+  -- why it gives none, and the HTTP client is as it was, as it is where memory ran out: the login
+  -- is then given back
   abbrev pub EndsLogin : (D → A) → (T → E) → (Data → Reading A) → (Data → Reading E)
       → (C → HttpRequest → Result HttpResponse RE → C → Type 0) → Settings → Kept → Result (List ℕ) RedirectRefusal
       → C → Result D (LoginError RE T) → C → Type 0
   EndsLogin meaning error_meaning reading error_reading step client login told before result after =
       ((code : List ℕ) × (told ≡ Ok code) × (outcome : Result D (RequestTokenError RE T)) × (result ≡ of_exchange outcome)
       × ExchangesCode meaning error_meaning reading error_reading step client login code before outcome after)
-      ⊎ ((error : RedirectError) × (result ≡ Err (Redirect error)) × TellsRefusal error told × (after ≡ before))
+      ⊎ ((error : RedirectError) × (result ≡ Err (Redirect error login)) × TellsRefusal error told × (after ≡ before))

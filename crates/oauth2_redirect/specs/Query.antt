@@ -1,5 +1,7 @@
 -- What is read of a redirect's query.
-use Rattle.std.specs.Prelude.{ℕ, List, [], ◌∷◌, Bool, true, false, Option, Some, None, option_map, filter}
+use Rattle.std.specs.Prelude.{ℕ, List, [], ◌∷◌, Bool, true, false, Option, Some, None, option_map, map, filter}
+use Rattle.std.specs.Char.{is_ascii_graphic}
+use Rattle.std.specs.List.{list_all}
 use Rattle.std.specs.Str.Lossy.{utf8_lossy}
 use Rattle.oauth2_form.specs.Pairs.{Pair}
 use Rattle.oauth2_wire.specs.ByName.{bears, read_by_name}
@@ -17,6 +19,10 @@ abbrev pub first : List Pair → Option (List ℕ)
 first [] = None
 first (pair ∷ pairs) = Some pair.1
 
+-- the values of the parameters of that name, as texts
+abbrev pub texts : List ℕ → List Pair → List (List ℕ)
+texts name pairs = map (λ pair. utf8_lossy pair.1) (filter (bears name) (sent_pairs pairs))
+
 -- the value of the sole parameter of that name, as text, with U+FFFD for what is not UTF-8; one that
 -- is sent twice is none (RFC 6749, 3.1)
 abbrev pub sole_text : List ℕ → List Pair → Option (List ℕ)
@@ -25,3 +31,7 @@ sole_text name pairs = option_map utf8_lossy (read_by_name name (sent_pairs pair
 -- the value of the first parameter of that name, as text
 abbrev pub first_text : List ℕ → List Pair → Option (List ℕ)
 first_text name pairs = option_map utf8_lossy (first (filter (bears name) (sent_pairs pairs)))
+
+-- visible characters alone (VCHAR of RFC 5234, B.1)
+abbrev pub is_visible : List ℕ → Bool
+is_visible text = list_all is_ascii_graphic text

@@ -1,12 +1,12 @@
 -- The start of a login.
 use Rattle.std.specs.Prelude.{◌≡◌, ℕ, List, codes, Option, Some, option_map}
 use Rattle.url.specs.declared.error.ParseError.{ParseError}
-use Rattle.url.specs.declared.error.ParseError.TheVariants.{Overflow}
+use Rattle.url.specs.declared.error.ParseError.TheVariants.{OutOfMemory, Overflow}
 use Rattle.oauth2_types.specs.Pkce.{sha256_challenge}
 use Rattle.oauth2_form.specs.Pairs.{Pair}
 use Rattle.oauth2_wire.specs.ByName.{read_by_name}
 use Rattle.oauth2_wire.specs.Texts.{given_text}
-use Rattle.oauth2_requests.specs.Authorization.{Authorization}
+use Rattle.oauth2_requests.specs.Authorization.{Authorization, IsTooLong, asked_url}
 use Rattle.oauth2_redirect.specs.Login.{Kept}
 
 -- the request for the login's URL, which sends the challenge, and the challenge's verifier
@@ -22,6 +22,12 @@ ShowsLogin login query =
     × (read_by_name (codes "code_challenge") query ≡ Some (sha256_challenge login.verifier).text)
     × (read_by_name (codes "code_challenge_method") query ≡ Some (codes "S256"))
     × (read_by_name (codes "redirect_uri") query ≡ option_map given_text login.redirect_uri)
+
+-- why a request has no URL: it would be too long, or it would not and memory ran out
+abbrev pub IsUrlRefusal : Authorization → ParseError → Type 0
+IsUrlRefusal request Overflow = IsTooLong (asked_url request)
+IsUrlRefusal request OutOfMemory = ¬ (IsTooLong (asked_url request))
+IsUrlRefusal request error = ⊥
 
 -- the text of the error of a URL
 abbrev pub login_url_error_text : ParseError → Option (List ℕ)

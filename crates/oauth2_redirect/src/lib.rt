@@ -3,6 +3,8 @@
 
 #![tactic(auto)]
 
+mod comparing;
+mod issuer;
 mod laws;
 mod login;
 mod login_error;
@@ -12,6 +14,7 @@ mod login_url_error;
 mod query;
 mod redirect;
 
+pub use issuer::ExpectedIssuer;
 pub use laws::{login_passes_check, login_repeats_redirect_uri};
 pub use login::Login;
 pub use login_error::LoginError;

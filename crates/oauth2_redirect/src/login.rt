@@ -1,20 +1,28 @@
 //! A login by a code from its start to its token (RFC 6749, section 4.1; RFC 7636).
 
-ghost use Rattle.std.specs.Prelude.{◌≡◌, ℕ, List, Ok, Err, Some, IfOk, false, option_copied};
-ghost use Rattle.std.specs.Prelude.{codes};
+ghost use Rattle.std.specs.Fmt.{DisplaysOnOk, WritesStyledOnOk};
+ghost use Rattle.std.specs.Prelude.{◌≡◌, ℕ, List, Ok, Err, Some, IfOk, false, codes};
 ghost use Rattle.rand_core.specs.Stream.{Stream};
 ghost use Rattle.oauth2_types.specs.Pkce.{IsRandomText};
 ghost use Rattle.oauth2_urls.specs.Addressed.{Addressed};
+ghost use Rattle.oauth2_form.specs.Pairs.{form};
 ghost use Rattle.oauth2_form.specs.Query.{query_form};
 ghost use Rattle.oauth2.specs.CodeFlow.{flow_authorization};
 ghost use Rattle.oauth2_redirect.specs.Query.{sole_text};
-ghost use Rattle.oauth2_redirect.specs.Redirect.{RedirectRefusal, answer, is_state};
+ghost use Rattle.oauth2_redirect.specs.Redirect.{
+  MayWantMemory,
+  RedirectRefusal,
+  answer,
+  is_state,
+  issuer_expectation,
+};
 ghost use Rattle.oauth2_redirect.specs.End.{EndsLogin, ExchangesCode, login_exchange};
-ghost use Rattle.oauth2_redirect.specs.Login.{kept_login};
+ghost use Rattle.oauth2_redirect.specs.Login.{Kept, kept_login};
 
+use crate::issuer::ExpectedIssuer;
 use crate::login_error::LoginError;
 use crate::login_request::LoginRequest;
-use crate::redirect::read_redirect;
+use crate::redirect::{RedirectError, read_redirect_query};
 use oauth2::{Client, EndpointSet, EndpointState};
 use oauth2_codes::ErrorResponse;
 use oauth2_replies::TokenResponse;
@@ -24,12 +32,13 @@ use oauth2_urls::RedirectUrl;
 use oauth2_wire::{RedirectRef, SyncHttpClient};
 use rand_core::Rng;
 use std::alloc::{AllocError, Global};
+use std::fmt;
 use std::marker::Model;
 use url::Url;
 
 /// What an application keeps with the session while its user is away: the state, the verifier, and
 /// the redirect URI that the login's URL bears.
-#[derive(Debug, Drop)]
+#[derive(Drop)]
 pub struct Login {
     pub(crate) state: CsrfToken,
     pub(crate) verifier: PkceCodeVerifier,
@@ -93,16 +102,23 @@ impl Login {
         Ok(LoginRequest::new(request, state, verifier, client.redirect_uri()))
     }
 
-    /// The token for the code that the redirect brings, where its state is the login's and, if an
-    /// issuer is expected, it comes from that issuer. On any other redirect the HTTP client is not
-    /// called.
+    /// The state with which the user has to come back, to find the login that a redirect is for.
+    pub fn state(&self) -> &CsrfToken
+        ensures { result.now ≡ self.now.state }
+    {
+        &self.state
+    }
+
+    /// The token for the code that the redirect brings, where its state is the login's and it may
+    /// come from the expected issuer. On any other redirect the HTTP client is not called, and the
+    /// error gives the login back.
     pub fn finish<TE, TR, TIR, RT, TRE, A, D, I, R, C: SyncHttpClient>(
         self,
         alloc: Global,
         client: &Client<TE, TR, TIR, RT, TRE, A, D, I, R, EndpointSet>,
         http_client: &mut C,
         redirect: &Url,
-        issuer: Option<&str>,
+        issuer: ExpectedIssuer<'_>,
     ) -> Result<TR, LoginError<C::Error, TE>>
     where
         TE: ErrorResponse,
@@ -113,24 +129,72 @@ impl Login {
         R: EndpointState,
         requires { C.is_ready http_client.old }
         ensures end { EndsLogin TR.meaning TE.meaning TR.reading TE.reading C.step client.now self
-            (answer self.state (option_copied issuer.entry) (query_form redirect.now))
+            (answer self.state (issuer_expectation issuer.entry) (query_form redirect.now))
             http_client.old result http_client.new }
         ensures token { IfOk result (λ token. (code : List ℕ)
-            × (answer self.state (option_copied issuer.entry) (query_form redirect.now) ≡ Ok code)
+            × (answer self.state (issuer_expectation issuer.entry) (query_form redirect.now)
+            ≡ Ok code)
             × ExchangesCode TR.meaning TE.meaning TR.reading TE.reading C.step client.now self code
             http_client.old (Ok token) http_client.new) }
 
         // A redirect that tells no code sends nothing, so none with another state does.
         ensures no_code { (why : RedirectRefusal)
-            → answer self.state (option_copied issuer.entry) (query_form redirect.now) ≡ Err why
+            → answer self.state (issuer_expectation issuer.entry) (query_form redirect.now)
+            ≡ Err why
             → http_client.new ≡ http_client.old }
         ensures other_state { let state = sole_text (codes "state") (query_form redirect.now) in
             is_state self.state state ≡ false → http_client.new ≡ http_client.old }
+        ensures given_back { (error : _) (login : Kept)
+            → result ≡ Err (LoginError.Redirect error login) → login ≡ self }
+        ensures memory { result ≡ Err (LoginError.Redirect RedirectError.Memory self)
+            → MayWantMemory self.state (issuer_expectation issuer.entry) (query_form redirect.now) }
         ensures ready { C.is_ready http_client.new }
     {
-        match read_redirect(alloc, redirect, &self.state, issuer) {
+        let query = redirect.query().unwrap_or("");
+        self.finish_query(alloc, client, http_client, query, issuer)
+    }
+
+    /// What `finish` returns for a redirect with this query, which stands without the `?`, or with
+    /// this form as its body (`response_mode=form_post`): for a handler that has no `Url`.
+    pub fn finish_query<TE, TR, TIR, RT, TRE, A, D, I, R, C: SyncHttpClient>(
+        self,
+        alloc: Global,
+        client: &Client<TE, TR, TIR, RT, TRE, A, D, I, R, EndpointSet>,
+        http_client: &mut C,
+        query: &str,
+        issuer: ExpectedIssuer<'_>,
+    ) -> Result<TR, LoginError<C::Error, TE>>
+    where
+        TE: ErrorResponse,
+        TR: TokenResponse,
+        A: EndpointState,
+        D: EndpointState,
+        I: EndpointState,
+        R: EndpointState,
+        requires { C.is_ready http_client.old }
+        ensures end { EndsLogin TR.meaning TE.meaning TR.reading TE.reading C.step client.now self
+            (answer self.state (issuer_expectation issuer.entry) (form query.now))
+            http_client.old result http_client.new }
+        ensures token { IfOk result (λ token. (code : List ℕ)
+            × (answer self.state (issuer_expectation issuer.entry) (form query.now) ≡ Ok code)
+            × ExchangesCode TR.meaning TE.meaning TR.reading TE.reading C.step client.now self code
+            http_client.old (Ok token) http_client.new) }
+
+        // A redirect that tells no code sends nothing, so none with another state does.
+        ensures no_code { (why : RedirectRefusal)
+            → answer self.state (issuer_expectation issuer.entry) (form query.now) ≡ Err why
+            → http_client.new ≡ http_client.old }
+        ensures other_state { let state = sole_text (codes "state") (form query.now) in
+            is_state self.state state ≡ false → http_client.new ≡ http_client.old }
+        ensures given_back { (error : _) (login : Kept)
+            → result ≡ Err (LoginError.Redirect error login) → login ≡ self }
+        ensures memory { result ≡ Err (LoginError.Redirect RedirectError.Memory self)
+            → MayWantMemory self.state (issuer_expectation issuer.entry) (form query.now) }
+        ensures ready { C.is_ready http_client.new }
+    {
+        match read_redirect_query(alloc, query, &self.state, issuer) {
             Ok(code) => self.exchanged(alloc, client, http_client, code),
-            Err(error) => Err(LoginError::Redirect(error)),
+            Err(error) => Err(LoginError::Redirect { error, login: self }),
         }
     }
 
@@ -190,5 +254,19 @@ impl Login {
             Some(redirect_uri) => request.set_redirect_uri(RedirectRef::Owned(redirect_uri)),
             None => request,
         }
+    }
+}
+
+impl fmt::Debug for Login {
+    ghost debug_output = { λ _. Some (codes "Login([redacted])") };
+
+    fn fmt<W: fmt::Write>(&self, f: &mut fmt::Formatter<W>) -> fmt::Result
+        ensures writes { DisplaysOnOk W.write_str_gives f.old result
+            (Some (codes "Login([redacted])")) f.new }
+        // Whatever options the formatter has, as under `{:#?}`.
+        ensures styled { WritesStyledOnOk W.write_str_gives f.old result
+            (codes "Login([redacted])") f.new }
+    {
+        f.write_str("Login([redacted])")
     }
 }

@@ -1,15 +1,20 @@
 //! Why a login gave no token.
 
+use crate::login::Login;
 use crate::redirect::RedirectError;
 use oauth2_types::display::write_display;
 use oauth2_wire::RequestTokenError;
 use std::fmt;
 
 /// Why a login gave no token.
-#[derive(Debug, Drop)]
+#[derive(Drop)]
 pub enum LoginError<RE, T> {
     /// The redirect has no code, or is not this login's. The HTTP client was not called.
-    Redirect(RedirectError),
+    Redirect {
+        error: RedirectError,
+        /// The login as it was, to finish by another redirect.
+        login: Login,
+    },
     /// The token endpoint gave no token.
     Token(RequestTokenError<RE, T>),
 }
@@ -23,7 +28,7 @@ impl<RE, T: fmt::Display> fmt::Display for LoginError<RE, T> {
 
     fn fmt<W: fmt::Write>(&self, f: &mut fmt::Formatter<W>) -> fmt::Result {
         match self {
-            LoginError::Redirect(error) => write_display(f, error),
+            LoginError::Redirect { error, login: _ } => write_display(f, error),
             LoginError::Token(error) => write_display(f, error),
         }
     }
@@ -35,17 +40,6 @@ where
     T: fmt::Debug + fmt::Display + Drop,
 {}
 
-impl<RE, T> From<RedirectError> for LoginError<RE, T> {
-    ghost use Rattle.std.specs.Prelude.{◌≡◌};
-    ghost use Rattle.oauth2_redirect.specs.declared.login_error.LoginError.TheVariants.{Redirect};
-
-    ghost from_gives = { λ error e. e ≡ Redirect error };
-
-    fn from(error: RedirectError) -> LoginError<RE, T> {
-        LoginError::Redirect(error)
-    }
-}
-
 impl<RE, T> From<RequestTokenError<RE, T>> for LoginError<RE, T> {
     ghost use Rattle.std.specs.Prelude.{◌≡◌};
     ghost use Rattle.oauth2_redirect.specs.declared.login_error.LoginError.TheVariants.{Token};
@@ -54,5 +48,26 @@ impl<RE, T> From<RequestTokenError<RE, T>> for LoginError<RE, T> {
 
     fn from(error: RequestTokenError<RE, T>) -> LoginError<RE, T> {
         LoginError::Token(error)
+    }
+}
+
+impl<RE, T> fmt::Debug for LoginError<RE, T> {
+    ghost use Rattle.std.specs.Prelude.{Some};
+    ghost use Rattle.std.specs.Fmt.{DisplaysOnOk, WritesStyledOnOk};
+    ghost use Rattle.oauth2_redirect.specs.End.{login_error_debug};
+
+    ghost debug_output = { λ error. Some (login_error_debug error) };
+
+    fn fmt<W: fmt::Write>(&self, f: &mut fmt::Formatter<W>) -> fmt::Result
+        ensures writes { DisplaysOnOk W.write_str_gives f.old result
+            (Some (login_error_debug self.now)) f.new }
+        // Whatever options the formatter has, as under `{:#?}`.
+        ensures styled { WritesStyledOnOk W.write_str_gives f.old result
+            (login_error_debug self.now) f.new }
+    {
+        f.write_str(match self {
+            LoginError::Redirect { error: _, login: _ } => "Redirect([redacted])",
+            LoginError::Token(_) => "Token([redacted])",
+        })
     }
 }

@@ -8,20 +8,20 @@ ghost use Rattle.std.specs.Prelude.{
   [],
   ℕ,
   List,
-  Err,
   IfOk,
   IfErr,
   IsTrue,
   Some,
+  codes,
   option_copied,
 };
-ghost use Rattle.url.specs.Parser.{IsOutOfRoom};
+ghost use Rattle.std.specs.Fmt.{DisplaysOnOk, WritesStyledOnOk};
 ghost use Rattle.oauth2_types.specs.Pkce.{sha256_challenge};
 ghost use Rattle.oauth2_wire.specs.ByName.{avoid_own_names};
 ghost use Rattle.oauth2_wire.specs.Texts.{param_bytes};
-ghost use Rattle.oauth2_requests.specs.Authorization.{IsTooLong, asked_url, query_pairs};
+ghost use Rattle.oauth2_requests.specs.Authorization.{query_pairs};
 ghost use Rattle.oauth2_form.specs.Query.{ExtendsQuery, query_form};
-ghost use Rattle.oauth2_redirect.specs.Start.{ShowsLogin};
+ghost use Rattle.oauth2_redirect.specs.Start.{IsUrlRefusal, ShowsLogin};
 ghost use Rattle.oauth2_redirect.specs.Login.{kept_login};
 
 use crate::login::Login;
@@ -31,11 +31,12 @@ use oauth2_types::{CsrfToken, PkceCodeVerifier, Scope, TryClone};
 use oauth2_urls::RedirectUrl;
 use oauth2_wire::ParamText;
 use std::alloc::{AllocError, Global};
+use std::fmt;
 use std::marker::Model;
 use url::{ParseError, Url};
 
 /// A login that is being started. Contracts see the request for its URL, and its verifier.
-#[derive(Debug, Drop)]
+#[derive(Drop)]
 pub struct LoginRequest<'a> {
     request: AuthorizationRequest<'a>,
     state: CsrfToken,
@@ -77,6 +78,13 @@ impl<'a> LoginRequest<'a> {
             verifier,
             redirect_uri,
         }
+    }
+
+    /// The redirect URI that the URL bears.
+    pub fn redirect_uri(&self) -> Option<&RedirectUrl>
+        ensures { option_copied result ≡ self.now.request.redirect_url }
+    {
+        self.redirect_uri
     }
 
     /// Adds a scope.
@@ -163,10 +171,8 @@ impl<'a> LoginRequest<'a> {
         ensures shows { IsTrue (avoid_own_names (query_form self.entry.request.auth_url.url))
             → IsTrue (avoid_own_names self.entry.request.extra_params)
             → IfOk result (λ (url, login). ShowsLogin login (query_form url)) }
-        ensures refusal { IfErr result
-            (λ refused. (refused.request ≡ self.entry) × IsOutOfRoom refused.error) }
-        ensures overflow { IfErr result (λ refused. refused.error ≡ ParseError.Overflow
-            → IsTooLong (asked_url self.entry.request)) }
+        ensures refusal { IfErr result (λ refused. (refused.request ≡ self.entry)
+            × IsUrlRefusal self.entry.request refused.error) }
     {
         match self.url_and_redirect_uri(alloc) {
             Ok((url, redirect_uri)) => Ok((
@@ -185,14 +191,27 @@ impl<'a> LoginRequest<'a> {
         ensures url { IfOk result (λ (url, _).
             ExtendsQuery self.now.request.auth_url.url url (query_pairs self.now.request)) }
         ensures redirect_uri { IfOk result (λ (_, uri). uri ≡ self.now.request.redirect_url) }
-        ensures refusal { IfErr result IsOutOfRoom }
-        ensures overflow { result ≡ Err ParseError.Overflow
-            → IsTooLong (asked_url self.now.request) }
+        ensures refusal { IfErr result (IsUrlRefusal self.now.request) }
     {
-        let redirect_uri = match self.redirect_uri {
-            Some(redirect_uri) => Some(redirect_uri.try_clone(alloc)?),
-            None => None,
-        };
-        Ok((self.request.authorization_url(alloc)?, redirect_uri))
+        // Made first, so that a URL that is too long is told whether or not the copy has room.
+        let url = self.request.authorization_url(alloc)?;
+        match self.redirect_uri {
+            Some(redirect_uri) => Ok((url, Some(redirect_uri.try_clone(alloc)?))),
+            None => Ok((url, None)),
+        }
+    }
+}
+
+impl fmt::Debug for LoginRequest<'_> {
+    ghost debug_output = { λ _. Some (codes "LoginRequest([redacted])") };
+
+    fn fmt<W: fmt::Write>(&self, f: &mut fmt::Formatter<W>) -> fmt::Result
+        ensures writes { DisplaysOnOk W.write_str_gives f.old result
+            (Some (codes "LoginRequest([redacted])")) f.new }
+        // Whatever options the formatter has, as under `{:#?}`.
+        ensures styled { WritesStyledOnOk W.write_str_gives f.old result
+            (codes "LoginRequest([redacted])") f.new }
+    {
+        f.write_str("LoginRequest([redacted])")
     }
 }

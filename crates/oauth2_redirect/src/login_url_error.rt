@@ -5,7 +5,7 @@ use std::fmt;
 use url::ParseError;
 
 /// Why a login has no URL, and the login itself.
-#[derive(Debug, Drop)]
+#[derive(Drop)]
 pub struct LoginUrlError<'a> {
     /// `OutOfMemory`, or `Overflow` where the URL would be longer than a `Url` can be.
     pub error: ParseError,
@@ -37,5 +37,22 @@ impl From<LoginUrlError<'_>> for ParseError {
 
     fn from(refused: LoginUrlError<'_>) -> ParseError {
         refused.error
+    }
+}
+
+impl fmt::Debug for LoginUrlError<'_> {
+    ghost use Rattle.std.specs.Prelude.{Some, codes};
+    ghost use Rattle.std.specs.Fmt.{DisplaysOnOk, WritesStyledOnOk};
+
+    ghost debug_output = { λ _. Some (codes "LoginUrlError([redacted])") };
+
+    fn fmt<W: fmt::Write>(&self, f: &mut fmt::Formatter<W>) -> fmt::Result
+        ensures writes { DisplaysOnOk W.write_str_gives f.old result
+            (Some (codes "LoginUrlError([redacted])")) f.new }
+        // Whatever options the formatter has, as under `{:#?}`.
+        ensures styled { WritesStyledOnOk W.write_str_gives f.old result
+            (codes "LoginUrlError([redacted])") f.new }
+    {
+        f.write_str("LoginUrlError([redacted])")
     }
 }

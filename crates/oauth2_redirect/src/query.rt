@@ -1,42 +1,110 @@
 //! The parameters of a query, read by name.
 
 ghost use Rattle.std.specs.Cow.{cow_str_bytes};
-ghost use Rattle.std.specs.Prelude.{◌≡◌, ◌&&◌, bytes_eq, IfOk, option_map, string_bytes};
-ghost use Rattle.std.specs.Str.{IsAscii};
+ghost use Rattle.std.specs.Prelude.{
+  ◌≡◌,
+  ◌&&◌,
+  true,
+  bytes_eq,
+  filter,
+  IfOk,
+  IsSome,
+  OnErr,
+  option_map,
+  string_bytes,
+};
 ghost use Rattle.std.specs.Str.Lossy.{utf8_lossy};
+ghost use Rattle.percent_encoding.specs.Percent.{percent_decode as unescaped};
 ghost use Rattle.form_urlencoded.specs.Form.{decode as decoded};
 ghost use Rattle.oauth2_form.specs.Pairs.{Pair, form};
-ghost use Rattle.oauth2_wire.specs.ByName.{bears};
-ghost use Rattle.oauth2_redirect.specs.Query.{first_text, has_value, sole_text};
+ghost use Rattle.oauth2_wire.specs.ByName.{bears, read_by_name};
+ghost use Rattle.oauth2_redirect.specs.Query.{
+  first,
+  first_text,
+  has_value,
+  is_visible,
+  sent_pairs,
+  sole_text,
+};
 
 use form_urlencoded::{decode, raw_pairs};
+use percent_encoding::percent_decode;
 use std::alloc::{AllocError, Global};
 
-// The decoded text of a value.
-fn decoded_text(alloc: Global, encoded: &[u8]) -> Result<String, AllocError>
-    ensures { IfOk result (λ text. string_bytes text ≡ utf8_lossy (decoded encoded.now)) }
+// Whether the escapes of a text stand for these bytes.
+fn unescapes_to(encoded: &[u8], bytes: &[u8]) -> bool
+    ensures { result ≡ bytes_eq (unescaped encoded.now) bytes.now }
 {
-    decode(alloc, encoded)?.into_owned(alloc)
+    let mut left = bytes;
+    for byte in percent_decode(encoded) {
+        match left.split_first() {
+            Some((first, rest)) if *first == byte => left = rest,
+            _ => return false,
+        }
+    }
+    left.is_empty()
 }
 
-// Whether a name decodes to this one.
-fn is_name(alloc: Global, encoded: &[u8], name: &str) -> Result<bool, AllocError>
-    requires { IsAscii name.now }
-    ensures { IfOk result (λ is. is ≡ bytes_eq (decoded encoded.now) name.now) }
+// Whether a text decodes to this one, which is visible. It takes no memory.
+pub(crate) fn decodes_to(encoded: &[u8], text: &str) -> bool
+    requires { is_visible text.now ≡ true }
+    ensures { result ≡ bytes_eq (decoded encoded.now) text.now }
 {
-    Ok(decode(alloc, encoded)?.as_str() == name)
+    if encoded.contains(&b'+') {
+        return false;
+    }
+    unescapes_to(encoded, text.as_bytes())
 }
 
 // Whether a pair is a parameter of this name that has a value.
-fn is_sent(alloc: Global, bearer: &[u8], value: &[u8], name: &str) -> Result<bool, AllocError>
-    requires { IsAscii name.now }
+fn is_sent(bearer: &[u8], value: &[u8], name: &str) -> bool
+    requires { is_visible name.now ≡ true }
     ensures { let pair : Pair = (decoded bearer.now, decoded value.now) in
-        IfOk result (λ is. is ≡ (has_value pair && bears name.now pair)) }
+        result ≡ (has_value pair && bears name.now pair) }
 {
     if value.is_empty() {
-        return Ok(false);
+        return false;
     }
-    is_name(alloc, bearer, name)
+    decodes_to(bearer, name)
+}
+
+// The value of the sole parameter of a name, as it is encoded.
+pub(crate) fn sole_encoded<'a>(query: &'a str, name: &str) -> Option<&'a [u8]>
+    requires { is_visible name.now ≡ true }
+    ensures { option_map (λ value. decoded value.now) result
+        ≡ read_by_name name.now (sent_pairs (form query.now)) }
+{
+    let mut found = None;
+    for (bearer, value) in raw_pairs(query.as_bytes()) {
+        if is_sent(bearer, value, name) {
+            if found.is_some() {
+                return None;
+            }
+            found = Some(value);
+        }
+    }
+    found
+}
+
+// The value of the first parameter of a name, as it is encoded.
+pub(crate) fn first_encoded<'a>(query: &'a str, name: &str) -> Option<&'a [u8]>
+    requires { is_visible name.now ≡ true }
+    ensures { option_map (λ value. decoded value.now) result
+        ≡ first (filter (bears name.now) (sent_pairs (form query.now))) }
+{
+    for (bearer, value) in raw_pairs(query.as_bytes()) {
+        if is_sent(bearer, value, name) {
+            return Some(value);
+        }
+    }
+    None
+}
+
+// The decoded text of a value.
+pub(crate) fn decoded_text(alloc: Global, encoded: &[u8]) -> Result<String, AllocError>
+    ensures { IfOk result (λ text. string_bytes text ≡ utf8_lossy (decoded encoded.now)) }
+{
+    decode(alloc, encoded)?.into_owned(alloc)
 }
 
 // The value of the sole parameter of a name.
@@ -45,20 +113,12 @@ pub(crate) fn sole_value(
     query: &str,
     name: &str,
 ) -> Result<Option<String>, AllocError>
-    requires { IsAscii name.now }
-    ensures { IfOk result (λ value.
+    requires { is_visible name.now ≡ true }
+    ensures value { IfOk result (λ value.
         option_map string_bytes value ≡ sole_text name.now (form query.now)) }
+    ensures memory { OnErr result (IsSome (sole_text name.now (form query.now))) }
 {
-    let mut found = None;
-    for (bearer, value) in raw_pairs(query.as_bytes()) {
-        if is_sent(alloc, bearer, value, name)? {
-            if found.is_some() {
-                return Ok(None);
-            }
-            found = Some(value);
-        }
-    }
-    match found {
+    match sole_encoded(query, name) {
         Some(value) => Ok(Some(decoded_text(alloc, value)?)),
         None => Ok(None),
     }
@@ -70,14 +130,13 @@ pub(crate) fn first_value(
     query: &str,
     name: &str,
 ) -> Result<Option<String>, AllocError>
-    requires { IsAscii name.now }
-    ensures { IfOk result (λ value.
+    requires { is_visible name.now ≡ true }
+    ensures value { IfOk result (λ value.
         option_map string_bytes value ≡ first_text name.now (form query.now)) }
+    ensures memory { OnErr result (IsSome (first_text name.now (form query.now))) }
 {
-    for (bearer, value) in raw_pairs(query.as_bytes()) {
-        if is_sent(alloc, bearer, value, name)? {
-            return Ok(Some(decoded_text(alloc, value)?));
-        }
+    match first_encoded(query, name) {
+        Some(value) => Ok(Some(decoded_text(alloc, value)?)),
+        None => Ok(None),
     }
-    Ok(None)
 }

@@ -1,14 +1,39 @@
 //! The redirect by which the user comes back (RFC 6749, sections 4.1.2 and 4.1.2.1).
 
-ghost use Rattle.std.specs.Prelude.{◌≡◌, IfOk, option_copied, option_map, codes};
+ghost use Rattle.std.specs.Prelude.{
+  ◌≡◌,
+  Err,
+  None,
+  IfOk,
+  IfSome,
+  IsOk,
+  IsSome,
+  IsTrue,
+  OnErr,
+  is_none,
+  option_map,
+  codes,
+};
 ghost use Rattle.oauth2_codes.specs.AuthorizationCodes.{authorization_error_code};
 ghost use Rattle.oauth2_codes.specs.ErrorResponse.{parts_of};
 ghost use Rattle.oauth2_form.specs.Pairs.{form};
 ghost use Rattle.oauth2_form.specs.Query.{query_form};
-ghost use Rattle.oauth2_redirect.specs.Query.{first_text, sole_text};
-ghost use Rattle.oauth2_redirect.specs.Redirect.{Tells, answer, error_told, is_issuer, is_state};
+ghost use Rattle.oauth2_redirect.specs.Query.{first_text, is_visible, sole_text, texts};
+ghost use Rattle.oauth2_redirect.specs.Redirect.{
+  IsVisibleIssuer,
+  MayWantMemory,
+  Tells,
+  answer,
+  error_told,
+  is_issuer,
+  is_state,
+  issuer_expectation,
+  required,
+};
 
-use crate::query::{first_value, sole_value};
+use crate::comparing::{has_digest, is_value};
+use crate::issuer::ExpectedIssuer;
+use crate::query::{first_encoded, first_value, sole_encoded, sole_value};
 use oauth2_codes::{AuthorizationErrorResponseType, StandardErrorResponse};
 use oauth2_types::display::write_display;
 use oauth2_types::{AuthorizationCode, CsrfToken};
@@ -24,7 +49,8 @@ pub type AuthorizationErrorResponse = StandardErrorResponse<AuthorizationErrorRe
 pub enum RedirectError {
     /// The redirect's state is not the login's, so nothing of the redirect counts.
     OtherState,
-    /// The redirect does not come from the expected issuer.
+    /// The redirect tells another issuer than the expected one, or several, or none where it has to
+    /// tell it.
     OtherIssuer,
     /// The authorization endpoint gave no code, and told why.
     Refused(AuthorizationErrorResponse),
@@ -67,33 +93,59 @@ impl From<AllocError> for RedirectError {
 
 // Whether the query tells this state, by its digest.
 fn has_state(alloc: Global, query: &str, state: &CsrfToken) -> Result<bool, AllocError>
-    ensures { IfOk result (λ has. has
+    ensures has { IfOk result (λ has. has
         ≡ is_state state.now (sole_text (codes "state") (form query.now))) }
+    ensures visible { IfSome (sole_text (codes "state") (form query.now))
+        (λ told. IsTrue (is_visible told)) → IsOk result }
 {
-    match sole_value(alloc, query, "state")? {
-        Some(told) => Ok(CsrfToken::new(told) == *state),
+    match sole_encoded(query, "state") {
+        Some(told) => has_digest(alloc, told, state.secret().as_str()),
         None => Ok(false),
     }
 }
 
-// Whether the query tells this issuer, if one is expected.
-fn has_issuer(alloc: Global, query: &str, issuer: Option<&str>) -> Result<bool, AllocError>
-    ensures { IfOk result (λ has. has
-        ≡ is_issuer (option_copied issuer.entry) (sole_text (codes "iss") (form query.now))) }
+// Whether the query may come from the expected issuer.
+fn has_issuer(alloc: Global, query: &str, issuer: ExpectedIssuer<'_>) -> Result<bool, AllocError>
+    ensures has { IfOk result (λ has. has
+        ≡ is_issuer (issuer_expectation issuer.entry) (texts (codes "iss") (form query.now))) }
+    ensures visible { IsVisibleIssuer (issuer_expectation issuer.entry) → IsOk result }
 {
-    let Some(issuer) = issuer else {
-        return Ok(true);
-    };
-    match sole_value(alloc, query, "iss")? {
-        Some(told) => Ok(told.as_str() == issuer),
+    match issuer {
+        ExpectedIssuer::Required(issuer) => tells_issuer(alloc, query, issuer),
+        ExpectedIssuer::Compared(issuer) => {
+            if tells_no_issuer(query) {
+                return Ok(true);
+            }
+            tells_issuer(alloc, query, issuer)
+        }
+        ExpectedIssuer::Unknown => Ok(true),
+    }
+}
+
+// Whether the query tells this issuer and no other.
+fn tells_issuer(alloc: Global, query: &str, issuer: &str) -> Result<bool, AllocError>
+    ensures tells { IfOk result (λ tells. tells
+        ≡ is_issuer (required issuer.now) (texts (codes "iss") (form query.now))) }
+    ensures visible { IsTrue (is_visible issuer.now) → IsOk result }
+{
+    match sole_encoded(query, "iss") {
+        Some(told) => is_value(alloc, told, issuer),
         None => Ok(false),
     }
+}
+
+// Whether the query tells no issuer.
+fn tells_no_issuer(query: &str) -> bool
+    ensures { result ≡ is_none (first_text (codes "iss") (form query.now)) }
+{
+    first_encoded(query, "iss").is_none()
 }
 
 // The error that the query tells.
 fn error_of(alloc: Global, query: &str) -> Result<Option<AuthorizationErrorResponse>, AllocError>
-    ensures { IfOk result (λ error. option_map (parts_of authorization_error_code) error
+    ensures told { IfOk result (λ error. option_map (parts_of authorization_error_code) error
         ≡ error_told (first_text (codes "error") (form query.now)) (form query.now)) }
+    ensures memory { OnErr result (IsSome (first_text (codes "error") (form query.now))) }
 {
     let Some(error) = first_value(alloc, query, "error")? else {
         return Ok(None);
@@ -105,8 +157,8 @@ fn error_of(alloc: Global, query: &str) -> Result<Option<AuthorizationErrorRespo
     )))
 }
 
-/// The code that a redirect brings, where its state is the login's and, if an issuer is expected,
-/// it comes from that issuer (RFC 9207, section 2.4).
+/// The code that a redirect brings, where its state is the login's and it may come from the
+/// expected issuer (RFC 9207, section 2.4).
 ///
 /// A parameter counts where it has a value and is sent once (RFC 6749, section 3.1). Nothing of a
 /// redirect with another state is told, and the fragment is not read.
@@ -114,24 +166,38 @@ pub fn read_redirect(
     alloc: Global,
     redirect: &Url,
     state: &CsrfToken,
-    issuer: Option<&str>,
+    issuer: ExpectedIssuer<'_>,
 ) -> Result<AuthorizationCode, RedirectError>
-    ensures { Tells result
-        (answer state.now (option_copied issuer.entry) (query_form redirect.now)) }
+    ensures tells { Tells result
+        (answer state.now (issuer_expectation issuer.entry) (query_form redirect.now)) }
+
+    ensures memory { result ≡ Err RedirectError.Memory
+        → MayWantMemory state.now (issuer_expectation issuer.entry) (query_form redirect.now) }
+
+    // One that tells no state, or several, needs no memory.
+    ensures no_state { sole_text (codes "state") (query_form redirect.now) ≡ None
+        → result ≡ Err RedirectError.OtherState }
 {
     read_redirect_query(alloc, redirect.query().unwrap_or(""), state, issuer)
 }
 
-/// What `read_redirect` returns for a redirect with this query, which stands without the `?`: for
-/// a
-/// handler that has no `Url`.
+/// What `read_redirect` returns for a redirect with this query, which stands without the `?`, or
+/// with this form as its body (`response_mode=form_post`): for a handler that has no `Url`.
 pub fn read_redirect_query(
     alloc: Global,
     query: &str,
     state: &CsrfToken,
-    issuer: Option<&str>,
+    issuer: ExpectedIssuer<'_>,
 ) -> Result<AuthorizationCode, RedirectError>
-    ensures { Tells result (answer state.now (option_copied issuer.entry) (form query.now)) }
+    ensures tells { Tells result
+        (answer state.now (issuer_expectation issuer.entry) (form query.now)) }
+
+    ensures memory { result ≡ Err RedirectError.Memory
+        → MayWantMemory state.now (issuer_expectation issuer.entry) (form query.now) }
+
+    // One that tells no state, or several, needs no memory.
+    ensures no_state { sole_text (codes "state") (form query.now) ≡ None
+        → result ≡ Err RedirectError.OtherState }
 {
     if !has_state(alloc, query, state)? {
         return Err(RedirectError::OtherState);

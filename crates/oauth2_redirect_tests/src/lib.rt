@@ -1,4 +1,4 @@
-//! The redirects that servers and strangers send, and logins from their URL to their token.
+//! Queries of redirects, the codes of errors, and logins from their URL to their token.
 
 #![tactic(auto)]
 

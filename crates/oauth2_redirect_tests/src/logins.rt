@@ -7,8 +7,9 @@ use oauth2::{
     AuthUrl, Client, ClientId, EndpointNotSet, EndpointSet, HttpRequest, HttpResponse, RedirectUrl,
     Scope, SyncHttpClient, TokenResponse, TokenUrl, compact, read_body,
 };
-use oauth2_redirect::{Login, LoginError, LoginRequest, RedirectError};
+use oauth2_redirect::{ExpectedIssuer, Login, LoginError, LoginRequest, RedirectError};
 use rand_pcg::Pcg32;
+use std::fmt;
 use std::process::Abort;
 
 type LoginClient = BasicClient<
@@ -90,7 +91,8 @@ fn stored_ends(
     redirect: &str,
 ) -> Result<BasicTokenResponse, LoginError<(), BasicErrorResponse>> {
     let url = Url::parse(rt.alloc(), redirect).ok().expect(rt, "a URL");
-    login(rt, stored).finish(rt.alloc(), &client(rt), http_client, &url, None)
+    let issuer = ExpectedIssuer::Unknown;
+    login(rt, stored).finish(rt.alloc(), &client(rt), http_client, &url, issuer)
 }
 
 fn ends(
@@ -140,7 +142,15 @@ fn a_login_with_another_state_sends_nothing(rt: HostRuntime) {
         &mut http_client,
         "https://app.example/cb?code=c1&state=s8",
     );
-    assert!(rt; matches!(ended, Err(LoginError::Redirect(RedirectError::OtherState))));
+    assert!(rt;
+        matches!(
+            ended,
+            Err(LoginError::Redirect {
+                error: RedirectError::OtherState,
+                ..
+            })
+        )
+    );
     assert!(rt; http_client.bodies.is_empty());
 }
 
@@ -152,7 +162,15 @@ fn a_login_that_was_refused_sends_nothing(rt: HostRuntime) {
         &mut http_client,
         "https://app.example/cb?error=access_denied&state=s7",
     );
-    assert!(rt; matches!(ended, Err(LoginError::Redirect(RedirectError::Refused(_)))));
+    assert!(rt;
+        matches!(
+            ended,
+            Err(LoginError::Redirect {
+                error: RedirectError::Refused(_),
+                ..
+            })
+        )
+    );
     assert!(rt; http_client.bodies.is_empty());
 }
 
@@ -168,28 +186,65 @@ fn a_login_whose_code_is_refused(rt: HostRuntime) {
     assert!(rt; !http_client.bodies.is_empty());
 }
 
-// A login is stored as this text, and shown as that one.
-fn assert_stored_and_shown(rt: &(impl Abort + AllocGlobal), stored: &str, shown: &str) {
-    let login = login(rt, stored);
-    let written = compact(rt.alloc(), &login).ok().expect(rt, "a text");
+// The login that a redirect with another state gives back.
+fn given_back(rt: &(impl Abort + AllocGlobal), http_client: &mut Canned) -> Option<Login> {
+    let redirect = "https://app.example/cb?code=c1&state=s8";
+    match stored_ends(rt, http_client, STORED_WITH_A_REDIRECT, redirect) {
+        Err(LoginError::Redirect { error: _, login }) => Some(login),
+        _ => None,
+    }
+}
+
+// Whether the login gets its token by the body of a form (`response_mode=form_post`).
+fn gets_its_token(rt: &(impl Abort + AllocGlobal), http_client: &mut Canned, login: Login) -> bool {
+    let body = "state=s7&code=c1&iss=https%3A%2F%2Fas.example";
+    let issuer = ExpectedIssuer::Required("https://as.example");
+    login
+        .finish_query(rt.alloc(), &client(rt), http_client, body, issuer)
+        .is_ok()
+}
+
+// RFC 6749, section 4.1.2.1: a stranger's redirect costs no login. It waits for the same state, and
+// its own redirect brings its token.
+#[test]
+fn a_login_is_given_back(rt: HostRuntime) {
+    let mut http_client = answering(&rt, REPLY);
+    let login = given_back(&rt, &mut http_client).expect(&rt, "the login");
+    assert_text(&rt, login.state().secret().as_str(), "s7");
+    assert_stored(&rt, &login, STORED_WITH_A_REDIRECT);
+    assert!(rt; gets_its_token(&rt, &mut http_client, login));
+}
+
+#[test]
+fn an_error_of_a_login_is_hidden(rt: HostRuntime) {
+    let mut http_client = answering(&rt, REPLY);
+    match ends(
+        &rt,
+        &mut http_client,
+        "https://app.example/cb?code=c1&state=s8",
+    ) {
+        Ok(_) => assert_text(&rt, "a token", "no token"),
+        Err(error) => assert_shown(&rt, &error, "Redirect([redacted])"),
+    }
+}
+
+fn assert_stored(rt: &(impl Abort + AllocGlobal), login: &Login, stored: &str) {
+    let written = compact(rt.alloc(), login).ok().expect(rt, "a text");
     assert_text(rt, written.as_str(), stored);
-    let debug = format!(in rt.alloc(); "{login:?}").expect(rt, "a text");
+}
+
+fn assert_shown(rt: &(impl Abort + AllocGlobal), value: &impl fmt::Debug, shown: &str) {
+    let debug = format!(in rt.alloc(); "{value:?}").expect(rt, "a text");
     assert_text(rt, debug.as_str(), shown);
 }
 
 #[test]
 fn a_login_is_stored(rt: HostRuntime) {
-    assert_stored_and_shown(
-        &rt,
-        STORED,
-        "Login { state: CsrfToken([redacted]), verifier: PkceCodeVerifier([redacted]), redirect_uri: None }",
-    );
-    assert_stored_and_shown(
-        &rt,
-        STORED_WITH_A_REDIRECT,
-        "Login { state: CsrfToken([redacted]), verifier: PkceCodeVerifier([redacted]), \
-         redirect_uri: Some(RedirectUrl(\"https://app.example/cb?a=1\")) }",
-    );
+    for stored in [STORED, STORED_WITH_A_REDIRECT] {
+        let login = login(&rt, stored);
+        assert_stored(&rt, &login, stored);
+        assert_shown(&rt, &login, "Login([redacted])");
+    }
 }
 
 fn started<'a>(rt: &(impl Abort + AllocGlobal), client: &'a LoginClient) -> LoginRequest<'a> {
@@ -219,6 +274,7 @@ fn a_login_is_started(rt: HostRuntime) {
     let request = started(&rt, &client)
         .add_extra_param("nonce".into(), "n1".into())
         .expect(&rt, "room");
+    assert_shown(&rt, &request, "LoginRequest([redacted])");
     assert_login(
         &rt,
         request,

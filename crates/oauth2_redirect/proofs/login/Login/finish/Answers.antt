@@ -1,33 +1,16 @@
-use Rattle.std.proofs.Common.{◌≡◌, Ok, subst, sym}
-use Rattle.std.specs.Prelude.{option_copied}
+use Rattle.std.proofs.Common.{◌≡◌, ℕ, List, Ok, IfOk, subst, rules}
+use Rattle.oauth2_form.specs.Pairs.{Pair, form}
 use Rattle.oauth2_form.specs.Query.{query_form}
-use Rattle.oauth2_redirect.specs.Login.{Kept}
-use Rattle.oauth2_redirect.specs.Redirect.{answer}
-use Rattle.oauth2_redirect.specs.End.{EndsLogin}
-use Rattle.oauth2_redirect.proofs.EndLaws.{state-of_code, IfOk-from_EndsLogin}
+use Rattle.oauth2_redirect.specs.Redirect.{answer, issuer_expectation}
+use Rattle.oauth2_redirect.specs.End.{EndsLogin, ExchangesCode}
 use Rattle.oauth2_redirect.proofs.login.Login.finish.Goals as goal
 
-pub returns-in-Ok-clause-end : goal.returns-in-Ok-clause-end
-returns-in-Ok-clause-end g c =
-    let told = subst (λ (l : Kept). answer l.state (option_copied c.args.issuer) (query_form c.args.redirect.now) ≡ Ok c.in-Ok.code) c.self.view_is c.in-Ok.ensures in
-    let ends = EndsLogin g.TR.FromJson.meaning g.TE.FromJson.meaning g.TR.FromJson.reading g.TE.FromJson.reading g.C.SyncHttpClient.step c.args.client.now c.args.self in
-    subst (λ t. ends t c.args.http_client.now c.exchanged.result c.exchanged.new.http_client) (sym told) c.exchanged.ensures.end
+pub returns-clause-end : goal.returns-clause-end
+returns-clause-end g c =
+    let same : form c.unwrap_or-query.result.now ≡ query_form c.args.redirect.now = search rules in
+    subst (λ (pairs : List Pair). EndsLogin g.TR.FromJson.meaning g.TE.FromJson.meaning g.TR.FromJson.reading g.TE.FromJson.reading g.C.SyncHttpClient.step c.args.client.now c.args.self (answer c.args.self.state (issuer_expectation c.args.issuer) pairs) c.args.http_client.now c.finish_query.result c.finish_query.new.http_client) same c.finish_query.ensures.end
 
-pub returns-in-Ok-clause-token : goal.returns-in-Ok-clause-token
-returns-in-Ok-clause-token g c =
-    let told = answer c.args.self.state (option_copied c.args.issuer) (query_form c.args.redirect.now) in
-    IfOk-from_EndsLogin g.TR.FromJson.meaning g.TE.FromJson.meaning g.TR.FromJson.reading g.TE.FromJson.reading g.C.SyncHttpClient.step c.args.client.now c.args.self told c.args.http_client.now c.exchanged.new.http_client c.exchanged.result
-    (returns-in-Ok-clause-end g c)
-
-pub returns-in-Ok-clause-no_code : goal.returns-in-Ok-clause-no_code
-returns-in-Ok-clause-no_code g c = λ why none.
-    let told = subst (λ (l : Kept). answer l.state (option_copied c.args.issuer) (query_form c.args.redirect.now) ≡ Ok c.in-Ok.code) c.self.view_is c.in-Ok.ensures in
-    cc
-
-pub returns-in-Ok-clause-other_state : goal.returns-in-Ok-clause-other_state
-returns-in-Ok-clause-other_state g c = λ no.
-    let pairs = query_form c.args.redirect.now in
-    let issuer = option_copied c.args.issuer in
-    let told = subst (λ (l : Kept). answer l.state issuer pairs ≡ Ok c.in-Ok.code) c.self.view_is c.in-Ok.ensures in
-    let yes = state-of_code c.args.self.state issuer pairs c.in-Ok.code told in
-    cc
+pub returns-clause-token : goal.returns-clause-token
+returns-clause-token g c =
+    let same : form c.unwrap_or-query.result.now ≡ query_form c.args.redirect.now = search rules in
+    subst (λ (pairs : List Pair). IfOk c.finish_query.result (λ token. (code : List ℕ) × (answer c.args.self.state (issuer_expectation c.args.issuer) pairs ≡ Ok code) × ExchangesCode g.TR.FromJson.meaning g.TE.FromJson.meaning g.TR.FromJson.reading g.TE.FromJson.reading g.C.SyncHttpClient.step c.args.client.now c.args.self code c.args.http_client.now (Ok token) c.finish_query.new.http_client)) same c.finish_query.ensures.token

@@ -3,7 +3,7 @@ use Rattle.oauth2_form.specs.Pairs.{form}
 use Rattle.oauth2_wire.specs.ByName.{bears}
 use Rattle.oauth2_redirect.specs.Query.{sent_pairs}
 use Rattle.oauth2_redirect.proofs.Values.{left}
-use Rattle.oauth2_redirect.proofs.query.first_value.Given as goal
+use Rattle.oauth2_redirect.proofs.query.first_encoded.Given as goal
 
 abbrev pub invariant-loop-bearer : goal.invariant-loop-bearer
 invariant-loop-bearer l =
