@@ -11,16 +11,16 @@ use Rattle.oauth2_openid.specs.Reading.{id_token_table, id_token_names, claims_w
 use Rattle.oauth2_openid.specs.private.Rows.{claim_names_table, claim_names_reading, claim_times_table, claim_times_reading, authentication_table, authentication_reading, bindings_table, bindings_reading, claims_in_turn, header_in_turn}
 
 -- group by group is row by row
-one_by_one : (ms : Members) → claims_in_turn ms ≡ turn_reading id_token_table (Ok claims_with) ms ⊛ Ok (object (others id_token_names ms))
+one_by_one : (ms : Members) → claims_in_turn ms ≡ turn_reading id_token_table (Ok claims_with) ms ⊛ Ok (others id_token_names ms)
 unfolding claim_names_reading claim_times_reading authentication_reading bindings_reading
 one_by_one ms =
     let after_names = others (names_of claim_names_table) ms in
     let after_times = others (names_of claim_times_table) after_names in
-    ap (λ r. r ⊛ Ok (object (others id_token_names ms)))
+    ap (λ r. r ⊛ Ok (others id_token_names ms))
     (in_four claim_names_table claim_times_table authentication_table bindings_table claims_with ms after_names after_times (others (names_of authentication_table) after_times))
 
 pub claims_read_in_turn : (d : Data) (ms : Members) → members_of_object d ≡ Ok ms → claims_in_turn ms ≡ claims_reading d
-claims_read_in_turn d ms h = one_by_one ms ∙ whole_table id_token_table (Ok claims_with) (λ others. Ok others) d ms refl h
+claims_read_in_turn d ms h = one_by_one ms ∙ whole_table id_token_table (Ok claims_with) members_of_object d ms refl h
 
 pub header_read_in_turn : (d : Data) (ms : Members) → members_of_object d ≡ Ok ms → header_in_turn ms ≡ header_reading d
 header_read_in_turn d ms h = rw (h, get_member-others (codes "kid") (codes "alg" ∷ []) ms refl) refl

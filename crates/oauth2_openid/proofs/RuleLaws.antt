@@ -1,12 +1,13 @@
 -- The rules for the claims are met exactly where the claims are as the standard says.
-use Rattle.std.proofs.Common.{◌≡◌, ℕ, suc, zero, ℤ, pos, ◌+ℤ◌, ◌≤ℤ◌, ◌<◌, int_lt, int_le, nat_le, List, [], ◌∷◌, length, get_or, Contains, Bool, true, false, true≢false, ◌||◌, T, Option, Some, None, option_map, IfSome, IsSome, IsSomeAnd, Result, Ok, Err, bytes_eq, refl, sym, ap, subst, arith}
+use Rattle.std.proofs.Common.{◌≡◌, ℕ, suc, zero, ℤ, pos, ◌+ℤ◌, ◌≤ℤ◌, ◌<◌, int_lt, int_le, nat_le, List, [], ◌∷◌, ◌++◌, length, get_or, All, Contains, Bool, true, false, true≢false, ◌&&◌, ◌||◌, T, Option, Some, None, option_map, IfSome, IsSome, IsSomeAnd, Result, Ok, Err, bytes_eq, refl, sym, ap, subst, arith}
 use borrow.Author.Tests.{leb-true, leb-false}
+use Rattle.std.proofs.lemmas.List.Elements.{All-head, All-tail, All-cons, All-nil}
 use Rattle.std.proofs.lemmas.Slice.Eq.{bytes_eq-Decides}
 use Rattle.sha2.specs.Sha256.{sha256}
 use Rattle.oauth2_openid.specs.declared.claims_error.ClaimsError.{ClaimsError}
 use Rattle.oauth2_openid.specs.declared.claims_error.ClaimsError.TheVariants as errors
-use Rattle.oauth2_openid.specs.Claims.{Claims, Expectation}
-use Rattle.oauth2_openid.specs.Rules.{Verdict, rule, ◌then◌, is_among, party_of, nonce_of, age_of, claims_checked, ClaimsHold}
+use Rattle.oauth2_openid.specs.Claims.{Claims, Expectation, NamedIssuers, is, one_of, per_tenant}
+use Rattle.oauth2_openid.specs.Rules.{Verdict, rule, ◌then◌, is_among, are_among, is_issuer, party_of, nonce_of, age_of, claims_checked, IsIssuer, ClaimsHold}
 
 pub rule_held : (b : Bool) (e : ClaimsError) → rule b e ≡ Ok tt → b ≡ true
 rule_held true e h = refl
@@ -45,19 +46,58 @@ at_among x [] k less same = absurd (omega (arith, less))
 at_among x (a ∷ list) zero less same = or_left (bytes_eq a x) (is_among x list) ((bytes_eq-Decides a x).1 same)
 at_among x (a ∷ list) (suc k) less same = or_right (bytes_eq a x) (is_among x list) (at_among x list k (omega (arith, less)) same)
 
+and_left : (a b : Bool) → a && b ≡ true → a ≡ true
+and_left true b h = refl
+and_left false b h = h
+
+and_right : (a b : Bool) → a && b ≡ true → b ≡ true
+and_right true b h = h
+and_right false b h = absurd (true≢false (sym h))
+
+both_true : (a b : Bool) → a ≡ true → b ≡ true → a && b ≡ true
+both_true true b h g = g
+both_true false b h g = h
+
+all_among : (known list : List (List ℕ)) → are_among list known ≡ true → All (Contains known) list
+all_among known [] h = All-nil (Contains known)
+all_among known (a ∷ list) h =
+    All-cons (Contains known) a list (among_Contains a known (and_left (is_among a known) (are_among list known) h)) (all_among known list (and_right (is_among a known) (are_among list known) h))
+
+contained_among : (x : List ℕ) (list : List (List ℕ)) → Contains list x → is_among x list ≡ true
+contained_among x list h = at_among x list h.0 h.1 h.2
+
+among_all : (known list : List (List ℕ)) → All (Contains known) list → are_among list known ≡ true
+among_all known [] h = refl
+among_all known (a ∷ list) h =
+    both_true (is_among a known) (are_among list known) (contained_among a known (All-head (Contains known) a list h)) (among_all known list (All-tail (Contains known) a list h))
+
+-- ---- the issuer
+
+issuer_held : (named : NamedIssuers) (tenant : Option (List ℕ)) (i : List ℕ) → is_issuer named tenant i ≡ true → IsIssuer named tenant i
+issuer_held (is named) tenant i h = (bytes_eq-Decides i named).0 h
+issuer_held (one_of named) tenant i h = among_Contains i named h
+issuer_held (per_tenant before after) None i h = absurd (true≢false (sym h))
+issuer_held (per_tenant before after) (Some t) i h = (bytes_eq-Decides i (before ++ t ++ after)).0 h
+
+held_issuer : (named : NamedIssuers) (tenant : Option (List ℕ)) (i : List ℕ) → IsIssuer named tenant i → is_issuer named tenant i ≡ true
+held_issuer (is named) tenant i h = (bytes_eq-Decides i named).1 h
+held_issuer (one_of named) tenant i h = contained_among i named h
+held_issuer (per_tenant before after) None i h = absurd h
+held_issuer (per_tenant before after) (Some t) i h = (bytes_eq-Decides i (before ++ t ++ after)).1 h
+
 -- ---- the authorized party
 
-party_held : (x : List ℕ) (list : List (List ℕ)) (o : Option (List ℕ)) → party_of x list o ≡ Ok tt → IfSome o (λ p. p ≡ x) × (1 < length list → IsSome o)
-party_held x list None h = (tt, λ several. absurd (omega (arith, several, leb-true (length list) 1 (rule_held _ _ h))))
-party_held x list (Some p) h = ((bytes_eq-Decides p x).0 (rule_held _ _ h), λ several. refl)
+party_held : (parties list : List (List ℕ)) (o : Option (List ℕ)) → party_of parties list o ≡ Ok tt → IfSome o (Contains parties) × (1 < length list → IsSome o)
+party_held parties list None h = (tt, λ several. absurd (omega (arith, several, leb-true (length list) 1 (rule_held _ _ h))))
+party_held parties list (Some p) h = (among_Contains p parties (rule_held _ _ h), λ several. refl)
 
 few : (n : ℕ) (b : Bool) → nat_le n 1 ≡ b → (1 < n → false ≡ true) → b ≡ true
 few n true e h = refl
 few n false e h = absurd (true≢false (sym (h (omega (arith, leb-false n 1 e)))))
 
-held_party : (x : List ℕ) (list : List (List ℕ)) (o : Option (List ℕ)) → IfSome o (λ p. p ≡ x) → (1 < length list → IsSome o) → party_of x list o ≡ Ok tt
-held_party x list None same several = rw (few (length list) (nat_le (length list) 1) refl several) refl
-held_party x list (Some p) same several = rw ((bytes_eq-Decides p x).1 same) refl
+held_party : (parties list : List (List ℕ)) (o : Option (List ℕ)) → IfSome o (Contains parties) → (1 < length list → IsSome o) → party_of parties list o ≡ Ok tt
+held_party parties list None same several = rw (few (length list) (nat_le (length list) 1) refl several) refl
+held_party parties list (Some p) same several = rw (contained_among p parties same) refl
 
 -- ---- the nonce
 
@@ -87,18 +127,20 @@ held_age l n (Some m) (Some t) h = rw (untested (int_le n (t +ℤ pos m +ℤ pos
 
 -- ---- all rules for the claims
 
-pub claims_held : (w : Expectation) (n : ℤ) (c : Claims) → claims_checked w n c ≡ Ok tt → ClaimsHold w n c
-claims_held w n c h0 =
+pub claims_held : (w : Expectation) (n : ℤ) (d : Option (List ℕ)) (c : Claims) → claims_checked w n d c ≡ Ok tt → ClaimsHold w n d c
+claims_held w n d c h0 =
     let i = both _ _ _ h0 in
     let a = both _ _ _ i.1 in
-    let p = both _ _ _ a.1 in
+    let k = both _ _ _ a.1 in
+    let p = both _ _ _ k.1 in
     let e = both _ _ _ p.1 in
     let t = both _ _ _ e.1 in
     let o = both _ _ _ t.1 in
-    let party = party_held w.client c.audience c.authorized_party p.0 in
+    let party = party_held (w.client ∷ w.authorized_parties) c.audience c.authorized_party p.0 in
     record {
-      issuer = (bytes_eq-Decides c.issuer w.issuer).0 (rule_held _ _ i.0);
+      issuer = issuer_held w.issuer d c.issuer (rule_held _ _ i.0);
       audience = among_Contains w.client c.audience (rule_held _ _ a.0);
+      trusted = all_among (w.client ∷ w.other_audiences) c.audience (rule_held _ _ k.0);
       party = party.0;
       several = party.1;
       not_expired = record { lt = tested (int_lt n (c.expires_at +ℤ pos w.leeway)) (rule_held (int_lt n (c.expires_at +ℤ pos w.leeway)) errors.Expired e.0) };
@@ -107,12 +149,13 @@ claims_held w n c h0 =
       age = age_held w.leeway n w.max_age c.auth_time o.1;
     }
 
-pub held_claims : (w : Expectation) (n : ℤ) (c : Claims) → ClaimsHold w n c → claims_checked w n c ≡ Ok tt
-held_claims w n c h =
+pub held_claims : (w : Expectation) (n : ℤ) (d : Option (List ℕ)) (c : Claims) → ClaimsHold w n d c → claims_checked w n d c ≡ Ok tt
+held_claims w n d c h =
     rw (
-      (bytes_eq-Decides c.issuer w.issuer).1 h.issuer,
-      at_among w.client c.audience h.audience.0 h.audience.1 h.audience.2,
-      held_party w.client c.audience c.authorized_party h.party h.several,
+      held_issuer w.issuer d c.issuer h.issuer,
+      contained_among w.client c.audience h.audience,
+      among_all (w.client ∷ w.other_audiences) c.audience h.trusted,
+      held_party (w.client ∷ w.authorized_parties) c.audience c.authorized_party h.party h.several,
       untested (int_lt n (c.expires_at +ℤ pos w.leeway)) h.not_expired.lt,
       untested (int_le c.issued_at (n +ℤ pos w.leeway)) h.issued.le,
       held_nonce w.nonce c.nonce h.nonce,

@@ -1,6 +1,7 @@
 -- All rules of a token are met exactly where it is as the standard says.
-use Rattle.std.proofs.Common.{◌≡◌, ◌≢◌, ℕ, ℤ, ◌↔◌, List, Bool, true, false, true≢false, not, Option, Some, None, is_some, IfSome, Result, Ok, Err, IsOk, bytes_eq, codes, if◌then◌else◌, refl, sym}
+use Rattle.std.proofs.Common.{◌≡◌, ◌≢◌, ℕ, ℤ, ◌↔◌, List, [], map, Bool, ◌||◌, true, false, true≢false, not, Option, Some, None, is_some, IfSome, Result, Ok, Err, IsOk, bytes_eq, codes, if◌then◌else◌, refl, sym}
 use Rattle.std.proofs.lemmas.Slice.Eq.{bytes_eq-Decides}
+use Rattle.std.specs.Char.{to_ascii_lowercase}
 use Rattle.serde_json.specs.Data.{Data}
 use Rattle.serde_json.specs.Find.{get}
 use Rattle.oauth2_types.specs.Pkce.{base64url}
@@ -11,24 +12,32 @@ use Rattle.oauth2_openid.specs.declared.access_token_hash.AccessTokenHash.TheVar
 use Rattle.oauth2_openid.specs.Claims.{Expectation}
 use Rattle.oauth2_openid.specs.Rules.{rule}
 use Rattle.oauth2_openid.specs.Token.{DecodedToken}
-use Rattle.oauth2_openid.specs.TokenRules.{algorithm_of, half_digest, told_hash, hash_rule, token_checked, IsAlgorithm, IsHashOf, Holds}
+use Rattle.oauth2_openid.specs.TokenRules.{algorithm_of, half_digest, told_hash, hash_rule, tenant_of, token_checked, IsAlgorithm, IsHashOf, Holds}
 use Rattle.oauth2_openid.proofs.RuleLaws.{rule_held, both, claims_held, held_claims}
 
 -- ---- the algorithm
 
-differs : (a b : List ℕ) → not (bytes_eq a b) ≡ true → a ≢ b
+differs : (a b : List ℕ) → bytes_eq a b ≡ false → a ≢ b
 differs a b h e = absurd (true≢false (cc (h, (bytes_eq-Decides a b).1 e)))
 
-unequal : (a b : List ℕ) (t : Bool) → bytes_eq a b ≡ t → a ≢ b → not t ≡ true
+neither : (a b : Bool) → not (a || b) ≡ true → (a ≡ false) × (b ≡ false)
+neither true b h = absurd (true≢false (sym h))
+neither false true h = absurd (true≢false (sym h))
+neither false false h = (refl, refl)
+
+unequal : (a b : List ℕ) (t : Bool) → bytes_eq a b ≡ t → a ≢ b → t ≡ false
 unequal a b true e h = absurd (h ((bytes_eq-Decides a b).0 e))
 unequal a b false e h = refl
 
 algorithm_held : (o : Option (List ℕ)) (a : List ℕ) → algorithm_of o a ≡ Ok tt → IsAlgorithm o a
-algorithm_held None a h = differs a (codes "none") (rule_held _ _ h)
+algorithm_held None a h =
+    let n = neither (bytes_eq a []) (bytes_eq (map to_ascii_lowercase a) (codes "none")) (rule_held _ _ h) in
+    (differs a [] n.0, differs (map to_ascii_lowercase a) (codes "none") n.1)
 algorithm_held (Some r) a h = (bytes_eq-Decides a r).0 (rule_held _ _ h)
 
 held_algorithm : (o : Option (List ℕ)) (a : List ℕ) → IsAlgorithm o a → algorithm_of o a ≡ Ok tt
-held_algorithm None a h = rw (unequal a (codes "none") (bytes_eq a (codes "none")) refl h) refl
+held_algorithm None a h =
+    rw (unequal a [] (bytes_eq a []) refl h.0, unequal (map to_ascii_lowercase a) (codes "none") (bytes_eq (map to_ascii_lowercase a) (codes "none")) refl h.1) refl
 held_algorithm (Some r) a h = rw ((bytes_eq-Decides a r).1 h) refl
 
 -- ---- the extension
@@ -69,7 +78,7 @@ held w a n t v h =
     record {
       algorithm = algorithm_held w.algorithm t.header.own.algorithm g.0;
       no_extension = absent_held (get (codes "crit") t.header.others) x.0;
-      claims = claims_held w n t.claims.own c.0;
+      claims = claims_held w n (tenant_of t.claims.others) t.claims.own c.0;
       hash = hash_held t.header.own.algorithm a t.claims.own.access_token_hash v c.1;
     }
 
@@ -78,7 +87,7 @@ all w a n t h =
     rw (
       held_algorithm w.algorithm t.header.own.algorithm h.algorithm,
       h.no_extension,
-      held_claims w n t.claims.own h.claims,
+      held_claims w n (tenant_of t.claims.others) t.claims.own h.claims,
     ) (held_hash t.header.own.algorithm a t.claims.own.access_token_hash h.hash)
 
 some_held : (w : Expectation) (a : List ℕ) (n : ℤ) (t : DecodedToken) (r : Result AccessTokenHash ClaimsError) → token_checked w a n t ≡ r → IsOk r → Holds w a n t

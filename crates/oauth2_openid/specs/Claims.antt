@@ -32,10 +32,19 @@ claims i s a e t u n c m p h =
       access_token_hash = h;
     }
 
+-- the issuers that are expected: one; or one of these; or, of a provider that has an issuer for each of
+-- its tenants, what stands before the tenant's name and after it
+pub data NamedIssuers : Type 0 where
+  is : List ℕ → NamedIssuers
+  one_of : List (List ℕ) → NamedIssuers
+  per_tenant : List ℕ → List ℕ → NamedIssuers
+
 -- what is expected; durations are in nanoseconds
 pub record Expectation : Type 0 where
-  pub issuer : List ℕ
+  pub issuer : NamedIssuers
   pub client : List ℕ
+  pub other_audiences : List (List ℕ)
+  pub authorized_parties : List (List ℕ)
   pub algorithm : Option (List ℕ)
   pub nonce : Option (List ℕ)
   pub leeway : ℕ

@@ -27,6 +27,7 @@ claims_error_text errors.OtherAlgorithm = codes "the algorithm is not the regist
 claims_error_text errors.CriticalExtension = codes "the header has an extension that has to be understood"
 claims_error_text errors.OtherIssuer = codes "the issuer is another one"
 claims_error_text errors.OtherAudience = codes "the client is not in the audience"
+claims_error_text errors.UntrustedAudience = codes "an audience is not trusted"
 claims_error_text errors.NoAuthorizedParty = codes "several audiences, and no authorized party"
 claims_error_text errors.OtherAuthorizedParty = codes "the authorized party is another one"
 claims_error_text errors.Expired = codes "the token has expired"

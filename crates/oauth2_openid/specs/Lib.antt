@@ -1,7 +1,9 @@
 pub mod Claims
+pub mod Issuers
 pub mod Rules
 pub mod TokenRules
 pub mod Token
+pub mod Times
 pub mod Reading
 pub mod Seen
 pub mod ErrorTexts

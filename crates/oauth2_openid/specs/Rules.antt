@@ -1,11 +1,11 @@
 -- The rules for the claims of an ID token (OpenID Connect Core 1.0, 3.1.3.7), in the order in which
 -- the first that does not hold is named.
-use Rattle.std.specs.Prelude.{◌≡◌, ℕ, ℤ, pos, ◌+ℤ◌, ◌<ℤ◌, ◌≤ℤ◌, ◌<◌, int_lt, int_le, nat_le, List, [], ◌∷◌, length, Contains, Bool, false, ◌||◌, if◌then◌else◌, Option, Some, None, IfSome, IsSome, IsSomeAnd, option_map, Result, Ok, Err, bytes_eq}
+use Rattle.std.specs.Prelude.{◌≡◌, ℕ, ℤ, pos, ◌+ℤ◌, ◌<ℤ◌, ◌≤ℤ◌, ◌<◌, int_lt, int_le, nat_le, List, [], ◌∷◌, ◌++◌, length, All, Contains, Bool, true, false, ◌&&◌, ◌||◌, if◌then◌else◌, Option, Some, None, IfSome, IsSome, IsSomeAnd, option_map, Result, Ok, Err, bytes_eq}
 use Rattle.sha2.specs.Sha256.{sha256}
 use Rattle.oauth2_types.specs.Digest.{digest_eq}
 use Rattle.oauth2_openid.specs.declared.claims_error.ClaimsError.{ClaimsError}
 use Rattle.oauth2_openid.specs.declared.claims_error.ClaimsError.TheVariants as errors
-use Rattle.oauth2_openid.specs.Claims.{Claims, Expectation}
+use Rattle.oauth2_openid.specs.Claims.{Claims, Expectation, NamedIssuers, is, one_of, per_tenant}
 
 -- a rule holds, or it does not, and then it is named
 abbrev pub Verdict : Type 0
@@ -20,27 +20,44 @@ abbrev pub ◌then◌ : {A : Type 0} → Verdict → Result A ClaimsError → Re
 (Ok u) then later = later
 (Err e) then later = Err e
 
--- 3.1.3.7, 2: the issuer is the expected one, byte for byte
-abbrev pub issuer_rule : Expectation → Claims → Verdict
-issuer_rule expected claims = rule (bytes_eq claims.issuer expected.issuer) errors.OtherIssuer
-
 -- a text is one of these
 abbrev pub is_among : List ℕ → List (List ℕ) → Bool
 is_among text [] = false
 is_among text (first ∷ later) = bytes_eq first text || is_among text later
 
+-- each of them is one of these
+abbrev pub are_among : List (List ℕ) → List (List ℕ) → Bool
+are_among [] known = true
+are_among (first ∷ later) known = is_among first known && are_among later known
+
+-- 3.1.3.7, 2: the issuer is an expected one, byte for byte
+abbrev pub is_issuer : NamedIssuers → Option (List ℕ) → List ℕ → Bool
+is_issuer (is named) tenant issuer = bytes_eq issuer named
+is_issuer (one_of named) tenant issuer = is_among issuer named
+is_issuer (per_tenant before after) None issuer = false
+is_issuer (per_tenant before after) (Some tenant) issuer = bytes_eq issuer (before ++ tenant ++ after)
+
+abbrev pub issuer_rule : Expectation → Option (List ℕ) → Claims → Verdict
+issuer_rule expected tenant claims = rule (is_issuer expected.issuer tenant claims.issuer) errors.OtherIssuer
+
 -- 3.1.3.7, 3: the client is one of the audiences
 abbrev pub audience_rule : Expectation → Claims → Verdict
 audience_rule expected claims = rule (is_among expected.client claims.audience) errors.OtherAudience
 
+-- 3.1.3.7, 3: each audience is the client or one that it trusts
+abbrev pub trust_rule : Expectation → Claims → Verdict
+trust_rule expected claims =
+    rule (are_among claims.audience (expected.client ∷ expected.other_audiences)) errors.UntrustedAudience
+
 -- 3.1.3.7, 4 and 5: where there are several audiences there is an authorized party; where there is
--- one, it is the client
-abbrev pub party_of : List ℕ → List (List ℕ) → Option (List ℕ) → Verdict
-party_of client audience None = rule (nat_le (length audience) 1) errors.NoAuthorizedParty
-party_of client audience (Some party) = rule (bytes_eq party client) errors.OtherAuthorizedParty
+-- one, it is the client or another one that is named
+abbrev pub party_of : List (List ℕ) → List (List ℕ) → Option (List ℕ) → Verdict
+party_of parties audience None = rule (nat_le (length audience) 1) errors.NoAuthorizedParty
+party_of parties audience (Some party) = rule (is_among party parties) errors.OtherAuthorizedParty
 
 abbrev pub party_rule : Expectation → Claims → Verdict
-party_rule expected claims = party_of expected.client claims.audience claims.authorized_party
+party_rule expected claims =
+    party_of (expected.client ∷ expected.authorized_parties) claims.audience claims.authorized_party
 
 -- 3.1.3.7, 9: this moment is before the expiry and the leeway after it
 abbrev pub expiry_rule : Expectation → ℤ → Claims → Verdict
@@ -73,10 +90,11 @@ abbrev pub age_rule : Expectation → ℤ → Claims → Verdict
 age_rule expected now claims = age_of expected.leeway now expected.max_age claims.auth_time
 
 -- each rule holds, or the first that does not is named
-abbrev pub claims_checked : Expectation → ℤ → Claims → Verdict
-claims_checked expected now claims =
-    issuer_rule expected claims
+abbrev pub claims_checked : Expectation → ℤ → Option (List ℕ) → Claims → Verdict
+claims_checked expected now tenant claims =
+    issuer_rule expected tenant claims
     then audience_rule expected claims
+    then trust_rule expected claims
     then party_rule expected claims
     then expiry_rule expected now claims
     then issued_rule expected now claims
@@ -85,11 +103,20 @@ claims_checked expected now claims =
 
 -- ---- that all hold
 
--- the claims are as 3.1.3.7 has them, at this moment, for a client that expects this
-pub record ClaimsHold (expected : Expectation) (now : ℤ) (claims : Claims) : Type 0 where
-  pub issuer : claims.issuer ≡ expected.issuer
+-- the issuer is the one that is named, or one of those; or it is what is named with the token's own
+-- tenant in between
+abbrev pub IsIssuer : NamedIssuers → Option (List ℕ) → List ℕ → Type 0
+IsIssuer (is named) tenant issuer = issuer ≡ named
+IsIssuer (one_of named) tenant issuer = Contains named issuer
+IsIssuer (per_tenant before after) tenant issuer = IsSomeAnd tenant (λ name. issuer ≡ before ++ name ++ after)
+
+-- the claims of a token that names this tenant are as 3.1.3.7 has them, at this moment, for a client
+-- that expects this
+pub record ClaimsHold (expected : Expectation) (now : ℤ) (tenant : Option (List ℕ)) (claims : Claims) : Type 0 where
+  pub issuer : IsIssuer expected.issuer tenant claims.issuer
   pub audience : Contains claims.audience expected.client
-  pub party : IfSome claims.authorized_party (λ party. party ≡ expected.client)
+  pub trusted : All (Contains (expected.client ∷ expected.other_audiences)) claims.audience
+  pub party : IfSome claims.authorized_party (Contains (expected.client ∷ expected.authorized_parties))
   pub several : 1 < length claims.audience → IsSome claims.authorized_party
   pub not_expired : now <ℤ (claims.expires_at +ℤ pos expected.leeway)
   pub issued : claims.issued_at ≤ℤ (now +ℤ pos expected.leeway)

@@ -1,7 +1,9 @@
 -- The rules for the header and for the hash of the access token (OpenID Connect Core 1.0, 3.1.3.6 to
 -- 3.1.3.8; RFC 7515, 4.1.11), and all rules of a token.
-use Rattle.std.specs.Prelude.{◌≡◌, ◌≢◌, ℕ, ℤ, List, [], ◌∷◌, take, not, if◌then◌else◌, Option, Some, None, is_some, IfSome, Result, Ok, Err, bytes_eq, codes}
-use Rattle.serde_json.specs.Find.{get}
+use Rattle.std.specs.Prelude.{◌≡◌, ◌≢◌, ℕ, ℤ, List, [], ◌∷◌, map, take, Bool, not, ◌||◌, if◌then◌else◌, Option, Some, None, is_some, option_and_then, IfSome, Result, Ok, Err, bytes_eq, codes}
+use Rattle.std.specs.Char.{to_ascii_lowercase}
+use Rattle.serde_json.specs.Data.{Data}
+use Rattle.serde_json.specs.Find.{get, as_str}
 use Rattle.sha2.specs.Sha256.{sha256}
 use Rattle.sha2.specs.Sha512.{sha384, sha512}
 use Rattle.oauth2_types.specs.Pkce.{base64url}
@@ -13,10 +15,15 @@ use Rattle.oauth2_openid.specs.Claims.{Expectation}
 use Rattle.oauth2_openid.specs.Rules.{Verdict, rule, ◌then◌, is_among, claims_checked, ClaimsHold}
 use Rattle.oauth2_openid.specs.Token.{Header, WithOthers, DecodedToken}
 
+-- no signature is named: by the empty text, or by `none`, in any case of letters
+abbrev pub names_no_signature : List ℕ → Bool
+names_no_signature algorithm =
+    bytes_eq algorithm [] || bytes_eq (map to_ascii_lowercase algorithm) (codes "none")
+
 -- 3.1.3.7, 7, and section 2: the algorithm is the registered one, where one is given; else it is any
--- but `none`
+-- that names a signature
 abbrev pub algorithm_of : Option (List ℕ) → List ℕ → Verdict
-algorithm_of None algorithm = rule (not (bytes_eq algorithm (codes "none"))) errors.NoSignature
+algorithm_of None algorithm = rule (not (names_no_signature algorithm)) errors.NoSignature
 algorithm_of (Some registered) algorithm = rule (bytes_eq algorithm registered) errors.OtherAlgorithm
 
 abbrev pub algorithm_rule : Expectation → Header → Verdict
@@ -57,18 +64,22 @@ abbrev pub hash_rule : List ℕ → List ℕ → Option (List ℕ) → Result Ac
 hash_rule algorithm access_token None = Ok hash.Absent
 hash_rule algorithm access_token (Some told) = told_hash told (half_digest algorithm access_token)
 
+-- the tenant that a token names in its claim `tid`, as those of Microsoft Entra do
+abbrev pub tenant_of : Data → Option (List ℕ)
+tenant_of other_claims = option_and_then as_str (get (codes "tid") other_claims)
+
 -- each rule holds, or the first that does not is named
 abbrev pub token_checked : Expectation → List ℕ → ℤ → DecodedToken → Result AccessTokenHash ClaimsError
 token_checked expected access_token now token =
     algorithm_rule expected token.header.own
     then critical_rule token.header
-    then claims_checked expected now token.claims.own
+    then claims_checked expected now (tenant_of token.claims.others) token.claims.own
     then hash_rule token.header.own.algorithm access_token token.claims.own.access_token_hash
 
 -- ---- that all hold
 
 abbrev pub IsAlgorithm : Option (List ℕ) → List ℕ → Type 0
-IsAlgorithm None algorithm = algorithm ≢ codes "none"
+IsAlgorithm None algorithm = (algorithm ≢ []) × (map to_ascii_lowercase algorithm ≢ codes "none")
 IsAlgorithm (Some registered) algorithm = algorithm ≡ registered
 
 -- the hash that is told, if one is, is that of the access token, if the algorithm has one
@@ -81,5 +92,5 @@ IsHashOf algorithm access_token told =
 pub record Holds (expected : Expectation) (access_token : List ℕ) (now : ℤ) (token : DecodedToken) : Type 0 where
   pub algorithm : IsAlgorithm expected.algorithm token.header.own.algorithm
   pub no_extension : get (codes "crit") token.header.others ≡ None
-  pub claims : ClaimsHold expected now token.claims.own
+  pub claims : ClaimsHold expected now (tenant_of token.claims.others) token.claims.own
   pub hash : IsHashOf token.header.own.algorithm access_token token.claims.own.access_token_hash

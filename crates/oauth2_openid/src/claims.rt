@@ -4,8 +4,8 @@ ghost use Rattle.std.specs.Prelude.{◌≡◌, ◌+ℤ◌, pos, map, option_map,
 ghost use Rattle.std.specs.Duration.{as_nanos};
 ghost use Rattle.oauth2_openid.specs.Rules.{
   issuer_rule,
-  is_among,
   audience_rule,
+  trust_rule,
   party_rule,
   expiry_rule,
   issued_rule,
@@ -16,6 +16,7 @@ ghost use Rattle.oauth2_openid.specs.Rules.{
 
 use crate::claims_error::ClaimsError;
 use crate::expected::Expected;
+use crate::issuer_rule::{are_known, is_among, is_known};
 use crate::nonce::Nonce;
 use jiff::Timestamp;
 use std::marker::Model;
@@ -142,12 +143,20 @@ impl IdTokenClaims {
         text_of(&self.access_token_hash)
     }
 
-    // Whether each rule for the claims holds at this moment, else the first that does not.
-    pub(crate) fn check(&self, expected: &Expected, now: Timestamp) -> Result<(), ClaimsError>
-        ensures { result ≡ claims_checked expected.now now.nanosecond self.now }
+    // Whether each rule for the claims of a token that names this tenant holds at this moment, else
+    // the first that does not.
+    pub(crate) fn check(
+        &self,
+        expected: &Expected,
+        tenant: Option<&str>,
+        now: Timestamp,
+    ) -> Result<(), ClaimsError>
+        ensures { result
+            ≡ claims_checked expected.now now.nanosecond (option_copied tenant.entry) self.now }
     {
-        self.check_issuer(expected)?;
+        self.check_issuer(expected, tenant)?;
         self.check_audience(expected)?;
+        self.check_trust(expected)?;
         self.check_party(expected)?;
         self.check_expiry(expected, now)?;
         self.check_issued(expected, now)?;
@@ -155,10 +164,10 @@ impl IdTokenClaims {
         self.check_age(expected, now)
     }
 
-    fn check_issuer(&self, expected: &Expected) -> Result<(), ClaimsError>
-        ensures { result ≡ issuer_rule expected.now self.now }
+    fn check_issuer(&self, expected: &Expected, tenant: Option<&str>) -> Result<(), ClaimsError>
+        ensures { result ≡ issuer_rule expected.now (option_copied tenant.entry) self.now }
     {
-        if self.issuer == expected.issuer {
+        if expected.issuer.names(tenant, self.issuer()) {
             Ok(())
         } else {
             Err(ClaimsError::OtherIssuer)
@@ -175,11 +184,23 @@ impl IdTokenClaims {
         }
     }
 
+    fn check_trust(&self, expected: &Expected) -> Result<(), ClaimsError>
+        ensures { result ≡ trust_rule expected.now self.now }
+    {
+        let client = expected.client_id.deref().as_str();
+        if are_known(self.audience(), client, expected.other_audiences.as_slice()) {
+            Ok(())
+        } else {
+            Err(ClaimsError::UntrustedAudience)
+        }
+    }
+
     fn check_party(&self, expected: &Expected) -> Result<(), ClaimsError>
         ensures { result ≡ party_rule expected.now self.now }
     {
-        match &self.authorized_party {
-            Some(party) => if party == expected.client_id.deref() {
+        let client = expected.client_id.deref().as_str();
+        match self.authorized_party() {
+            Some(party) => if is_known(party, client, expected.authorized_parties.as_slice()) {
                 Ok(())
             } else {
                 Err(ClaimsError::OtherAuthorizedParty)
@@ -258,17 +279,6 @@ fn latest_use(auth_time: Timestamp, max_age: Duration, leeway: Duration) -> i128
     ensures { result ≡ auth_time.nanosecond +ℤ pos (as_nanos max_age) +ℤ pos (as_nanos leeway) }
 {
     auth_time.as_nanosecond() + max_age.as_nanos() as i128 + leeway.as_nanos() as i128
-}
-
-fn is_among(texts: &[String], text: &str) -> bool
-    ensures { result ≡ is_among text.now (map string_bytes texts.now) }
-{
-    for each in texts {
-        if each.as_str() == text {
-            return true;
-        }
-    }
-    false
 }
 
 fn text_of(text: &Option<String>) -> Option<&str>

@@ -9,21 +9,23 @@ use std::fmt;
 /// tried in the order of these variants.
 #[derive(Clone, Copy, Debug, PartialEq, Eq, Drop)]
 pub enum ClaimsError {
-    /// The token has no signature (`alg` is `none`), and the client registered no algorithm
-    /// (section 2).
+    /// The token has no signature (`alg` is `none`, in any case of letters, or empty), and the
+    /// client registered no algorithm (section 2).
     NoSignature,
     /// The algorithm is not the one that the client registered (3.1.3.7, 7).
     OtherAlgorithm,
     /// The header has the member `crit`: an extension that has to be understood, which none is here
     /// (RFC 7515, 4.1.11).
     CriticalExtension,
-    /// The issuer is not the expected one (3.1.3.7, 2).
+    /// The issuer is not an expected one (3.1.3.7, 2).
     OtherIssuer,
     /// The client is not in the audience (3.1.3.7, 3).
     OtherAudience,
+    /// An audience is neither the client nor one that it trusts (3.1.3.7, 3).
+    UntrustedAudience,
     /// There are several audiences, and no authorized party (3.1.3.7, 4).
     NoAuthorizedParty,
-    /// The authorized party is not the client (3.1.3.7, 5).
+    /// The authorized party is neither the client nor one that it names (3.1.3.7, 5).
     OtherAuthorizedParty,
     /// The token has expired (3.1.3.7, 9).
     Expired,
@@ -55,6 +57,7 @@ impl ClaimsError {
             }
             ClaimsError::OtherIssuer => "the issuer is another one",
             ClaimsError::OtherAudience => "the client is not in the audience",
+            ClaimsError::UntrustedAudience => "an audience is not trusted",
             ClaimsError::NoAuthorizedParty => "several audiences, and no authorized party",
             ClaimsError::OtherAuthorizedParty => "the authorized party is another one",
             ClaimsError::Expired => "the token has expired",

@@ -1,13 +1,15 @@
 //! The claims of an ID token as a JSON object.
 
 ghost use Rattle.std.specs.Prelude.{◌≡◌, IfOk, map, option_map, string_bytes};
+ghost use Rattle.serde_json.specs.Find.{get_member};
 ghost use Rattle.serde_json.specs.View.{view};
 ghost use Rattle.oauth2_json.specs.Reading.{ReadsAs};
-ghost use Rattle.oauth2_json.specs.Members.{others};
+ghost use Rattle.oauth2_json.specs.Members.{needed_member, others, without};
 ghost use Rattle.oauth2_body_members.specs.Object.{object_members};
 ghost use Rattle.oauth2_body_members.specs.Table.{names_of};
 ghost use Rattle.oauth2_body_members.specs.private.Groups.{pair, triple};
 ghost use Rattle.oauth2_openid.specs.Claims.{Claims};
+ghost use Rattle.oauth2_openid.specs.Times.{time};
 ghost use Rattle.oauth2_openid.specs.Token.{WithOthers, with_others};
 ghost use Rattle.oauth2_openid.specs.Reading.{claims_reading};
 ghost use Rattle.oauth2_openid.specs.private.Rows.{
@@ -24,9 +26,10 @@ ghost use Rattle.oauth2_openid.specs.private.Rows.{
 
 use crate::claims::IdTokenClaims;
 use crate::nonce::Nonce;
+use crate::time::Time;
+use crate::unneeded::{Unneeded, put_back, take_text, take_texts, take_time};
 use jiff::Timestamp;
 use oauth2_body_members::Object;
-use oauth2_introspection::{take_needed_time, take_optional_time};
 use oauth2_json::{FromJson, ReadError};
 use serde_json::Value;
 use std::alloc::Global;
@@ -44,15 +47,15 @@ struct Names {
 struct Times {
     expires_at: Timestamp,
     issued_at: Timestamp,
-    auth_time: Option<Timestamp>,
+    auth_time: Unneeded<Timestamp>,
 }
 
 // Of which request, and how the user logged in.
 #[derive(Drop)]
 struct Login {
     nonce: Option<Nonce>,
-    authentication_context_class: Option<String>,
-    authentication_methods: Option<Vec<String>>,
+    authentication_context_class: Unneeded<String>,
+    authentication_methods: Unneeded<Vec<String>>,
 }
 
 // What else the token is bound to.
@@ -97,34 +100,48 @@ fn take_names(alloc: Global, members: &mut Object<'_>) -> Result<Names, ReadErro
     })
 }
 
+// A time that has to be there.
+fn needed_time(alloc: Global, members: &mut Object<'_>, name: &str) -> Result<Timestamp, ReadError>
+    ensures read { ReadsAs (λ t. t.nanosecond) result
+        (needed_member time name.now (get_member name.now (object_members members.old))) }
+    ensures rest { object_members members.new ≡ without name.now (object_members members.old) }
+{
+    let Time(at) = members.needed::<Time>(alloc, name)?;
+    Ok(at)
+}
+
 #[tactic(auto, unfolding(crate::specs::private::Rows::claim_times_reading))]
 fn take_times(alloc: Global, members: &mut Object<'_>) -> Result<Times, ReadError>
     ensures read { ReadsAs (λ t. triple t.expires_at.nanosecond t.issued_at.nanosecond
-        (option_map (λ time. time.nanosecond) t.auth_time))
+        (option_map (λ time. time.nanosecond) t.auth_time.said, option_map view t.auth_time.left))
         result (claim_times_reading (object_members members.old)) }
     ensures rest { IfOk result (λ _. object_members members.new
         ≡ others (names_of claim_times_table) (object_members members.old)) }
 {
     Ok(Times {
-        expires_at: take_needed_time(alloc, members, "exp")?,
-        issued_at: take_needed_time(alloc, members, "iat")?,
-        auth_time: take_optional_time(alloc, members, "auth_time")?,
+        expires_at: needed_time(alloc, members, "exp")?,
+        issued_at: needed_time(alloc, members, "iat")?,
+        auth_time: take_time(members, "auth_time"),
     })
 }
 
 #[tactic(auto, unfolding(crate::specs::private::Rows::authentication_reading))]
 fn take_login(alloc: Global, members: &mut Object<'_>) -> Result<Login, ReadError>
-    ensures read { ReadsAs (λ l. triple l.nonce
-        (option_map string_bytes l.authentication_context_class)
-        (option_map (λ list. map string_bytes list.items) l.authentication_methods))
+    ensures read { ReadsAs (λ l. triple l.nonce (
+      option_map string_bytes l.authentication_context_class.said,
+      option_map view l.authentication_context_class.left,
+    ) (
+      option_map (λ list. map string_bytes list.items) l.authentication_methods.said,
+      option_map view l.authentication_methods.left,
+    ))
         result (authentication_reading (object_members members.old)) }
     ensures rest { IfOk result (λ _. object_members members.new
         ≡ others (names_of authentication_table) (object_members members.old)) }
 {
     Ok(Login {
         nonce: members.optional(alloc, "nonce")?,
-        authentication_context_class: members.optional(alloc, "acr")?,
-        authentication_methods: members.optional_text_list(alloc, "amr")?,
+        authentication_context_class: take_text(members, "acr"),
+        authentication_methods: take_texts(alloc, members, "amr")?,
     })
 }
 
@@ -152,16 +169,22 @@ fn from_members(alloc: Global, mut members: Object<'_>) -> Result<AllClaims, Rea
     let login = take_login(alloc, &mut members)?;
     let bindings = take_bindings(alloc, &mut members)?;
     let others = members.into_value(alloc)?;
+    let methods = login.authentication_methods;
+    let others = put_back(alloc, others, "amr", methods.left)?;
+    let class = login.authentication_context_class;
+    let others = put_back(alloc, others, "acr", class.left)?;
+    let auth_time = times.auth_time;
+    let others = put_back(alloc, others, "auth_time", auth_time.left)?;
     let claims = IdTokenClaims {
         issuer: names.issuer,
         subject: names.subject,
         audience: names.audience,
         expires_at: times.expires_at,
         issued_at: times.issued_at,
-        auth_time: times.auth_time,
+        auth_time: auth_time.said,
         nonce: login.nonce,
-        authentication_context_class: login.authentication_context_class,
-        authentication_methods: login.authentication_methods,
+        authentication_context_class: class.said,
+        authentication_methods: methods.said,
         authorized_party: bindings.authorized_party,
         access_token_hash: bindings.access_token_hash,
     };

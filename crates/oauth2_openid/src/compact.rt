@@ -2,7 +2,8 @@
 
 ghost use Rattle.std.specs.Prelude.{◌≡◌, ◌∷◌, ◌++◌, IfOk, IfSome, Some, option_map};
 ghost use Rattle.oauth2_types.specs.Pkce.{base64url};
-ghost use Rattle.oauth2_openid.specs.Token.{bytes_of, token_parts, split_dot, three_parts};
+ghost use Rattle.oauth2_openid.specs.Token.{bytes_of, token_parts, three_parts};
+ghost use Rattle.oauth2_openid.specs.private.Dots.{split_dot, after_header};
 
 use base64::DecodeAllocError;
 use base64::display::Base64Display;
@@ -18,10 +19,20 @@ fn split_dot(text: &str) -> Option<(&str, &str)>
 }
 
 // The header, the payload and the signature, where there are just three parts.
+#[tactic(auto, using(crate::proofs::Dots::in_turn))]
 pub(crate) fn three_parts(text: &str) -> Option<(&str, &str, &str)>
     ensures joined { IfSome result (λ p. text.now ≡ (p.0.now ++ (46 ∷ p.1.now)) ++ (46 ∷ p.2.now)) }
     ensures parts { option_map (λ p. token_parts p.0.now p.1.now p.2.now) result
         ≡ three_parts text.now }
+{
+    cut_at_dots(text)
+}
+
+// The same, cut at one dot after another.
+fn cut_at_dots(text: &str) -> Option<(&str, &str, &str)>
+    ensures joined { IfSome result (λ p. text.now ≡ (p.0.now ++ (46 ∷ p.1.now)) ++ (46 ∷ p.2.now)) }
+    ensures parts { option_map (λ p. token_parts p.0.now p.1.now p.2.now) result
+        ≡ after_header (split_dot text.now) }
 {
     let (header, rest) = split_dot(text)?;
     let (payload, signature) = split_dot(rest)?;

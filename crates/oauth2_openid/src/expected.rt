@@ -1,5 +1,6 @@
 //! What a client expects of an ID token.
 
+use crate::issuer_rule::IssuerRule;
 use crate::nonce::Nonce;
 use oauth2_types::ClientId;
 use std::marker::Model;
@@ -9,12 +10,19 @@ use std::time::Duration;
 #[derive(Drop)]
 pub struct Expected {
     /// The issuer whose token endpoint returned the token.
-    pub issuer: String,
+    pub issuer: IssuerRule,
     /// The client itself.
     pub client_id: ClientId,
+    /// The audiences beside the client that it trusts, most often none: a token that is also for
+    /// another one is refused (3.1.3.7, 3).
+    pub other_audiences: Vec<String>,
+    /// The parties beside the client to which its tokens may be issued (`azp`), most often none.
+    /// Such a party is an Android app whose tokens name its server as their audience.
+    pub authorized_parties: Vec<String>,
     /// The algorithm that the client registered (`id_token_signed_response_alg`), such as `RS256`:
     /// a token with another one is refused. Only a client that registered `none` may name it here
-    /// (section 2). Without an algorithm any but `none` is accepted.
+    /// (section 2). Without an algorithm any but `none` and the empty text is accepted; `None` and
+    /// the like count as `none`.
     pub algorithm: Option<String>,
     /// The nonce that was sent with the request, if one was.
     pub nonce: Option<Nonce>,
@@ -25,15 +33,18 @@ pub struct Expected {
 }
 
 impl Model for Expected {
-    ghost use Rattle.std.specs.Prelude.{option_map, string_bytes};
+    ghost use Rattle.std.specs.Prelude.{map, option_map, string_bytes};
     ghost use Rattle.std.specs.Duration.{as_nanos};
     ghost use Rattle.oauth2_openid.specs.Claims.{Expectation};
+    ghost use Rattle.oauth2_openid.specs.Issuers.{named_issuers};
 
     ghost Value = { Expectation };
 
     ghost view = { λ e. record {
-      issuer = string_bytes e.issuer;
+      issuer = named_issuers e.issuer;
       client = e.client_id;
+      other_audiences = map string_bytes e.other_audiences.items;
+      authorized_parties = map string_bytes e.authorized_parties.items;
       algorithm = option_map string_bytes e.algorithm;
       nonce = e.nonce;
       leeway = as_nanos e.leeway;

@@ -1,17 +1,19 @@
 //! An ID token as it was read.
 
-ghost use Rattle.std.specs.Prelude.{◌≡◌, ◌↔◌, IfOk, IsOk, Some, codes};
+ghost use Rattle.std.specs.Prelude.{◌≡◌, ◌↔◌, ◌∷◌, ◌++◌, IfOk, IsOk, Some, codes, option_copied};
 ghost use Rattle.std.specs.Fmt.{DisplaysOnOk, WritesStyledOnOk};
 ghost use Rattle.serde_json.specs.View.{view};
-ghost use Rattle.oauth2_openid.specs.Token.{TokenReadsAs, compact_of};
+ghost use Rattle.oauth2_openid.specs.Token.{TokenReadsAs, compact_of, token_parts};
 ghost use Rattle.oauth2_openid.specs.Seen.{token_of};
 ghost use Rattle.oauth2_openid.specs.TokenRules.{
   algorithm_rule,
   critical_rule,
+  names_no_signature,
+  tenant_of,
   token_checked,
   Holds,
 };
-ghost use Rattle.oauth2_openid.specs.Reading.{json_part, compact_token_reading};
+ghost use Rattle.oauth2_openid.specs.Reading.{json_part, parts_reading, compact_token_reading};
 
 use crate::access_token_hash::{AccessTokenHash, check_hash};
 use crate::claims::IdTokenClaims;
@@ -46,6 +48,7 @@ pub struct IdToken {
 }
 
 // What a part's JSON reads to.
+#[tactic(auto, using(crate::proofs::Parts::json_part_has_parts))]
 fn read_part<T: FromJson>(alloc: Global, part: TokenPart, text: &str) -> Result<T, IdTokenReadError>
     ensures { TokenReadsAs T.meaning result (json_part T.reading part text.now) }
 {
@@ -66,9 +69,27 @@ impl IdToken {
         // Nothing of the text is lost.
         ensures compact { IfOk result (λ t. text.now ≡ compact_of (token_of t)) }
     {
-        let Some((header, payload, signature)) = three_parts(text) else {
-            return Err(IdTokenReadError::NotThreeParts);
-        };
+        match three_parts(text) {
+            Some((header, payload, signature)) => {
+                IdToken::from_parts(alloc, header, payload, signature)
+            }
+            None => Err(IdTokenReadError::NotThreeParts),
+        }
+    }
+
+    #[tactic(auto, using(crate::proofs::Parts::has_parts))]
+    fn from_parts(
+        alloc: Global,
+        header: &str,
+        payload: &str,
+        signature: &str,
+    ) -> Result<IdToken, IdTokenReadError>
+        ensures read { TokenReadsAs token_of result
+            (parts_reading (Some (token_parts header.now payload.now signature.now))) }
+        ensures compact { IfOk result
+            (λ t. (header.now ++ (46 ∷ payload.now)) ++ (46 ∷ signature.now)
+            ≡ compact_of (token_of t)) }
+    {
         let signed_part = format!(in alloc; "{header}.{payload}")?;
         let header = read_part::<WholeHeader>(alloc, TokenPart::Header, header)?;
         let claims = read_part::<AllClaims>(alloc, TokenPart::Payload, payload)?;
@@ -153,12 +174,19 @@ impl IdToken {
     {
         self.check_algorithm(expected)?;
         self.check_critical()?;
-        self.claims.claims.check(expected, now)?;
+        self.claims.claims.check(expected, self.tenant(), now)?;
         check_hash(
             self.header.header.algorithm(),
             access_token.secret().as_bytes(),
             self.claims.claims.access_token_hash(),
         )
+    }
+
+    // The tenant that the token names in its claim `tid`, as those of Microsoft Entra do.
+    fn tenant(&self) -> Option<&str>
+        ensures { option_copied result ≡ tenant_of (token_of self.now).claims.others }
+    {
+        self.claims.others.get("tid").and_then(Value::as_str)
     }
 
     fn check_algorithm(&self, expected: &Expected) -> Result<(), ClaimsError>
@@ -171,10 +199,10 @@ impl IdToken {
             } else {
                 Err(ClaimsError::OtherAlgorithm)
             },
-            None => if algorithm != "none" {
-                Ok(())
-            } else {
+            None => if names_no_signature(algorithm) {
                 Err(ClaimsError::NoSignature)
+            } else {
+                Ok(())
             },
         }
     }
@@ -188,6 +216,13 @@ impl IdToken {
             Err(ClaimsError::CriticalExtension)
         }
     }
+}
+
+// Whether an algorithm is none: `none` in any case of letters, or the empty text.
+fn names_no_signature(algorithm: &str) -> bool
+    ensures { result ≡ names_no_signature algorithm.now }
+{
+    algorithm.is_empty() || algorithm.eq_ignore_ascii_case("none")
 }
 
 /// Writes the token itself, in compact form, as an `id_token_hint` has it.

@@ -1,6 +1,17 @@
--- What comes of a token response whose ID token does not read.
-use Rattle.std.proofs.Common.{◌≡◌, ℕ, ℤ, List, Option, Some, None, Err, refl, ap, ◌∙◌}
-use Rattle.std.specs.Prelude.{IsSome}
+-- How a login ends.
+use Rattle.std.proofs.Common.{◌≡◌, ℕ, ℤ, List, Option, Some, None, Ok, Err, refl, ap, subst, ◌∙◌, inl, inr}
+use Rattle.std.specs.Prelude.{IsSome, Result}
+use Rattle.serde_json.specs.Data.{Data}
+use Rattle.jiff.specs.Types.{Timestamp}
+use Rattle.oauth2_json.specs.Reading.{Reading}
+use Rattle.oauth2_wire.specs.Request.{HttpRequest}
+use Rattle.oauth2_wire.specs.Reply.{HttpResponse}
+use Rattle.oauth2.specs.Settings.{Settings}
+use Rattle.oauth2_redirect.specs.End.{EndsLogin}
+use Rattle.oauth2_redirect.specs.Redirect.{RedirectRefusal}
+use Rattle.oauth2_redirect.specs.declared.login_error.LoginError.{LoginError}
+use Rattle.oauth2_redirect.specs.declared.login_error.LoginError.TheVariants as by_code
+use Rattle.oauth2_redirect.specs.declared.redirect.RedirectError.{RedirectError}
 use Rattle.std.proofs.lemmas.Option.{none-some}
 use Rattle.oauth2_openid.specs.declared.read_error.IdTokenReadError.{IdTokenReadError}
 use Rattle.oauth2_openid.specs.declared.read_error.IdTokenReadError.TheVariants as read
@@ -8,8 +19,11 @@ use Rattle.oauth2_openid.specs.Claims.{Expectation}
 use Rattle.oauth2_openid.specs.Token.{DecodedToken, TokenReading, TokenErrsAs, not_three_parts, not_base64, at_fault}
 use Rattle.oauth2_json.specs.Reading.{fault_of}
 use Rattle.oauth2_openid_login.specs.declared.login_error.OpenIdLoginError.{OpenIdLoginError}
-use Rattle.oauth2_openid_login.specs.End.{Judges, id_token_reading}
-use Rattle.oauth2_openid_login.specs.private.Told.{told_as}
+use Rattle.oauth2_openid_login.specs.End.{JudgesIdToken, EndsOpenIdLogin, id_token_reading}
+use Rattle.oauth2_openid_login.specs.declared.login_error.OpenIdLoginError.TheVariants.{Redirect}
+use Rattle.oauth2_openid_login.specs.declared.login_end.OpenIdLoginEnd.{OpenIdLoginEnd}
+use Rattle.oauth2_openid_login.specs.Login.{OpenIdKept}
+use Rattle.oauth2_openid_login.specs.private.Told.{refused_as, told_as}
 
 -- what reads to something is there
 read_of_some : (text : Option (List ℕ)) (told : TokenReading DecodedToken) → id_token_reading text ≡ Some told → IsSome text
@@ -17,10 +31,32 @@ read_of_some (Some text) told is = refl
 read_of_some None told is = absurd (none-some told is)
 
 module _ {D RE T : Type 0} (access_token : D → List ℕ) (id_token : D → Option (List ℕ)) (expected : Expectation) (now : ℤ) (response : D) where
-  pub Judges-unread : (error : IdTokenReadError) (told : TokenReading DecodedToken) (unread : OpenIdLoginError RE T) → unread ≡ told_as error
+  pub JudgesIdToken-unread : (error : IdTokenReadError) (told : TokenReading DecodedToken) (unread : OpenIdLoginError RE T) → unread ≡ told_as error
       → id_token_reading (id_token response) ≡ Some told → TokenErrsAs error told
-      → Judges access_token id_token expected now response (Err unread)
-  Judges-unread read.NotThreeParts told unread same is errs = rw same (not_three_parts, refl, is ∙ ap Some errs)
-  Judges-unread (read.NotBase64 part) told unread same is errs = rw same (not_base64 part, refl, is ∙ ap Some errs)
-  Judges-unread (read.Fault part fault) told unread same is errs = rw same (at_fault part (fault_of fault), refl, is ∙ ap Some errs)
-  Judges-unread read.Memory told unread same is errs = rw same (refl, read_of_some (id_token response) told is)
+      → JudgesIdToken access_token id_token expected now response (Err unread)
+  JudgesIdToken-unread read.NotThreeParts told unread same is errs = rw same (not_three_parts, refl, is ∙ ap Some errs)
+  JudgesIdToken-unread (read.NotBase64 part) told unread same is errs = rw same (not_base64 part, refl, is ∙ ap Some errs)
+  JudgesIdToken-unread (read.Fault part fault) told unread same is errs = rw same (at_fault part (fault_of fault), refl, is ∙ ap Some errs)
+  JudgesIdToken-unread read.Memory told unread same is errs = rw same (read_of_some (id_token response) told is)
+
+module _ {D A T E RE C : Type 0} (meaning : D → A) (error_meaning : T → E) (reading : Data → Reading A) (error_reading : Data → Reading E) (step : C → HttpRequest → Result HttpResponse RE → C → Type 0) (access_token token_type : D → List ℕ) (id_token : D → Option (List ℕ)) (client : Settings) (login : OpenIdKept) (expected : Expectation) (ToldByClock : Timestamp → Type 0) (told : Result (List ℕ) RedirectRefusal) (before after : C) where
+  -- a login whose login by a code gave no token response
+  pub EndsOpenIdLogin-refused : (error : LoginError RE T) → EndsLogin meaning error_meaning reading error_reading step client login.login told before (Err error) after
+      → EndsOpenIdLogin meaning error_meaning reading error_reading step access_token token_type id_token client login expected ToldByClock told before (Err (refused_as login.nonce login.max_age error)) after
+  EndsOpenIdLogin-refused error (inl (code, is, Ok token, same, asked)) = cc
+  EndsOpenIdLogin-refused error (inl (code, is, Err fault, same, asked)) =
+      let e : error ≡ by_code.Token fault = cc in
+      inr (inl (code, is, fault, ap (λ (x : LoginError RE T). Err (refused_as login.nonce login.max_age x)) e, asked))
+  EndsOpenIdLogin-refused error (inr (why, same, shown, stayed)) =
+      let e : error ≡ by_code.Redirect why login.login = cc in
+      inr (inr (why, ap (λ (x : LoginError RE T). Err (refused_as login.nonce login.max_age x)) e, shown, stayed))
+
+  -- a login that is given back is the login, and nothing was sent
+  pub openid_login-given_back : (result : Result (OpenIdLoginEnd D) (OpenIdLoginError RE T))
+      → EndsOpenIdLogin meaning error_meaning reading error_reading step access_token token_type id_token client login expected ToldByClock told before result after
+      → (error : RedirectError) (kept : OpenIdKept) → result ≡ Err (Redirect error kept) → (kept ≡ login) × (after ≡ before)
+  openid_login-given_back result (inl (code, is, response, exchanged, now, at, inl (bearer, judged))) error kept is_redirect =
+      absurd (subst (JudgesIdToken access_token id_token expected now.nanosecond response) is_redirect judged)
+  openid_login-given_back result (inl (code, is, response, exchanged, now, at, inr (other, same))) error kept is_redirect = cc
+  openid_login-given_back result (inr (inl (code, is, fault, same, exchanged))) error kept is_redirect = cc
+  openid_login-given_back result (inr (inr (why, same, shown, stayed))) error kept is_redirect = (cc, stayed)

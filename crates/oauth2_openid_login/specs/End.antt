@@ -1,13 +1,17 @@
 -- The end of a login with OpenID Connect (Core 1.0, 3.1.3).
-use Rattle.std.specs.Prelude.{◌≡◌, ℕ, ℤ, ◌⊎◌, List, ◌++◌, codes, false, true, Option, Some, None, IsSome, option_map, Result, Ok, Err}
+use Rattle.std.specs.Prelude.{◌≡◌, ℕ, ℤ, ◌⊎◌, List, ◌++◌, codes, map, Option, Some, None, IsSome, option_map, Result, Ok, Err}
+use Rattle.std.specs.Char.{to_ascii_lowercase}
+use Rattle.jiff.specs.Types.{Timestamp}
 use Rattle.serde_json.specs.Data.{Data}
 use Rattle.oauth2_json.specs.Reading.{Reading, fault_of}
 use Rattle.oauth2_wire.specs.Request.{HttpRequest}
 use Rattle.oauth2_wire.specs.Reply.{HttpResponse}
 use Rattle.oauth2.specs.Settings.{Settings}
-use Rattle.oauth2_redirect.specs.declared.login_error.LoginError.{LoginError}
-use Rattle.oauth2_redirect.specs.End.{EndsLogin, ExchangesCode, login_error_text}
-use Rattle.oauth2_redirect.specs.Redirect.{RedirectRefusal}
+use Rattle.oauth2_wire.specs.declared.error.RequestTokenError.{RequestTokenError}
+use Rattle.oauth2_wire.specs.Display.{fault_text}
+use Rattle.oauth2_redirect.specs.declared.redirect.RedirectError.{RedirectError}
+use Rattle.oauth2_redirect.specs.End.{ExchangesCode}
+use Rattle.oauth2_redirect.specs.Redirect.{RedirectRefusal, TellsRefusal, redirect_error_text}
 use Rattle.oauth2_openid.specs.declared.read_error.IdTokenReadError.{IdTokenReadError}
 use Rattle.oauth2_openid.specs.declared.read_error.IdTokenReadError.TheVariants as read
 use Rattle.oauth2_openid.specs.Claims.{Expectation}
@@ -18,16 +22,28 @@ use Rattle.oauth2_openid.specs.Token.{DecodedToken, TokenFault, TokenReading, no
 use Rattle.oauth2_openid.specs.TokenRules.{token_checked}
 use Rattle.oauth2_openid_login.specs.declared.login_end.OpenIdLoginEnd.{OpenIdLoginEnd}
 use Rattle.oauth2_openid_login.specs.declared.login_error.OpenIdLoginError.{OpenIdLoginError}
-use Rattle.oauth2_openid_login.specs.declared.login_error.OpenIdLoginError.TheVariants.{Login, NoIdToken, Read, Claims, Memory}
+use Rattle.oauth2_openid_login.specs.declared.login_error.OpenIdLoginError.TheVariants.{Redirect, Token, OtherTokenType, NoIdToken, Read, Claims, Memory}
 use Rattle.oauth2_openid_login.specs.Login.{OpenIdKept}
 
 -- the text of an error
 abbrev pub openid_login_error_text : {RE T : Type 0} → (T → Option (List ℕ)) → OpenIdLoginError RE T → Option (List ℕ)
-openid_login_error_text text (Login error) = login_error_text text error
+openid_login_error_text text (Redirect error login) = redirect_error_text error
+openid_login_error_text text (Token error) = fault_text text error
+openid_login_error_text text OtherTokenType = Some (codes "token type is not Bearer")
 openid_login_error_text text NoIdToken = Some (codes "token response has no ID token")
 openid_login_error_text text (Read error) = Some (codes "ID token: " ++ id_token_read_error_text error)
 openid_login_error_text text (Claims error) = Some (codes "ID token: " ++ claims_error_text error)
-openid_login_error_text text (Memory sent) = Some (codes "Out of memory")
+openid_login_error_text text Memory = Some (codes "Out of memory")
+
+-- the debug text of an error, which hides what it holds
+abbrev pub openid_login_error_debug : {RE T : Type 0} → OpenIdLoginError RE T → List ℕ
+openid_login_error_debug (Redirect error login) = codes "Redirect([redacted])"
+openid_login_error_debug (Token error) = codes "Token([redacted])"
+openid_login_error_debug OtherTokenType = codes "OtherTokenType"
+openid_login_error_debug NoIdToken = codes "NoIdToken"
+openid_login_error_debug (Read error) = codes "Read([redacted])"
+openid_login_error_debug (Claims error) = codes "Claims([redacted])"
+openid_login_error_debug Memory = codes "Memory"
 
 -- the fault that an error tells
 abbrev pub fault_told : IdTokenReadError → Option TokenFault
@@ -40,36 +56,50 @@ fault_told read.Memory = None
 abbrev pub id_token_reading : Option (List ℕ) → Option (TokenReading DecodedToken)
 id_token_reading text = option_map compact_token_reading text
 
+-- the token type is `Bearer` (3.1.3.3), whatever the case of its letters (RFC 6749, 5.1)
+abbrev pub IsBearer : List ℕ → Type 0
+IsBearer token_type = map to_ascii_lowercase token_type ≡ map to_ascii_lowercase (codes "Bearer")
+
 module _ {D RE T : Type 0} where
-  -- what comes of a token response: itself, with what its ID token reads to, if each rule holds; or
-  -- an error that tells the first thing that was wrong with the ID token, or that memory for reading
-  -- one ran out
-  abbrev pub Judges : (D → List ℕ) → (D → Option (List ℕ)) → Expectation → ℤ → D → Result (OpenIdLoginEnd D) (OpenIdLoginError RE T) → Type 0
-  Judges access_token id_token expected now response (Ok end) =
+  -- what comes of the ID token of a response: the response, with what its ID token reads to, if each
+  -- rule holds; or an error that tells the first thing that was wrong with the ID token, or that
+  -- memory for reading one ran out
+  abbrev pub JudgesIdToken : (D → List ℕ) → (D → Option (List ℕ)) → Expectation → ℤ → D → Result (OpenIdLoginEnd D) (OpenIdLoginError RE T) → Type 0
+  JudgesIdToken access_token id_token expected now response (Ok end) =
       (end.token_response ≡ response)
       × (id_token_reading (id_token response) ≡ Some (Ok (token_of end.id_token)))
       × (token_checked expected (access_token response) now (token_of end.id_token) ≡ Ok end.access_token_hash)
-  Judges access_token id_token expected now response (Err (Login error)) = ⊥
-  Judges access_token id_token expected now response (Err NoIdToken) = id_token response ≡ None
-  Judges access_token id_token expected now response (Err (Read error)) =
+  JudgesIdToken access_token id_token expected now response (Err (Redirect error login)) = ⊥
+  JudgesIdToken access_token id_token expected now response (Err (Token error)) = ⊥
+  JudgesIdToken access_token id_token expected now response (Err OtherTokenType) = ⊥
+  JudgesIdToken access_token id_token expected now response (Err NoIdToken) = id_token response ≡ None
+  JudgesIdToken access_token id_token expected now response (Err (Read error)) =
       (fault : TokenFault) × (fault_told error ≡ Some fault) × (id_token_reading (id_token response) ≡ Some (Err fault))
-  Judges access_token id_token expected now response (Err (Claims error)) =
+  JudgesIdToken access_token id_token expected now response (Err (Claims error)) =
       (token : DecodedToken) × (id_token_reading (id_token response) ≡ Some (Ok token))
       × (token_checked expected (access_token response) now token ≡ Err error)
-  Judges access_token id_token expected now response (Err (Memory sent)) = (sent ≡ true) × IsSome (id_token response)
+  JudgesIdToken access_token id_token expected now response (Err Memory) = IsSome (id_token response)
+
+  -- what comes of a token response: what comes of its ID token, if its token type is `Bearer`
+  abbrev pub Judges : (D → List ℕ) → (D → List ℕ) → (D → Option (List ℕ)) → Expectation → ℤ → D → Result (OpenIdLoginEnd D) (OpenIdLoginError RE T) → Type 0
+  Judges access_token token_type id_token expected now response result =
+      (IsBearer (token_type response) × JudgesIdToken access_token id_token expected now response result)
+      ⊎ ((IsBearer (token_type response) → ⊥) × (result ≡ Err OtherTokenType))
 
 module _ {D A T E RE C : Type 0} where
   -- a login ends by a token response, which is what the one request for the code that the redirect
-  -- told was answered with, and by what comes of it; or as a login by a code does that gives no token
-  -- response; or memory ran out before, and the HTTP client is as it was
+  -- told was answered with, and by what comes of it at a moment that the clock told; or by the error
+  -- of that request; or the redirect tells no code, or memory ran out before one was sent, and the
+  -- HTTP client is as it was: the login is then given back
   abbrev pub EndsOpenIdLogin : (D → A) → (T → E) → (Data → Reading A) → (Data → Reading E)
-      → (C → HttpRequest → Result HttpResponse RE → C → Type 0) → (D → List ℕ) → (D → Option (List ℕ))
-      → Settings → OpenIdKept → Expectation → ℤ → Result (List ℕ) RedirectRefusal
+      → (C → HttpRequest → Result HttpResponse RE → C → Type 0) → (D → List ℕ) → (D → List ℕ) → (D → Option (List ℕ))
+      → Settings → OpenIdKept → Expectation → (Timestamp → Type 0) → Result (List ℕ) RedirectRefusal
       → C → Result (OpenIdLoginEnd D) (OpenIdLoginError RE T) → C → Type 0
-  EndsOpenIdLogin meaning error_meaning reading error_reading step access_token id_token client login expected now told before result after =
+  EndsOpenIdLogin meaning error_meaning reading error_reading step access_token token_type id_token client login expected ToldByClock told before result after =
       ((code : List ℕ) × (told ≡ Ok code) × (response : D)
       × ExchangesCode meaning error_meaning reading error_reading step client login.login code before (Ok response) after
-      × Judges access_token id_token expected now response result)
-      ⊎ ((error : LoginError RE T) × (result ≡ Err (Login error))
-      × EndsLogin meaning error_meaning reading error_reading step client login.login told before (Err error) after)
-      ⊎ ((result ≡ Err (Memory false)) × (after ≡ before))
+      × (now : Timestamp) × ToldByClock now
+      × Judges access_token token_type id_token expected now.nanosecond response result)
+      ⊎ ((code : List ℕ) × (told ≡ Ok code) × (error : RequestTokenError RE T) × (result ≡ Err (Token error))
+      × ExchangesCode meaning error_meaning reading error_reading step client login.login code before (Err error) after)
+      ⊎ ((error : RedirectError) × (result ≡ Err (Redirect error login)) × TellsRefusal error told × (after ≡ before))

@@ -1,26 +1,54 @@
 -- What a client knows of a provider, and what it therefore expects of a login.
-use Rattle.std.specs.Prelude.{ℕ, ◌*◌, List, Bool, if◌then◌else◌, Option, Some, None, option_map}
+use Rattle.std.specs.Prelude.{ℕ, ◌*◌, List, [], Bool, false, if◌then◌else◌, Option, Some, None, option_map}
 use Rattle.oauth2.specs.Settings.{Settings}
-use Rattle.oauth2_openid.specs.Claims.{Expectation}
+use Rattle.oauth2_redirect.specs.Redirect.{IssuerExpectation, required, compared}
+use Rattle.oauth2_openid.specs.declared.issuer_rule.IssuerRule.{IssuerRule}
+use Rattle.oauth2_openid.specs.Claims.{Expectation, NamedIssuers, is}
+use Rattle.oauth2_openid.specs.Issuers.{named_issuers}
 use Rattle.oauth2_openid_login.specs.Login.{OpenIdKept}
 
--- the leeway is in nanoseconds
+-- the issuer of its redirects, the issuers of its ID tokens, the audiences and the parties beside the
+-- client, the algorithm, and the leeway in nanoseconds
 pub record Provider : Type 0 where
   pub issuer : List ℕ
   pub tells_issuer_in_redirect : Bool
+  pub issuer_rule : NamedIssuers
+  pub other_audiences : List (List ℕ)
+  pub authorized_parties : List (List ℕ)
   pub algorithm : Option (List ℕ)
   pub leeway : ℕ
 
--- RFC 9207, 2.4: the issuer that a redirect has to tell
-abbrev pub redirect_issuer : Provider → Option (List ℕ)
-redirect_issuer provider = if provider.tells_issuer_in_redirect then Some provider.issuer else None
+-- a provider with this issuer, which its ID tokens have too, and this leeway, and nothing else set
+abbrev pub new_provider : List ℕ → ℕ → Provider
+new_provider issuer leeway =
+    record {
+      issuer = issuer;
+      tells_issuer_in_redirect = false;
+      issuer_rule = is issuer;
+      other_audiences = [];
+      authorized_parties = [];
+      algorithm = None;
+      leeway = leeway;
+    }
+
+-- the issuers of its ID tokens: those of the rule, if one is set, and else its own issuer
+abbrev pub token_issuers : List ℕ → Option IssuerRule → NamedIssuers
+token_issuers issuer None = is issuer
+token_issuers issuer (Some rule) = named_issuers rule
+
+-- RFC 9207, 2.4: the issuer that a redirect is expected to come from, which each redirect has to
+-- tell if the provider announces that
+abbrev pub redirect_issuer : Provider → IssuerExpectation
+redirect_issuer provider = if provider.tells_issuer_in_redirect then required provider.issuer else compared provider.issuer
 
 -- what is expected of an ID token for this client, this nonce and this maximum age in seconds
 abbrev pub login_expectation : Provider → List ℕ → List ℕ → Option ℕ → Expectation
 login_expectation provider client sent seconds =
     record {
-      issuer = provider.issuer;
+      issuer = provider.issuer_rule;
       client = client;
+      other_audiences = provider.other_audiences;
+      authorized_parties = provider.authorized_parties;
       algorithm = provider.algorithm;
       nonce = Some sent;
       leeway = provider.leeway;

@@ -1,11 +1,15 @@
 -- The start of a login with OpenID Connect (Core 1.0, 3.1.2.1).
-use Rattle.std.specs.Prelude.{ℕ, List, [], ◌∷◌, codes, Option}
+use Rattle.std.specs.Prelude.{◌≡◌, ℕ, List, [], ◌∷◌, codes, Option, Some, None, IsSome}
 use Rattle.std.specs.Fmt.{decimal}
 use Rattle.oauth2_urls.specs.Addressed.{Addressed}
 use Rattle.oauth2_form.specs.Pairs.{Pair}
-use Rattle.oauth2_requests.specs.Authorization.{Authorization}
+use Rattle.url.specs.declared.error.ParseError.{ParseError}
+use Rattle.url.specs.declared.error.ParseError.TheVariants.{Overflow}
+use Rattle.oauth2_requests.specs.Authorization.{Authorization, IsTooLong, asked_url}
 use Rattle.oauth2.specs.CodeFlow.{flow_authorization}
 use Rattle.oauth2.specs.Settings.{Settings}
+use Rattle.oauth2_openid_login.specs.declared.login_url_error.OpenIdLoginUrlFault.{OpenIdLoginUrlFault}
+use Rattle.oauth2_openid_login.specs.declared.login_url_error.OpenIdLoginUrlFault.TheVariants.{NoRedirectUri, TooLong, Memory}
 
 -- the request for the login's URL, the verifier of its challenge, the nonce, and the maximum age in
 -- seconds, if one was asked for
@@ -26,3 +30,21 @@ openid_authorization client endpoint state verifier nonce =
 -- the maximum age in seconds
 abbrev pub max_age_pair : ℕ → Pair
 max_age_pair seconds = (codes "max_age", decimal seconds)
+
+-- why a request has no URL: it bears no redirect URI (3.1.2.1), or else it would be too long, or
+-- it would not and memory ran out
+abbrev pub IsUrlFault : Authorization → OpenIdLoginUrlFault → Type 0
+IsUrlFault request NoRedirectUri = request.redirect_url ≡ None
+IsUrlFault request TooLong = IsSome request.redirect_url × IsTooLong (asked_url request)
+IsUrlFault request Memory = IsSome request.redirect_url × ¬ (IsTooLong (asked_url request))
+
+-- the error of a URL as such a fault
+abbrev pub url_fault : ParseError → OpenIdLoginUrlFault
+url_fault Overflow = TooLong
+url_fault error = Memory
+
+-- the text of a fault
+abbrev pub url_fault_text : OpenIdLoginUrlFault → Option (List ℕ)
+url_fault_text NoRedirectUri = Some (codes "login has no redirect URI")
+url_fault_text TooLong = Some (codes "authorization URL is too long")
+url_fault_text Memory = Some (codes "Out of memory")

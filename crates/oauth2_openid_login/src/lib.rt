@@ -16,6 +16,6 @@ pub use login::OpenIdLogin;
 pub use login_end::OpenIdLoginEnd;
 pub use login_error::OpenIdLoginError;
 pub use login_request::OpenIdLoginRequest;
-pub use login_url_error::OpenIdLoginUrlError;
+pub use login_url_error::{OpenIdLoginUrlError, OpenIdLoginUrlFault};
 pub use provider::OpenIdProvider;
 pub use token_response::{HasIdToken, OpenIdClient, OpenIdTokenResponse};

@@ -1,21 +1,48 @@
 //! A login with OpenID Connect from its start to its ID token (Core 1.0, section 3.1).
 
-ghost use Rattle.std.specs.Prelude.{◌≡◌, ℕ, ℤ, List, Ok, Err, Some, None, IfOk, IfErr, false, codes};
+ghost use Rattle.std.specs.Prelude.{
+  ◌≡◌,
+  ◌↔◌,
+  ℕ,
+  ℤ,
+  List,
+  Ok,
+  Err,
+  Some,
+  None,
+  IfOk,
+  IfErr,
+  IsTrue,
+  false,
+  codes,
+};
 ghost use Rattle.std.specs.Fmt.{DisplaysOnOk, WritesStyledOnOk};
 ghost use Rattle.rand_core.specs.Stream.{Stream};
 ghost use Rattle.oauth2_types.specs.Pkce.{IsRandomText};
 ghost use Rattle.oauth2_urls.specs.Addressed.{Addressed};
+ghost use Rattle.jiff.specs.Types.{Timestamp};
+ghost use Rattle.oauth2_form.specs.Pairs.{form};
 ghost use Rattle.oauth2_form.specs.Query.{query_form};
 ghost use Rattle.oauth2_redirect.specs.Query.{sole_text};
 ghost use Rattle.oauth2_redirect.specs.Redirect.{RedirectRefusal, answer, is_state};
 ghost use Rattle.oauth2_openid.specs.Seen.{token_of};
 ghost use Rattle.oauth2_openid.specs.TokenRules.{Holds};
 ghost use Rattle.oauth2_openid.specs.Claims.{Expectation};
-ghost use Rattle.oauth2_openid_login.specs.End.{EndsOpenIdLogin, Judges, id_token_reading};
-ghost use Rattle.oauth2_openid_login.specs.Login.{openid_kept};
-ghost use Rattle.oauth2_openid_login.specs.Provider.{expected_of, redirect_issuer};
+ghost use Rattle.oauth2_openid_login.specs.End.{
+  EndsOpenIdLogin,
+  IsBearer,
+  Judges,
+  JudgesIdToken,
+  id_token_reading,
+};
+ghost use Rattle.oauth2_openid_login.specs.Login.{OpenIdKept, openid_kept};
+ghost use Rattle.oauth2_openid_login.specs.Provider.{
+  expected_of,
+  login_expectation,
+  redirect_issuer,
+};
 ghost use Rattle.oauth2_openid_login.specs.Start.{openid_authorization};
-ghost use Rattle.oauth2_openid_login.specs.private.Told.{told_as};
+ghost use Rattle.oauth2_openid_login.specs.private.Told.{refused_as, told_as};
 
 use crate::login_end::OpenIdLoginEnd;
 use crate::login_error::OpenIdLoginError;
@@ -26,8 +53,8 @@ use jiff::Timestamp;
 use oauth2::{Client, EndpointSet, EndpointState};
 use oauth2_codes::ErrorResponse;
 use oauth2_openid::{Expected, IdToken, IdTokenReadError, Nonce};
-use oauth2_redirect::Login;
-use oauth2_types::{Scope, TryClone};
+use oauth2_redirect::{Login, LoginError, RedirectError};
+use oauth2_types::{ClientId, CsrfToken, Scope, TryClone};
 use oauth2_wire::SyncHttpClient;
 use rand_core::Rng;
 use std::alloc::{AllocError, Global};
@@ -96,17 +123,25 @@ impl OpenIdLogin {
         Ok(OpenIdLoginRequest::new(login, nonce))
     }
 
+    /// The state with which the user has to come back, to find the login that a redirect is for.
+    pub fn state(&self) -> &CsrfToken
+        ensures { result.now ≡ self.now.login.state }
+    {
+        self.login.state()
+    }
+
     /// The tokens for the code that the redirect brings, and the ID token among them, if it meets
-    /// each rule at this moment. On a redirect that brings no code of this login the HTTP client is
-    /// not called.
-    pub fn finish<TE, TR, TIR, RT, TRE, A, D, I, R, C: SyncHttpClient>(
+    /// each rule at the moment that the clock tells, which is asked once, after the reply. On a
+    /// redirect that brings no code of this login the HTTP client is not called, and the error
+    /// gives the login back.
+    pub fn finish<TE, TR, TIR, RT, TRE, A, D, I, R, C: SyncHttpClient, K>(
         self,
         alloc: Global,
         client: &Client<TE, TR, TIR, RT, TRE, A, D, I, R, EndpointSet>,
         http_client: &mut C,
         redirect: &Url,
         provider: &OpenIdProvider<'_>,
-        now: Timestamp,
+        clock: K,
     ) -> Result<OpenIdLoginEnd<TR>, OpenIdLoginError<C::Error, TE>>
     where
         TE: ErrorResponse,
@@ -115,15 +150,18 @@ impl OpenIdLogin {
         D: EndpointState,
         I: EndpointState,
         R: EndpointState,
-        requires { C.is_ready http_client.old }
+        K: FnOnce() -> Timestamp + Drop,
+        requires client { C.is_ready http_client.old }
+        requires clock { K.IsAlwaysCallable clock }
         ensures end { EndsOpenIdLogin TR.meaning TE.meaning TR.reading TE.reading C.step
-            TR.access_token TR.id_token client.now self (expected_of provider.now client.now self)
-            now.nanosecond
+            TR.access_token TR.token_type_text TR.id_token client.now self
+            (expected_of provider.now client.now self) (K.post clock)
             (answer self.login.state (redirect_issuer provider.now) (query_form redirect.now))
             http_client.old result http_client.new }
 
-        // In the plainest words: each rule holds.
-        ensures rules { IfOk result (λ end. Holds (expected_of provider.now client.now self)
+        // In the plainest words: each rule holds at a moment that the clock told.
+        ensures rules { IfOk result (λ end. (now : Timestamp) × K.post clock now
+            × Holds (expected_of provider.now client.now self)
             (TR.access_token end.token_response) now.nanosecond (token_of end.id_token)) }
 
         // A redirect that tells no code sends nothing, so none with another state does.
@@ -133,21 +171,116 @@ impl OpenIdLogin {
             → http_client.new ≡ http_client.old }
         ensures other_state { let state = sole_text (codes "state") (query_form redirect.now) in
             is_state self.login.state state ≡ false → http_client.new ≡ http_client.old }
+
+        // What the token is checked against is made before, so want of memory for it sends nothing.
+        ensures given_back { (error : _) (login : OpenIdKept)
+            → result ≡ Err (OpenIdLoginError.Redirect error login)
+            → (login ≡ self) × (http_client.new ≡ http_client.old) }
+        ensures ready { C.is_ready http_client.new }
+    {
+        let query = query_of(redirect);
+        self.finish_query(alloc, client, http_client, query, provider, clock)
+    }
+
+    /// What `finish` returns for a redirect with this query, which stands without the `?`, or with
+    /// this form as its body (`response_mode=form_post`): for a handler that has no `Url`.
+    pub fn finish_query<TE, TR, TIR, RT, TRE, A, D, I, R, C: SyncHttpClient, K>(
+        self,
+        alloc: Global,
+        client: &Client<TE, TR, TIR, RT, TRE, A, D, I, R, EndpointSet>,
+        http_client: &mut C,
+        query: &str,
+        provider: &OpenIdProvider<'_>,
+        clock: K,
+    ) -> Result<OpenIdLoginEnd<TR>, OpenIdLoginError<C::Error, TE>>
+    where
+        TE: ErrorResponse,
+        TR: HasIdToken,
+        A: EndpointState,
+        D: EndpointState,
+        I: EndpointState,
+        R: EndpointState,
+        K: FnOnce() -> Timestamp + Drop,
+        requires client { C.is_ready http_client.old }
+        requires clock { K.IsAlwaysCallable clock }
+        ensures end { EndsOpenIdLogin TR.meaning TE.meaning TR.reading TE.reading C.step
+            TR.access_token TR.token_type_text TR.id_token client.now self
+            (expected_of provider.now client.now self) (K.post clock)
+            (answer self.login.state (redirect_issuer provider.now) (form query.now))
+            http_client.old result http_client.new }
+
+        // In the plainest words: each rule holds at a moment that the clock told.
+        ensures rules { IfOk result (λ end. (now : Timestamp) × K.post clock now
+            × Holds (expected_of provider.now client.now self)
+            (TR.access_token end.token_response) now.nanosecond (token_of end.id_token)) }
+
+        // A redirect that tells no code sends nothing, so none with another state does.
+        ensures no_code { (why : RedirectRefusal)
+            → answer self.login.state (redirect_issuer provider.now) (form query.now)
+            ≡ Err why
+            → http_client.new ≡ http_client.old }
+        ensures other_state { let state = sole_text (codes "state") (form query.now) in
+            is_state self.login.state state ≡ false → http_client.new ≡ http_client.old }
+
+        // What the token is checked against is made before, so want of memory for it sends nothing.
+        ensures given_back { (error : _) (login : OpenIdKept)
+            → result ≡ Err (OpenIdLoginError.Redirect error login)
+            → (login ≡ self) × (http_client.new ≡ http_client.old) }
         ensures ready { C.is_ready http_client.new }
     {
         // Made first, so that want of memory for it costs no code.
-        let Ok(expected) = provider.expected(alloc, client.client_id(), self.nonce, self.max_age)
-        else {
-            return Err(OpenIdLoginError::Memory { sent: false });
+        let Ok(expected) = self.expected(alloc, client.client_id(), provider) else {
+            return Err(OpenIdLoginError::Redirect {
+                error: RedirectError::Memory,
+                login: self,
+            });
         };
         let issuer = provider.redirect_issuer();
         match self
             .login
-            .finish(alloc, client, http_client, redirect, issuer)
+            .finish_query(alloc, client, http_client, query, issuer)
         {
-            Ok(response) => judged(alloc, response, &expected, now),
-            Err(error) => Err(OpenIdLoginError::Login(error)),
+            Ok(response) => judged(alloc, response, &expected, clock()),
+            Err(error) => Err(refused(error, self.nonce, self.max_age)),
         }
+    }
+
+    // What the ID token is checked against.
+    fn expected(
+        &self,
+        alloc: Global,
+        client_id: &ClientId,
+        provider: &OpenIdProvider<'_>,
+    ) -> Result<Expected, AllocError>
+        ensures { IfOk result (λ expected. expected
+            ≡ login_expectation provider.now client_id.now self.now.nonce self.now.max_age) }
+    {
+        let nonce = self.nonce.try_clone(alloc)?;
+        provider.expected(alloc, client_id, nonce, self.max_age)
+    }
+}
+
+// The query of a redirect, without the `?`; none is as an empty one.
+fn query_of(redirect: &Url) -> &str
+    ensures { form result.now ≡ query_form redirect.now }
+{
+    redirect.query().unwrap_or("")
+}
+
+// Why the login by a code gave no token response.
+fn refused<RE, T>(
+    error: LoginError<RE, T>,
+    nonce: Nonce,
+    max_age: Option<u64>,
+) -> OpenIdLoginError<RE, T>
+    ensures { result ≡ refused_as nonce max_age error }
+{
+    match error {
+        LoginError::Redirect { error, login } => OpenIdLoginError::Redirect {
+            error,
+            login: OpenIdLogin::new(login, nonce, max_age),
+        },
+        LoginError::Token(error) => OpenIdLoginError::Token(error),
     }
 }
 
@@ -158,8 +291,34 @@ fn judged<TR: HasIdToken, RE, T>(
     expected: &Expected,
     now: Timestamp,
 ) -> Result<OpenIdLoginEnd<TR>, OpenIdLoginError<RE, T>>
-    ensures judges { Judges TR.access_token TR.id_token expected.now now.nanosecond response
-        result }
+    ensures judges { Judges TR.access_token TR.token_type_text TR.id_token expected.now
+        now.nanosecond response result }
+    ensures rules { IfOk result (λ end. Holds expected.now (TR.access_token end.token_response)
+        now.nanosecond (token_of end.id_token)) }
+{
+    if is_bearer(response.token_type_text()) {
+        identified(alloc, response, expected, now)
+    } else {
+        Err(OpenIdLoginError::OtherTokenType)
+    }
+}
+
+// Whether a token type is `Bearer`.
+fn is_bearer(token_type: &str) -> bool
+    ensures { IsTrue result ↔ IsBearer token_type.now }
+{
+    token_type.eq_ignore_ascii_case("Bearer")
+}
+
+// What comes of the ID token of a response.
+fn identified<TR: HasIdToken, RE, T>(
+    alloc: Global,
+    response: TR,
+    expected: &Expected,
+    now: Timestamp,
+) -> Result<OpenIdLoginEnd<TR>, OpenIdLoginError<RE, T>>
+    ensures judges { JudgesIdToken TR.access_token TR.id_token expected.now now.nanosecond
+        response result }
     ensures rules { IfOk result (λ end. Holds expected.now (TR.access_token end.token_response)
         now.nanosecond (token_of end.id_token)) }
 {
@@ -177,7 +336,7 @@ fn read_id_token<TR: HasIdToken, RE, T>(
     ensures read { IfOk result (λ id_token. id_token_reading (TR.id_token response.now)
         ≡ Some (Ok (token_of id_token))) }
     ensures error { IfErr result (λ error. (expected : Expectation) (now : ℤ)
-        → Judges TR.access_token TR.id_token expected now response.now (Err error)) }
+        → JudgesIdToken TR.access_token TR.id_token expected now response.now (Err error)) }
 {
     let Some(text) = response.id_token() else {
         return Err(OpenIdLoginError::NoIdToken);
@@ -201,7 +360,7 @@ fn read_error<RE, T>(error: IdTokenReadError) -> OpenIdLoginError<RE, T>
         IdTokenReadError::Fault(part, fault) => {
             OpenIdLoginError::Read(IdTokenReadError::Fault(part, fault))
         }
-        IdTokenReadError::Memory => OpenIdLoginError::Memory { sent: true },
+        IdTokenReadError::Memory => OpenIdLoginError::Memory,
     }
 }
 
@@ -213,8 +372,8 @@ fn checked<TR: HasIdToken, RE, T>(
     now: Timestamp,
 ) -> Result<OpenIdLoginEnd<TR>, OpenIdLoginError<RE, T>>
     requires { id_token_reading (TR.id_token response) ≡ Some (Ok (token_of id_token)) }
-    ensures judges { Judges TR.access_token TR.id_token expected.now now.nanosecond response
-        result }
+    ensures judges { JudgesIdToken TR.access_token TR.id_token expected.now now.nanosecond
+        response result }
     ensures rules { IfOk result (λ end. Holds expected.now (TR.access_token end.token_response)
         now.nanosecond (token_of end.id_token)) }
 {

@@ -1,25 +1,35 @@
 //! Why a login with OpenID Connect gave no user.
 
+use crate::login::OpenIdLogin;
 use oauth2_openid::{ClaimsError, IdTokenReadError};
-use oauth2_redirect::LoginError;
+use oauth2_redirect::RedirectError;
 use oauth2_types::display::write_display;
+use oauth2_wire::RequestTokenError;
 use std::fmt;
 
 /// Why a login gave no user. Where a token response was read, no error holds anything of it. The
-/// body of one that could not be read is in `Login`, as in each `RequestTokenError`.
-#[derive(Debug, Drop)]
+/// body of one that could not be read is in `Token`, as in each `RequestTokenError`.
+#[derive(Drop)]
 pub enum OpenIdLoginError<RE, T> {
-    /// The redirect has no code or is not this login's, or the token endpoint gave no token.
-    Login(LoginError<RE, T>),
+    /// The redirect has no code or is not this login's, or memory ran out before the code was sent.
+    /// The HTTP client was not called.
+    Redirect {
+        error: RedirectError,
+        /// The login as it was, to finish by another redirect.
+        login: OpenIdLogin,
+    },
+    /// The token endpoint gave no token.
+    Token(RequestTokenError<RE, T>),
+    /// The token response has another token type than `Bearer` (section 3.1.3.3).
+    OtherTokenType,
     /// The token response has no ID token.
     NoIdToken,
     /// The text of the ID token is none. Want of memory is not told here.
     Read(IdTokenReadError),
     /// The ID token does not meet this rule.
     Claims(ClaimsError),
-    /// Memory ran out: `sent` tells whether the token response had come. Else the HTTP client was
-    /// not called.
-    Memory { sent: bool },
+    /// Memory ran out while the ID token was read.
+    Memory,
 }
 
 impl<RE, T: fmt::Display> fmt::Display for OpenIdLoginError<RE, T> {
@@ -31,11 +41,13 @@ impl<RE, T: fmt::Display> fmt::Display for OpenIdLoginError<RE, T> {
 
     fn fmt<W: fmt::Write>(&self, f: &mut fmt::Formatter<W>) -> fmt::Result {
         match self {
-            OpenIdLoginError::Login(error) => write_display(f, error),
+            OpenIdLoginError::Redirect { error, login: _ } => write_display(f, error),
+            OpenIdLoginError::Token(error) => write_display(f, error),
+            OpenIdLoginError::OtherTokenType => f.write_str("token type is not Bearer"),
             OpenIdLoginError::NoIdToken => f.write_str("token response has no ID token"),
             OpenIdLoginError::Read(error) => write_display(f, format_args!("ID token: {error}")),
             OpenIdLoginError::Claims(error) => write_display(f, format_args!("ID token: {error}")),
-            OpenIdLoginError::Memory { sent: _ } => f.write_str("Out of memory"),
+            OpenIdLoginError::Memory => f.write_str("Out of memory"),
         }
     }
 }
@@ -45,3 +57,29 @@ where
     RE: fmt::Debug + Drop,
     T: fmt::Debug + fmt::Display + Drop,
 {}
+
+impl<RE, T> fmt::Debug for OpenIdLoginError<RE, T> {
+    ghost use Rattle.std.specs.Prelude.{Some};
+    ghost use Rattle.std.specs.Fmt.{DisplaysOnOk, WritesStyledOnOk};
+    ghost use Rattle.oauth2_openid_login.specs.End.{openid_login_error_debug};
+
+    ghost debug_output = { λ error. Some (openid_login_error_debug error) };
+
+    fn fmt<W: fmt::Write>(&self, f: &mut fmt::Formatter<W>) -> fmt::Result
+        ensures writes { DisplaysOnOk W.write_str_gives f.old result
+            (Some (openid_login_error_debug self.now)) f.new }
+        // Whatever options the formatter has, as under `{:#?}`.
+        ensures styled { WritesStyledOnOk W.write_str_gives f.old result
+            (openid_login_error_debug self.now) f.new }
+    {
+        f.write_str(match self {
+            OpenIdLoginError::Redirect { error: _, login: _ } => "Redirect([redacted])",
+            OpenIdLoginError::Token(_) => "Token([redacted])",
+            OpenIdLoginError::OtherTokenType => "OtherTokenType",
+            OpenIdLoginError::NoIdToken => "NoIdToken",
+            OpenIdLoginError::Read(_) => "Read([redacted])",
+            OpenIdLoginError::Claims(_) => "Claims([redacted])",
+            OpenIdLoginError::Memory => "Memory",
+        })
+    }
+}

@@ -11,9 +11,9 @@ ghost use Rattle.std.specs.Prelude.{
   [],
   ℕ,
   List,
-  Err,
   IfOk,
   IfErr,
+  IsSome,
   IsTrue,
   None,
   Some,
@@ -21,19 +21,17 @@ ghost use Rattle.std.specs.Prelude.{
   string_bytes,
 };
 ghost use Rattle.std.specs.Duration.{as_nanos};
-ghost use Rattle.url.specs.Parser.{IsOutOfRoom};
-ghost use Rattle.url.specs.declared.error.ParseError.TheVariants.{Overflow};
 ghost use Rattle.oauth2_form.specs.Query.{ExtendsQuery, query_form};
 ghost use Rattle.oauth2_wire.specs.ByName.{avoid_own_names};
 ghost use Rattle.oauth2_wire.specs.Texts.{param_bytes};
-ghost use Rattle.oauth2_requests.specs.Authorization.{IsTooLong, asked_url, query_pairs};
+ghost use Rattle.oauth2_requests.specs.Authorization.{query_pairs};
 ghost use Rattle.oauth2_redirect.specs.Login.{kept_login};
 ghost use Rattle.oauth2_redirect.specs.Start.{ShowsLogin};
 ghost use Rattle.oauth2_openid_login.specs.Login.{openid_kept};
-ghost use Rattle.oauth2_openid_login.specs.Start.{max_age_pair};
+ghost use Rattle.oauth2_openid_login.specs.Start.{IsUrlFault, max_age_pair, url_fault};
 
 use crate::login::OpenIdLogin;
-use crate::login_url_error::OpenIdLoginUrlError;
+use crate::login_url_error::{OpenIdLoginUrlError, OpenIdLoginUrlFault};
 use oauth2_openid::Nonce;
 use oauth2_redirect::LoginRequest;
 use oauth2_types::Scope;
@@ -43,7 +41,7 @@ use std::alloc::{AllocError, Global};
 use std::fmt;
 use std::marker::Model;
 use std::time::Duration;
-use url::Url;
+use url::{ParseError, Url};
 
 /// A login that is being started. Contracts see the request for its URL, and what is kept.
 #[derive(Drop)]
@@ -173,8 +171,9 @@ impl<'a> OpenIdLoginRequest<'a> {
         }
     }
 
-    /// The URL to send the user to, and what to keep until the user is back. Where there is none,
-    /// this request is part of the error, so `url` can be asked again.
+    /// The URL to send the user to, and what to keep until the user is back. It has to bear a
+    /// redirect URI (section 3.1.2.1). Where there is no URL, this request is part of the error, so
+    /// `url` can be asked again.
     pub fn url(self, alloc: Global) -> Result<(Url, OpenIdLogin), OpenIdLoginUrlError<'a>>
         ensures url { IfOk result (λ (url, _).
             ExtendsQuery self.entry.request.auth_url.url url (query_pairs self.entry.request)) }
@@ -186,15 +185,20 @@ impl<'a> OpenIdLoginRequest<'a> {
         ensures shows { IsTrue (avoid_own_names (query_form self.entry.request.auth_url.url))
             → IsTrue (avoid_own_names self.entry.request.extra_params)
             → IfOk result (λ (url, kept_login). ShowsLogin kept_login.login (query_form url)) }
-        ensures refusal { IfErr result
-            (λ refused. (refused.request ≡ self.entry) × IsOutOfRoom refused.error) }
-        ensures overflow { IfErr result (λ refused. refused.error ≡ Overflow
-            → IsTooLong (asked_url self.entry.request)) }
+        ensures redirect_uri { IfOk result (λ _. IsSome self.entry.request.redirect_url) }
+        ensures refusal { IfErr result (λ refused. (refused.request ≡ self.entry)
+            × IsUrlFault self.entry.request refused.error) }
     {
+        if self.login.redirect_uri().is_none() {
+            return Err(OpenIdLoginUrlError {
+                error: OpenIdLoginUrlFault::NoRedirectUri,
+                request: self,
+            });
+        }
         match self.login.url(alloc) {
             Ok((url, login)) => Ok((url, OpenIdLogin::new(login, self.nonce, self.max_age))),
             Err(refused) => Err(OpenIdLoginUrlError {
-                error: refused.error,
+                error: fault_of(refused.error),
                 request: OpenIdLoginRequest {
                     login: refused.request,
                     nonce: self.nonce,
@@ -202,6 +206,16 @@ impl<'a> OpenIdLoginRequest<'a> {
                 },
             }),
         }
+    }
+}
+
+// Why there is no URL.
+fn fault_of(error: ParseError) -> OpenIdLoginUrlFault
+    ensures { result ≡ url_fault error }
+{
+    match error {
+        ParseError::Overflow => OpenIdLoginUrlFault::TooLong,
+        _ => OpenIdLoginUrlFault::Memory,
     }
 }
 

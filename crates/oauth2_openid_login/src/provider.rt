@@ -1,9 +1,18 @@
 //! What a client knows of the provider that it logs its users in at.
 
-ghost use Rattle.std.specs.Prelude.{◌≡◌, IfOk, option_copied, option_map, string_bytes};
-ghost use Rattle.oauth2_openid_login.specs.Provider.{login_expectation, redirect_issuer};
+ghost use Rattle.std.specs.Duration.{as_nanos};
+ghost use Rattle.std.specs.Prelude.{◌≡◌, IfOk, Some, map, option_copied, option_map, string_bytes};
+ghost use Rattle.oauth2_redirect.specs.Redirect.{issuer_expectation};
+ghost use Rattle.oauth2_openid.specs.Issuers.{named_issuers};
+ghost use Rattle.oauth2_openid_login.specs.Provider.{
+  login_expectation,
+  new_provider,
+  redirect_issuer,
+  token_issuers,
+};
 
-use oauth2_openid::{Expected, Nonce};
+use oauth2_openid::{Expected, IssuerRule, Nonce};
+use oauth2_redirect::ExpectedIssuer;
 use oauth2_types::{ClientId, TryClone};
 use std::alloc::{AllocError, Global};
 use std::marker::Model;
@@ -12,42 +21,119 @@ use std::time::Duration;
 /// An OpenID provider, as a client knows it before any login.
 #[derive(Debug, Drop)]
 pub struct OpenIdProvider<'a> {
-    /// Its issuer, byte for byte as its ID tokens tell it.
-    pub issuer: &'a str,
-    /// Whether its redirects tell the issuer too (`authorization_response_iss_parameter_supported`
-    /// of its metadata). A redirect that then does not tell it is refused (RFC 9207, section 2.4).
-    pub tells_issuer_in_redirect: bool,
-    /// The algorithm that the client registered (`id_token_signed_response_alg`), such as `RS256`.
-    /// Without one any but `none` is accepted.
-    pub algorithm: Option<&'a str>,
-    /// How far its clock and the client's may be apart.
-    pub leeway: Duration,
+    issuer: &'a str,
+    tells_issuer_in_redirect: bool,
+    issuer_rule: Option<&'a IssuerRule>,
+    other_audiences: &'a [&'a str],
+    authorized_parties: &'a [&'a str],
+    algorithm: Option<&'a str>,
+    leeway: Duration,
 }
 
 impl<'a> Model for OpenIdProvider<'a> {
-    ghost use Rattle.std.specs.Prelude.{option_copied};
+    ghost use Rattle.std.specs.Prelude.{map, option_copied};
     ghost use Rattle.std.specs.Duration.{as_nanos};
-    ghost use Rattle.oauth2_openid_login.specs.Provider.{Provider};
+    ghost use Rattle.oauth2_openid_login.specs.Provider.{Provider, token_issuers};
 
     ghost Value = { Provider };
 
     ghost view = { λ p. record {
       issuer = p.issuer.now;
       tells_issuer_in_redirect = p.tells_issuer_in_redirect;
+      issuer_rule = token_issuers p.issuer.now (option_copied p.issuer_rule);
+      other_audiences = map (λ t. t.now) p.other_audiences.now;
+      authorized_parties = map (λ t. t.now) p.authorized_parties.now;
       algorithm = option_copied p.algorithm;
       leeway = as_nanos p.leeway;
     } };
 }
 
-impl OpenIdProvider<'_> {
-    // The issuer that a redirect has to tell, if it has to tell one.
-    pub(crate) fn redirect_issuer(&self) -> Option<&str>
-        ensures { option_copied result ≡ redirect_issuer self.now }
+impl<'a> OpenIdProvider<'a> {
+    /// The provider of this issuer, byte for byte as its redirects and its ID tokens tell it, whose
+    /// clock and the client's may be so far apart.
+    pub fn new(issuer: &'a str, leeway: Duration) -> OpenIdProvider<'a>
+        ensures { result ≡ new_provider issuer.now (as_nanos leeway) }
+    {
+        OpenIdProvider {
+            issuer,
+            tells_issuer_in_redirect: false,
+            issuer_rule: None,
+            other_audiences: &[],
+            authorized_parties: &[],
+            algorithm: None,
+            leeway,
+        }
+    }
+
+    /// Whether its redirects tell the issuer too (`authorization_response_iss_parameter_supported`
+    /// of its metadata). A redirect that then does not tell it is refused, and one that tells
+    /// another is refused always (RFC 9207, section 2.4).
+    pub fn set_tells_issuer_in_redirect(self, tells: bool) -> OpenIdProvider<'a>
+        ensures { result ≡ record self.entry { tells_issuer_in_redirect = tells } }
+    {
+        OpenIdProvider {
+            tells_issuer_in_redirect: tells,
+            ..self
+        }
+    }
+
+    /// The issuers of its ID tokens, where they are not the provider's own alone: one of several
+    /// spellings, or one for each tenant. Its redirects are left as they are: an `iss` is compared
+    /// with the provider's own issuer alone, since which tenant it is only the ID token tells.
+    pub fn set_issuer_rule(self, issuer_rule: &'a IssuerRule) -> OpenIdProvider<'a>
+        ensures { result ≡ record self.entry { issuer_rule = named_issuers issuer_rule.now } }
+    {
+        OpenIdProvider {
+            issuer_rule: Some(issuer_rule),
+            ..self
+        }
+    }
+
+    /// The audiences beside the client that it trusts, none unless set: a token that is also for
+    /// another one is refused (section 3.1.3.7, 3).
+    pub fn set_other_audiences(self, other_audiences: &'a [&'a str]) -> OpenIdProvider<'a>
+        ensures { result ≡ record self.entry {
+          other_audiences = map (λ t. t.now) other_audiences.now;
+        } }
+    {
+        OpenIdProvider {
+            other_audiences,
+            ..self
+        }
+    }
+
+    /// The parties beside the client to which its tokens may be issued (`azp`), none unless set.
+    /// Such a party is an Android app whose tokens name its server as their audience.
+    pub fn set_authorized_parties(self, authorized_parties: &'a [&'a str]) -> OpenIdProvider<'a>
+        ensures { result ≡ record self.entry {
+          authorized_parties = map (λ t. t.now) authorized_parties.now;
+        } }
+    {
+        OpenIdProvider {
+            authorized_parties,
+            ..self
+        }
+    }
+
+    /// The algorithm that the client registered (`id_token_signed_response_alg`), such as `RS256`.
+    /// Without one any but `none` is accepted.
+    pub fn set_algorithm(self, algorithm: &'a str) -> OpenIdProvider<'a>
+        ensures { result ≡ record self.entry { algorithm = Some algorithm.now } }
+    {
+        OpenIdProvider {
+            algorithm: Some(algorithm),
+            ..self
+        }
+    }
+
+    // The issuer that a redirect is expected to come from.
+    pub(crate) fn redirect_issuer(&self) -> ExpectedIssuer<'_>
+        ensures { issuer_expectation result ≡ redirect_issuer self.now }
     {
         if self.tells_issuer_in_redirect {
-            Some(self.issuer)
+            ExpectedIssuer::Required(self.issuer)
         } else {
-            None
+            ExpectedIssuer::Compared(self.issuer)
         }
     }
 
@@ -63,14 +149,55 @@ impl OpenIdProvider<'_> {
             (λ expected. expected ≡ login_expectation self.now client_id.now nonce max_age) }
     {
         Ok(Expected {
-            issuer: String::from_str(alloc, self.issuer)?,
+            issuer: token_issuers(alloc, self.issuer, self.issuer_rule)?,
             client_id: client_id.try_clone(alloc)?,
+            other_audiences: owned_texts(alloc, self.other_audiences)?,
+            authorized_parties: owned_texts(alloc, self.authorized_parties)?,
             algorithm: owned(alloc, self.algorithm)?,
             nonce: Some(nonce),
             leeway: self.leeway,
             max_age: max_age.map(Duration::from_secs),
         })
     }
+}
+
+// The issuers of the ID tokens of a provider with this issuer.
+fn token_issuers(
+    alloc: Global,
+    issuer: &str,
+    rule: Option<&IssuerRule>,
+) -> Result<IssuerRule, AllocError>
+    ensures { IfOk result (λ issuers. named_issuers issuers
+        ≡ token_issuers issuer.now (option_copied rule.entry)) }
+{
+    match rule {
+        Some(rule) => owned_rule(alloc, rule),
+        None => Ok(IssuerRule::Is(String::from_str(alloc, issuer)?)),
+    }
+}
+
+fn owned_rule(alloc: Global, rule: &IssuerRule) -> Result<IssuerRule, AllocError>
+    ensures { IfOk result (λ copy. named_issuers copy ≡ named_issuers rule.now) }
+{
+    Ok(match rule {
+        IssuerRule::Is(issuer) => IssuerRule::Is(issuer.try_clone(alloc)?),
+        IssuerRule::OneOf(issuers) => IssuerRule::OneOf(issuers.try_clone(alloc)?),
+        IssuerRule::PerTenant { before, after } => IssuerRule::PerTenant {
+            before: before.try_clone(alloc)?,
+            after: after.try_clone(alloc)?,
+        },
+    })
+}
+
+fn owned_texts(alloc: Global, texts: &[&str]) -> Result<Vec<String>, AllocError>
+    ensures { IfOk result (λ copies. map string_bytes copies.items
+        ≡ map (λ t. t.now) texts.now) }
+{
+    let mut copies = Vec::new(alloc);
+    for text in texts {
+        copies.push(String::from_str(alloc, *text)?)?;
+    }
+    Ok(copies)
 }
 
 fn owned(alloc: Global, text: Option<&str>) -> Result<Option<String>, AllocError>

@@ -11,6 +11,7 @@ use oauth2_codes::TokenType;
 use oauth2_extra_fields::WithMember;
 use oauth2_openid::{IdTokenFields, IdTokenMember, IdTokenText};
 use oauth2_replies::{ExtraTokenFields, StandardTokenResponse, TokenResponse};
+use std::convert::AsStr;
 
 /// The token response with an ID token and without other extra fields.
 pub type OpenIdTokenResponse = StandardTokenResponse<IdTokenFields, BasicTokenType>;
@@ -34,17 +35,31 @@ pub type OpenIdClient = Client<
 pub trait HasIdToken: TokenResponse + Drop {
     ghost use Rattle.std.specs.Prelude.{◌≡◌, ℕ, List, Option, option_copied};
 
+    /// The text of the token type.
+    ghost token_type_text: { Self → List ℕ };
+
     /// The text of the ID token.
     ghost id_token: { Self → Option (List ℕ) };
+
+    /// The text of the token type, in which the case of letters does not count (RFC 6749, section
+    /// 5.1).
+    fn token_type_text(&self) -> &str
+        ensures { result.now ≡ token_type_text self.now };
 
     /// The text of the ID token, as it came, if there is one.
     fn id_token(&self) -> Option<&IdTokenText>
         ensures { option_copied result ≡ id_token self.now };
 }
 
-impl<Rest: ExtraTokenFields + Drop, TT: TokenType + Drop> HasIdToken
+impl<Rest: ExtraTokenFields + Drop, TT: TokenType + AsStr + Drop> HasIdToken
     for StandardTokenResponse<WithMember<IdTokenMember, Rest>, TT> {
+    ghost token_type_text = { λ r. TT.text r.token_type };
+
     ghost id_token = { λ r. r.extra_fields.value };
+
+    fn token_type_text(&self) -> &str {
+        self.token_type().as_str()
+    }
 
     fn id_token(&self) -> Option<&IdTokenText> {
         self.extra_fields().value()

@@ -1,6 +1,6 @@
 //! Logins from their redirect to their ID token.
 
-use crate::support::{assert_text, client, login, url};
+use crate::support::{assert_stored_as, assert_text, client, login, url};
 use jiff::Timestamp;
 use oauth2::basic::BasicErrorResponse;
 use oauth2::http::Response;
@@ -10,9 +10,9 @@ use oauth2_openid_login::{OpenIdLoginEnd, OpenIdLoginError, OpenIdProvider, Open
 use std::process::Abort;
 use std::time::Duration;
 
-// An HTTP client that keeps the bodies it was handed, one after the other.
+/// An HTTP client that keeps the bodies it was handed, one after the other.
 #[derive(Drop)]
-struct Canned {
+pub(crate) struct Canned {
     bodies: Vec<u8>,
     reply: Option<HttpResponse>,
 }
@@ -32,7 +32,7 @@ impl SyncHttpClient for Canned {
     }
 }
 
-fn answering(rt: &(impl Abort + AllocGlobal), body: &str) -> Canned {
+pub(crate) fn answering(rt: &(impl Abort + AllocGlobal), body: &str) -> Canned {
     let alloc = rt.alloc();
     let body = body.as_bytes().to_vec(alloc).expect(rt, "a body");
     Canned {
@@ -43,19 +43,20 @@ fn answering(rt: &(impl Abort + AllocGlobal), body: &str) -> Canned {
 
 // The provider of the standard's examples, whose redirects tell the issuer or not.
 fn provider(tells_issuer_in_redirect: bool) -> OpenIdProvider<'static> {
-    OpenIdProvider {
-        issuer: "http://server.example.com",
-        tells_issuer_in_redirect,
-        algorithm: Some("RS256"),
-        leeway: Duration::from_secs(60),
-    }
+    OpenIdProvider::new("http://server.example.com", Duration::from_secs(60))
+        .set_tells_issuer_in_redirect(tells_issuer_in_redirect)
+        .set_algorithm("RS256")
 }
 
-type Ended = Result<OpenIdLoginEnd<OpenIdTokenResponse>, OpenIdLoginError<(), BasicErrorResponse>>;
+pub(crate) type Ended = Result<
+    OpenIdLoginEnd<OpenIdTokenResponse>,
+    OpenIdLoginError<(), BasicErrorResponse>,
+>;
 
-// A login of the standard's nonce, and one that asked for a maximum age too.
-const STORED: &str = r#"{"nonce":"n-0S6_WzA2Mj","state":"af0ifjsldkj","verifier":"v"}"#;
+/// A login of the standard's nonce.
+pub(crate) const STORED: &str = r#"{"nonce":"n-0S6_WzA2Mj","state":"af0ifjsldkj","verifier":"v"}"#;
 
+// The same, which asked for a maximum age too.
 const STORED_WITH_AGE: &str =
     r#"{"max_age":100,"nonce":"n-0S6_WzA2Mj","state":"af0ifjsldkj","verifier":"v"}"#;
 
@@ -81,7 +82,7 @@ fn ended(
         http_client,
         &url(rt, redirect),
         &provider(tells_issuer),
-        now,
+        || now,
     )
 }
 
@@ -114,8 +115,8 @@ fn the_login_of_the_standard(rt: HostRuntime) {
         .map_or("", |t| t.secret().as_str());
     assert_text(&rt, refresh_token, "8xLOxBtZp8");
     assert!(rt; end.access_token_hash == AccessTokenHash::Absent);
-    let sent =
-        "grant_type=authorization_code&code=SplxlOBeZQQYbYS6WxSbIA&code_verifier=v&client_id=s6BhdRkqt3";
+    let sent = "grant_type=authorization_code&code=SplxlOBeZQQYbYS6WxSbIA&code_verifier=v\
+        &client_id=s6BhdRkqt3&redirect_uri=https%3A%2F%2Fclient.example.org%2Fcb";
     assert_eq!(rt; http_client.bodies.as_slice(), sent.as_bytes());
 }
 
@@ -141,8 +142,8 @@ const WITH_AUTH_TIME: &str =
      aGRSa3F0MyIsIm5vbmNlIjoibi0wUzZfV3pBMk1qIiwiZXhwIjoxMzExMjgxOTcwLCJpYXQiOjEzMTEyODA5NzAs\
      ImF1dGhfdGltZSI6MTMxMTI4MDk2OX0";
 
-// The response of the standard's example with these claims.
-fn response(rt: &(impl Abort + AllocGlobal), claims: &str) -> String {
+/// The response of the standard's example with these claims.
+pub(crate) fn response(rt: &(impl Abort + AllocGlobal), claims: &str) -> String {
     format!(in rt.alloc();
         "{{\"access_token\":\"SlAV32hkKG\",\"token_type\":\"Bearer\",\
          \"refresh_token\":\"8xLOxBtZp8\",\"id_token\":\"eyJhbGciOiJSUzI1NiJ9.{claims}.c2ln\"}}"
@@ -150,8 +151,8 @@ fn response(rt: &(impl Abort + AllocGlobal), claims: &str) -> String {
     .expect(rt, "a response")
 }
 
-// How a login ends, in a line.
-fn line(rt: &(impl Abort + AllocGlobal), ended: Ended) -> String {
+/// How a login ends, in a line.
+pub(crate) fn line(rt: &(impl Abort + AllocGlobal), ended: Ended) -> String {
     match ended {
         Ok(end) => {
             let hash = end.access_token_hash;
@@ -197,6 +198,14 @@ fn the_rules_hold_for_this_login(rt: HostRuntime) {
 fn a_response_without_an_id_token(rt: HostRuntime) {
     let rows = [
         (
+            r#"{"access_token":"a","token_type":"N_A"}"#,
+            "token type is not Bearer",
+        ),
+        (
+            r#"{"access_token":"a","token_type":"BEARER"}"#,
+            "token response has no ID token",
+        ),
+        (
             r#"{"access_token":"a","token_type":"bearer"}"#,
             "token response has no ID token",
         ),
@@ -219,20 +228,77 @@ fn a_response_without_an_id_token(rt: HostRuntime) {
     }
 }
 
-// A login whose redirect is not its own, or does not tell its issuer, sends nothing.
-fn assert_nothing_sent(rt: &(impl Abort + AllocGlobal), redirect: &str, expected: &str) {
+// A login whose redirect is not its own, or is of another issuer, sends nothing and is given back.
+fn assert_given_back(
+    rt: &(impl Abort + AllocGlobal),
+    redirect: &str,
+    tells_issuer: bool,
+    expected: &str,
+) {
     let mut http_client = answering(rt, EXAMPLE);
-    let ended = ended(rt, &mut http_client, STORED, redirect, true);
-    assert_text(rt, line(rt, ended).as_str(), expected);
+    let ended = ended(
+        rt,
+        &mut http_client,
+        STORED_WITH_AGE,
+        redirect,
+        tells_issuer,
+    );
     assert!(rt; http_client.bodies.is_empty());
+    match ended {
+        Err(OpenIdLoginError::Redirect { error, login }) => {
+            let shown = format!(in rt.alloc(); "{error}").expect(rt, "a text");
+            assert_text(rt, shown.as_str(), expected);
+            assert_text(rt, login.state().secret().as_str(), "af0ifjsldkj");
+            assert_stored_as(rt, &login, STORED_WITH_AGE);
+        }
+        ended => assert_text(rt, line(rt, ended).as_str(), expected),
+    }
 }
 
+// A provider's issuer is compared wherever a redirect tells one, also by a provider that is not
+// known to tell it (RFC 9207, section 2.4).
 #[test]
 fn a_redirect_without_a_code_of_the_login(rt: HostRuntime) {
-    assert_nothing_sent(&rt, REDIRECT, "redirect has another issuer");
-    assert_nothing_sent(
-        &rt,
-        "https://client.example.org/cb?code=SplxlOBeZQQYbYS6WxSbIA&state=bf0ifjsldkj&iss=http%3A%2F%2Fserver.example.com",
-        "redirect has another state",
+    let rows = [
+        ("&state=af0ifjsldkj", true, "redirect has another issuer"),
+        (
+            "&state=af0ifjsldkj&iss=http%3A%2F%2Fother.example.com",
+            true,
+            "redirect has another issuer",
+        ),
+        (
+            "&state=af0ifjsldkj&iss=http%3A%2F%2Fother.example.com",
+            false,
+            "redirect has another issuer",
+        ),
+        (
+            "&state=bf0ifjsldkj&iss=http%3A%2F%2Fserver.example.com",
+            true,
+            "redirect has another state",
+        ),
+    ];
+    for (rest, tells_issuer, expected) in rows {
+        let redirect = format!(in rt.alloc(); "https://client.example.org/cb?code=c{rest}").expect(
+            &rt, "a text",
+        );
+        assert_given_back(&rt, redirect.as_str(), tells_issuer, expected);
+    }
+}
+
+// The body of a form finishes a login as a query does, and the right issuer is taken of a provider
+// that is not known to tell it.
+#[test]
+fn a_login_that_is_finished_by_a_form(rt: HostRuntime) {
+    let now = Timestamp::from_second(1311281000)
+        .ok()
+        .expect(&rt, "a time");
+    let ended = login(&rt, STORED).finish_query(
+        rt.alloc(),
+        &client(&rt),
+        &mut answering(&rt, EXAMPLE),
+        "state=af0ifjsldkj&code=SplxlOBeZQQYbYS6WxSbIA&iss=http%3A%2F%2Fserver.example.com",
+        &provider(false),
+        || now,
     );
+    assert_text(&rt, line(&rt, ended).as_str(), "Absent");
 }

@@ -5,6 +5,8 @@
 #[cfg(test)]
 mod ends;
 #[cfg(test)]
+mod providers;
+#[cfg(test)]
 mod starts;
 #[cfg(test)]
 mod support;

@@ -2,9 +2,9 @@
 
 ghost use Rattle.std.specs.Prelude.{◌≡◌, None};
 
-use crate::support::{assert_stored_as, assert_text, client, login, text};
+use crate::support::{assert_stored_as, assert_text, client, client_without_redirect, login, text};
 use oauth2::{ParseCause, ReadError, RedirectUrl, Scope, read_body};
-use oauth2_openid_login::{OpenIdClient, OpenIdLogin, OpenIdLoginRequest};
+use oauth2_openid_login::{OpenIdClient, OpenIdLogin, OpenIdLoginRequest, OpenIdLoginUrlFault};
 use rand_pcg::Pcg32;
 use std::process::Abort;
 use std::time::Duration;
@@ -40,15 +40,19 @@ fn a_login_is_started(rt: HostRuntime) {
         request,
         "https://server.example.com/authorize?response_type=code&client_id=s6BhdRkqt3\
          &state=twJcoQn0R3swMx26k_LSgw&code_challenge=H7ZdcLcbjjOKQshuaEBh45jlXGBfQdZSXs7wHPjiPgQ\
-         &code_challenge_method=S256&scope=openid&nonce=Jmh47R1EIjjXE6Eri4FbHA",
-        r#"{"nonce":"Jmh47R1EIjjXE6Eri4FbHA","state":"twJcoQn0R3swMx26k_LSgw","verifier":"S3ikv25g7cuto8a_bf8vgVowH-aQSzj5_obbMvk1wB0"}"#,
+         &code_challenge_method=S256&redirect_uri=https%3A%2F%2Fclient.example.org%2Fcb\
+         &scope=openid&nonce=Jmh47R1EIjjXE6Eri4FbHA",
+        "{\"nonce\":\"Jmh47R1EIjjXE6Eri4FbHA\",\
+         \"redirect_uri\":\"https://client.example.org/cb\",\"state\":\"twJcoQn0R3swMx26k_LSgw\",\
+         \"verifier\":\"S3ikv25g7cuto8a_bf8vgVowH-aQSzj5_obbMvk1wB0\"}",
     );
 }
 
+// A login without a redirect URI has no URL (3.1.2.1), and is not lost: here it is set in time.
 #[test]
 fn a_login_is_started_with_more(rt: HostRuntime) {
     let alloc = rt.alloc();
-    let client = client(&rt);
+    let client = client_without_redirect(&rt);
     let redirect = RedirectUrl::new(alloc, text(&rt, "https://app.example/cb"))
         .ok()
         .expect(&rt, "a URL");
@@ -60,11 +64,18 @@ fn a_login_is_started_with_more(rt: HostRuntime) {
         .add_extra_param("prompt".into(), "consent".into())
         .expect(&rt, "room")
         .set_max_age(alloc, Duration::from_millis(3_600_999))
-        .expect(&rt, "room")
-        .set_redirect_uri(&redirect);
+        .expect(&rt, "room");
+    let refused = request.url(alloc).err().expect(&rt, "a refusal");
+    assert!(rt; refused.error == OpenIdLoginUrlFault::NoRedirectUri);
+    let shown = format!(in alloc; "{refused} {refused:?}").expect(&rt, "a text");
+    assert_text(
+        &rt,
+        shown.as_str(),
+        "login has no redirect URI OpenIdLoginUrlError([redacted])",
+    );
     assert_login(
         &rt,
-        request,
+        refused.request.set_redirect_uri(&redirect),
         "https://server.example.com/authorize?response_type=code&client_id=s6BhdRkqt3\
          &state=twJcoQn0R3swMx26k_LSgw&code_challenge=H7ZdcLcbjjOKQshuaEBh45jlXGBfQdZSXs7wHPjiPgQ\
          &code_challenge_method=S256&redirect_uri=https%3A%2F%2Fapp.example%2Fcb\

@@ -1,7 +1,7 @@
 //! A client of a provider, and what tests compare.
 
 use oauth2::url::Url;
-use oauth2::{AuthUrl, Client, ClientId, TokenUrl, compact, read_body};
+use oauth2::{AuthUrl, Client, ClientId, RedirectUrl, TokenUrl, compact, read_body};
 use oauth2_openid_login::{OpenIdClient, OpenIdLogin};
 use std::process::Abort;
 
@@ -19,14 +19,20 @@ pub(crate) fn url(rt: &(impl Abort + AllocGlobal), url: &str) -> Url {
     Url::parse(rt.alloc(), url).ok().expect(rt, "a URL")
 }
 
-/// The client of the standard's examples.
-pub(crate) fn client(rt: &(impl Abort + AllocGlobal)) -> OpenIdClient {
+/// The client of the standard's examples, whose redirect URI is not set.
+pub(crate) fn client_without_redirect(rt: &(impl Abort + AllocGlobal)) -> OpenIdClient {
     let alloc = rt.alloc();
     let auth = AuthUrl::new(alloc, text(rt, "https://server.example.com/authorize"));
     let token = TokenUrl::new(alloc, text(rt, "https://server.example.com/token"));
     Client::new(ClientId::new(text(rt, "s6BhdRkqt3")))
         .set_auth_uri(auth.ok().expect(rt, "a URL"))
         .set_token_uri(token.ok().expect(rt, "a URL"))
+}
+
+/// The client of the standard's examples.
+pub(crate) fn client(rt: &(impl Abort + AllocGlobal)) -> OpenIdClient {
+    let redirect = RedirectUrl::new(rt.alloc(), text(rt, "https://client.example.org/cb"));
+    client_without_redirect(rt).set_redirect_uri(redirect.ok().expect(rt, "a URL"))
 }
 
 /// The login that was stored as this.

@@ -2,16 +2,28 @@
 
 use crate::support::{ACCESS_TOKEN, APPENDIX_A2, assert_text_at, read, text, token};
 use jiff::Timestamp;
-use oauth2_openid::{Expected, Nonce};
+use oauth2_openid::{Expected, IssuerRule, Nonce};
 use oauth2_types::{AccessToken, ClientId};
 use std::process::Abort;
 use std::time::Duration;
 
-// What the client of the standard's examples expects.
+// A list of texts.
+fn texts(rt: &(impl Abort + AllocGlobal), texts: &[&str]) -> Vec<String> {
+    let mut list = Vec::new(rt.alloc());
+    for each in texts {
+        list.push(text(rt, *each)).expect(rt, "a list");
+    }
+    list
+}
+
+// What the client of the standard's examples expects. It trusts another audience too, and another
+// party.
 fn expected(rt: &(impl Abort + AllocGlobal)) -> Expected {
     Expected {
-        issuer: text(rt, "https://server.example.com"),
+        issuer: IssuerRule::Is(text(rt, "https://server.example.com")),
         client_id: ClientId::new(text(rt, "s6BhdRkqt3")),
+        other_audiences: texts(rt, &["other"]),
+        authorized_parties: texts(rt, &["app"]),
         algorithm: None,
         nonce: Some(Nonce::new(text(rt, "n-0S6_WzA2Mj"))),
         leeway: Duration::from_secs(0),
@@ -22,7 +34,7 @@ fn expected(rt: &(impl Abort + AllocGlobal)) -> Expected {
 // The same of the client of appendix A, which sent no maximum age.
 fn expected_in_appendix(rt: &(impl Abort + AllocGlobal)) -> Expected {
     let mut wanted = expected(rt);
-    wanted.issuer = text(rt, "http://server.example.com");
+    wanted.issuer = IssuerRule::Is(text(rt, "http://server.example.com"));
     wanted.max_age = None;
     wanted
 }
@@ -79,7 +91,7 @@ fn assert_row(
 const RS256: &str = r#"{"alg":"RS256"}"#;
 
 // The members that are added, and what the check returns.
-const CLAIMS: [(&str, &str); 33] = [
+const CLAIMS: [(&str, &str); 42] = [
     ("", "Absent"),
     (r#","iss":"https://server.example.com/""#, "OtherIssuer"),
     (r#","iss":"https://Server.example.com""#, "OtherIssuer"),
@@ -98,12 +110,24 @@ const CLAIMS: [(&str, &str); 33] = [
         "OtherAuthorizedParty",
     ),
     (r#","aud":["other"],"azp":"s6BhdRkqt3""#, "OtherAudience"),
+    (
+        r#","aud":["s6BhdRkqt3","x"],"azp":"s6BhdRkqt3""#,
+        "UntrustedAudience",
+    ),
+    (r#","aud":["s6BhdRkqt3","x"]"#, "UntrustedAudience"),
+    (r#","aud":["other","s6BhdRkqt3"],"azp":"app""#, "Absent"),
+    (r#","azp":"app""#, "Absent"),
     (r#","azp":"s6BhdRkqt3""#, "Absent"),
     (r#","azp":"other""#, "OtherAuthorizedParty"),
     (r#","exp":1311281001"#, "Absent"),
     (r#","exp":1311281000"#, "Expired"),
     (r#","exp":1311280999"#, "Expired"),
     (r#","exp":-1"#, "Expired"),
+    (r#","exp":1311281000.5"#, "Absent"),
+    (r#","iat":1311281000.5"#, "IssuedLater"),
+    (r#","auth_time":"1311280969""#, "NoAuthTime"),
+    (r#","auth_time":1311280899.9"#, "AuthTooOld"),
+    (r#","acr":0,"amr":"pwd""#, "Absent"),
     (r#","iat":1311281000"#, "Absent"),
     (r#","iat":1311281001"#, "IssuedLater"),
     (r#","nonce":null"#, "NoNonce"),
@@ -136,10 +160,12 @@ fn names_the_rule_that_the_claims_break(rt: HostRuntime) {
 }
 
 // The header, the members that are added, and what the check returns.
-const HEADERS: [(&str, &str, &str); 22] = [
+const HEADERS: [(&str, &str, &str); 24] = [
     (r#"{"alg":"none"}"#, "", "NoSignature"),
     (r#"{"alg":"none"}"#, r#","iss":"x""#, "NoSignature"),
-    (r#"{"alg":"None"}"#, "", "Absent"),
+    (r#"{"alg":"None"}"#, "", "NoSignature"),
+    (r#"{"alg":"nOnE"}"#, "", "NoSignature"),
+    (r#"{"alg":""}"#, "", "NoSignature"),
     (
         r#"{"alg":"RS256","crit":["exp"],"exp":1363284000}"#,
         "",
@@ -261,7 +287,7 @@ const BROKEN: &str = r#","iss":"x","aud":["x","y"],"exp":0,"iat":1311281001,"non
 
 // The header, the members that are added to those before, and what the check returns: each row
 // mends what the row before it named.
-const ORDER: [(&str, &str, &str); 10] = [
+const ORDER: [(&str, &str, &str); 11] = [
     (r#"{"alg":"none","crit":[]}"#, "", "NoSignature"),
     (r#"{"alg":"RS256","crit":[]}"#, "", "CriticalExtension"),
     (RS256, "", "OtherIssuer"),
@@ -270,7 +296,12 @@ const ORDER: [(&str, &str, &str); 10] = [
         r#","iss":"https://server.example.com""#,
         "OtherAudience",
     ),
-    (RS256, r#","aud":["x","s6BhdRkqt3"]"#, "NoAuthorizedParty"),
+    (RS256, r#","aud":["x","s6BhdRkqt3"]"#, "UntrustedAudience"),
+    (
+        RS256,
+        r#","aud":["other","s6BhdRkqt3"]"#,
+        "NoAuthorizedParty",
+    ),
     (RS256, r#","azp":"s6BhdRkqt3""#, "Expired"),
     (RS256, r#","exp":1311281970"#, "IssuedLater"),
     (RS256, r#","iat":1311280970"#, "OtherNonce"),
@@ -337,4 +368,43 @@ fn asks_for_the_nonce_that_was_sent(rt: HostRuntime) {
     assert_checked_as(&rt, no_nonce.as_str(), &wanted, 950, "Absent");
     wanted.max_age = Some(Duration::from_secs(100));
     assert_checked_as(&rt, no_nonce.as_str(), &wanted, 950, "NoAuthTime");
+}
+
+// The claims that are added, and what the check returns to a client of a provider with tenants.
+const TENANTS: [(&str, &str); 5] = [
+    (
+        r#","iss":"https://login.microsoftonline.com/t1/v2.0","tid":"t1""#,
+        "Absent",
+    ),
+    (
+        r#","iss":"https://login.microsoftonline.com/t1/v2.0","tid":"t2""#,
+        "OtherIssuer",
+    ),
+    (
+        r#","iss":"https://login.microsoftonline.com/t1/v2.0""#,
+        "OtherIssuer",
+    ),
+    (
+        r#","iss":"https://login.microsoftonline.com/t1/v1.0","tid":"t1""#,
+        "OtherIssuer",
+    ),
+    (
+        r#","iss":"https://login.microsoftonline.com/t1/v2.0","tid":1"#,
+        "OtherIssuer",
+    ),
+];
+
+#[test]
+fn takes_the_issuer_of_a_tenant(rt: HostRuntime) {
+    let mut wanted = expected(&rt);
+    wanted.issuer = IssuerRule::PerTenant {
+        before: text(&rt, "https://login.microsoftonline.com/"),
+        after: text(&rt, "/v2.0"),
+    };
+    for (more, word_wanted) in TENANTS {
+        assert_row(&rt, &wanted, RS256, more, word_wanted);
+    }
+    wanted.issuer = IssuerRule::OneOf(texts(&rt, &["x", "https://server.example.com"]));
+    assert_row(&rt, &wanted, RS256, "", "Absent");
+    assert_row(&rt, &wanted, RS256, r#","iss":"y""#, "OtherIssuer");
 }

@@ -11,6 +11,7 @@ use oauth2_openid::{ClaimsError, IdToken, IdTokenClaims, IdTokenFields, IdTokenT
 use oauth2_replies::StandardTokenResponse;
 use oauth2_types::TryClone;
 use rand_pcg::Pcg32;
+use serde_json::Value;
 use std::process::Abort;
 
 const HEADER: &str = r#"{"alg":"RS256","kid":"k1","typ":"JWT"}"#;
@@ -167,20 +168,20 @@ const PAYLOADS: [(&str, &str); 20] = [
         "payload: exp: of the wrong type",
     ),
     (
-        r#"{"iss":"i","sub":"s","aud":"c","exp":20.5,"iat":10}"#,
-        "payload: exp: not a whole number",
+        r#"{"iss":"i","sub":"s","aud":"c","exp":20.5,"iat":-0}"#,
+        "read",
     ),
     (
         r#"{"iss":"i","sub":"s","aud":"c","exp":253402207201,"iat":10}"#,
         "payload: exp: out of range",
     ),
     (
-        r#"{"iss":"i","sub":"s","aud":"c","exp":20,"iat":10,"acr":1}"#,
-        "payload: acr: of the wrong type",
+        r#"{"iss":"i","sub":"s","aud":"c","exp":20,"iat":10,"acr":1,"auth_time":"x"}"#,
+        "read",
     ),
     (
         r#"{"iss":"i","sub":"s","aud":"c","exp":20,"iat":10,"amr":"pwd"}"#,
-        "payload: amr: of the wrong type",
+        "read",
     ),
     (
         r#"{"iss":"i","sub":"s","aud":"c","exp":20,"iat":10,"acr":null,"amr":null}"#,
@@ -259,6 +260,25 @@ fn shows_why_a_token_is_refused(rt: HostRuntime) {
         &ClaimsError::OtherAccessToken,
         "the hash is that of another access token",
     );
+}
+
+// What stands among the other claims, where it is a text.
+fn other_claim<'a>(token: &'a IdToken, name: &str) -> &'a str {
+    match token.other_claims().get(name) {
+        Some(Value::String(text)) => text.as_str(),
+        _ => "none",
+    }
+}
+
+#[test]
+fn keeps_claims_of_another_kind(rt: HostRuntime) {
+    let claims = r#"{"iss":"i","sub":"s","aud":"c","exp":20.5,"iat":10,"amr":"pwd","acr":"a",
+        "auth_time":"x"}"#;
+    let token = read(&rt, token(&rt, HEADER, claims).as_str());
+    assert_eq!(&rt; token.claims().expires_at().as_millisecond(), 20500);
+    assert_text(&rt, other_claim(&token, "amr"), "pwd");
+    assert_text(&rt, other_claim(&token, "auth_time"), "x");
+    assert_text(&rt, other_claim(&token, "acr"), "none");
 }
 
 type Response = StandardTokenResponse<IdTokenFields, BasicTokenType>;

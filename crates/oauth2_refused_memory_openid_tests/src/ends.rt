@@ -10,7 +10,7 @@ use oauth2_openid_login::{
     OpenIdClient, OpenIdLogin, OpenIdLoginEnd, OpenIdLoginError, OpenIdProvider,
     OpenIdTokenResponse,
 };
-use oauth2_redirect::{LoginError, RedirectError};
+use oauth2_redirect::RedirectError;
 use oauth2_refused_memory_values_tests::{Ended, Want};
 use std::alloc::Global;
 use std::io::Write;
@@ -38,12 +38,9 @@ type End = Result<
 
 // The provider of the standard's examples.
 fn provider() -> OpenIdProvider<'static> {
-    OpenIdProvider {
-        issuer: "http://server.example.com",
-        tells_issuer_in_redirect: true,
-        algorithm: Some("RS256"),
-        leeway: Duration::from_secs(60),
-    }
+    OpenIdProvider::new("http://server.example.com", Duration::from_secs(60))
+        .set_tells_issuer_in_redirect(true)
+        .set_algorithm("RS256")
 }
 
 /// Finishes the stored login.
@@ -69,7 +66,14 @@ fn show_finished<W: Write>(
     out: &mut W,
 ) -> Result<bool, Ended> {
     let now = now()?;
-    let end = login.finish(alloc, client, &mut http_client, redirect, &provider(), now);
+    let end = login.finish(
+        alloc,
+        client,
+        &mut http_client,
+        redirect,
+        &provider(),
+        || now,
+    );
     show_request(out, &http_client)?;
     show_end(out, end)
 }
@@ -90,21 +94,24 @@ fn show_request<W: Write>(out: &mut W, http_client: &OneReply) -> Result<(), End
 fn show_end<W: Write>(out: &mut W, end: End) -> Result<bool, Ended> {
     match end {
         Ok(end) => show_user(out, &end.id_token, end.access_token_hash),
-        Err(OpenIdLoginError::Memory { sent }) => {
-            writeln!(out, "memory OpenIdLoginError {{ sent: {sent} }}")?;
+        Err(OpenIdLoginError::Memory) => {
+            // It is told only after the token response came.
+            writeln!(out, "memory OpenIdLoginError {{ sent: true }}")?;
             Ok(false)
         }
-        Err(OpenIdLoginError::Login(error)) => Err(ended(error)),
-        Err(_) => Err(Ended::Refused),
+        Err(error) => Err(ended(error)),
     }
 }
 
-fn ended(error: LoginError<NoReply, BasicErrorResponse>) -> Ended {
+fn ended(error: OpenIdLoginError<NoReply, BasicErrorResponse>) -> Ended {
     match error {
-        LoginError::Token(RequestTokenError::Memory { sent }) => {
+        OpenIdLoginError::Token(RequestTokenError::Memory { sent }) => {
             Ended::Starved(Want::RequestTokenError { sent })
         }
-        LoginError::Redirect(RedirectError::Memory) => Ended::Starved(Want::RedirectError),
+        OpenIdLoginError::Redirect {
+            error: RedirectError::Memory,
+            login: _,
+        } => Ended::Starved(Want::RedirectError),
         _ => Ended::Refused,
     }
 }

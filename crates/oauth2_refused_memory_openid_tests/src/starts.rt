@@ -3,8 +3,8 @@
 use crate::client::client;
 use oauth2::url::Url;
 use oauth2::{RedirectUrl, Scope, compact, read_body};
-use oauth2_openid_login::{OpenIdClient, OpenIdLogin, OpenIdLoginRequest};
-use oauth2_refused_memory_values_tests::{Ended, text};
+use oauth2_openid_login::{OpenIdClient, OpenIdLogin, OpenIdLoginRequest, OpenIdLoginUrlFault};
+use oauth2_refused_memory_values_tests::{Ended, Want, text};
 use rand_pcg::Pcg32;
 use std::alloc::Global;
 use std::io::Write;
@@ -61,8 +61,15 @@ fn url_of(alloc: Global, request: OpenIdLoginRequest<'_>) -> Result<(Url, OpenId
         Ok(made) => Ok(made),
         Err(refused) => match refused.request.url(alloc) {
             Ok(made) => Ok(made),
-            Err(refused) => Err(refused.error.into()),
+            Err(refused) => Err(ended(refused.error)),
         },
+    }
+}
+
+fn ended(fault: OpenIdLoginUrlFault) -> Ended {
+    match fault {
+        OpenIdLoginUrlFault::Memory => Ended::Starved(Want::ParseError),
+        OpenIdLoginUrlFault::NoRedirectUri | OpenIdLoginUrlFault::TooLong => Ended::Refused,
     }
 }
 

@@ -3,7 +3,7 @@
 use crate::client::CLIENT_ID;
 use jiff::Timestamp;
 use oauth2::{AccessToken, ClientId};
-use oauth2_openid::{AccessTokenHash, Expected, IdToken, IdTokenReadError, Nonce};
+use oauth2_openid::{AccessTokenHash, Expected, IdToken, IdTokenReadError, IssuerRule, Nonce};
 use oauth2_refused_memory_values_tests::{Ended, text};
 use std::alloc::Global;
 use std::io::Write;
@@ -34,8 +34,10 @@ pub fn now() -> Result<Timestamp, Ended> {
 // What the client of the standard's examples expects.
 fn expected(alloc: Global) -> Result<Expected, Ended> {
     Ok(Expected {
-        issuer: text(alloc, "http://server.example.com")?,
+        issuer: IssuerRule::Is(text(alloc, "http://server.example.com")?),
         client_id: ClientId::new(text(alloc, CLIENT_ID)?),
+        other_audiences: Vec::new(alloc),
+        authorized_parties: Vec::new(alloc),
         algorithm: Some(text(alloc, "RS256")?),
         nonce: Some(Nonce::new(text(alloc, "n-0S6_WzA2Mj")?)),
         leeway: Duration::from_secs(0),

@@ -46,7 +46,7 @@ claims_in_turn ms =
     ⊛ claim_times_reading after_names
     ⊛ authentication_reading after_times
     ⊛ bindings_reading after_authentication
-    ⊛ Ok (object (others (names_of bindings_table) after_authentication))
+    ⊛ Ok (others (names_of bindings_table) after_authentication)
 
 abbrev pub header_in_turn : Members → Reading (WithOthers Header)
 header_in_turn ms =

@@ -1,0 +1,55 @@
+-- A text that has three parts is not told to have none.
+use Rattle.std.proofs.Common.{◌≡◌, ◌≢◌, ℕ, List, Option, Some, None, Result, Ok, Err, refl, ap}
+use Rattle.std.specs.Prelude.{IsErrAnd}
+use Rattle.serde_json.specs.Data.{Data}
+use Rattle.oauth2_json.specs.Body.{body_reading}
+use Rattle.oauth2_json.specs.Reading.{Reading}
+use Rattle.oauth2_openid.specs.declared.read_error.TokenPart.{TokenPart}
+use Rattle.oauth2_openid.specs.declared.read_error.TokenPart.TheVariants as part
+use Rattle.oauth2_openid.specs.declared.id_token.IdToken.{IdToken}
+use Rattle.oauth2_openid.specs.declared.read_error.IdTokenReadError.{IdTokenReadError}
+use Rattle.oauth2_openid.specs.declared.read_error.IdTokenReadError.TheVariants as errors
+use Rattle.oauth2_openid.specs.Seen.{token_of}
+use Rattle.oauth2_openid.specs.Token.{Header, WithOthers, DecodedToken, Parts, TokenFault, TokenReading, TokenErrsAs, TokenReadsAs, not_three_parts, not_base64, bytes_of}
+use Rattle.oauth2_openid.specs.Reading.{header_reading, claims_reading, token_then, bytes_part, of_part, json_part, parts_reading}
+
+abbrev fault_in : {A : Type 0} → TokenReading A → TokenFault
+fault_in (Ok a) = not_base64 part.Header
+fault_in (Err fault) = fault
+
+then_parts : {A B : Type 0} (r : TokenReading A) (f : A → TokenReading B) → r ≢ Err not_three_parts → ((a : A) → f a ≢ Err not_three_parts) → token_then r f ≢ Err not_three_parts
+then_parts (Ok a) f h g = g a
+then_parts (Err fault) f h g = λ is. h (ap Err (ap fault_in is))
+
+bytes_parts : (which : TokenPart) (o : Option (List ℕ)) → bytes_part which o ≢ Err not_three_parts
+bytes_parts which None = λ is. absurd (cc)
+bytes_parts which (Some bytes) = λ is. absurd (cc)
+
+of_parts : {M : Type 0} (which : TokenPart) (r : Reading M) → of_part which r ≢ Err not_three_parts
+of_parts which (Ok m) = λ is. absurd (cc)
+of_parts which (Err fault) = λ is. absurd (cc)
+
+pub json_part_has_parts : {M : Type 0} (reading : Data → Reading M) (which : TokenPart) (encoded : List ℕ) → json_part reading which encoded ≢ Err not_three_parts
+json_part_has_parts reading which encoded =
+    then_parts (bytes_part which (bytes_of encoded)) (λ bytes. of_part which (body_reading reading bytes))
+    (bytes_parts which (bytes_of encoded)) (λ bytes. of_parts which (body_reading reading bytes))
+
+pub has_parts : (p : Parts) → parts_reading (Some p) ≢ Err not_three_parts
+has_parts p =
+    then_parts (json_part header_reading part.Header p.header) _ (json_part_has_parts header_reading part.Header p.header)
+    (λ h. then_parts (json_part claims_reading part.Payload p.payload) _ (json_part_has_parts claims_reading part.Payload p.payload)
+    (λ c. then_parts (bytes_part part.Signature (bytes_of p.signature)) _ (bytes_parts part.Signature (bytes_of p.signature)) (λ s. λ is. absurd (cc))))
+
+-- ---- the error of a part
+
+-- an error of the payload is told where the header read
+pub in_claims : (p : Parts) (h : WithOthers Header) (e : IdTokenReadError) → json_part header_reading part.Header p.header ≡ Ok h → TokenErrsAs e (json_part claims_reading part.Payload p.payload) → TokenErrsAs e (parts_reading (Some p))
+in_claims p h errors.NotThreeParts read is = absurd (json_part_has_parts claims_reading part.Payload p.payload is)
+in_claims p h (errors.NotBase64 which) read is = rw (read, is) refl
+in_claims p h (errors.Fault which fault) read is = rw (read, is) refl
+in_claims p h errors.Memory read is = has_parts p
+
+-- the error that is handed on
+pub told : (r : Result IdToken IdTokenReadError) (e : IdTokenReadError) (expected : TokenReading DecodedToken) → IsErrAnd r (λ given. given ≡ e) → TokenErrsAs e expected → TokenReadsAs token_of r expected
+told (Ok token) e expected h errs = absurd h
+told (Err given) e expected h errs = rw h errs

@@ -1,0 +1,103 @@
+//! Which issuers a client takes ID tokens of (OpenID Connect Core 1.0, section 3.1.3.7, 2).
+
+ghost use Rattle.std.specs.Prelude.{
+  ◌≡◌,
+  ◌≢◌,
+  ℕ,
+  List,
+  ◌∷◌,
+  ◌++◌,
+  MatchOption,
+  bytes_eq,
+  map,
+  option_copied,
+  string_bytes,
+};
+ghost use Rattle.oauth2_openid.specs.Issuers.{named_issuers};
+ghost use Rattle.oauth2_openid.specs.Rules.{are_among, is_among, is_issuer};
+
+/// The issuers that a client expects. Texts are compared byte for byte.
+#[derive(Debug, Drop)]
+pub enum IssuerRule {
+    /// This one alone.
+    Is(String),
+    /// One of these, such as the two spellings of Google's, `https://accounts.google.com` and
+    /// `accounts.google.com`.
+    OneOf(Vec<String>),
+    /// Of a provider that has an issuer for each of its tenants, as Microsoft Entra has: what
+    /// stands before the tenant in its issuer, and after it. The tenant is the token's own, in its
+    /// claim `tid`. So `before` is `https://login.microsoftonline.com/`, and `after` is `/v2.0`.
+    /// A token of any tenant passes: see by `tid` which one it was, if that matters to you.
+    PerTenant { before: String, after: String },
+}
+
+impl IssuerRule {
+    // Whether this issuer of a token that names this tenant is expected.
+    pub(crate) fn names(&self, tenant: Option<&str>, issuer: &str) -> bool
+        ensures { result
+            ≡ is_issuer (named_issuers self.now) (option_copied tenant.entry) issuer.now }
+    {
+        match self {
+            IssuerRule::Is(named) => issuer == named.as_str(),
+            IssuerRule::OneOf(named) => is_among(named.as_slice(), issuer),
+            IssuerRule::PerTenant { before, after } => match tenant {
+                Some(tenant) => is_joined(issuer, before.as_str(), tenant, after.as_str()),
+                None => false,
+            },
+        }
+    }
+}
+
+// What follows a text in one that begins with it.
+fn after<'a>(text: &'a str, front: &str) -> Option<&'a str>
+    ensures { MatchOption result ((rest : List ℕ) → text.now ≢ front.now ++ rest)
+        (λ rest. text.now ≡ front.now ++ rest.now) }
+{
+    text.strip_prefix(front)
+}
+
+// Whether a text is these three, one after another.
+#[tactic(auto, using(crate::proofs::Joined::joined, crate::proofs::Joined::no_second, crate::proofs::Joined::no_first))]
+fn is_joined(text: &str, first: &str, second: &str, third: &str) -> bool
+    ensures { result ≡ bytes_eq text.now (first.now ++ second.now ++ third.now) }
+{
+    match after(text, first) {
+        Some(after_first) => match after(after_first, second) {
+            Some(after_second) => after_second == third,
+            None => false,
+        },
+        None => false,
+    }
+}
+
+/// Whether a text is one of these.
+pub(crate) fn is_among(texts: &[String], text: &str) -> bool
+    ensures { result ≡ is_among text.now (map string_bytes texts.now) }
+{
+    for each in texts {
+        if each.as_str() == text {
+            return true;
+        }
+    }
+    false
+}
+
+// Whether a text is the first, or one of the others.
+pub(crate) fn is_known(text: &str, first: &str, others: &[String]) -> bool
+    ensures { result ≡ is_among text.now (first.now ∷ map string_bytes others.now) }
+{
+    first == text || is_among(others, text)
+}
+
+// Whether each of the texts is the first, or one of the others.
+pub(crate) fn are_known(texts: &[String], first: &str, others: &[String]) -> bool
+    ensures { result ≡ are_among (map string_bytes texts.now)
+        (first.now ∷ map string_bytes others.now) }
+{
+    for each in texts {
+        if !is_known(each.as_str(), first, others) {
+            return false;
+        }
+    }
+    true
+}

@@ -1,0 +1,118 @@
+//! Providers whose ID tokens have several issuers, audiences or parties.
+
+use crate::ends::{Ended, STORED, answering, line, response};
+use crate::support::{assert_text, client, login, text};
+use jiff::Timestamp;
+use oauth2_openid::IssuerRule;
+use oauth2_openid_login::OpenIdProvider;
+use std::process::Abort;
+use std::time::Duration;
+
+// The claims are made and encoded by Python: those of the standard's example, and then of an issuer
+// as a tenant of Microsoft Entra has it, of Google's second spelling, with the `azp` of an Android
+// app as Google has it, and for another audience too.
+const OF_A_TENANT: &str =
+    "eyJpc3MiOiJodHRwczovL2xvZ2luLm1pY3Jvc29mdG9ubGluZS5jb20vOTEyMjA0MGQtNmM2Ny00YzViLWIxMTIt\
+     MzZhMzA0YjY2ZGFkL3YyLjAiLCJzdWIiOiIyNDgyODk3NjEwMDEiLCJhdWQiOiJzNkJoZFJrcXQzIiwibm9uY2Ui\
+     OiJuLTBTNl9XekEyTWoiLCJleHAiOjEzMTEyODE5NzAsImlhdCI6MTMxMTI4MDk3MCwidGlkIjoiOTEyMjA0MGQt\
+     NmM2Ny00YzViLWIxMTItMzZhMzA0YjY2ZGFkIn0";
+
+const OF_THE_SECOND_SPELLING: &str =
+    "eyJpc3MiOiJhY2NvdW50cy5nb29nbGUuY29tIiwic3ViIjoiMjQ4Mjg5NzYxMDAxIiwiYXVkIjoiczZCaGRSa3F0\
+     MyIsIm5vbmNlIjoibi0wUzZfV3pBMk1qIiwiZXhwIjoxMzExMjgxOTcwLCJpYXQiOjEzMTEyODA5NzB9";
+
+const OF_AN_APP: &str =
+    "eyJpc3MiOiJodHRwOi8vc2VydmVyLmV4YW1wbGUuY29tIiwic3ViIjoiMjQ4Mjg5NzYxMDAxIiwiYXVkIjoiczZC\
+     aGRSa3F0MyIsIm5vbmNlIjoibi0wUzZfV3pBMk1qIiwiZXhwIjoxMzExMjgxOTcwLCJpYXQiOjEzMTEyODA5NzAs\
+     ImF6cCI6IjEyMzQ5ODc4MTkyMDAtYW5kcm9pZC5hcHBzLmdvb2dsZXVzZXJjb250ZW50LmNvbSJ9";
+
+const FOR_ANOTHER_AUDIENCE: &str =
+    "eyJpc3MiOiJodHRwOi8vc2VydmVyLmV4YW1wbGUuY29tIiwic3ViIjoiMjQ4Mjg5NzYxMDAxIiwiYXVkIjpbInM2\
+     QmhkUmtxdDMiLCJodHRwczovL2FwaS5leGFtcGxlLmNvbSJdLCJub25jZSI6Im4tMFM2X1d6QTJNaiIsImV4cCI6\
+     MTMxMTI4MTk3MCwiaWF0IjoxMzExMjgwOTcwLCJhenAiOiJzNkJoZFJrcXQzIn0";
+
+fn provider(issuer: &str) -> OpenIdProvider<'_> {
+    OpenIdProvider::new(issuer, Duration::from_secs(60))
+}
+
+// What a login at this provider ends with, where these claims are replied and the redirect has this
+// query beside its state and its code.
+fn ended(
+    rt: &(impl Abort + AllocGlobal),
+    provider: &OpenIdProvider<'_>,
+    claims: &str,
+    more: &str,
+) -> Ended {
+    let now = Timestamp::from_second(1311281000).ok().expect(rt, "a time");
+    let query = format!(in rt.alloc(); "state=af0ifjsldkj&code=c{more}").expect(rt, "a query");
+    login(rt, STORED).finish_query(
+        rt.alloc(),
+        &client(rt),
+        &mut answering(rt, response(rt, claims).as_str()),
+        query.as_str(),
+        provider,
+        || now,
+    )
+}
+
+fn assert_ended_as(
+    rt: &(impl Abort + AllocGlobal),
+    provider: &OpenIdProvider<'_>,
+    claims: &str,
+    more: &str,
+    expected: &str,
+) {
+    let ended = ended(rt, provider, claims, more);
+    assert_text(rt, line(rt, ended).as_str(), expected);
+}
+
+// A redirect is compared with the provider's own issuer, whatever the rule for its ID tokens says.
+#[test]
+fn an_issuer_for_each_tenant(rt: HostRuntime) {
+    let own = "https://login.microsoftonline.com/{tenantid}/v2.0";
+    let tenants = IssuerRule::PerTenant {
+        before: text(&rt, "https://login.microsoftonline.com/"),
+        after: text(&rt, "/v2.0"),
+    };
+    let wrong = "ID token: the issuer is another one";
+    assert_ended_as(&rt, &provider(own), OF_A_TENANT, "", wrong);
+    let entra = provider(own).set_issuer_rule(&tenants);
+    assert_ended_as(&rt, &entra, OF_A_TENANT, "", "Absent");
+    assert_ended_as(&rt, &entra, OF_THE_SECOND_SPELLING, "", wrong);
+    let of_a_tenant = "&iss=https://login.microsoftonline.com/9122040d/v2.0";
+    let wrong = "redirect has another issuer";
+    assert_ended_as(&rt, &entra, OF_A_TENANT, of_a_tenant, wrong);
+}
+
+#[test]
+fn an_issuer_of_two_spellings(rt: HostRuntime) {
+    let own = "https://accounts.google.com";
+    let mut spellings = Vec::new(rt.alloc());
+    for spelling in [own, "accounts.google.com"] {
+        spellings.push(text(&rt, spelling)).expect(&rt, "a list");
+    }
+    let spellings = IssuerRule::OneOf(spellings);
+    let wrong = "ID token: the issuer is another one";
+    assert_ended_as(&rt, &provider(own), OF_THE_SECOND_SPELLING, "", wrong);
+    let google = provider(own).set_issuer_rule(&spellings);
+    let told = "&iss=https%3A%2F%2Faccounts.google.com";
+    assert_ended_as(&rt, &google, OF_THE_SECOND_SPELLING, told, "Absent");
+    assert_ended_as(&rt, &google, OF_A_TENANT, told, wrong);
+}
+
+#[test]
+fn other_audiences_and_parties(rt: HostRuntime) {
+    let own = "http://server.example.com";
+    let app = ["1234987819200-android.apps.googleusercontent.com"];
+    let wrong = "ID token: the authorized party is another one";
+    let audiences = provider(own).set_other_audiences(&app);
+    assert_ended_as(&rt, &audiences, OF_AN_APP, "", wrong);
+    let parties = provider(own).set_authorized_parties(&app);
+    assert_ended_as(&rt, &parties, OF_AN_APP, "", "Absent");
+    let api = ["https://api.example.com"];
+    let wrong = "ID token: an audience is not trusted";
+    let parties = provider(own).set_authorized_parties(&api);
+    assert_ended_as(&rt, &parties, FOR_ANOTHER_AUDIENCE, "", wrong);
+    let audiences = provider(own).set_other_audiences(&api);
+    assert_ended_as(&rt, &audiences, FOR_ANOTHER_AUDIENCE, "", "Absent");
+}
