@@ -1,4 +1,5 @@
 pub mod PlaceLaws
+pub mod ReplyLaws
 pub mod Addresses
 pub mod TextLists
 pub mod Faults

@@ -1,5 +1,5 @@
 -- The paths of metadata are paths of a web URL as they are.
-use Rattle.std.proofs.Common.{◌≡◌, ◌≢◌, ◌⊎◌, ℕ, ◌<◌, Bool, true, false, cond, not, ◌&&◌, ◌==◌, List, [], ◌∷◌, ◌++◌, length, Option, Some, None, Result, Ok, Err, IfOk, IfErr, All, inl, inr, ⊎_elim, refl, sym, ap, ◌∙◌, subst, append-nil}
+use Rattle.std.proofs.Common.{◌≡◌, ◌≢◌, ◌⊎◌, ℕ, ◌+◌, ◌^◌, ◌<◌, ◌≤◌, Bool, true, false, cond, not, ◌&&◌, ◌==◌, List, [], ◌∷◌, ◌++◌, length, Option, Some, None, Result, Ok, Err, IfOk, IfErr, All, inl, inr, ⊎_elim, refl, sym, ap, ◌∙◌, subst, append-nil, arith, is_some, length-append, true≢false}
 use Rattle.std.specs.Prelude.{codes, unwrap_or}
 use Rattle.std.specs.List.{list_all}
 use Rattle.std.proofs.lemmas.Bool.{cond-false, or_cases, and_parts, and_left, eqb-true}
@@ -14,7 +14,9 @@ use Rattle.url.specs.declared.scheme.SchemeType.{SchemeType}
 use Rattle.url.specs.declared.scheme.SchemeType.TheVariants.{SpecialNotFile}
 use Rattle.url.specs.Scheme.{default_port, scheme_type, is_special, is_slash}
 use Rattle.url.specs.Input.{is_tab_or_new_line, is_empty, strip_tabs_and_new_lines}
-use Rattle.url.specs.Parts.{Parts, kind_of, has_authority, IsValid}
+use Rattle.url.specs.Parts.{Parts, kind_of, has_authority, needs_guard, offset, serialize, IsValid}
+use Rattle.url.specs.declared.slicing.Position.TheVariants.{AfterPort, BeforePath}
+use Rattle.url.proofs.PiecesLemmas.{steps}
 use Rattle.url.specs.Parser.{with_path}
 use Rattle.url.specs.Path.{dot_count, parse_path_start, IsSegment, IsSegmentList}
 use Rattle.url.specs.Setters.{new_path, set_path}
@@ -23,9 +25,9 @@ use Rattle.url.proofs.PathLemmas.{IsNoSlash, without_last_valid}
 use Rattle.url.proofs.RoundTrip.{stays_unless_file, parse_own_path}
 use Rattle.url.proofs.SetLemmas.{passes_from_kept}
 use Rattle.url.proofs.ValidLemmas.{segment_list_kept, special_has_authority, base_from_authority, hierarchical}
-use Rattle.oauth2_metadata.specs.Issuer.{is_secure, issuer_refusal, trimmed, IsOutOfRoom, IsPlaced}
+use Rattle.oauth2_metadata.specs.Issuer.{is_secure, issuer_refusal, trimmed, IsTooLong, IsPlaced}
 use Rattle.oauth2_metadata.specs.declared.issuer.IssuerError.{IssuerError}
-use Rattle.oauth2_metadata.specs.declared.issuer.IssuerError.TheVariants.{NotHttps}
+use Rattle.oauth2_metadata.specs.declared.issuer.IssuerError.TheVariants.{NotHttps, HasQuery, HasFragment, TooLong, Memory}
 
 -- ---- the scheme
 
@@ -164,9 +166,69 @@ set_own_path url path valid kind list some =
     ∙ ap (λ k. parse_path_start k [] path) kind
     ∙ parse_own_path SpecialNotFile path (stays_unless_file SpecialNotFile [] _ refl) list (λ _. some))
 
+-- ---- the text
+
+ends_none : (b : Bool) (q f : Option (List ℕ)) → cond (not b) (Some NotHttps) (cond (is_some q) (Some HasQuery) (cond (is_some f) (Some HasFragment) None)) ≡ None
+    → (q ≡ None) × (f ≡ None)
+ends_none true None None h = (refl, refl)
+ends_none true None (Some f) h = cc
+ends_none true (Some q) f h = cc
+ends_none false q f h = cc
+
+-- an issuer ends behind its path
+pub issuer_ends : (url : Parts) → issuer_refusal url ≡ None → (url.query ≡ None) × (url.fragment ≡ None)
+issuer_ends url h = ends_none (is_secure url) url.query url.fragment h
+
+guard_free : (url : Parts) → has_authority url ≡ true → needs_guard url ≡ false
+guard_free url authority = rw authority refl
+
+text_length : (url : Parts) (path : List ℕ) → has_authority url ≡ true → url.query ≡ None → url.fragment ≡ None
+    → length (serialize (with_path url path)) ≡ offset url BeforePath + length path
+text_length url path authority query fragment =
+    let moved = with_path url path in
+    let s = steps moved in
+    let t = steps url in
+    let one : ℕ = 1 in
+    let two : ℕ = 2 in
+    let none : ℕ = 0 in
+    let a : cond (is_some moved.query) one none ≡ none = ap (λ (o : Option (List ℕ)). cond (is_some o) one none) query in
+    let b : length (unwrap_or moved.query []) ≡ none = ap (λ (o : Option (List ℕ)). length (unwrap_or o [])) query in
+    let d : cond (is_some moved.fragment) one none ≡ none = ap (λ (o : Option (List ℕ)). cond (is_some o) one none) fragment in
+    let e : length (unwrap_or moved.fragment []) ≡ none = ap (λ (o : Option (List ℕ)). length (unwrap_or o [])) fragment in
+    let f : cond (needs_guard moved) two none ≡ none = ap (λ b. cond b two none) (guard_free moved authority) in
+    let g : cond (needs_guard url) two none ≡ none = ap (λ b. cond b two none) (guard_free url authority) in
+    let port : offset moved AfterPort ≡ offset url AfterPort = refl in
+    omega (arith, s.whole, s.after_fragment, s.before_fragment, s.after_query, s.before_query, s.after_path, s.before_path, t.before_path, a, b, d, e, f, g, port)
+
+-- the length of an issuer's text with another path
+pub issuer_length : (url : Parts) (path : List ℕ) → IsValid url → issuer_refusal url ≡ None → length (serialize (with_path url path)) ≡ offset url BeforePath + length path
+issuer_length url path valid issues =
+    let authority = special_has_authority url valid.head (ap is_special (issuer_kind url issues)) in
+    let none = issuer_ends url issues in
+    text_length url path authority none.0 none.1
+
+-- whether that is too long, by the lengths of the two parts of the path
+pub long_path : (url : Parts) (front back : List ℕ) → IsValid url → issuer_refusal url ≡ None → 2 ^ 32 ≤ offset url BeforePath + (length front + length back) → IsTooLong (with_path url (front ++ back))
+long_path url front back valid issues long = omega (arith, issuer_length url (front ++ back) valid issues, length-append front back, long)
+
+pub short_path : (url : Parts) (front back : List ℕ) → IsValid url → issuer_refusal url ≡ None → (2 ^ 32 ≤ offset url BeforePath + (length front + length back) → false ≡ true) → ¬ (IsTooLong (with_path url (front ++ back)))
+short_path url front back valid issues short = λ long.
+    let sum : 2 ^ 32 ≤ offset url BeforePath + (length front + length back) = omega (arith, issuer_length url (front ++ back) valid issues, length-append front back, long) in
+    absurd (true≢false (sym (short sum)))
+
 -- ---- the result
 
-pub placed : (place : Parts → Parts) (issuer : Parts) (path : List ℕ) (result : Result Parts IssuerError) → issuer_refusal issuer ≡ None → with_path issuer path ≡ place issuer → IfOk result (λ url. url ≡ with_path issuer path) → IfErr result IsOutOfRoom
-    → IsPlaced place issuer result
-placed place issuer path (Ok url) issues at ok err = (issues, ok ∙ at)
-placed place issuer path (Err error) issues at ok err = inr (issues, err)
+-- the URL is refused, for its length alone
+pub too_long : (place : Parts → Parts) (issuer : Parts) (path : List ℕ) → issuer_refusal issuer ≡ None → with_path issuer path ≡ place issuer → IsTooLong (with_path issuer path)
+    → IsPlaced place issuer (Err TooLong)
+too_long place issuer path issues at long = inr (issues, inl (refl, subst IsTooLong at long))
+
+-- memory ran out for a URL that is not too long
+pub no_memory : (place : Parts → Parts) (issuer : Parts) (path : List ℕ) (error : IssuerError) → issuer_refusal issuer ≡ None → with_path issuer path ≡ place issuer → ¬ (IsTooLong (with_path issuer path))
+    → error ≡ Memory → IsPlaced place issuer (Err error)
+no_memory place issuer path error issues at short is = inr (issues, inr (is, subst (λ url. ¬ (IsTooLong url)) at short))
+
+pub placed : (place : Parts → Parts) (issuer : Parts) (path : List ℕ) (result : Result Parts IssuerError) → issuer_refusal issuer ≡ None → with_path issuer path ≡ place issuer → ¬ (IsTooLong (with_path issuer path))
+    → IfOk result (λ url. url ≡ with_path issuer path) → IfErr result (λ error. error ≡ Memory) → IsPlaced place issuer result
+placed place issuer path (Ok url) issues at short ok err = (issues, ok ∙ at)
+placed place issuer path (Err error) issues at short ok err = no_memory place issuer path error issues at short err

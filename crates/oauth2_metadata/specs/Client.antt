@@ -1,6 +1,14 @@
 -- A client with the endpoints that metadata tells.
+use Rattle.std.specs.Prelude.{◌≡◌, ◌⊎◌, ℕ, List, ◌++◌, codes, Option, Some, None, option_map, Result, Ok, Err}
+use Rattle.std.specs.Option.{option_or}
 use Rattle.oauth2.specs.Settings.{Settings}
+use Rattle.oauth2_urls.specs.Addressed.{Addressed}
+use Rattle.oauth2_metadata.specs.EndpointFault.{endpoint_fault, fault_text, member_name}
 use Rattle.oauth2_metadata.specs.Metadata.{EndpointMembers}
+use Rattle.oauth2_metadata.specs.declared.endpoint_fault.Endpoint.{Endpoint}
+use Rattle.oauth2_metadata.specs.declared.endpoint_fault.Endpoint.TheVariants.{Authorization, Token, DeviceAuthorization}
+use Rattle.oauth2_metadata.specs.declared.endpoint_error.EndpointError.{EndpointError}
+use Rattle.oauth2_metadata.specs.declared.endpoint_error.EndpointError.TheVariants.{Refused, Missing, Memory}
 
 -- an endpoint that is not told is none
 abbrev pub with_endpoints : EndpointMembers → Settings → Settings
@@ -11,3 +19,39 @@ with_endpoints m client = record client {
   revocation_url = m.revocation_endpoint;
   token_url = m.token_endpoint;
 }
+
+-- ---- a client for a task
+
+-- the task needs this endpoint
+abbrev pub missing : Endpoint → Option Addressed → Option EndpointError
+missing endpoint None = Some (Missing endpoint)
+missing endpoint (Some url) = None
+
+-- an endpoint that a client may not call, or else one that is missing
+abbrev pub task_refusal : EndpointMembers → Option EndpointError → Option EndpointError
+task_refusal m lacks = option_or (option_map Refused (endpoint_fault m)) lacks
+
+-- a login by a code (RFC 6749, 4.1)
+abbrev pub login_refusal : EndpointMembers → Option EndpointError
+login_refusal m =
+    task_refusal m (option_or (missing Authorization m.authorization_endpoint) (missing Token m.token_endpoint))
+
+-- a token that is kept good (RFC 6749, 4.4 and 6)
+abbrev pub token_refusal : EndpointMembers → Option EndpointError
+token_refusal m = task_refusal m (missing Token m.token_endpoint)
+
+-- a login on another device (RFC 8628)
+abbrev pub device_refusal : EndpointMembers → Option EndpointError
+device_refusal m =
+    task_refusal m (option_or (missing DeviceAuthorization m.device_authorization_endpoint) (missing Token m.token_endpoint))
+
+-- the client for a task that is refused for this, or for nothing
+abbrev pub IsClientOf : Option EndpointError → EndpointMembers → Settings → Result Settings EndpointError → Type 0
+IsClientOf refusal m client (Ok found) = (refusal ≡ None) × (found ≡ with_endpoints m client)
+IsClientOf refusal m client (Err error) = (refusal ≡ Some error) ⊎ ((refusal ≡ None) × (error ≡ Memory))
+
+-- the text of an error
+abbrev pub endpoint_error_text : EndpointError → List ℕ
+endpoint_error_text (Refused fault) = fault_text fault
+endpoint_error_text (Missing endpoint) = codes "metadata has no " ++ member_name endpoint
+endpoint_error_text Memory = codes "Out of memory"

@@ -1,12 +1,12 @@
 -- Issuers (RFC 8414, section 2), and where their metadata is (section 3.1; OpenID Connect Discovery
 -- 1.0, section 4.1).
-use Rattle.std.specs.Prelude.{◌≡◌, ◌⊎◌, ℕ, ◌==◌, not, ◌&&◌, ◌||◌, Bool, false, List, [], ◌∷◌, ◌++◌, codes, bytes_eq, slice_index, Option, Some, None, is_some, Result, Ok, Err, if◌then◌else◌}
+use Rattle.std.specs.Prelude.{◌≡◌, ◌⊎◌, ℕ, ◌^◌, ◌≤◌, ◌==◌, not, ◌&&◌, ◌||◌, Bool, false, List, [], ◌∷◌, ◌++◌, codes, bytes_eq, length, slice_index, Option, Some, None, is_some, Result, Ok, Err, if◌then◌else◌}
 use Rattle.std.specs.Net.Addr.{ipv4_octets, ipv6_segments}
 use Rattle.url.specs.Ascii.{slash}
 use Rattle.url.specs.declared.host.Host.{Host}
 use Rattle.url.specs.declared.host.Host.TheVariants.{Domain, Ipv4, Ipv6}
-use Rattle.url.specs.Parts.{Parts, nonempty_host}
-use Rattle.url.specs.Parser.{parse_url, with_path}
+use Rattle.url.specs.Parts.{Parts, nonempty_host, serialize}
+use Rattle.url.specs.Parser.{parse_url, with_path, IsOutOfRoom as HasNoRoom}
 use Rattle.url.specs.declared.error.ParseError.{ParseError}
 use Rattle.oauth2_metadata.specs.declared.issuer.IssuerError.{IssuerError}
 use Rattle.oauth2_metadata.specs.declared.issuer.IssuerError.TheVariants.{NotUrl, NotHttps, HasQuery, HasFragment, TooLong, Memory}
@@ -50,18 +50,23 @@ metadata_place issuer =
 abbrev pub openid_place : Parts → Parts
 openid_place issuer = with_path issuer (trimmed issuer.path ++ codes "/.well-known/openid-configuration")
 
--- no memory, or a URL longer than a `Url` can be
-abbrev pub IsOutOfRoom : IssuerError → Type 0
-IsOutOfRoom error = (error ≡ Memory) ⊎ (error ≡ TooLong)
+-- the text of the URL has 4 GB or more, and a `Url` holds less
+abbrev pub IsTooLong : Parts → Type 0
+IsTooLong url = 2 ^ 32 ≤ length (serialize url)
+
+-- there is no URL of this place: it is too long, or memory ran out for one that is not
+abbrev pub IsOutOfRoom : Parts → IssuerError → Type 0
+IsOutOfRoom url error = ((error ≡ TooLong) × IsTooLong url) ⊎ ((error ≡ Memory) × ¬ (IsTooLong url))
 
 -- an issuer has its metadata at that place, and a URL that is none is refused
 abbrev pub IsPlaced : (Parts → Parts) → Parts → Result Parts IssuerError → Type 0
 IsPlaced place issuer (Ok url) = (issuer_refusal issuer ≡ None) × (url ≡ place issuer)
-IsPlaced place issuer (Err error) = (issuer_refusal issuer ≡ Some error) ⊎ ((issuer_refusal issuer ≡ None) × IsOutOfRoom error)
+IsPlaced place issuer (Err error) = (issuer_refusal issuer ≡ Some error) ⊎ ((issuer_refusal issuer ≡ None) × IsOutOfRoom (place issuer) error)
 
--- a text is no URL, or there was no room to read it
+-- the parser had no room, which says nothing of the text (`IsOutOfRoom` of `url`), or the text is no URL
 abbrev pub IsNoUrl : List ℕ → IssuerError → Type 0
-IsNoUrl text error = ((error ≡ NotUrl) × (cause : ParseError) × (parse_url None text ≡ Err cause)) ⊎ IsOutOfRoom error
+IsNoUrl text error =
+    (error ≡ Memory) ⊎ ((error ≡ NotUrl) × (cause : ParseError) × (parse_url None text ≡ Err cause) × ¬ (HasNoRoom cause))
 
 -- the text of an error
 abbrev pub issuer_error_text : IssuerError → List ℕ

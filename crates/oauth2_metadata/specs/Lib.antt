@@ -1,6 +1,8 @@
 pub mod Issuer
 pub mod Kinds
 pub mod Metadata
+pub mod EndpointFault
+pub mod Reply
 pub mod Request
 pub mod Client
 pub mod private

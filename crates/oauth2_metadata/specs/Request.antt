@@ -1,5 +1,5 @@
 -- The request for metadata (RFC 8414, 3.1), and what its reply says (3.2 and 3.3).
-use Rattle.std.specs.Prelude.{◌≡◌, ◌⊎◌, ℕ, List, [], codes, bytes_eq, if◌then◌else◌, Option, None, Some, Result, Ok, Err}
+use Rattle.std.specs.Prelude.{◌≡◌, ◌⊎◌, ℕ, List, [], ◌++◌, codes, string_bytes, Option, None, Some, Result, Ok, Err}
 use Rattle.serde_json.specs.Data.{Data}
 use Rattle.http.specs.declared.version.TheConstants.Version.{HTTP_11}
 use Rattle.http_uri.specs.Uri.{Spells}
@@ -14,13 +14,17 @@ use Rattle.oauth2_wire.specs.declared.error.RequestTokenError.{RequestTokenError
 use Rattle.oauth2_wire.specs.Display.{fault_text}
 use Rattle.oauth2_wire.specs.Expected.{one_header}
 use Rattle.oauth2_wire.specs.Once.{AsksOnce}
-use Rattle.oauth2_wire.specs.Reply.{HttpResponse, answer_of}
+use Rattle.oauth2_wire.specs.Reply.{HttpResponse}
 use Rattle.oauth2_wire.specs.Request.{HttpRequest, RequestView}
+use Rattle.oauth2_metadata.specs.EndpointFault.{endpoint_fault, fault_text as endpoint_text}
 use Rattle.oauth2_metadata.specs.Metadata.{Metadata}
+use Rattle.oauth2_metadata.specs.Reply.{found_answer, found_seen, other_reply_text}
+use Rattle.oauth2_metadata.specs.declared.endpoint_fault.EndpointFault.{EndpointFault}
 use Rattle.oauth2_metadata.specs.declared.metadata_error.MetadataError.{MetadataError}
-use Rattle.oauth2_metadata.specs.declared.metadata_error.MetadataError.TheVariants.{OtherIssuer, Reply}
+use Rattle.oauth2_metadata.specs.declared.metadata_error.MetadataError.TheVariants.{Endpoint, OtherIssuer, Reply, Status}
+use Rattle.oauth2_metadata.specs.declared.reply.OtherReply.{OtherReply}
 
--- whose metadata is asked for, where it is, and the rule for the Content-Type of the reply
+-- the issuer that the metadata has to name, where it is, and the rule for the Content-Type of the reply
 pub record MetadataQuery : Type 0 where
   pub issuer : List ℕ
   pub url : Parts
@@ -35,23 +39,37 @@ pub record IsGetOf (text : List ℕ) (v : RequestView) : Type 0 where
   pub body : v.body ≡ []
 
 -- the text of an error
+abbrev pub other_issuer_text : List ℕ → List ℕ
+other_issuer_text issuer = codes "metadata is another issuer's: " ++ issuer
+
 abbrev pub metadata_error_text : {RE T : Type 0} → (T → Option (List ℕ)) → MetadataError RE T → Option (List ℕ)
 metadata_error_text text (Reply error) = fault_text text error
-metadata_error_text text OtherIssuer = Some (codes "metadata is another issuer's")
+metadata_error_text text (Status reply) = Some (other_reply_text reply.status)
+metadata_error_text text (Endpoint fault) = Some (endpoint_text fault)
+metadata_error_text text (OtherIssuer issuer) = Some (other_issuer_text (string_bytes issuer))
 
 module _ {E T RE : Type 0} where
-  -- metadata counts where it names the issuer that was asked for, byte for byte (RFC 8414, 3.3)
-  abbrev pub checked : List ℕ → Result (Metadata E) (RequestTokenError RE T) → Result (Metadata E) (MetadataError RE T)
-  checked issuer (Ok m) = if bytes_eq m.issuer issuer then Ok m else Err OtherIssuer
-  checked issuer (Err error) = Err (Reply error)
+  -- a document whose endpoints have this fault, or none, counts where it has none and names that
+  -- issuer, byte for byte (RFC 8414, 3.3)
+  abbrev pub IsChecked : List ℕ → Metadata E → Option EndpointFault → Result (Metadata E) (MetadataError RE T) → Type 0
+  IsChecked issuer m (Some fault) result = result ≡ Err (Endpoint fault)
+  IsChecked issuer m None (Ok found) = (found ≡ m) × (m.issuer ≡ issuer)
+  IsChecked issuer m None (Err (OtherIssuer named)) = (string_bytes named ≡ m.issuer) × ¬ (m.issuer ≡ issuer)
+  IsChecked issuer m None (Err error) = ⊥
+
+  -- what was found is judged
+  abbrev pub IsJudged : List ℕ → Result (Result (Metadata E) OtherReply) (RequestTokenError RE T) → Result (Metadata E) (MetadataError RE T) → Type 0
+  IsJudged issuer (Ok (Ok m)) result = IsChecked issuer m (endpoint_fault m.endpoints) result
+  IsJudged issuer (Ok (Err reply)) result = result ≡ Err (Status reply)
+  IsJudged issuer (Err error) result = result ≡ Err (Reply error)
 
 module _ {E A T F RE C : Type 0} where
-  -- the GET is asked for once, and the result is what its answer says, if it is this issuer's
+  -- the GET is asked for once, and the result is what its answer says, judged for this issuer
   abbrev pub AsksForMetadata : (Metadata E → A) → (T → F) → (Data → Reading A) → (Data → Reading F)
       → (C → HttpRequest → Result HttpResponse RE → C → Type 0) → MetadataQuery → C → Result (Metadata E) (MetadataError RE T) → C → Type 0
   AsksForMetadata meaning error_meaning reading error_reading step query before result after =
-      (outcome : Result (Metadata E) (RequestTokenError RE T)) × (result ≡ checked query.issuer outcome)
-      × AsksOnce meaning error_meaning step (answer_of query.reply_rule reading error_reading)
+      (outcome : Result (Result (Metadata E) OtherReply) (RequestTokenError RE T)) × IsJudged query.issuer outcome result
+      × AsksOnce (found_seen meaning) error_meaning step (found_answer query.reply_rule reading error_reading)
       IsGetOf (serialize query.url) before outcome after
 
 -- a request for the metadata of the issuer that a text is, at that place

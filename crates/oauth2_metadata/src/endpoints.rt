@@ -1,12 +1,17 @@
 //! A client with the endpoints that metadata tells.
 
-ghost use Rattle.std.specs.Prelude.{◌≡◌, IfOk};
+ghost use Rattle.std.specs.Prelude.{◌≡◌, Some, None, option_map, IfOk, MatchResult};
 ghost use Rattle.oauth2.specs.Settings.{Settings};
-ghost use Rattle.oauth2_metadata.specs.Client.{with_endpoints};
+ghost use Rattle.oauth2_metadata.specs.Client.{IsClientOf, device_refusal, login_refusal};
+ghost use Rattle.oauth2_metadata.specs.Client.{token_refusal, with_endpoints};
+ghost use Rattle.oauth2_metadata.specs.EndpointFault.{endpoint_fault};
+ghost use Rattle.oauth2_metadata.specs.declared.endpoint_error.EndpointError.TheVariants.{Refused};
 
+use crate::endpoint_error::EndpointError;
+use crate::endpoint_fault::Endpoint;
 use crate::groups::Endpoints;
 use crate::metadata::ServerMetadata;
-use oauth2::{Client, EndpointMaybeSet, EndpointState};
+use oauth2::{Client, EndpointMaybeSet, EndpointSet, EndpointState};
 use oauth2_types::TryClone;
 use oauth2_urls::{AuthUrl, DeviceAuthorizationUrl, IntrospectionUrl, RevocationUrl, TokenUrl};
 use std::alloc::{AllocError, Global};
@@ -24,6 +29,48 @@ pub type DiscoveredClient<TE, TR, TIR, RT, TRE> = Client<
     EndpointMaybeSet,
     EndpointMaybeSet,
     EndpointMaybeSet,
+>;
+
+/// The type of such a client that has an authorization and a token endpoint, as a login wants.
+pub type DiscoveredLoginClient<TE, TR, TIR, RT, TRE> = Client<
+    TE,
+    TR,
+    TIR,
+    RT,
+    TRE,
+    EndpointSet,
+    EndpointMaybeSet,
+    EndpointMaybeSet,
+    EndpointMaybeSet,
+    EndpointSet,
+>;
+
+/// The type of such a client that has a token endpoint, as a keeper wants.
+pub type DiscoveredTokenClient<TE, TR, TIR, RT, TRE> = Client<
+    TE,
+    TR,
+    TIR,
+    RT,
+    TRE,
+    EndpointMaybeSet,
+    EndpointMaybeSet,
+    EndpointMaybeSet,
+    EndpointMaybeSet,
+    EndpointSet,
+>;
+
+/// The type of such a client that has a device authorization and a token endpoint.
+pub type DiscoveredDeviceClient<TE, TR, TIR, RT, TRE> = Client<
+    TE,
+    TR,
+    TIR,
+    RT,
+    TRE,
+    EndpointMaybeSet,
+    EndpointSet,
+    EndpointMaybeSet,
+    EndpointMaybeSet,
+    EndpointSet,
 >;
 
 impl<EF> ServerMetadata<EF> {
@@ -54,6 +101,77 @@ impl<EF> ServerMetadata<EF> {
     }
 }
 
+impl<EF> ServerMetadata<EF> {
+    /// The client with these endpoints, for a login by a code: an authorization and a token
+    /// endpoint are there. The client is given up where there is an error, here and in the next
+    /// two functions.
+    pub fn login_client_of<TE, TR, TIR, RT, TRE, A, D, I, R, T>(
+        &self,
+        alloc: Global,
+        client: Client<TE, TR, TIR, RT, TRE, A, D, I, R, T>,
+    ) -> Result<DiscoveredLoginClient<TE, TR, TIR, RT, TRE>, EndpointError>
+    where
+        A: EndpointState,
+        D: EndpointState,
+        I: EndpointState,
+        R: EndpointState,
+        T: EndpointState,
+        ensures { IsClientOf (login_refusal self.now.endpoints) self.now.endpoints client result }
+    {
+        let (auth_url, token_url) = self.endpoints.of_login()?;
+        let auth_url = auth_url.try_clone(alloc)?;
+        let token_url = token_url.try_clone(alloc)?;
+        let client = self.endpoints_of(alloc, client)?;
+        Ok(client.set_auth_uri(auth_url).set_token_uri(token_url))
+    }
+
+    /// The client with these endpoints, for a keeper and for every request for a token: a token
+    /// endpoint is there.
+    pub fn token_client_of<TE, TR, TIR, RT, TRE, A, D, I, R, T>(
+        &self,
+        alloc: Global,
+        client: Client<TE, TR, TIR, RT, TRE, A, D, I, R, T>,
+    ) -> Result<DiscoveredTokenClient<TE, TR, TIR, RT, TRE>, EndpointError>
+    where
+        A: EndpointState,
+        D: EndpointState,
+        I: EndpointState,
+        R: EndpointState,
+        T: EndpointState,
+        ensures { IsClientOf (token_refusal self.now.endpoints) self.now.endpoints client result }
+    {
+        let token_url = self.endpoints.of_token()?.try_clone(alloc)?;
+        let client = self.endpoints_of(alloc, client)?;
+        Ok(client.set_token_uri(token_url))
+    }
+
+    /// The client with these endpoints, for a login on another device: a device authorization and
+    /// a token endpoint are there.
+    pub fn device_client_of<TE, TR, TIR, RT, TRE, A, D, I, R, T>(
+        &self,
+        alloc: Global,
+        client: Client<TE, TR, TIR, RT, TRE, A, D, I, R, T>,
+    ) -> Result<DiscoveredDeviceClient<TE, TR, TIR, RT, TRE>, EndpointError>
+    where
+        A: EndpointState,
+        D: EndpointState,
+        I: EndpointState,
+        R: EndpointState,
+        T: EndpointState,
+        ensures { IsClientOf (device_refusal self.now.endpoints) self.now.endpoints client result }
+    {
+        let (device_url, token_url) = self.endpoints.of_device()?;
+        let device_url = device_url.try_clone(alloc)?;
+        let token_url = token_url.try_clone(alloc)?;
+        let client = self.endpoints_of(alloc, client)?;
+        Ok(
+            client
+                .set_device_authorization_url(device_url)
+                .set_token_uri(token_url),
+        )
+    }
+}
+
 // Copies of the endpoints, to be moved into a client.
 #[derive(Drop)]
 struct EndpointCopies {
@@ -65,6 +183,66 @@ struct EndpointCopies {
 }
 
 impl Endpoints {
+    // The endpoints of a login by a code.
+    fn of_login(&self) -> Result<(&AuthUrl, &TokenUrl), EndpointError>
+        ensures { MatchResult result
+            (λ urls. (login_refusal self.now ≡ None)
+            × (self.now.authorization_endpoint ≡ Some urls.0.now)
+            × (self.now.token_endpoint ≡ Some urls.1.now))
+            (λ error. login_refusal self.now ≡ Some error) }
+    {
+        self.refused()?;
+        let Some(auth_url) = &self.authorization_endpoint else {
+            return Err(EndpointError::Missing(Endpoint::Authorization));
+        };
+        let Some(token_url) = &self.token_endpoint else {
+            return Err(EndpointError::Missing(Endpoint::Token));
+        };
+        Ok((auth_url, token_url))
+    }
+
+    // The token endpoint.
+    fn of_token(&self) -> Result<&TokenUrl, EndpointError>
+        ensures { MatchResult result
+            (λ url. (token_refusal self.now ≡ None) × (self.now.token_endpoint ≡ Some url.now))
+            (λ error. token_refusal self.now ≡ Some error) }
+    {
+        self.refused()?;
+        let Some(token_url) = &self.token_endpoint else {
+            return Err(EndpointError::Missing(Endpoint::Token));
+        };
+        Ok(token_url)
+    }
+
+    // The endpoints of a login on another device.
+    fn of_device(&self) -> Result<(&DeviceAuthorizationUrl, &TokenUrl), EndpointError>
+        ensures { MatchResult result
+            (λ urls. (device_refusal self.now ≡ None)
+            × (self.now.device_authorization_endpoint ≡ Some urls.0.now)
+            × (self.now.token_endpoint ≡ Some urls.1.now))
+            (λ error. device_refusal self.now ≡ Some error) }
+    {
+        self.refused()?;
+        let Some(device_url) = &self.device_authorization_endpoint else {
+            return Err(EndpointError::Missing(Endpoint::DeviceAuthorization));
+        };
+        let Some(token_url) = &self.token_endpoint else {
+            return Err(EndpointError::Missing(Endpoint::Token));
+        };
+        Ok((device_url, token_url))
+    }
+
+    // An endpoint that a client may not call refuses each task.
+    fn refused(&self) -> Result<(), EndpointError>
+        ensures { MatchResult result (λ _. endpoint_fault self.now ≡ None)
+            (λ error. option_map Refused (endpoint_fault self.now) ≡ Some error) }
+    {
+        match self.fault() {
+            Some(fault) => Err(EndpointError::Refused(fault)),
+            None => Ok(()),
+        }
+    }
+
     #[tactic(auto, using(std::proofs::lemmas::Iterator::Adapters::option_map_id))]
     fn copies(&self, alloc: Global) -> Result<EndpointCopies, AllocError>
         ensures auth { IfOk result (λ c. c.auth_url ≡ self.now.authorization_endpoint) }

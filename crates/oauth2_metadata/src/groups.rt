@@ -1,7 +1,14 @@
 //! The members of metadata, in groups that are read and written together.
 
+ghost use Rattle.std.specs.Prelude.{◌≡◌, option_copied};
+ghost use Rattle.oauth2_metadata.specs.EndpointFault.{cause_of, endpoint_fault, fault_at};
+ghost use Rattle.oauth2_metadata.specs.EndpointFault.{fault_of, forbids_fragment, url_at};
+
+use crate::endpoint_fault::{Endpoint, EndpointCause, EndpointFault};
+use crate::issuer::is_secure;
 use oauth2_urls::{AuthUrl, DeviceAuthorizationUrl, IntrospectionUrl, RevocationUrl, TokenUrl};
 use std::marker::Model;
+use url::Url;
 
 // The endpoints that this client calls.
 #[derive(Debug)]
@@ -45,6 +52,84 @@ impl Model for Endpoints {
         × ForSome m.device_authorization_endpoint IsAddress
         × ForSome m.introspection_endpoint IsAddress
         × ForSome m.revocation_endpoint IsAddress };
+}
+
+impl Endpoints {
+    // The first that a client may not call.
+    pub(crate) fn fault(&self) -> Option<EndpointFault>
+        ensures { result ≡ endpoint_fault self.now }
+    {
+        self.fault_at(Endpoint::Authorization)
+            .or(self.fault_at(Endpoint::Token))
+            .or(self.fault_at(Endpoint::DeviceAuthorization))
+            .or(self.fault_at(Endpoint::Introspection))
+            .or(self.fault_at(Endpoint::Revocation))
+    }
+
+    fn fault_at(&self, endpoint: Endpoint) -> Option<EndpointFault>
+        ensures { result ≡ fault_at endpoint self.now }
+    {
+        fault_of(endpoint, self.url_at(endpoint))
+    }
+
+    // The URL of an endpoint, if it is there.
+    fn url_at(&self, endpoint: Endpoint) -> Option<&Url>
+        ensures { option_copied result ≡ url_at endpoint self.now }
+    {
+        match endpoint {
+            Endpoint::Authorization => match &self.authorization_endpoint {
+                Some(url) => Some(url.url()),
+                None => None,
+            },
+            Endpoint::Token => match &self.token_endpoint {
+                Some(url) => Some(url.url()),
+                None => None,
+            },
+            Endpoint::DeviceAuthorization => match &self.device_authorization_endpoint {
+                Some(url) => Some(url.url()),
+                None => None,
+            },
+            Endpoint::Introspection => match &self.introspection_endpoint {
+                Some(url) => Some(url.url()),
+                None => None,
+            },
+            Endpoint::Revocation => match &self.revocation_endpoint {
+                Some(url) => Some(url.url()),
+                None => None,
+            },
+        }
+    }
+}
+
+// Why a client may not call an endpoint, if it is there.
+fn fault_of(endpoint: Endpoint, url: Option<&Url>) -> Option<EndpointFault>
+    ensures { result ≡ fault_of endpoint (option_copied url.entry) }
+{
+    let cause = cause_of(endpoint, url?)?;
+    Some(EndpointFault { endpoint, cause })
+}
+
+// Why a client may not call this URL of an endpoint.
+fn cause_of(endpoint: Endpoint, url: &Url) -> Option<EndpointCause>
+    ensures { result ≡ cause_of endpoint url.now }
+{
+    if !is_secure(url) {
+        Some(EndpointCause::NotHttps)
+    } else if forbids_fragment(endpoint) && url.fragment().is_some() {
+        Some(EndpointCause::HasFragment)
+    } else {
+        None
+    }
+}
+
+// Whether the standard of an endpoint forbids a fragment.
+fn forbids_fragment(endpoint: Endpoint) -> bool
+    ensures { result ≡ forbids_fragment endpoint }
+{
+    match endpoint {
+        Endpoint::Authorization | Endpoint::Token | Endpoint::Revocation => true,
+        Endpoint::DeviceAuthorization | Endpoint::Introspection => false,
+    }
 }
 
 // What the server's grants allow.

@@ -1,18 +1,26 @@
 //! The issuer of an authorization server, and the URL of its metadata (RFC 8414, sections 2 and
 //! 3.1; OpenID Connect Discovery 1.0, section 4.1).
 
-ghost use Rattle.std.specs.Prelude.{◌≡◌, ◌<◌, ◌++◌, Some, length, IfOk, IfErr, codes};
+ghost use Rattle.std.specs.Prelude.{◌≡◌, ◌<◌, ◌≤◌, ◌+◌, ◌^◌, ◌++◌, ◌↔◌, Some, length, IfOk, IfErr};
+ghost use Rattle.std.specs.Prelude.{IsTrue, codes};
 ghost use Rattle.url.specs.declared.scheme.SchemeType.TheVariants.{SpecialNotFile};
 ghost use Rattle.url.specs.Parser.{with_path};
-ghost use Rattle.url.specs.Parts.{IsValid, kind_of, nonempty_host};
+ghost use Rattle.url.specs.Parts.{IsValid, kind_of, nonempty_host, offset};
+ghost use Rattle.url.specs.declared.slicing.Position.TheVariants.{BeforePath};
 ghost use Rattle.url.specs.Path.{IsSegmentList};
-ghost use Rattle.oauth2_metadata.specs.Issuer.{IsOutOfRoom, IsPlaced, is_loopback, is_secure};
+ghost use Rattle.oauth2_metadata.specs.Issuer.{IsPlaced, is_loopback, is_secure};
 ghost use Rattle.oauth2_metadata.specs.Issuer.{issuer_error_text, metadata_place, openid_place};
 ghost use Rattle.oauth2_metadata.specs.Issuer.{issuer_refusal, trimmed};
+ghost use Rattle.oauth2_metadata.specs.declared.issuer.IssuerError.TheVariants.{Memory};
 
 use std::alloc::{AllocError, Global};
 use std::fmt;
-use url::{Host, ParseError, Url};
+use url::{Host, Position, Url};
+
+// The well-known paths (RFC 8414, section 3; OpenID Connect Discovery 1.0, section 4).
+const SERVER_PATH: &str = "/.well-known/oauth-authorization-server";
+
+const OPENID_PATH: &str = "/.well-known/openid-configuration";
 
 /// Why a text or a URL is no issuer, or its metadata has no URL.
 #[derive(Clone, Copy, Debug, PartialEq, Eq)]
@@ -69,8 +77,12 @@ pub fn metadata_url(alloc: Global, issuer: &Url) -> Result<Url, IssuerError>
     if let Some(error) = refusal(issuer) {
         return Err(error);
     }
-    let mut path = String::from_str(alloc, "/.well-known/oauth-authorization-server")?;
-    path.push_str(trimmed(issuer.path()))?;
+    let own = trimmed(issuer.path());
+    if is_too_long(issuer, SERVER_PATH, own) {
+        return Err(IssuerError::TooLong);
+    }
+    let mut path = String::from_str(alloc, SERVER_PATH)?;
+    path.push_str(own)?;
     at_path(issuer, path.as_str())
 }
 
@@ -82,8 +94,12 @@ pub fn openid_metadata_url(alloc: Global, issuer: &Url) -> Result<Url, IssuerErr
     if let Some(error) = refusal(issuer) {
         return Err(error);
     }
-    let mut path = String::from_str(alloc, trimmed(issuer.path()))?;
-    path.push_str("/.well-known/openid-configuration")?;
+    let own = trimmed(issuer.path());
+    if is_too_long(issuer, own, OPENID_PATH) {
+        return Err(IssuerError::TooLong);
+    }
+    let mut path = String::from_str(alloc, own)?;
+    path.push_str(OPENID_PATH)?;
     at_path(issuer, path.as_str())
 }
 
@@ -102,7 +118,8 @@ fn refusal(url: &Url) -> Option<IssuerError>
     }
 }
 
-fn is_secure(url: &Url) -> bool
+// `https`, or `http` to this machine itself.
+pub(crate) fn is_secure(url: &Url) -> bool
     ensures { result ≡ is_secure url.now }
 {
     match url.scheme() {
@@ -130,19 +147,28 @@ fn trimmed(path: &str) -> &str
     path.strip_suffix('/').unwrap_or(path)
 }
 
-// The URL with another path.
+// Whether the URL of an issuer, with these two texts for its path, would be longer than a `Url` can
+// be. Tested first, since `set_path` leaves open which of its two errors tells what.
+fn is_too_long(issuer: &Url, front: &str, back: &str) -> bool
+    ensures { IsTrue result ↔ 2 ^ 32
+        ≤ offset issuer.now BeforePath + (length front.now + length back.now) }
+{
+    let path = front.len() + back.len();
+    issuer.index(Position::BeforePath).saturating_add(path) > u32::MAX as usize
+}
+
+// The URL with another path, of an issuer whose metadata has a URL.
 fn at_path(url: &Url, path: &str) -> Result<Url, IssuerError>
     requires valid { IsValid url.now }
     requires web { kind_of url.now ≡ SpecialNotFile }
     requires segments { IsSegmentList SpecialNotFile path.now }
     requires some { 0 < length path.now }
     ensures ok { IfOk result (λ moved. moved ≡ with_path url.now path.now) }
-    ensures refusal { IfErr result IsOutOfRoom }
+    ensures refusal { IfErr result (λ error. error ≡ Memory) }
 {
     let mut moved = url.clone()?;
     match moved.set_path(path) {
         Ok(()) => Ok(moved),
-        Err(ParseError::OutOfMemory) => Err(IssuerError::Memory),
-        Err(_) => Err(IssuerError::TooLong),
+        Err(_) => Err(IssuerError::Memory),
     }
 }

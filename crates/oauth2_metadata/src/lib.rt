@@ -3,6 +3,8 @@
 
 #![tactic(auto)]
 
+mod endpoint_error;
+mod endpoint_fault;
 mod endpoints;
 mod groups;
 mod groups_read;
@@ -12,10 +14,16 @@ mod kinds;
 mod metadata;
 mod metadata_error;
 mod metadata_json;
+mod reply;
 mod request;
 
-pub use endpoints::DiscoveredClient;
+pub use endpoint_error::EndpointError;
+pub use endpoint_fault::{Endpoint, EndpointCause, EndpointFault};
+pub use endpoints::{
+    DiscoveredClient, DiscoveredDeviceClient, DiscoveredLoginClient, DiscoveredTokenClient,
+};
 pub use issuer::{IssuerError, metadata_url, openid_metadata_url};
 pub use metadata::ServerMetadata;
 pub use metadata_error::MetadataError;
+pub use reply::OtherReply;
 pub use request::MetadataRequest;

@@ -9,8 +9,10 @@ ghost use Rattle.std.specs.Prelude.{
   string_bytes,
   unwrap_or,
 };
+ghost use Rattle.oauth2_metadata.specs.EndpointFault.{endpoint_fault};
 ghost use Rattle.oauth2_metadata.specs.Metadata.{Metadata};
 
+use crate::endpoint_fault::EndpointFault;
 use crate::groups::{AuthMethods, Endpoints, Pages, Services, SigningAlgorithms, Supported};
 use oauth2_replies::ExtraFields;
 use oauth2_urls::{AuthUrl, DeviceAuthorizationUrl, IntrospectionUrl, RevocationUrl, TokenUrl};
@@ -51,6 +53,15 @@ impl<EF> ServerMetadata<EF> {
         self.issuer.as_str()
     }
 
+    // The issuer alone.
+    pub(crate) fn into_issuer(self) -> String
+    where
+        EF: Drop,
+        ensures { string_bytes result ≡ self.issuer }
+    {
+        self.issuer
+    }
+
     /// The authorization endpoint.
     pub fn authorization_endpoint(&self) -> Option<&AuthUrl>
         ensures { option_copied result ≡ self.now.endpoints.authorization_endpoint }
@@ -84,6 +95,14 @@ impl<EF> ServerMetadata<EF> {
         ensures { option_copied result ≡ self.now.endpoints.revocation_endpoint }
     {
         self.endpoints.revocation_endpoint.as_ref()
+    }
+
+    /// The first endpoint, in the order of `Endpoint`, that a client may not call. What `request`
+    /// of a `MetadataRequest` returns has none; ask this of a document that was read otherwise.
+    pub fn endpoint_fault(&self) -> Option<EndpointFault>
+        ensures { result ≡ endpoint_fault self.now.endpoints }
+    {
+        self.endpoints.fault()
     }
 
     /// The scopes that the server knows, some or all of them.

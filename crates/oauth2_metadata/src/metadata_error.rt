@@ -1,5 +1,7 @@
 //! Why there is no metadata.
 
+use crate::endpoint_fault::EndpointFault;
+use crate::reply::OtherReply;
 use oauth2_codes::BasicErrorResponse;
 use oauth2_types::display::write_display;
 use oauth2_wire::RequestTokenError;
@@ -8,10 +10,15 @@ use std::fmt;
 /// Why there is no metadata of an issuer.
 #[derive(Debug, Drop)]
 pub enum MetadataError<RE, T = BasicErrorResponse> {
-    /// The request was not sent, or its reply is no metadata.
+    /// The request was not sent, its reply has the status 200 and is no metadata, or it is an error
+    /// response of RFC 6749, section 5.2.
     Reply(RequestTokenError<RE, T>),
-    /// The metadata is another issuer's, so nothing of it counts (RFC 8414, section 3.3).
-    OtherIssuer,
+    /// The reply has another status, such as 404, or one of a redirect.
+    Status(OtherReply),
+    /// A client may not call this endpoint of the metadata, so nothing of it counts.
+    Endpoint(EndpointFault),
+    /// The metadata is that of this other issuer, so nothing of it counts (RFC 8414, section 3.3).
+    OtherIssuer(String),
 }
 
 impl<RE, T: fmt::Display> fmt::Display for MetadataError<RE, T> {
@@ -24,7 +31,12 @@ impl<RE, T: fmt::Display> fmt::Display for MetadataError<RE, T> {
     fn fmt<W: fmt::Write>(&self, f: &mut fmt::Formatter<W>) -> fmt::Result {
         match self {
             MetadataError::Reply(error) => write_display(f, error),
-            MetadataError::OtherIssuer => f.write_str("metadata is another issuer's"),
+            MetadataError::Status(reply) => write_display(f, reply),
+            MetadataError::Endpoint(fault) => write_display(f, fault),
+            MetadataError::OtherIssuer(issuer) => write_display(
+                f,
+                format_args!("metadata is another issuer's: {issuer}"),
+            ),
         }
     }
 }

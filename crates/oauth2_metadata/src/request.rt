@@ -10,11 +10,13 @@ ghost use Rattle.oauth2_wire.specs.Expected.{one_header};
 ghost use Rattle.oauth2_wire.specs.Request.{view_of};
 ghost use Rattle.oauth2_metadata.specs.Issuer.{IsNoUrl, metadata_place, openid_place};
 ghost use Rattle.oauth2_metadata.specs.Metadata.{metadata_seen, metadata_reading};
-ghost use Rattle.oauth2_metadata.specs.Request.{AsksForMetadata, IsAsked, IsGetOf, checked};
+ghost use Rattle.oauth2_metadata.specs.EndpointFault.{endpoint_fault};
+ghost use Rattle.oauth2_metadata.specs.Request.{AsksForMetadata, IsAsked, IsChecked, IsGetOf};
 
 use crate::issuer::{IssuerError, metadata_url, openid_metadata_url};
 use crate::metadata::ServerMetadata;
 use crate::metadata_error::MetadataError;
+use crate::reply::send;
 use http::request::Parts;
 use http::{Method, Request, Version};
 use http_header::{ACCEPT, HeaderMap, HeaderMapError, HeaderValue};
@@ -22,7 +24,7 @@ use http_uri::{Uri, UriError};
 use oauth2_codes::BasicErrorResponse;
 use oauth2_json::FromJson;
 use oauth2_replies::ExtraTokenFields;
-use oauth2_wire::{HttpRequest, ReplyRule, RequestFault, SyncHttpClient, send_once};
+use oauth2_wire::{HttpRequest, ReplyRule, RequestFault, SyncHttpClient};
 use std::alloc::{AllocError, Global};
 use std::marker::Model;
 use url::{ParseError, Url};
@@ -30,6 +32,7 @@ use url::{ParseError, Url};
 /// A request for the metadata of an issuer, whose reply is read by the rule `Prefix`.
 #[derive(Debug, Drop)]
 pub struct MetadataRequest {
+    // The issuer that the metadata has to name.
     issuer: String,
     url: Url,
     reply_rule: ReplyRule,
@@ -82,6 +85,17 @@ impl MetadataRequest {
         self
     }
 
+    /// Sets the issuer that the metadata has to name in place of the one that was asked for, byte
+    /// for byte. For a server that has one document for many issuers, as Entra's `common`, which
+    /// names `https://login.microsoftonline.com/{tenantid}/v2.0`. Do not set it otherwise: what is
+    /// left of RFC 8414, section 3.3, is the server that you know to answer so.
+    pub fn set_expected_issuer(mut self, issuer: String) -> MetadataRequest
+        ensures { result ≡ record self { issuer = string_bytes issuer } }
+    {
+        self.issuer = issuer;
+        self
+    }
+
     /// Where the metadata is asked for.
     pub fn url(&self) -> &Url
         ensures { result.now ≡ self.now.url }
@@ -105,7 +119,8 @@ impl MetadataRequest {
     }
 
     /// Sends the request, once, and reads its reply. A reply whose status is not 200 is read as an
-    /// error response, as those of the other endpoints are.
+    /// error response, as those of the other endpoints are, unless it is a redirect. Where it reads
+    /// as none, it is told by its status.
     pub fn request<EF: ExtraTokenFields + Drop, C: SyncHttpClient>(
         self,
         alloc: Global,
@@ -119,24 +134,27 @@ impl MetadataRequest {
         ensures ready { C.is_ready http_client.new }
     {
         let prepared = self.prepare_request(alloc);
-        match send_once(alloc, self.reply_rule, prepared, http_client) {
-            Ok(metadata) => of_issuer(self.issuer.as_str(), metadata),
+        match send(alloc, self.reply_rule, prepared, http_client) {
+            Ok(Ok(metadata)) => checked(self.issuer.as_str(), metadata),
+            Ok(Err(reply)) => Err(MetadataError::Status(reply)),
             Err(error) => Err(MetadataError::Reply(error)),
         }
     }
 }
 
-// The metadata, if it names this issuer.
-fn of_issuer<EF: Drop, RE>(
+// The metadata, if a client may call its endpoints and it names this issuer.
+fn checked<EF: Drop, RE>(
     issuer: &str,
     metadata: ServerMetadata<EF>,
 ) -> Result<ServerMetadata<EF>, MetadataError<RE>>
-    ensures { result ≡ checked issuer.now (Ok metadata) }
+    ensures { IsChecked issuer.now metadata (endpoint_fault metadata.endpoints) result }
 {
-    if metadata.issuer() == issuer {
+    if let Some(fault) = metadata.endpoint_fault() {
+        Err(MetadataError::Endpoint(fault))
+    } else if metadata.issuer() == issuer {
         Ok(metadata)
     } else {
-        Err(MetadataError::OtherIssuer)
+        Err(MetadataError::OtherIssuer(metadata.into_issuer()))
     }
 }
 
@@ -147,8 +165,7 @@ fn parsed(alloc: Global, issuer: &str) -> Result<Url, IssuerError>
 {
     match Url::parse(alloc, issuer) {
         Ok(url) => Ok(url),
-        Err(ParseError::OutOfMemory) => Err(IssuerError::Memory),
-        Err(ParseError::Overflow) => Err(IssuerError::TooLong),
+        Err(ParseError::OutOfMemory | ParseError::Overflow) => Err(IssuerError::Memory),
         Err(_) => Err(IssuerError::NotUrl),
     }
 }

@@ -1,14 +1,16 @@
-//! What servers reply with, and what a client makes of it.
+//! What servers reply with, and what a program reads of it.
 
-use http_header::{CONTENT_TYPE, HeaderValue};
 use oauth2::basic::BasicClient;
 use oauth2::http::response::Parts;
 use oauth2::http::{Response, StatusCode};
 use oauth2::{
     AuthorizationCode, Client, ClientId, ConfigurationError, HttpRequest, HttpResponse,
-    RequestTokenError, SyncHttpClient, compact, read_body,
+    SyncHttpClient, compact, read_body,
 };
-use oauth2_metadata::{MetadataError, MetadataRequest, ServerMetadata};
+use oauth2_metadata::{
+    Endpoint, EndpointCause, EndpointError, EndpointFault, MetadataError, MetadataRequest,
+    ServerMetadata,
+};
 use std::process::Abort;
 
 // A text of which proofs know nothing.
@@ -51,11 +53,7 @@ fn answering(rt: &(impl Abort + AllocGlobal), status: u16, body: &str) -> Canned
     let alloc = rt.alloc();
     let mut head = Parts::new(alloc);
     head.status = StatusCode::from_u16(status).expect(rt, "a status");
-    replying(rt, head, body)
-}
-
-fn replying(rt: &(impl Abort + AllocGlobal), head: Parts, body: &str) -> Canned {
-    let body = body.as_bytes().to_vec(rt.alloc()).expect(rt, "a body");
+    let body = body.as_bytes().to_vec(alloc).expect(rt, "a body");
     Canned {
         calls: 0,
         reply: Some(Response::from_parts(head, body)),
@@ -108,8 +106,9 @@ fn endpoints(rt: HostRuntime) {
     let metadata: ServerMetadata = read_body(alloc, text(&rt, EXAMPLE).as_bytes())
         .ok()
         .expect(&rt, "metadata");
-    let client: BasicClient = Client::new(ClientId::new(text(&rt, "aaa")));
-    let client = metadata.endpoints_of(alloc, client).expect(&rt, "a client");
+    let client = metadata
+        .endpoints_of(alloc, new_client(&rt))
+        .expect(&rt, "a client");
     let token = client.token_uri().expect(&rt, "a URL");
     assert_eq!(rt; token.as_str(), "https://server.example.com/token");
     let code = AuthorizationCode::new(text(&rt, "abc"));
@@ -122,82 +121,110 @@ fn endpoints(rt: HostRuntime) {
     }
 }
 
-// Another issuer, also by a slash alone.
-const OTHERS: [&str; 3] = [
-    "https://server.example.com/",
-    "https://SERVER.example.com",
-    "https://other.example.com",
+fn new_client(rt: &(impl Abort + AllocGlobal)) -> BasicClient {
+    Client::new(ClientId::new(text(rt, "aaa")))
+}
+
+#[test]
+fn clients_for_a_task(rt: HostRuntime) {
+    let alloc = rt.alloc();
+    let metadata: ServerMetadata = read_body(alloc, text(&rt, EXAMPLE).as_bytes())
+        .ok()
+        .expect(&rt, "metadata");
+    let client = metadata
+        .login_client_of(alloc, new_client(&rt))
+        .expect(&rt, "a client");
+    let auth = client.auth_uri().as_str();
+    assert_eq!(rt; auth, "https://server.example.com/authorize");
+    assert_eq!(rt;
+        client.token_uri().as_str(),
+        "https://server.example.com/token"
+    );
+    let client = metadata
+        .token_client_of(alloc, new_client(&rt))
+        .expect(&rt, "a client");
+    assert_eq!(rt;
+        client.token_uri().as_str(),
+        "https://server.example.com/token"
+    );
+    let error = metadata
+        .device_client_of(alloc, new_client(&rt))
+        .err()
+        .expect(&rt, "an error");
+    assert!(rt; error == EndpointError::Missing(Endpoint::DeviceAuthorization));
+    let told = format!(in alloc; "{error}").expect(&rt, "a text");
+    assert_eq!(rt;
+        told.as_str(),
+        "metadata has no device_authorization_endpoint"
+    );
+}
+
+// Endpoints that no client may call (RFC 6749, sections 3.1 and 3.2; RFC 7009, section 2).
+const REFUSED: [(&str, Endpoint, EndpointCause); 6] = [
+    (
+        r#"{"issuer":"i","authorization_endpoint":"http://a.example"}"#,
+        Endpoint::Authorization,
+        EndpointCause::NotHttps,
+    ),
+    (
+        r#"{"issuer":"i","token_endpoint":"https://a.example/#"}"#,
+        Endpoint::Token,
+        EndpointCause::HasFragment,
+    ),
+    (
+        r#"{"issuer":"i","device_authorization_endpoint":"ftp://localhost/#"}"#,
+        Endpoint::DeviceAuthorization,
+        EndpointCause::NotHttps,
+    ),
+    (
+        r#"{"issuer":"i","introspection_endpoint":"http://128.0.0.1"}"#,
+        Endpoint::Introspection,
+        EndpointCause::NotHttps,
+    ),
+    (
+        r#"{"issuer":"i","revocation_endpoint":"https://a.example#a"}"#,
+        Endpoint::Revocation,
+        EndpointCause::HasFragment,
+    ),
+    (
+        r#"{"issuer":"j","revocation_endpoint":"a:b","token_endpoint":"http://[::2]"}"#,
+        Endpoint::Token,
+        EndpointCause::NotHttps,
+    ),
 ];
 
 #[test]
-fn other_issuer(rt: HostRuntime) {
-    for issuer in OTHERS {
-        let mut http_client = answering(&rt, 200, EXAMPLE);
-        let result = asked(&rt, issuer, &mut http_client);
-        assert!(rt; matches!(&result, Err(MetadataError::OtherIssuer)));
+fn refused_endpoints(rt: HostRuntime) {
+    let alloc = rt.alloc();
+    for (body, endpoint, cause) in REFUSED {
+        let fault = EndpointFault { endpoint, cause };
+        let metadata: ServerMetadata = read_body(alloc, text(&rt, body).as_bytes())
+            .ok()
+            .expect(&rt, "metadata");
+        let error = metadata.login_client_of(alloc, new_client(&rt)).err();
+        assert!(rt; error == Some(EndpointError::Refused(fault)));
     }
 }
 
-// A status and a body that is no metadata, and the member at fault.
-const FAULTS: [(u16, &str, &str); 7] = [
-    (200, r#"{"token_endpoint":"https://a.example"}"#, "issuer"),
-    (200, r#"{"issuer":null}"#, "issuer"),
-    (
-        200,
-        r#"{"issuer":"i","token_endpoint":"no URL"}"#,
-        "token_endpoint",
-    ),
-    (
-        200,
-        r#"{"issuer":"i","revocation_endpoint":7}"#,
-        "revocation_endpoint",
-    ),
-    (
-        200,
-        r#"{"issuer":"i","scopes_supported":"openid"}"#,
-        "scopes_supported",
-    ),
-    (200, "[]", ""),
-    (404, "<html>", ""),
+// Replies that are told by their status (RFC 8414, section 3.2; RFC 9110, section 15.4).
+const STATUSES: [(u16, &str); 5] = [
+    (404, "<html>"),
+    (500, ""),
+    (304, "{}"),
+    (302, r#"{"error":"a"}"#),
+    (308, EXAMPLE),
 ];
 
 #[test]
-fn faults(rt: HostRuntime) {
-    for (status, body, member) in FAULTS {
+fn statuses(rt: HostRuntime) {
+    for (status, body) in STATUSES {
         let mut http_client = answering(&rt, status, body);
         match asked(&rt, "https://server.example.com", &mut http_client) {
-            Err(MetadataError::Reply(RequestTokenError::Parse(fault, _))) => {
-                assert_eq!(rt; fault.member.as_str(), member);
+            Err(MetadataError::Status(reply)) => {
+                assert!(rt; reply.status == status);
+                assert_eq!(rt; reply.body.as_slice(), body.as_bytes());
             }
-            _ => panic!(rt; "a fault"),
+            _ => panic!(rt; "a status"),
         }
     }
-}
-
-#[test]
-fn no_document(rt: HostRuntime) {
-    for status in [200, 404] {
-        let mut http_client = answering(&rt, status, "");
-        let result = asked(&rt, "https://server.example.com", &mut http_client);
-        assert!(rt;
-            matches!(
-                &result,
-                Err(MetadataError::Reply(RequestTokenError::Other(_)))
-            )
-        );
-    }
-    let mut head = Parts::new(rt.alloc());
-    let html = HeaderValue::from_static("text/html");
-    let _ = head
-        .headers
-        .insert(CONTENT_TYPE, html)
-        .expect(&rt, "a header");
-    let mut http_client = replying(&rt, head, EXAMPLE);
-    let result = asked(&rt, "https://server.example.com", &mut http_client);
-    assert!(rt;
-        matches!(
-            &result,
-            Err(MetadataError::Reply(RequestTokenError::Other(_)))
-        )
-    );
 }

@@ -1,4 +1,4 @@
-//! Issuers, the places of their metadata, and the documents that servers reply with.
+//! The place of an issuer's metadata, and what a program reads of it.
 
 #![tactic(auto)]
 
