@@ -43,6 +43,11 @@ unfolding eq_ignore_case
 accepts place None body = refl
 accepts place (Some pair) body = refl
 
+encodings : (place : Place) (credentials : Option Pair) (body : List ℕ) → values_named (codes "accept-encoding") (all_fields place credentials body) ≡ codes "identity" ∷ []
+unfolding eq_ignore_case
+encodings place None body = refl
+encodings place (Some pair) body = refl
+
 -- such a request leaves its framing to the client
 pub unframed : (place : Place) (credentials : Option Pair) → states_framing (known_fields (sent_fields place (headers_before (authorization_header credentials)))) ≡ false
 unfolding known_fields eq_ignore_case
@@ -73,6 +78,7 @@ carried c text r place bytes is wire = λ limits rest takes.
         connection = ap (values_named (codes "connection")) headers ∙ connections place given (body_of r).items;
         content_type = ap (values_named (codes "content-type")) headers ∙ content_types place given (body_of r).items;
         accept = ap (values_named (codes "accept")) headers ∙ accepts place given (body_of r).items;
+        accept_encoding = ap (values_named (codes "accept-encoding")) headers ∙ encodings place given (body_of r).items;
         authorization = ap (λ h. map basic (values_named (codes "authorization") h)) headers
             ∙ authorizations place given (body_of r).items (sym (ap (λ h. option_and_then (λ value. basic value.bytes) (get h (codes "authorization"))) is.headers) ∙ is.basic);
         form = is.form;

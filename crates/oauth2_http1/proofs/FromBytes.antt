@@ -1,10 +1,9 @@
 -- What a request over an HTTP/1.1 client wrote and read.
 use Rattle.std.proofs.Common.{◌≡◌, ℕ, List, Option, Some, None, Ok, Err, inl, inr, true, false, String, Global, refl, sym, ap, subst, ◌∙◌}
-use Rattle.std.specs.Prelude.{Result, Vec, IfSome, IsTrue, option_map, codes, string_bytes}
+use Rattle.std.specs.Prelude.{Result, ⊤, Vec, IfSome, IsTrue, option_map, codes, string_bytes}
+use Rattle.std.specs.declared.io.Error as Io
 use Rattle.http_header.specs.HeaderMap.{get}
-use Rattle.http_uri.specs.Uri.{SpellsNone}
 use Rattle.http.specs.Request.{head_of}
-use Rattle.http.specs.Response as Typed
 use Rattle.http1.specs.Conn.{is_connect, states_framing}
 use Rattle.http1.specs.Fields.{known_fields}
 use Rattle.http1.specs.Framing.{method_kind}
@@ -13,7 +12,6 @@ use Rattle.oauth2_json.specs.declared.read.ParseFault.{ParseFault}
 use Rattle.oauth2_json.specs.Reading.{fault_of}
 use Rattle.oauth2_wire.specs.declared.error.RequestTokenError.{RequestTokenError}
 use Rattle.oauth2_wire.specs.declared.error.RequestTokenError.TheVariants as token
-use Rattle.oauth2_wire.specs.declared.request.RequestFault.{RequestFault}
 use Rattle.oauth2_wire.specs.declared.request.RequestFault.TheVariants as fault
 use Rattle.oauth2_wire.specs.Expected.{Configuration, expected_basic}
 use Rattle.oauth2_wire.specs.Once.{AsksOnce}
@@ -72,6 +70,8 @@ begins t reply (Some stream) (m, rest, reads, is) = record {
 cannot_post : (c : Configuration) (text : List ℕ) (request : HttpRequest) (f : Fault.RequestFault) → IsRequestOf c text (view_of request)
     → CannotSend f request → CannotPost f request
 cannot_post c text request why.NoOrigin is cannot = cannot
+cannot_post c text request why.NoHost is cannot = cannot
+cannot_post c text request why.BadPort is cannot = cannot
 cannot_post c text request why.OwnFraming is (place, at, frames) =
     let plain = ap (λ h. states_framing (known_fields (sent_fields place h))) is.headers ∙ unframed place (expected_basic c) in cc
 cannot_post c text request why.Connect is (place, at, tunnel) =
@@ -80,26 +80,26 @@ cannot_post c text request (why.Refused e) is cannot = cannot
 cannot_post c text request why.Memory is cannot = cannot
 
 module _ {C S E D A T X : Type 0} (opens : C → Place → Result S E → C → Type 0) (contents remaining : S → Option (List ℕ))
-    (c : Configuration) (text : List ℕ) (meaning : D → A) (error_meaning : T → X) (says : ReplyView → Answer A X) (before after : Http1Client C) where
+    (reads writes : S → Result ℕ Io.Error → S → Type 0) (flushes : S → Result ⊤ Io.Error → S → Type 0) (c : Configuration) (text : List ℕ) (meaning : D → A) (error_meaning : T → X) (says : ReplyView → Answer A X) (before after : Http1Client C) where
   abbrev Over : Result D (RequestTokenError (Http1Error E) T) → Type 0
-  Over result = FromBytes opens contents remaining c text meaning error_meaning says before result after
+  Over result = FromBytes opens contents remaining reads writes flushes c text meaning error_meaning says before result after
 
   sends : (request : HttpRequest) (sent : S) → IsRequestOf c text (view_of request)
-      → Writes opens contents remaining before.connect request sent after.connect → after.bounds ≡ before.bounds
-      → SendsBytes opens contents remaining c text before sent after
-  sends request sent is writes bounds = record {
+      → Writes opens contents remaining reads writes flushes before.connect request sent after.connect → after.bounds ≡ before.bounds
+      → SendsBytes opens contents remaining reads writes flushes c text before sent after
+  sends request sent is wrote bounds = record {
     request = request;
     is = is;
-    writes = writes;
-    read_as = carried c text request writes.place writes.bytes is writes.wire;
+    wrote = wrote;
+    read_as = carried c text request wrote.place wrote.bytes is wrote.wire;
     bounds = bounds;
   }
 
   -- a reply came
   of_reply : (result : Result D (RequestTokenError (Http1Error E) T))
-      → Replied opens contents remaining c text before after (λ view. ShowsAnswer meaning error_meaning (says view) result) → Over result
+      → Replied opens contents remaining reads writes flushes c text before after (λ view. ShowsAnswer meaning error_meaning (says view) result) → Over result
   of_reply result came =
-      of_shown meaning error_meaning says (Replied opens contents remaining c text before after) Over
+      of_shown meaning error_meaning says (Replied opens contents remaining reads writes flushes c text before after) Over
       (λ Says came. (came.view, came.says))
       (λ value came. came)
       (λ error came. came)
@@ -109,7 +109,7 @@ module _ {C S E D A T X : Type 0} (opens : C → Place → Result S E → C → 
       result came
 
   replied : (request : HttpRequest) (reply : HttpResponse) (result : Result D (RequestTokenError (Http1Error E) T)) → IsRequestOf c text (view_of request)
-      → Exchanges opens contents remaining before request (Ok reply) after → ShowsAnswer meaning error_meaning (says (reply_of reply)) result → Over result
+      → Exchanges opens contents remaining reads writes flushes before request (Ok reply) after → ShowsAnswer meaning error_meaning (says (reply_of reply)) result → Over result
   replied request reply result is did shown = of_reply result (record {
     sent = did.1;
     sends = sends request did.1 is did.2 did.0;
@@ -122,19 +122,21 @@ module _ {C S E D A T X : Type 0} (opens : C → Place → Result S E → C → 
 
   -- the client failed
   failed : (request : HttpRequest) (error : Http1Error E) → IsRequestOf c text (view_of request)
-      → Exchanges opens contents remaining before request (Err error) after → NotReplied opens contents remaining c text before error after
+      → Exchanges opens contents remaining reads writes flushes before request (Err error) after → NotReplied opens contents remaining reads writes flushes c text before error after
   failed request (http.Request f) is did = (did.0, request, is, cannot_post c text request f is did.1)
   failed request (http.Connect error) is did = (did.0, request, is, did.1, did.2)
-  failed request (http.Write error) is did = (did.0, request, is, did.1, did.2, did.3)
+  failed request (http.Write error) is did = (did.0, request, is, did.1, did.2, did.3, did.4, did.5)
   failed request (http.Reply f) is did = (
     did.1,
     sends request did.1 is did.2 did.0,
     subst (λ method. NoReply f before.bounds method (remaining did.1)) is.method did.3,
+    did.4,
+    did.5,
   )
 
   pub from_bytes : (result : Result D (RequestTokenError (Http1Error E) T))
-      → AsksOnce meaning error_meaning (Exchanges opens contents remaining) says (IsRequestOf c) text before result after
-      → FromBytes opens contents remaining c text meaning error_meaning says before result after
+      → AsksOnce meaning error_meaning (Exchanges opens contents remaining reads writes flushes) says (IsRequestOf c) text before result after
+      → FromBytes opens contents remaining reads writes flushes c text meaning error_meaning says before result after
   from_bytes result (Ok request, is, target, (Ok reply, did, shown)) = replied request reply result is did shown
   from_bytes result (Ok request, is, target, (Err error, did, shown)) = subst Over (sym shown) (failed request error is did)
   from_bytes (Err (token.Memory sent)) (Err kind, is, target, (unsent, same)) = subst (λ b. Over (Err (token.Memory b))) (sym unsent) same

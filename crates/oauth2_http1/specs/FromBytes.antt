@@ -1,6 +1,7 @@
 -- From bytes to bytes: what a request over an HTTP/1.1 client wrote and read, by its result.
 use Rattle.std.specs.Prelude.{◌≡◌, ℕ, ◌≤◌, ◌⊎◌, ⊤, true, false, List, length, codes, string_bytes, map}
 use Rattle.std.specs.Prelude.{Option, option_map, IfSome, Result, Ok, Err}
+use Rattle.std.specs.declared.io.Error as Io
 use Rattle.http_header.specs.HeaderMap.{get}
 use Rattle.http_uri.specs.Uri.{SpellsNone}
 use Rattle.httparse.specs.Grammar.{status_code}
@@ -21,6 +22,7 @@ use Rattle.oauth2_http1.specs.declared.fault.RequestFault.TheVariants as Fault
 use Rattle.oauth2_http1.specs.Origin.{Place}
 use Rattle.oauth2_http1.specs.Law.{AreReadAs}
 use Rattle.oauth2_http1.specs.Reply.{Terms, ReadsReply, entries_of}
+use Rattle.oauth2_http1.specs.Calls.{ReadFails, Sends}
 use Rattle.oauth2_http1.specs.Client.{Writes, Opens, Exchanges, CanSend, CannotSend, NoReply, reply_terms}
 
 -- a reply of the grammar as what an answer is made of: its status, its first Content-Type value (RFC 9110, 8.3), its body
@@ -46,14 +48,15 @@ CannotPost Fault.Connect request = ⊥
 CannotPost fault request = CannotSend fault request
 
 module _ {C S E : Type 0} (opens : C → Place → Result S E → C → Type 0) (contents remaining : S → Option (List ℕ))
+    (reads writes : S → Result ℕ Io.Error → S → Type 0) (flushes : S → Result ⊤ Io.Error → S → Type 0)
     (c : Configuration) (text : List ℕ) where
   -- the configuration's request to the endpoint was written, whole and once, on one connection, which was opened to the place
   -- that the endpoint names; a server reads the bytes as this request, in no other way (RFC 9112, 3 and 6; RFC 6749, 2.3.1)
   pub record SendsBytes (before : Http1Client C) (sent : S) (after : Http1Client C) : Type 0 where
     pub request : HttpRequest
     pub is : IsRequestOf c text (view_of request)
-    pub writes : Writes opens contents remaining before.connect request sent after.connect
-    pub read_as : AreReadAs c writes.place request writes.bytes
+    pub wrote : Writes opens contents remaining reads writes flushes before.connect request sent after.connect
+    pub read_as : AreReadAs c wrote.place request wrote.bytes
     pub bounds : after.bounds ≡ before.bounds
 
   -- it was sent, and this is said of the reply that the bytes begin with which came
@@ -71,12 +74,14 @@ module _ {C S E : Type 0} (opens : C → Place → Result S E → C → Type 0) 
       (after ≡ before) × (request : HttpRequest) × IsRequestOf c text (view_of request) × CannotPost fault request
   NotReplied before (http.Connect error) after =
       (after.bounds ≡ before.bounds) × (request : HttpRequest) × IsRequestOf c text (view_of request)
-      × Opens opens contents remaining before.connect request (Err error) after.connect × CanSend request
+      × Opens opens contents remaining reads writes flushes before.connect request (Err error) after.connect × CanSend request
   NotReplied before (http.Write error) after =
       (after.bounds ≡ before.bounds) × (request : HttpRequest) × IsRequestOf c text (view_of request)
-      × (opened : S) × Opens opens contents remaining before.connect request (Ok opened) after.connect × CanSend request
+      × (opened : S) × Opens opens contents remaining reads writes flushes before.connect request (Ok opened) after.connect
+      × CanSend request × (left : S) × Sends writes flushes (Err error) opened left
   NotReplied before (http.Reply fault) after =
       (sent : S) × SendsBytes before sent after × NoReply fault before.bounds (codes "POST") (remaining sent)
+      × (left : S) × ReadFails reads fault sent left
 
   module _ {D A T X : Type 0} (meaning : D → A) (error_meaning : T → X) (says : ReplyView → Answer A X) where
     -- by the result: a value (RFC 6749, 5.1), an error response (5.2) and a fault are what the reply says that came; the other
@@ -94,10 +99,12 @@ module _ {C S E : Type 0} (opens : C → Place → Result S E → C → Type 0) 
 
 -- whatever request meets its contract over this client, its result is from bytes
 module _ {C S E : Type 0} (opens : C → Place → Result S E → C → Type 0) (contents remaining : S → Option (List ℕ))
+    (reads writes : S → Result ℕ Io.Error → S → Type 0) (flushes : S → Result ⊤ Io.Error → S → Type 0)
     {D A T X : Type 0} (meaning : D → A) (error_meaning : T → X) where
   abbrev pub EachIsFromBytes : Type 0
   EachIsFromBytes =
       (c : Configuration) (text : List ℕ) (says : ReplyView → Answer A X) (before after : Http1Client C)
       (result : Result D (RequestTokenError (Http1Error E) T))
-      → AsksOnce meaning error_meaning (Exchanges opens contents remaining) says (IsRequestOf c) text before result after
-      → FromBytes opens contents remaining c text meaning error_meaning says before result after
+      → AsksOnce meaning error_meaning (Exchanges opens contents remaining reads writes flushes) says (IsRequestOf c) text before
+      result after
+      → FromBytes opens contents remaining reads writes flushes c text meaning error_meaning says before result after

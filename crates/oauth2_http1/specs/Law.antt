@@ -25,6 +25,7 @@ pub record Carries (c : Configuration) (place : Place) (uri : Uri) (seen : SeenR
   pub connection : values seen (codes "connection") ≡ codes "close" ∷ []
   pub content_type : values seen (codes "content-type") ≡ codes "application/x-www-form-urlencoded" ∷ []
   pub accept : values seen (codes "accept") ≡ codes "application/json" ∷ []
+  pub accept_encoding : values seen (codes "accept-encoding") ≡ codes "identity" ∷ []
   -- each Authorization value, as a server decodes it: the configuration's credentials, or no value
   pub authorization : map basic (values seen (codes "authorization")) ≡ map Some (option_to_list (expected_basic c))
   pub by_name : ReadsByName c (form seen.body.bytes)

@@ -1,6 +1,7 @@
 -- Why a stream gives no reply.
-use Rattle.std.specs.Prelude.{ℕ, ◌<◌, ◌≤◌, ⊤, List, length, Option, IfSome}
+use Rattle.std.specs.Prelude.{ℕ, ◌<◌, ◌≤◌, ⊤, Bool, false, List, [], ◌∷◌, length, Option, IfSome}
 use Rattle.http1.specs.Body.{Body}
+use Rattle.http1.specs.ReadError.{is_line_end}
 use Rattle.http1.specs.Message.{Response}
 use Rattle.oauth2_http1.specs.Reply.{Terms, ReadsReply}
 use Rattle.oauth2_http1.specs.declared.fault.ReplyFault.{ReplyFault}
@@ -9,7 +10,10 @@ use Rattle.oauth2_http1.specs.declared.fault.ReplyFault.TheVariants as Fault
 -- what an error says of a reply that the stream holds all the same
 abbrev pub RefusesBody : ReplyFault → ℕ → Body → Type 0
 RefusesBody (Fault.Response e) most body = ⊥
+RefusesBody Fault.EmptyLine most body = ⊥
+RefusesBody Fault.TransferCoding most body = ⊥
 RefusesBody Fault.TooLong most body = most < length body.bytes
+RefusesBody Fault.TooManyBytes most body = ⊤
 RefusesBody Fault.TooManyReads most body = ⊤
 RefusesBody Fault.Fields most body = ⊤
 RefusesBody (Fault.Read e) most body = ⊤
@@ -20,7 +24,12 @@ abbrev pub Refuses : ReplyFault → Terms → ℕ → Option (List ℕ) → Type
 Refuses e t most known =
     IfSome known (λ stream. (reply : Response) (rest : List ℕ) → ReadsReply t stream reply rest → RefusesBody e most reply.body)
 
--- the known stream has as many bytes as there were reads
+-- the bytes begin with CR or LF
+abbrev pub begins_with_line_end : List ℕ → Bool
+begins_with_line_end [] = false
+begins_with_line_end (b ∷ bs) = is_line_end b
+
+-- the known stream has as many bytes as reads or bytes were allowed
 abbrev pub Spent : ℕ → Option (List ℕ) → Type 0
 Spent reads known = IfSome known (λ stream. reads ≤ length stream)
 

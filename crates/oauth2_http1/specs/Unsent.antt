@@ -27,6 +27,8 @@ write_error method target fields body =
 -- why no bytes were made of a request with these parts
 abbrev pub Unsent : RequestFault → List ℕ → List ℕ → List Header → List ℕ → Type 0
 Unsent Fault.NoOrigin method target fields body = ⊥
+Unsent Fault.NoHost method target fields body = ⊥
+Unsent Fault.BadPort method target fields body = ⊥
 Unsent Fault.OwnFraming method target fields body = IsTrue (states_framing (known_fields fields))
 Unsent Fault.Connect method target fields body = IsTrue (is_connect (method_kind method))
 Unsent (Fault.Refused e) method target fields body = write_error method target fields body ≡ Some e

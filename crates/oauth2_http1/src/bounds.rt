@@ -1,12 +1,13 @@
 //! How much of a reply is read.
 
 ghost use Rattle.std.specs.Prelude.{◌≡◌};
-ghost use Rattle.oauth2_http1.specs.Bounds.{default_bounds};
+ghost use Rattle.oauth2_http1.specs.Bounds.{default_bounds, most_bytes};
 
 use http1::Limits;
 
 /// How much of a reply is read. `Bounds::default()` has a body of 1 MiB, as many reads, and 16 KiB
-/// each for a head, for the extensions of all chunks and for the trailers.
+/// each for a head, for the extensions of all chunks and for the trailers. All that is read of one
+/// reply, with responses of 1xx and the lines of chunks, is bounded by these too (`most_bytes`).
 #[derive(Clone, Copy, Debug, PartialEq, Eq)]
 pub struct Bounds {
     /// The lengths of a head, of the extensions of all chunks, and of the trailers.
@@ -65,6 +66,19 @@ impl Bounds {
     {
         self.max_body = bytes;
         self
+    }
+
+    /// Once so many bytes of one reply have come, no more are read: eight times as many as a head,
+    /// the extensions, the trailers and the body may have together.
+    pub fn most_bytes(&self) -> usize
+        ensures { result ≡ most_bytes self.now }
+    {
+        self.limits
+            .max_head_len
+            .saturating_add(self.limits.max_extensions_len)
+            .saturating_add(self.limits.max_trailers_len)
+            .saturating_add(self.max_body)
+            .saturating_mul(8)
     }
 
     /// Calls the reader at most so often.

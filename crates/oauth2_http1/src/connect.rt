@@ -1,7 +1,7 @@
 //! What opens a connection.
 
+use crate::calls::{Receive, Transmit};
 use crate::origin::Origin;
-use std::io::{Read, Write};
 
 /// What opens a connection. A client calls it once for each request that can be sent.
 ///
@@ -11,8 +11,8 @@ pub trait Connect {
     ghost use Rattle.std.specs.Prelude.{Result, ⊤};
     ghost use Rattle.oauth2_http1.specs.Origin.{Place, place_of};
 
-    /// A connection. It closes where it is dropped.
-    type Stream: Read + Write + Drop;
+    /// A connection. It closes where it is dropped. Any `Read` and `Write` is one.
+    type Stream: Receive + Transmit + Drop;
 
     /// Why none was opened.
     type Error: Drop;

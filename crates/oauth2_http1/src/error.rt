@@ -1,6 +1,6 @@
 //! Why a call gave no reply.
 
-use crate::fault::{ReplyFault, RequestFault};
+use crate::fault::{ReplyFault, RequestFault, write_text};
 use oauth2_types::display::write_display;
 use std::{fmt, io};
 
@@ -28,7 +28,7 @@ impl<E: fmt::Display> fmt::Display for Http1Error<E> {
         match self {
             Http1Error::Request(fault) => write_display(f, fault),
             Http1Error::Connect(error) => write_display(f, format_args!("no connection: {error}")),
-            Http1Error::Write(_) => f.write_str("connection cannot be written"),
+            Http1Error::Write(error) => f.write_str(write_text(error)),
             Http1Error::Reply(fault) => write_display(f, fault),
         }
     }

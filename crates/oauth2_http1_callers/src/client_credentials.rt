@@ -20,6 +20,7 @@ pub fn token_for_credentials<C: Connect, TE: ErrorResponse, TR: TokenResponse>(
     http_client: &mut Http1Client<C>,
 ) -> Result<TR, RequestTokenError<Http1Error<C::Error>, TE>>
     ensures { FromBytes C.opens C.Stream.contents C.Stream.remaining
+        C.Stream.reads C.Stream.writes C.Stream.flushes
         (client_credentials_configuration request.entry)
         (serialize request.entry.token_url.url)
         TR.meaning TE.meaning

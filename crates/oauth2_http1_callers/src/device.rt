@@ -21,6 +21,7 @@ pub fn device_codes<C: Connect, TE: ErrorResponse, EF: ExtraDeviceAuthorizationF
     http_client: &mut Http1Client<C>,
 ) -> Result<DeviceAuthorizationResponse<EF>, RequestTokenError<Http1Error<C::Error>, TE>>
     ensures { FromBytes C.opens C.Stream.contents C.Stream.remaining
+        C.Stream.reads C.Stream.writes C.Stream.flushes
         (device_authorization_configuration request.entry)
         (serialize request.entry.device_authorization_url.url)
         (device_seen EF.meaning) TE.meaning

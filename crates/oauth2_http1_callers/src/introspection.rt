@@ -20,6 +20,7 @@ pub fn worth_of_token<C: Connect, TE: ErrorResponse, TIR: FromJson>(
     http_client: &mut Http1Client<C>,
 ) -> Result<TIR, RequestTokenError<Http1Error<C::Error>, TE>>
     ensures { FromBytes C.opens C.Stream.contents C.Stream.remaining
+        C.Stream.reads C.Stream.writes C.Stream.flushes
         (introspection_configuration request.entry)
         (serialize request.entry.introspection_url.url)
         TIR.meaning TE.meaning

@@ -20,6 +20,7 @@ pub fn revoke<C: Connect, RT: RevocableToken + Drop, TE: ErrorResponse>(
     http_client: &mut Http1Client<C>,
 ) -> Result<(), RequestTokenError<Http1Error<C::Error>, TE>>
     ensures { FromBytes C.opens C.Stream.contents C.Stream.remaining
+        C.Stream.reads C.Stream.writes C.Stream.flushes
         (revocation_configuration request.entry)
         (serialize request.entry.revocation_url.url)
         (λ done. done) TE.meaning

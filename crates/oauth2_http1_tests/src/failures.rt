@@ -15,8 +15,8 @@ const POST: RequestTexts<'static> = RequestTexts {
     body: "a=b",
 };
 
-const POST_BYTES: &str =
-    "POST /a HTTP/1.1\r\nhost: as.example\r\nconnection: close\r\ncontent-length: 3\r\n\r\na=b";
+const POST_BYTES: &str = "POST /a HTTP/1.1\r\nhost: as.example\r\n\
+    accept-encoding: identity\r\nconnection: close\r\ncontent-length: 3\r\n\r\na=b";
 
 const REPLY: &str = "HTTP/1.1 100 Continue\r\n\r\n\
     HTTP/1.1 200 OK\r\ntransfer-encoding: chunked\r\n\r\n2\r\n{}\r\n0\r\nx: y\r\n\r\n";
@@ -70,7 +70,7 @@ fn calls_that_fail(rt: HostRuntime) {
 fn a_full_writer(rt: HostRuntime) {
     let mut wire = byte_by_byte(0).in_pieces(0, 0);
     let outcome = outcome_of(&rt, &mut wire, Bounds::default(), POST);
-    let wanted = "Write(Error { kind: WriteZero, message: \"failed to write whole buffer\" })";
+    let wanted = "Write(Kind(WriteZero))";
     assert_text_at(&rt, outcome.text.as_str(), wanted, "a full writer");
     assert_at(&rt, wire.calls == 1 && wire.reads == 0, "a full writer");
 }
@@ -79,8 +79,8 @@ fn a_full_writer(rt: HostRuntime) {
 const HALVES: &[(usize, usize, &str)] = &[
     (0, 0, READ),
     (1, 0, UNWRITTEN),
-    (79, 0, UNWRITTEN),
-    (80, 0, UNWRITTEN),
+    (106, 0, UNWRITTEN),
+    (107, 0, UNWRITTEN),
     (0, 1, UNREAD),
     (0, 90, UNREAD),
 ];

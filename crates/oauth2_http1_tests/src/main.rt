@@ -22,6 +22,8 @@ mod server;
 mod support;
 #[cfg(test)]
 mod texts;
+#[cfg(test)]
+mod timed;
 mod token_exchange;
 mod wire;
 
@@ -50,7 +52,8 @@ const ROWS: [Row; 2] = [
         },
         "POST /token?x=1 HTTP/1.1\r\nhost: as.example:8080\r\n\
         content-type: application/x-www-form-urlencoded\r\nx-request-number: 1\r\n\
-        x-request-number: 2\r\nconnection: close\r\ncontent-length: 39\r\n\r\n\
+        x-request-number: 2\r\n\
+        accept-encoding: identity\r\nconnection: close\r\ncontent-length: 39\r\n\r\n\
         grant_type=client_credentials&scope=a+b",
         "HTTP/1.1 103 Early Hints\r\nlink: a\r\n\r\nHTTP/1.1 200 OK\r\n\
         content-type: application/json\r\nx-reply-number: 1\r\nx-reply-number: 2\r\n\
@@ -65,7 +68,8 @@ const ROWS: [Row; 2] = [
             fields: &[],
             body: "",
         },
-        "GET /jwks HTTP/1.1\r\nhost: as.example\r\nconnection: close\r\n\r\n",
+        "GET /jwks HTTP/1.1\r\nhost: as.example\r\n\
+        accept-encoding: identity\r\nconnection: close\r\n\r\n",
         "HTTP/1.0 200 OK\r\ncontent-type: application/json\r\n\r\n{\"keys\":[]}",
     ),
 ];

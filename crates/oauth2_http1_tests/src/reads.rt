@@ -9,9 +9,29 @@ use std::process::Abort;
 const CHUNK: usize = 4096;
 
 // A reply of these bytes and then of a text again and again; what a call returns that takes heads,
-// extensions and trailers of 500 bytes and bodies of 64; and how many bytes show it.
+// extensions and trailers of 500 bytes and bodies of 64; and how many bytes show it. All in all it
+// takes 8 * (500 + 500 + 500 + 64) bytes.
 const ENDLESS: &[(&str, &str, &str, usize)] = &[
-    ("", "\r\n", "Reply(Response(TooLarge))", 500),
+    ("", "\r\n", "Reply(EmptyLine)", 1),
+    ("H", "a", "Reply(Response(Parse(Version)))", 2),
+    (
+        "",
+        "HTTP/1.1 100 Continue\r\n\r\n",
+        "Reply(TooManyBytes)",
+        12_512,
+    ),
+    (
+        "HTTP/1.1 200 OK\r\ntransfer-encoding: chunked\r\n\r\n",
+        "0",
+        "Reply(TooManyBytes)",
+        12_512,
+    ),
+    (
+        "HTTP/1.1 200 OK\r\ntransfer-encoding: chunked\r\n\r\n1",
+        " ",
+        "Reply(TooManyBytes)",
+        12_512,
+    ),
     (
         "HTTP/1.1 200 OK\r\nx: ",
         "a",

@@ -91,11 +91,6 @@ const REPLIES: &[(&str, usize, &str)] = &[
         "HTTP/1.1 200\ntransfer-encoding: Chunked\n\n{}",
     ),
     (
-        "HTTP/1.1 200 OK\r\ntransfer-encoding: gzip, chunked\r\n\r\n2\r\n{}\r\n0\r\n\r\n",
-        0,
-        "HTTP/1.1 200\ntransfer-encoding: gzip, chunked\n\n{}",
-    ),
-    (
         "HTTP/1.1 200 OK\r\ntransfer-encoding: chunked\r\n\r\n0\r\n\r\n",
         0,
         "HTTP/1.1 200\ntransfer-encoding: chunked\n\n",
@@ -108,11 +103,6 @@ const REPLIES: &[(&str, usize, &str)] = &[
         "HTTP/1.0 400\n\nno",
     ),
     (
-        "HTTP/1.1 200 OK\r\ntransfer-encoding: gzip\r\n\r\n{}",
-        1,
-        "HTTP/1.1 200\ntransfer-encoding: gzip\n\n{}",
-    ),
-    (
         "HTTP/1.1 204 No Content\r\ncontent-length: 5\r\n\r\nhello",
         0,
         "HTTP/1.1 204\ncontent-length: 5\n\n",
@@ -122,6 +112,16 @@ const REPLIES: &[(&str, usize, &str)] = &[
         "HTTP/1.1 304 Not Modified\r\n\r\nhello",
         0,
         "HTTP/1.1 304\n\n",
+    ),
+    (
+        "HTTP/1.1 304 Not Modified\r\ntransfer-encoding: gzip, chunked\r\n\r\n",
+        0,
+        "HTTP/1.1 304\ntransfer-encoding: gzip, chunked\n\n",
+    ),
+    (
+        "HTTP/1.1 200 OK\r\ncontent-encoding: gzip\r\ncontent-length: 2\r\n\r\n\x1f{",
+        0,
+        "HTTP/1.1 200\ncontent-encoding: gzip\ncontent-length: 2\n\n\x1f{",
     ),
     (
         "HTTP/1.1 100 Continue\r\n\r\nHTTP/1.1 200 OK\r\ncontent-length: 1\r\n\r\nx",
@@ -214,6 +214,29 @@ const REFUSED: &[(&str, &str)] = &[
         "Reply(Response(Framing(UnexpectedTransferEncoding)))",
     ),
     (
+        "HTTP/1.1 200 OK\r\ntransfer-encoding: gzip, chunked\r\n\r\n2\r\n{}\r\n0\r\n\r\n",
+        "Reply(TransferCoding)",
+    ),
+    (
+        "HTTP/1.1 200 OK\r\ntransfer-encoding: gzip\r\ntransfer-encoding: chunked\r\n\r\n",
+        "Reply(TransferCoding)",
+    ),
+    (
+        "HTTP/1.1 200 OK\r\nTransfer-Encoding: gzip\r\n\r\n\x1f",
+        "Reply(TransferCoding)",
+    ),
+    (
+        "HTTP/1.1 100 Continue\r\n\r\nHTTP/1.1 500 No\r\ntransfer-encoding: xyz\r\n\r\n",
+        "Reply(TransferCoding)",
+    ),
+    ("\r\nHTTP/1.1 204 No Content\r\n\r\n", "Reply(EmptyLine)"),
+    ("\nHTTP/1.1 204 No Content\r\n\r\n", "Reply(EmptyLine)"),
+    (
+        "HTTP/1.1 100 Continue\r\n\r\n\r\nHTTP/1.1 204 No Content\r\n\r\n",
+        "Reply(EmptyLine)",
+    ),
+    ("HTTP/1.2 200 OK\r\n\r\n", "Reply(Response(Parse(Version)))"),
+    (
         "HTTP/1.1 200 OK\ncontent-length: 2\n\n{}",
         "Reply(Response(BareLineFeed))",
     ),
@@ -294,7 +317,8 @@ const BY_REQUEST: &[(RequestTexts<'static>, &str, &str, &str)] = &[
             fields: &[],
             body: "",
         },
-        "HEAD /a HTTP/1.1\r\nhost: as.example\r\nconnection: close\r\n\r\n",
+        "HEAD /a HTTP/1.1\r\nhost: as.example\r\n\
+        accept-encoding: identity\r\nconnection: close\r\n\r\n",
         "HTTP/1.1 200 OK\r\ncontent-length: 5\r\n\r\n",
         "HTTP/1.1 200\ncontent-length: 5\n\n",
     ),
@@ -305,7 +329,8 @@ const BY_REQUEST: &[(RequestTexts<'static>, &str, &str, &str)] = &[
             fields: &[],
             body: "",
         },
-        "head /a HTTP/1.1\r\nhost: as.example\r\nconnection: close\r\n\r\n",
+        "head /a HTTP/1.1\r\nhost: as.example\r\n\
+        accept-encoding: identity\r\nconnection: close\r\n\r\n",
         "HTTP/1.1 200 OK\r\ncontent-length: 2\r\n\r\n{}",
         "HTTP/1.1 200\ncontent-length: 2\n\n{}",
     ),
@@ -317,7 +342,7 @@ const BY_REQUEST: &[(RequestTexts<'static>, &str, &str, &str)] = &[
             body: "",
         },
         "GET /a HTTP/1.1\r\nhost: as.example\r\nupgrade: x\r\nconnection: upgrade\r\n\
-        connection: close\r\n\r\n",
+        accept-encoding: identity\r\nconnection: close\r\n\r\n",
         "HTTP/1.1 101 Switching Protocols\r\nupgrade: x\r\nconnection: upgrade\r\n\r\n",
         "Reply(Response(UnexpectedResponse))",
     ),

@@ -15,8 +15,9 @@ pub const GET: RequestTexts<'static> = RequestTexts {
     body: "",
 };
 
-/// Its bytes, by RFC 9112, 3 and 3.2, with the one field that the client adds.
-pub const GET_BYTES: &str = "GET /jwks HTTP/1.1\r\nhost: as.example\r\nconnection: close\r\n\r\n";
+/// Its bytes, by RFC 9112, 3 and 3.2, with the fields that the client adds.
+pub const GET_BYTES: &str = "GET /jwks HTTP/1.1\r\nhost: as.example\r\n\
+accept-encoding: identity\r\nconnection: close\r\n\r\n";
 
 /// What one call showed.
 #[derive(Drop)]

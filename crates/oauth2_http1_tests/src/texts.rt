@@ -14,6 +14,11 @@ const REQUEST_FAULTS: &[(RequestFault, &str)] = &[
         RequestFault::NoOrigin,
         "request has no http or https target",
     ),
+    (RequestFault::NoHost, "request has a target without a host"),
+    (
+        RequestFault::BadPort,
+        "request has a target whose port is no number",
+    ),
     (RequestFault::OwnFraming, "request frames its body itself"),
     (RequestFault::Connect, "request asks for a tunnel"),
     (
@@ -66,6 +71,25 @@ const READ_ERRORS: &[(ReadError, &str)] = &[
     ),
 ];
 
+// A kind of error of a connection, and the texts of a read and of a write that fail so.
+const FAILURES: &[(ErrorKind, &str, &str)] = &[
+    (
+        ErrorKind::ConnectionReset,
+        "connection cannot be read",
+        "connection cannot be written",
+    ),
+    (
+        ErrorKind::TimedOut,
+        "connection gave nothing in time",
+        "connection took nothing in time",
+    ),
+    (
+        ErrorKind::WouldBlock,
+        "connection gave nothing in time",
+        "connection took nothing in time",
+    ),
+];
+
 #[test]
 fn texts_of_errors(rt: HostRuntime) {
     for (fault, text) in REQUEST_FAULTS {
@@ -74,13 +98,23 @@ fn texts_of_errors(rt: HostRuntime) {
     for (error, text) in READ_ERRORS {
         assert_displayed_as(&rt, &Error::Reply(ReplyFault::Response(*error)), text);
     }
-    let reset = io::Error::from(ErrorKind::ConnectionReset);
     let faults = [
         (
             Error::Connect(NoConnection),
             "no connection: the connection was handed out before",
         ),
-        (Error::Write(reset), "connection cannot be written"),
+        (
+            Error::Reply(ReplyFault::EmptyLine),
+            "reply begins with an empty line",
+        ),
+        (
+            Error::Reply(ReplyFault::TransferCoding),
+            "reply has a transfer coding that is not undone",
+        ),
+        (
+            Error::Reply(ReplyFault::TooManyBytes),
+            "reply takes more bytes than its bounds allow",
+        ),
         (
             Error::Reply(ReplyFault::TooLong),
             "body of the reply is longer than the bound",
@@ -98,10 +132,9 @@ fn texts_of_errors(rt: HostRuntime) {
     for (error, text) in &faults {
         assert_displayed_as(&rt, error, text);
     }
-    let reset = io::Error::from(ErrorKind::ConnectionReset);
-    assert_displayed_as(
-        &rt,
-        &Error::Reply(ReplyFault::Read(reset)),
-        "connection cannot be read",
-    );
+    for (kind, unread, unwritten) in FAILURES {
+        let read = Error::Reply(ReplyFault::Read(io::Error::from(*kind)));
+        assert_displayed_as(&rt, &read, unread);
+        assert_displayed_as(&rt, &Error::Write(io::Error::from(*kind)), unwritten);
+    }
 }

@@ -1,0 +1,13 @@
+use Rattle.std.proofs.Common.{Err, ◌∷◌}
+use Rattle.std.proofs.KnownBytes.{Keeps-trans}
+use Rattle.oauth2_http1.proofs.source.read_retrying.Goals as goal
+
+pub loop-preserved : goal.loop-preserved
+loop-preserved g c = (
+  Keeps-trans _ _ _ c.loop.invariant.0 c.in-Err.ensures.bytes,
+  Err c.in-Err.e ∷ c.loop.invariant.1,
+  c.loop.invariant.2,
+  c.loop.invariant.3,
+  (c.is_interrupted.ensures c.if-not-is_interrupted.false, c.loop.invariant.4),
+  (c.loop.reader, c.loop.invariant.5, c.in-Err.ensures.step),
+)
