@@ -3,7 +3,14 @@
 ghost use Rattle.oauth2_wire.specs.Once.{AsksOnce};
 ghost use Rattle.oauth2_wire.specs.Reply.{answer_of};
 ghost use Rattle.oauth2_keeper.specs.Keeper.{given_by};
-ghost use Rattle.oauth2_keeper.specs.Patience.{EachPatientRunIsARun, EachFailureIsWaitedFor, EachSentFaultCounts};
+ghost use Rattle.oauth2_keeper.specs.Patience.{
+  EachPatientRunIsARun,
+  EachFailureIsWaitedFor,
+  EachSetBackIsWaitedFor,
+  EachEndIsWithinTheWait,
+  EachWaitEnds,
+  EachSentFaultCounts,
+};
 ghost use Rattle.oauth2_keeper.specs.Runs.{EachRunKeepsTheLast, EachRunFollowsFromItsReplies};
 
 use oauth2::{ErrorResponse, SyncHttpClient, TokenResponse};
@@ -26,8 +33,8 @@ pub fn each_run_follows_from_its_replies<C: SyncHttpClient, TE: ErrorResponse, T
         (given_by TR.access_token TR.expires_in TR.refresh_token) }
 {}
 
-/// The calls of a patient keeper that are not held back are calls of its keeper, in order, so its
-/// laws hold for them.
+/// The calls of a patient keeper that are not held back are calls of its keeper at the same
+/// moments, in order, so its laws hold for them.
 #[tactic(auto, using(crate::proofs::Patience::is_a_run))]
 pub fn each_patient_run_is_a_run<C: SyncHttpClient, TE: ErrorResponse, TR: TokenResponse>()
     ensures { EachPatientRunIsARun
@@ -35,9 +42,24 @@ pub fn each_patient_run_is_a_run<C: SyncHttpClient, TE: ErrorResponse, TR: Token
         (given_by TR.access_token TR.expires_in TR.refresh_token) }
 {}
 
-/// After a request of a patient keeper that failed, no call sends one before the wait has passed.
+/// After a request of a patient keeper that failed, no call sends one before the wait has passed:
+/// since that request or, if the clock was set back to before it, since the first call after that.
 pub fn each_failure_is_waited_for<C: SyncHttpClient, TE: ErrorResponse, TR: TokenResponse>()
-    ensures { EachFailureIsWaitedFor
+    ensures waits { EachFailureIsWaitedFor
+        (λ rule. AsksOnce TR.meaning TE.meaning C.step (answer_of rule TR.reading TE.reading))
+        (given_by TR.access_token TR.expires_in TR.refresh_token) }
+    ensures set_back { EachSetBackIsWaitedFor
+        (λ rule. AsksOnce TR.meaning TE.meaning C.step (answer_of rule TR.reading TE.reading))
+        (given_by TR.access_token TR.expires_in TR.refresh_token) }
+{}
+
+/// However the clock is set, a patient keeper is never held back for longer than one wait from the
+/// moment at which it is called.
+pub fn each_wait_ends<C: SyncHttpClient, TE: ErrorResponse, TR: TokenResponse>()
+    ensures told { EachEndIsWithinTheWait
+        (λ rule. AsksOnce TR.meaning TE.meaning C.step (answer_of rule TR.reading TE.reading))
+        (given_by TR.access_token TR.expires_in TR.refresh_token) }
+    ensures ends { EachWaitEnds
         (λ rule. AsksOnce TR.meaning TE.meaning C.step (answer_of rule TR.reading TE.reading))
         (given_by TR.access_token TR.expires_in TR.refresh_token) }
 {}

@@ -13,7 +13,7 @@ mod token_keeper;
 
 pub use laws::{
     each_failure_is_waited_for, each_patient_run_is_a_run, each_run_follows_from_its_replies,
-    each_run_keeps_the_last, each_sent_fault_counts,
+    each_run_keeps_the_last, each_sent_fault_counts, each_wait_ends,
 };
 pub use patient_keeper::{BasicPatientKeeper, PatientError, PatientKeeper};
 pub use token_keeper::{BasicTokenKeeper, TokenKeeper};

@@ -22,7 +22,9 @@ ghost use Rattle.oauth2_wire.specs.Reply.{answer_of};
 ghost use Rattle.oauth2_keeper.specs.Keeper.{given_by};
 ghost use Rattle.oauth2_keeper.specs.Patience.{
   Patient,
+  waits_from,
   is_held_back,
+  held_back,
   lasts,
   IsUntil,
   counts,
@@ -81,7 +83,6 @@ where
 /// A keeper that makes no request for some time after one that failed.
 ///
 /// Contracts see it as a `Patient`.
-#[derive(Drop)]
 pub struct PatientKeeper<'a, TE, TR, TIR, RT, TRE, A, D, I, R>
 where
     A: EndpointState,
@@ -93,6 +94,25 @@ where
     wait: Duration,
     until_end: bool,
     failed_at: Option<Timestamp>,
+}
+
+// Written out, as that of a `TokenKeeper` is.
+impl<'a, TE, TR, TIR, RT, TRE, A, D, I, R> Drop
+    for PatientKeeper<'a, TE, TR, TIR, RT, TRE, A, D, I, R>
+where
+    A: EndpointState,
+    D: EndpointState,
+    I: EndpointState,
+    R: EndpointState,
+{
+    fn drop(self) {
+        let PatientKeeper {
+            keeper: _,
+            wait: _,
+            until_end: _,
+            failed_at: _,
+        } = self;
+    }
 }
 
 /// A patient keeper for a server that uses no extension, for a `BasicClient` whose other endpoints
@@ -189,6 +209,24 @@ where
         &self.keeper
     }
 
+    /// Forgets the kept token, as `forget_token` of the keeper. A wait goes on.
+    pub fn forget_token(&mut self)
+        ensures { self.new ≡ record self.old {
+          keeper = record self.old.keeper { token = None };
+        } }
+    {
+        self.keeper.forget_token();
+    }
+
+    /// Forgets the kept refresh token, as `forget_refresh_token` of the keeper. A wait goes on.
+    pub fn forget_refresh_token(&mut self)
+        ensures { self.new ≡ record self.old {
+          keeper = record self.old.keeper { refresh_token = None };
+        } }
+    {
+        self.keeper.forget_refresh_token();
+    }
+
     // Notes that a request was accepted, unless the kept token was good and none was made.
     fn note_success(&mut self, was_good: bool)
         ensures { self.new ≡ record self.old {
@@ -197,6 +235,15 @@ where
     {
         if !was_good {
             self.failed_at = None;
+        }
+    }
+
+    // Notes the moment from which a call is held back.
+    fn note_wait(&mut self, now: Timestamp)
+        ensures { self.new ≡ held_back self.old now.nanosecond }
+    {
+        if let Some(failed_at) = self.failed_at {
+            self.failed_at = Some(waits_from(now, failed_at));
         }
     }
 
@@ -218,7 +265,7 @@ where
         match self.failed_at {
             Some(failed_at) => {
                 !self.keeper.is_good(now)
-                    && now.as_nanosecond() < nanosecond_after(failed_at, self.wait)
+                    && now.as_nanosecond() < nanosecond_after(waits_from(now, failed_at), self.wait)
             }
             None => false,
         }
@@ -229,6 +276,18 @@ where
         ensures { result ≡ lasts self.now now.nanosecond }
     {
         self.until_end && self.keeper.lasts(now)
+    }
+}
+
+// The moment from which a call waits after a request that failed. Where the clock was set back, the
+// call comes first, and the wait is counted from there.
+fn waits_from(now: Timestamp, failed_at: Timestamp) -> Timestamp
+    ensures { result.nanosecond ≡ waits_from now.nanosecond failed_at.nanosecond }
+{
+    if now.as_nanosecond() < failed_at.as_nanosecond() {
+        now
+    } else {
+        failed_at
     }
 }
 
@@ -265,8 +324,10 @@ where
     R: EndpointState,
 {
     /// Makes sure that a good token is kept, as `keep_good` of the keeper. If a request is needed
-    /// and the last one failed less than the wait ago, nothing is sent and nothing changes: the
-    /// call returns `Waits`, or `Ok` if the kept token may be used to the end of its lifetime.
+    /// and the last one failed less than the wait ago, nothing is sent and what is kept does not
+    /// change: the call returns `Waits`, or `Ok` if the kept token may be used to the end of its
+    /// lifetime. If the call comes before the request that failed, the clock was set back, and the
+    /// wait is counted from this call.
     pub fn keep_good<C: SyncHttpClient>(
         &mut self,
         alloc: Global,
@@ -283,6 +344,7 @@ where
         ensures ready { C.is_ready http_client.new }
     {
         if self.is_held_back(now) {
+            self.note_wait(now);
             if self.lasts(now) {
                 return Ok(());
             }

@@ -51,9 +51,9 @@ use oauth2::basic::{
     BasicTokenResponse,
 };
 use oauth2::{
-    AccessToken, Client, EndpointNotSet, EndpointSet, EndpointState, ErrorResponse, ParamText,
-    RefreshToken, RequestTokenError, Scope, StandardRevocableToken, SyncHttpClient, TokenResponse,
-    TryClone,
+    AccessToken, Client, ClientId, EndpointNotSet, EndpointSet, EndpointState, ErrorResponse,
+    ParamText, RefreshToken, RequestTokenError, Scope, StandardRevocableToken, SyncHttpClient,
+    TokenResponse, TokenUrl, TryClone,
 };
 use std::alloc::{AllocError, Global};
 use std::marker::Model;
@@ -63,7 +63,6 @@ use std::time::Duration;
 ///
 /// The parameters are those of its client, whose token endpoint is set.
 /// Contracts see a keeper of any type as a `Keeper`.
-#[derive(Drop)]
 pub struct TokenKeeper<'a, TE, TR, TIR, RT, TRE, A, D, I, R>
 where
     A: EndpointState,
@@ -79,6 +78,29 @@ where
     extra_params: Params<'a>,
     token: Option<KeptToken>,
     refresh_token: Option<RefreshToken>,
+}
+
+// Written out, a function that holds a keeper proves its drop by one call on each way out.
+impl<'a, TE, TR, TIR, RT, TRE, A, D, I, R> Drop
+    for TokenKeeper<'a, TE, TR, TIR, RT, TRE, A, D, I, R>
+where
+    A: EndpointState,
+    D: EndpointState,
+    I: EndpointState,
+    R: EndpointState,
+{
+    fn drop(self) {
+        let TokenKeeper {
+            client: _,
+            margin: _,
+            life: _,
+            scope: _,
+            refresh_scope: _,
+            extra_params: _,
+            token: _,
+            refresh_token: _,
+        } = self;
+    }
 }
 
 /// A keeper for a server that uses no extension, for a `BasicClient` whose other endpoints are in
@@ -239,13 +261,61 @@ where
           lifetime = as_nanos lifetime;
         }) refresh_token }
     {
+        self.start_from(access_token, accepted_at, lifetime, refresh_token);
+        self
+    }
+
+    /// Goes on from a token that was stored, as `starting_from`. A token and a refresh token that it
+    /// has give way.
+    pub fn start_from(
+        &mut self,
+        access_token: AccessToken,
+        accepted_at: Timestamp,
+        lifetime: Duration,
+        refresh_token: Option<RefreshToken>,
+    )
+        ensures { self.new ≡ starting_from self.old (record {
+          access_token = access_token;
+          accepted_at = accepted_at.nanosecond;
+          lifetime = as_nanos lifetime;
+        }) refresh_token }
+    {
         self.token = Some(KeptToken {
             access_token,
             accepted_at,
             lifetime,
         });
         self.refresh_token = refresh_token;
-        self
+    }
+
+    /// Forgets the kept token, so the next call makes a request. For a token that a server rejects
+    /// before its lifetime ends (RFC 6750, section 3.1, `invalid_token`).
+    pub fn forget_token(&mut self)
+        ensures { self.new ≡ record self.old { token = None } }
+    {
+        self.token = None;
+    }
+
+    /// Forgets the kept refresh token, so the next request is one by the client's own credentials.
+    /// For a refresh token that the server refused (RFC 6749, section 5.2, `invalid_grant`).
+    pub fn forget_refresh_token(&mut self)
+        ensures { self.new ≡ record self.old { refresh_token = None } }
+    {
+        self.refresh_token = None;
+    }
+
+    /// The identifier of its client.
+    pub fn client_id(&self) -> &ClientId
+        ensures { result.now ≡ self.now.client.client_id }
+    {
+        self.client.client_id()
+    }
+
+    /// The token endpoint of its client.
+    pub fn token_uri(&self) -> &TokenUrl
+        ensures { self.now.client.token_url ≡ Some result.now }
+    {
+        self.client.token_uri()
     }
 
     /// The moment of the call that got the kept token.

@@ -4,18 +4,20 @@ use crate::additions::{Addition, add_all};
 use crate::calls::{Call, show_calls};
 use crate::client::{Reply, TokenClient, client};
 use crate::ends::{show_kept, show_lent};
-use crate::stored::{Start, show_stored, show_text, started};
+use crate::stored::{Start, show_not_taken, show_stored, show_text, started};
 use crate::values::{Moment, Span, duration, moment};
 use oauth2_keeper::{BasicPatientKeeper, BasicTokenKeeper};
 use oauth2_refused_memory_values_tests::{Ended, Rows, find};
 use std::alloc::{AllocError, Global};
 use std::io::Write;
 
-// A keeper: what it starts from, what is added to it, its margin, how long it waits, whether it
-// uses a token to the end of its lifetime, its calls, and a moment at which its token is good.
+// A keeper: what it starts from and forgets of that, what is added to it, its margin, how long it
+// waits, whether it uses a token to the end of its lifetime, its calls, and a moment at which its
+// token is good.
 #[derive(Clone, Copy)]
 struct KeeperRow {
     start: Start<'static>,
+    forgotten: Forgotten,
     additions: &'static [Addition<'static>],
     margin: Span,
     wait: Span,
@@ -25,9 +27,17 @@ struct KeeperRow {
 }
 
 #[derive(Clone, Copy)]
+enum Forgotten {
+    Nothing,
+    Token,
+    RefreshToken,
+}
+
+#[derive(Clone, Copy)]
 enum Row {
     Keeper(KeeperRow),
     Text(&'static str),
+    NotTaken(&'static str),
 }
 
 // The reply of RFC 6749, section 5.1, and that of section 4.4.3, which has no refresh token.
@@ -51,6 +61,7 @@ const EMPTY: Reply<'static> = (500, "");
 
 const USUAL: KeeperRow = KeeperRow {
     start: Start::Empty,
+    forgotten: Forgotten::Nothing,
     additions: &[],
     margin: (10, 0),
     wait: (30, 0),
@@ -67,7 +78,7 @@ const STORED: Start<'static> = Start::Values(
     Some("tGzv3JOkF0XG5Qx2TlKWIA"),
 );
 
-const ROWS: [(&str, Row); 13] = [
+const ROWS: [(&str, Row); 19] = [
     (
         "scopes",
         Row::Keeper(KeeperRow {
@@ -136,6 +147,39 @@ const ROWS: [(&str, Row); 13] = [
             ..USUAL
         }),
     ),
+    (
+        "starting_from_json_of_this_client",
+        Row::Keeper(KeeperRow {
+            start: Start::Json(
+                "{\"access_token\":\"abc\",\"accepted_at\":0,\
+                \"accepted_at_nanoseconds\":0,\"lifetime\":60,\"lifetime_nanoseconds\":0,\
+                \"client_id\":\"s6BhdRkqt3\",\"token_url\":\"https://server.example.com/token\"}",
+            ),
+            last: (50, 0),
+            ..USUAL
+        }),
+    ),
+    (
+        "forgotten_token",
+        Row::Keeper(KeeperRow {
+            start: STORED,
+            forgotten: Forgotten::Token,
+            calls: &[((100, 5), TOKEN)],
+            last: (100, 5),
+            ..USUAL
+        }),
+    ),
+    (
+        "forgotten_refresh_token",
+        Row::Keeper(KeeperRow {
+            start: STORED,
+            forgotten: Forgotten::RefreshToken,
+            margin: (0, 0),
+            calls: &[((110, 6), TOKEN), ((110, 7), TOKEN)],
+            last: (110, 7),
+            ..USUAL
+        }),
+    ),
     // The last moment that there is, and a moment after it.
     (
         "good_until_the_end",
@@ -171,6 +215,21 @@ const ROWS: [(&str, Row); 13] = [
                 ((3660, 0), TOKEN),
             ],
             last: (3660, 0),
+            ..USUAL
+        }),
+    ),
+    // After a request that failed at 1,000 seconds the clock is set back, twice.
+    (
+        "waits_after_the_clock_was_set_back",
+        Row::Keeper(KeeperRow {
+            calls: &[
+                ((1000, 0), REFUSED),
+                ((10, 0), TOKEN),
+                ((0, 0), TOKEN),
+                ((29, 999_999_999), TOKEN),
+                ((30, 0), TOKEN),
+            ],
+            last: (30, 0),
             ..USUAL
         }),
     ),
@@ -213,6 +272,22 @@ const ROWS: [(&str, Row); 13] = [
             \"lifetime_nanoseconds\":0,\"refresh_token\":\"def\"}",
         ),
     ),
+    (
+        "stored_of_another_client",
+        Row::NotTaken(
+            "{\"access_token\":\"abc\",\"accepted_at\":0,\"accepted_at_nanoseconds\":0,\
+            \"lifetime\":60,\"lifetime_nanoseconds\":0,\"refresh_token\":\"def\",\
+            \"client_id\":\"s6BhdRkqt\",\"token_url\":\"https://other.example.com/token\"}",
+        ),
+    ),
+    (
+        "stored_of_another_endpoint",
+        Row::NotTaken(
+            "{\"access_token\":\"abc\",\"accepted_at\":0,\"accepted_at_nanoseconds\":0,\
+            \"lifetime\":60,\"lifetime_nanoseconds\":0,\
+            \"token_url\":\"https://server.example.com/token2\"}",
+        ),
+    ),
 ];
 
 /// The calls of keepers and of stored tokens.
@@ -223,10 +298,16 @@ impl Rows for KeeperRows {
         match find(&ROWS, name) {
             Some(Row::Keeper(row)) => show_with_client(alloc, row, out)?,
             Some(Row::Text(json)) => show_text(alloc, json, out)?,
+            Some(Row::NotTaken(json)) => show_by_client(alloc, json, out)?,
             None => return Err(Ended::Unknown),
         }
         Ok(true)
     }
+}
+
+fn show_by_client<W: Write>(alloc: Global, json: &str, out: &mut W) -> Result<(), Ended> {
+    let client = client(alloc)?;
+    show_not_taken(alloc, &client, json, out)
 }
 
 fn show_with_client<W: Write>(alloc: Global, row: KeeperRow, out: &mut W) -> Result<(), Ended> {
@@ -247,7 +328,12 @@ fn show_by<W: Write>(
 }
 
 fn patient<'a>(keeper: BasicTokenKeeper<'a>, row: KeeperRow) -> BasicPatientKeeper<'a> {
-    let keeper = keeper.set_retry_after(duration(row.wait));
+    let mut keeper = keeper.set_retry_after(duration(row.wait));
+    match row.forgotten {
+        Forgotten::Nothing => {}
+        Forgotten::Token => keeper.forget_token(),
+        Forgotten::RefreshToken => keeper.forget_refresh_token(),
+    }
     if row.until_end {
         keeper.use_token_until_end()
     } else {

@@ -5,7 +5,7 @@ use crate::values::{Moment, Span, duration, moment};
 use oauth2::{AccessToken, ReadError, RefreshToken, compact, read_body};
 use oauth2_keeper::{BasicTokenKeeper, TokenKeeper};
 use oauth2_refused_memory_values_tests::{Ended, show_fault, text};
-use oauth2_stored_token::{StoredToken, starting_from_stored, to_stored};
+use oauth2_stored_token::{StoredToken, start_from_stored, to_stored};
 use std::alloc::Global;
 use std::io::Write;
 use std::time::Duration;
@@ -50,7 +50,11 @@ pub fn started<'a>(
         }
         Start::Json(json) => {
             let stored = read_body(alloc, json.as_bytes())?;
-            Ok(starting_from_stored(empty(client, margin), stored))
+            let mut keeper = empty(client, margin);
+            match start_from_stored(&mut keeper, stored) {
+                Ok(()) => Ok(keeper),
+                Err(_) => Err(Ended::Refused),
+            }
         }
     }
 }
@@ -87,4 +91,21 @@ pub fn show_text<W: Write>(alloc: Global, json: &str, out: &mut W) -> Result<(),
         Err(ReadError::Fault(fault)) => show_fault(out, &fault),
         Err(error) => Err(Ended::from(error)),
     }
+}
+
+/// Why a keeper does not take a stored token, what it keeps then, and the token that it gives back.
+pub fn show_not_taken<W: Write>(
+    alloc: Global,
+    client: &TokenClient,
+    json: &str,
+    out: &mut W,
+) -> Result<(), Ended> {
+    let stored = read_body(alloc, json.as_bytes())?;
+    let mut keeper = empty(client, Duration::from_secs(10));
+    let Err(error) = start_from_stored(&mut keeper, stored) else {
+        return Err(Ended::Refused);
+    };
+    writeln!(out, "error {error}")?;
+    show_stored(alloc, &keeper, out)?;
+    show_json(alloc, &error.into_stored(), out)
 }

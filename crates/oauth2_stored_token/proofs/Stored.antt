@@ -8,6 +8,9 @@ use Rattle.jiff.proofs.SpanFacts.{signed_arith}
 use Rattle.oauth2_json.specs.Puts.{put_all}
 use Rattle.oauth2_json.proofs.Puts.{found}
 use Rattle.oauth2_json.proofs.Objects.{optional-text}
+use Rattle.oauth2_json.specs.Reading.{Reading, ErrsAs, ◌⊛◌}
+use Rattle.oauth2_json.specs.declared.read.ReadError.{ReadError}
+use Rattle.oauth2_json.specs.declared.read.ReadError.TheVariants as errors
 use Rattle.oauth2_introspection.specs.Instants.{second_of, second_data}
 use Rattle.oauth2_introspection.proofs.Seconds.{integer, within}
 use Rattle.oauth2_stored_token.specs.Stored.{Stored, moment_reading, lifetime_reading, stored_row, stored_rows, stored_reading, stored_writing, nanoseconds_of, whole_data}
@@ -40,6 +43,8 @@ stored_again s moment lifetime =
     let in_nanoseconds : get_member (codes "accepted_at_nanoseconds") (put_all rs no_members) ≡ Some (whole_data (nanoseconds_of s.token.accepted_at)) = found (codes "accepted_at_nanoseconds") rs no_members refl refl in
     let in_life : get_member (codes "lifetime") (put_all rs no_members) ≡ Some (whole_data (s.token.lifetime / 1_000_000_000)) = found (codes "lifetime") rs no_members refl refl in
     let in_life_rest : get_member (codes "lifetime_nanoseconds") (put_all rs no_members) ≡ Some (whole_data (s.token.lifetime % 1_000_000_000)) = found (codes "lifetime_nanoseconds") rs no_members refl refl in
+    let in_client_id : get_member (codes "client_id") (put_all rs no_members) ≡ option_map string s.client_id = found (codes "client_id") rs no_members refl refl in
+    let in_token_url : get_member (codes "token_url") (put_all rs no_members) ≡ option_map string s.token_url = found (codes "token_url") rs no_members refl refl in
     let in_refresh_token : get_member (codes "refresh_token") (put_all rs no_members) ≡ option_map string s.refresh_token = found (codes "refresh_token") rs no_members refl refl in
     rw (
       in_access_token,
@@ -48,12 +53,28 @@ stored_again s moment lifetime =
       in_life,
       in_life_rest,
       in_refresh_token,
+      in_client_id,
+      in_token_url,
       moment_back s.token.accepted_at moment,
       lifetime_back s.token.lifetime lifetime,
       optional-text (codes "refresh_token") s.refresh_token,
+      optional-text (codes "client_id") s.client_id,
+      optional-text (codes "token_url") s.token_url,
     ) refl
 
 pub stored_back : (s : Stored) → IsTimestampNanos s.token.accepted_at → FitsDuration s.token.lifetime → (d : Data) → stored_writing s ≡ Ok d → stored_reading d ≡ Ok s
 stored_back s moment lifetime d is =
     let same : object (put_all (stored_rows s) no_members) ≡ d = cc in
     rw (← same) (stored_again s moment lifetime)
+
+-- ---- members taken out one after another
+
+-- the fault of a row, where the rows before it have none
+pub row_refused : {A B : Type 0} (e : ReadError) (f : A → B) (row : Reading A) → ErrsAs e row → ErrsAs e (Ok f ⊛ row)
+row_refused errors.Memory f row h = tt
+row_refused (errors.Fault fault) f row h = rw h refl
+
+-- it is that of the table, whatever the rows after it
+pub refused_before : {A B : Type 0} (e : ReadError) (rows : Reading (A → B)) (row : Reading A) → ErrsAs e rows → ErrsAs e (rows ⊛ row)
+refused_before errors.Memory rows row h = tt
+refused_before (errors.Fault fault) rows row h = rw h refl

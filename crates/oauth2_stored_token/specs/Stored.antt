@@ -1,6 +1,7 @@
 -- What a keeper keeps, as a value and as the members of an object.
 use Rattle.std.specs.Prelude.{ℕ, ℤ, pos, ◌+ℤ◌, ◌+◌, ◌*◌, ◌/◌, ◌%◌, ◌^◌, nat_lt, unsigned_abs, List, [], ◌∷◌, Option, Some, option_map, Ok, Err, codes, if◌then◌else◌}
 use Rattle.std.specs.Int.{int_rem_euclid}
+use Rattle.url.specs.Parts.{serialize}
 use Rattle.serde_json.specs.Data.{Data, Members, number, unsigned, string, object, no_members}
 use Rattle.serde_json.specs.Find.{get_member}
 use Rattle.oauth2_json.specs.Reading.{Reading, read_then, ◌⊛◌}
@@ -12,20 +13,36 @@ use Rattle.oauth2_json.specs.declared.read.ParseCause.TheVariants as cause
 use Rattle.oauth2_introspection.specs.Instants.{instant, is_instant, second_data}
 use Rattle.oauth2_keeper.specs.Keeper.{AcceptedToken, Keeper}
 
--- a token and the refresh token that is kept with it
+-- a token, the refresh token that is kept with it, and the client's identifier and the URL of the
+-- token endpoint that they are of, where they were stored too
 pub record Stored : Type 0 where
   pub token : AcceptedToken
   pub refresh_token : Option (List ℕ)
+  pub client_id : Option (List ℕ)
+  pub token_url : Option (List ℕ)
 
-abbrev pub stored : List ℕ → ℤ → ℕ → Option (List ℕ) → Stored
-stored access_token accepted_at lifetime refresh_token = record {
+abbrev pub stored : List ℕ → ℤ → ℕ → Option (List ℕ) → Option (List ℕ) → Option (List ℕ) → Stored
+stored access_token accepted_at lifetime refresh_token client_id token_url = record {
   token = record { access_token = access_token; accepted_at = accepted_at; lifetime = lifetime };
   refresh_token = refresh_token;
+  client_id = client_id;
+  token_url = token_url;
 }
+
+-- the URL of a keeper's token endpoint, as its requests go to it
+abbrev pub endpoint_of : Keeper → Option (List ℕ)
+endpoint_of keeper = option_map (λ endpoint. serialize endpoint.url) keeper.client.token_url
 
 -- what a keeper keeps, where there is a token
 abbrev pub stored_of : Keeper → Option Stored
-stored_of keeper = option_map (λ token. record { token = token; refresh_token = keeper.refresh_token }) keeper.token
+stored_of keeper = option_map
+    (λ token. record {
+      token = token;
+      refresh_token = keeper.refresh_token;
+      client_id = Some keeper.client.client_id;
+      token_url = endpoint_of keeper;
+    })
+    keeper.token
 
 -- a moment: whole seconds since 1970, and nanoseconds to add
 abbrev pub moment_from : ℤ → ℕ → Reading ℤ
@@ -56,6 +73,8 @@ stored_row ms =
     ⊛ moment_reading (get_member (codes "accepted_at") ms) (get_member (codes "accepted_at_nanoseconds") ms)
     ⊛ lifetime_reading (get_member (codes "lifetime") ms) (get_member (codes "lifetime_nanoseconds") ms)
     ⊛ optional_member text (codes "refresh_token") (get_member (codes "refresh_token") ms)
+    ⊛ optional_member text (codes "client_id") (get_member (codes "client_id") ms)
+    ⊛ optional_member text (codes "token_url") (get_member (codes "token_url") ms)
 
 abbrev pub stored_reading : Data → Reading Stored
 stored_reading d = read_then (members_of_object d) stored_row
@@ -75,6 +94,8 @@ stored_rows s =
     ∷ (codes "lifetime", Some (whole_data (s.token.lifetime / 1_000_000_000)))
     ∷ (codes "lifetime_nanoseconds", Some (whole_data (s.token.lifetime % 1_000_000_000)))
     ∷ (codes "refresh_token", option_map string s.refresh_token)
+    ∷ (codes "client_id", option_map string s.client_id)
+    ∷ (codes "token_url", option_map string s.token_url)
     ∷ []
 
 abbrev pub stored_writing : Stored → Writing

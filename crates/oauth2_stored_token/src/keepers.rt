@@ -1,15 +1,38 @@
 //! A keeper's token, taken to the store and back.
 
-ghost use Rattle.std.specs.Prelude.{◌≡◌, IfOk};
-ghost use Rattle.oauth2_keeper.specs.Keeper.{starting_from};
+ghost use Rattle.std.specs.Prelude.{◌≡◌, IfOk, Some, option_copied, string_bytes};
+ghost use Rattle.url.specs.Parts.{serialize};
+ghost use Rattle.oauth2_stored_token.specs.Started.{is_of, Takes};
 ghost use Rattle.oauth2_stored_token.specs.Stored.{stored_of};
 
 use crate::stored_token::StoredToken;
-use oauth2::{EndpointState, TryClone};
+use crate::stored_token_error::StoredTokenError;
+use oauth2::{ClientId, EndpointState, RefreshToken, TokenUrl, TryClone};
 use oauth2_keeper::TokenKeeper;
 use std::alloc::{AllocError, Global};
 
-/// A copy of what a keeper keeps; `None` if it has no token.
+// A copy of a refresh token, where there is one.
+fn copied_refresh_token(
+    alloc: Global,
+    refresh_token: Option<&RefreshToken>,
+) -> Result<Option<RefreshToken>, AllocError>
+    ensures { IfOk result (λ copy. copy ≡ option_copied refresh_token.entry) }
+{
+    Ok(match refresh_token {
+        Some(refresh_token) => Some(refresh_token.try_clone(alloc)?),
+        None => None,
+    })
+}
+
+// The URL that requests to this endpoint go to.
+fn request_url(alloc: Global, token_url: &TokenUrl) -> Result<String, AllocError>
+    ensures { IfOk result (λ text. string_bytes text ≡ serialize token_url.now.url) }
+{
+    String::from_str(alloc, token_url.url().as_str())
+}
+
+/// A copy of what a keeper keeps, with the client and the token endpoint that it is of; `None` if it
+/// has no token.
 pub fn to_stored<TE, TR, TIR, RT, TRE, A, D, I, R>(
     alloc: Global,
     keeper: &TokenKeeper<'_, TE, TR, TIR, RT, TRE, A, D, I, R>,
@@ -26,33 +49,63 @@ where
             access_token: access_token.try_clone(alloc)?,
             accepted_at,
             lifetime,
-            refresh_token: match keeper.refresh_token() {
-                Some(refresh_token) => Some(refresh_token.try_clone(alloc)?),
-                None => None,
-            },
+            refresh_token: copied_refresh_token(alloc, keeper.refresh_token())?,
+            client_id: Some(keeper.client_id().try_clone(alloc)?),
+            token_url: Some(request_url(alloc, keeper.token_uri())?),
         })),
         _ => Ok(None),
     }
 }
 
-/// A keeper that goes on from what was stored. Its client, margin and settings are its own; a token
-/// and a refresh token that it has give way.
-pub fn starting_from_stored<'a, TE, TR, TIR, RT, TRE, A, D, I, R>(
-    keeper: TokenKeeper<'a, TE, TR, TIR, RT, TRE, A, D, I, R>,
+// Whether what was stored is of this client, or does not say of which.
+fn is_of_client(stored: &StoredToken, client_id: &ClientId) -> bool
+    ensures { result ≡ is_of stored.now.client_id (Some client_id.now) }
+{
+    match &stored.client_id {
+        Some(stored) => stored.as_str() == client_id.as_str(),
+        None => true,
+    }
+}
+
+// Whether what was stored is of this endpoint, or does not say of which.
+fn is_of_endpoint(stored: &StoredToken, token_url: &TokenUrl) -> bool
+    ensures { result ≡ is_of stored.now.token_url (Some (serialize token_url.now.url)) }
+{
+    match &stored.token_url {
+        Some(stored) => stored.as_str() == token_url.url().as_str(),
+        None => true,
+    }
+}
+
+/// Goes on from what was stored: the keeper has its token and its refresh token then, in place of
+/// those that it had. Its client, margin and settings are its own. It does not take what is of
+/// another client or of another token endpoint; URLs are compared as requests go to them. What was
+/// stored by an earlier version names neither, and is taken.
+pub fn start_from_stored<TE, TR, TIR, RT, TRE, A, D, I, R>(
+    keeper: &mut TokenKeeper<'_, TE, TR, TIR, RT, TRE, A, D, I, R>,
     stored: StoredToken,
-) -> TokenKeeper<'a, TE, TR, TIR, RT, TRE, A, D, I, R>
+) -> Result<(), StoredTokenError>
 where
     A: EndpointState,
     D: EndpointState,
     I: EndpointState,
     R: EndpointState,
-    ensures { result ≡ starting_from keeper.entry stored.token stored.refresh_token }
+    ensures { Takes keeper.old stored result keeper.new }
 {
+    if !is_of_client(&stored, keeper.client_id()) {
+        return Err(StoredTokenError::OtherClient(stored));
+    }
+    if !is_of_endpoint(&stored, keeper.token_uri()) {
+        return Err(StoredTokenError::OtherEndpoint(stored));
+    }
     let StoredToken {
         access_token,
         accepted_at,
         lifetime,
         refresh_token,
+        client_id: _,
+        token_url: _,
     } = stored;
-    keeper.starting_from(access_token, accepted_at, lifetime, refresh_token)
+    keeper.start_from(access_token, accepted_at, lifetime, refresh_token);
+    Ok(())
 }

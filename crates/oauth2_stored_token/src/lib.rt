@@ -4,7 +4,9 @@
 
 mod keepers;
 mod stored_token;
+mod stored_token_error;
 mod stored_token_json;
 
-pub use keepers::{starting_from_stored, to_stored};
+pub use keepers::{start_from_stored, to_stored};
 pub use stored_token::StoredToken;
+pub use stored_token_error::StoredTokenError;

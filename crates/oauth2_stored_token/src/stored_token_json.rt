@@ -2,16 +2,19 @@
 
 ghost use Rattle.std.specs.Prelude.{◌≡◌, ◌/◌, Ok, IfOk, codes, option_map};
 ghost use Rattle.std.specs.Duration.{as_nanos, FitsDuration};
-ghost use Rattle.serde_json.specs.View.{view};
+ghost use Rattle.serde_json.specs.Data.{no_members, string};
+ghost use Rattle.serde_json.specs.View.{view, members_view};
 ghost use Rattle.oauth2_introspection.specs.Instants.{instant};
-ghost use Rattle.oauth2_json.specs.Members.{needed_member};
+ghost use Rattle.oauth2_json.specs.Members.{needed_member, put_some};
 ghost use Rattle.oauth2_json.specs.Reading.{ReadsAs};
+ghost use Rattle.oauth2_json.specs.Puts.{put_all};
 ghost use Rattle.oauth2_json.specs.Writing.{WritesAs};
 ghost use Rattle.oauth2_stored_token.specs.Stored.{
   nanoseconds_of,
   moment_reading,
   lifetime_reading,
   stored_reading,
+  stored_rows,
   stored_writing,
 };
 
@@ -19,8 +22,10 @@ use crate::stored_token::StoredToken;
 use jiff::Timestamp;
 use oauth2_introspection::{optional_time, time_value};
 use oauth2_json::{FromJson, ParseCause, ReadError, ToJson, WriteError, members};
+use oauth2_types::{ClientId, RefreshToken};
 use serde_json::{Map, Value};
-use std::alloc::Global;
+use std::alloc::{AllocError, Global};
+use std::ops::Deref;
 use std::time::Duration;
 
 // The instant of these whole seconds.
@@ -102,11 +107,17 @@ impl FromJson for StoredToken {
         let lifetime = lifetime(alloc, seconds, nanoseconds)?;
         let refresh_token = members::take(&mut members, "refresh_token");
         let refresh_token = members::optional(alloc, "refresh_token", refresh_token)?;
+        let client_id = members::take(&mut members, "client_id");
+        let client_id = members::optional(alloc, "client_id", client_id)?;
+        let token_url = members::take(&mut members, "token_url");
+        let token_url = members::optional(alloc, "token_url", token_url)?;
         Ok(StoredToken {
             access_token,
             accepted_at,
             lifetime,
             refresh_token,
+            client_id,
+            token_url,
         })
     }
 }
@@ -119,29 +130,64 @@ fn seconds_of(lifetime: Duration) -> u64
     lifetime.as_secs()
 }
 
-// The members of what is stored, whose lifetime has these whole seconds.
-fn written(alloc: Global, stored: &StoredToken, seconds: u64) -> Result<Value, WriteError>
-    requires { seconds ≡ stored.now.token.lifetime / 1_000_000_000 }
-    ensures { WritesAs result (stored_writing stored.now) }
+// Puts in the members of what is stored that may be absent.
+fn with_optional_members(
+    alloc: Global,
+    stored: &StoredToken,
+    mut members: Map<String, Value>,
+) -> Result<Map<String, Value>, AllocError>
+    ensures { IfOk result (λ all. members_view all.entries
+        ≡ put_some (codes "refresh_token") (option_map string stored.now.refresh_token)
+        (put_some (codes "client_id") (option_map string stored.now.client_id)
+        (put_some (codes "token_url") (option_map string stored.now.token_url)
+        (members_view members.entries)))) }
 {
-    let access_token = stored.access_token.to_json(alloc)?;
-    let refresh_token = members::optional_to_json(alloc, &stored.refresh_token)?;
-    let life_nanoseconds = members::number_value(Some(stored.lifetime.subsec_nanos() as u64));
-    let life_seconds = members::number_value(Some(seconds));
-    let nanoseconds = members::number_value(Some(nanoseconds_of(stored.accepted_at)));
-    let seconds = time_value(Some(stored.accepted_at));
-    let mut members = Map::new(alloc);
+    let token_url = members::text_value(alloc, &stored.token_url)?;
+    members::put_some(&mut members, alloc, "token_url", token_url)?;
+    let client_id = stored.client_id.as_ref().map(ClientId::deref);
+    let client_id = members::text_value(alloc, &client_id)?;
+    members::put_some(&mut members, alloc, "client_id", client_id)?;
+    let refresh_token = stored.refresh_token.as_ref().map(RefreshToken::secret);
+    let refresh_token = members::text_value(alloc, &refresh_token)?;
     members::put_some(&mut members, alloc, "refresh_token", refresh_token)?;
+    Ok(members)
+}
+
+// The members of what is stored, whose lifetime has these whole seconds.
+fn stored_members(
+    alloc: Global,
+    stored: &StoredToken,
+    seconds: u64,
+) -> Result<Map<String, Value>, AllocError>
+    requires { seconds ≡ stored.now.token.lifetime / 1_000_000_000 }
+    ensures { IfOk result (λ all. members_view all.entries
+        ≡ put_all (stored_rows stored.now) no_members) }
+{
+    let mut members = with_optional_members(alloc, stored, Map::new(alloc))?;
+    let life_nanoseconds = members::number_value(Some(stored.lifetime.subsec_nanos() as u64));
     members::put_some(
         &mut members,
         alloc,
         "lifetime_nanoseconds",
         life_nanoseconds,
     )?;
-    members::put_some(&mut members, alloc, "lifetime", life_seconds)?;
+    let seconds = members::number_value(Some(seconds));
+    members::put_some(&mut members, alloc, "lifetime", seconds)?;
+    let nanoseconds = members::number_value(Some(nanoseconds_of(stored.accepted_at)));
     members::put_some(&mut members, alloc, "accepted_at_nanoseconds", nanoseconds)?;
+    let seconds = time_value(Some(stored.accepted_at));
     members::put_some(&mut members, alloc, "accepted_at", seconds)?;
+    let access_token = Value::try_from_str(alloc, stored.access_token.secret().as_str())?;
     members::put_some(&mut members, alloc, "access_token", Some(access_token))?;
+    Ok(members)
+}
+
+// What is stored, whose lifetime has these whole seconds.
+fn written(alloc: Global, stored: &StoredToken, seconds: u64) -> Result<Value, WriteError>
+    requires { seconds ≡ stored.now.token.lifetime / 1_000_000_000 }
+    ensures { WritesAs result (stored_writing stored.now) }
+{
+    let members = stored_members(alloc, stored, seconds)?;
     Ok(Value::Object(members))
 }
 

@@ -1,0 +1,8 @@
+-- What `Display` writes of the error.
+use Rattle.std.specs.Prelude.{ℕ, List, codes}
+use Rattle.oauth2_stored_token.specs.declared.stored_token_error.StoredTokenError.{StoredTokenError}
+use Rattle.oauth2_stored_token.specs.declared.stored_token_error.StoredTokenError.TheVariants.{OtherClient, OtherEndpoint}
+
+abbrev pub stored_token_error_text : StoredTokenError → List ℕ
+stored_token_error_text (OtherClient it) = codes "The stored token is of another client"
+stored_token_error_text (OtherEndpoint it) = codes "The stored token is of another token endpoint"
