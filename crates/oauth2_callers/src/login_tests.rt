@@ -14,12 +14,12 @@ use oauth2::http::Response;
 use oauth2::url::Url;
 use oauth2::{
     AuthUrl, AuthorizationCode, Client, ClientId, ClientSecret, CodeFlow, CodeFlowError, CsrfToken,
-    HttpResponse, PkceCodeVerifier, TokenResponse, TokenUrl, code_flow,
+    HttpResponse, PkceCodeVerifier, RedirectUrl, TokenResponse, TokenUrl, code_flow,
 };
 use oauth2_openid_login::{
     OpenIdClient, OpenIdLogin, OpenIdLoginEnd, OpenIdLoginError, OpenIdTokenResponse,
 };
-use oauth2_redirect::{LoginError, RedirectError};
+use oauth2_redirect::{ExpectedIssuer, RedirectError};
 use oauth2_refused_memory_values_tests::{Repeated, VERIFIER};
 use std::process::Abort;
 
@@ -116,9 +116,11 @@ fn joined_login_without_a_target(rt: HostRuntime) {
 }
 
 fn open_id_client(rt: &(impl Abort + AllocGlobal)) -> OpenIdClient {
+    let redirect = RedirectUrl::new(rt.alloc(), text(rt, "https://app.example/cb"));
     Client::new(ClientId::new(text(rt, "aaa")))
         .set_auth_uri(auth_url(rt, AUTH))
         .set_token_uri(token_url(rt, TOKEN))
+        .set_redirect_uri(redirect.expect(rt, "a URL"))
 }
 
 fn reply(rt: &(impl Abort + AllocGlobal), body: &str) -> HttpResponse {
@@ -137,7 +139,7 @@ fn started(rt: &(impl Abort + AllocGlobal), client: &OpenIdClient) -> OpenIdLogi
         url.as_str(),
         "https://example.com/auth?response_type=code&client_id=aaa&state=AAAAAAAAAAAAAAAAAAAAAA\
          &code_challenge=DwBzhbb51LfusnSGBa_hqYSgo7-j8BTQnip4TOnlzRo&code_challenge_method=S256\
-         &scope=openid&nonce=AAAAAAAAAAAAAAAAAAAAAA",
+         &redirect_uri=https%3A%2F%2Fapp.example%2Fcb&scope=openid&nonce=AAAAAAAAAAAAAAAAAAAAAA",
     );
     login
 }
@@ -165,7 +167,7 @@ fn ends(
         login,
         &redirect,
         &provider("https://as.example"),
-        now,
+        || now,
     )
 }
 
@@ -185,7 +187,10 @@ fn open_id_login(rt: HostRuntime) {
     let other = ends(&rt, "B", TOKENS);
     let refused = matches!(
         other,
-        Err(OpenIdLoginError::Login(LoginError::Redirect(RedirectError::OtherState))),
+        Err(OpenIdLoginError::Redirect {
+            error: RedirectError::OtherState,
+            ..
+        }),
     );
     assert!(rt; refused);
 }
@@ -194,11 +199,7 @@ fn open_id_login(rt: HostRuntime) {
 fn open_id_login_without_id_token(rt: HostRuntime) {
     let body = r#"{"access_token":"a","token_type":"bearer"}"#;
     assert!(rt; matches!(ends(&rt, STATE, body), Err(OpenIdLoginError::NoIdToken)));
-    let refused = matches!(
-        ends(&rt, STATE, "{}"),
-        Err(OpenIdLoginError::Login(LoginError::Token(_)))
-    );
-    assert!(rt; refused);
+    assert!(rt; matches!(ends(&rt, STATE, "{}"), Err(OpenIdLoginError::Token(_))));
 }
 
 // A login that is kept as a text between its two steps.
@@ -222,7 +223,7 @@ fn web_login(rt: HostRuntime) {
         &mut CannedClient::new(reply(&rt, body)),
         session.as_str(),
         &redirect,
-        None,
+        ExpectedIssuer::Unknown,
     );
     assert_text(
         &rt,

@@ -12,32 +12,34 @@ ghost use Rattle.std.specs.Prelude.{
   Err,
   IfOk,
   IfErr,
+  IsSome,
   false,
   codes,
 };
 ghost use Rattle.std.specs.Duration.{as_nanos};
 ghost use Rattle.rand_core.specs.Stream.{Stream};
-ghost use Rattle.url.specs.Parser.{IsOutOfRoom};
+ghost use Rattle.jiff.specs.Types.{Timestamp};
 ghost use Rattle.oauth2_types.specs.Pkce.{IsRandomText};
 ghost use Rattle.oauth2_urls.specs.Addressed.{Addressed};
 ghost use Rattle.oauth2_form.specs.Query.{ExtendsQuery, query_form};
-ghost use Rattle.oauth2_redirect.specs.End.{EndsLogin};
+ghost use Rattle.oauth2_redirect.specs.End.{ExchangesCode};
 ghost use Rattle.oauth2_redirect.specs.Query.{sole_text};
-ghost use Rattle.oauth2_redirect.specs.Redirect.{answer, is_state};
+ghost use Rattle.oauth2_redirect.specs.Redirect.{TellsRefusal, answer, is_state};
 ghost use Rattle.oauth2_openid.specs.Seen.{token_of};
 ghost use Rattle.oauth2_openid.specs.Token.{DecodedToken, TokenFault};
 ghost use Rattle.oauth2_openid.specs.TokenRules.{Holds, token_checked};
 ghost use Rattle.oauth2_openid_login.specs.End.{fault_told, id_token_reading};
+ghost use Rattle.oauth2_openid_login.specs.Login.{OpenIdKept};
 ghost use Rattle.oauth2_openid_login.specs.Provider.{expected_of, redirect_issuer};
 ghost use Rattle.oauth2_callers.specs.Login.{IsAnsweredBy, openid_pairs};
 
 use jiff::Timestamp;
 use oauth2::basic::BasicErrorResponse;
-use oauth2::url::{ParseError, Url};
+use oauth2::url::Url;
 use oauth2::{FromJson, SyncHttpClient};
 use oauth2_openid_login::{
-    OpenIdClient, OpenIdLogin, OpenIdLoginEnd, OpenIdLoginError, OpenIdProvider,
-    OpenIdTokenResponse,
+    OpenIdClient, OpenIdLogin, OpenIdLoginEnd, OpenIdLoginError, OpenIdLoginUrlFault,
+    OpenIdProvider, OpenIdTokenResponse,
 };
 use rand_core::Rng;
 use std::alloc::Global;
@@ -48,12 +50,9 @@ use std::time::Duration;
 pub fn provider(issuer: &str) -> OpenIdProvider<'_>
     ensures { result.issuer ≡ issuer.now }
 {
-    OpenIdProvider {
-        issuer,
-        tells_issuer_in_redirect: true,
-        algorithm: Some("RS256"),
-        leeway: Duration::from_secs(60),
-    }
+    OpenIdProvider::new(issuer, Duration::from_secs(60))
+        .set_tells_issuer_in_redirect(true)
+        .set_algorithm("RS256")
 }
 
 /// The URL to send the user to, and what to keep until the user is back.
@@ -61,7 +60,7 @@ pub fn start_login<R: Rng>(
     alloc: Global,
     client: &OpenIdClient,
     rng: &mut R,
-) -> Result<(Url, OpenIdLogin), ParseError>
+) -> Result<(Url, OpenIdLogin), OpenIdLoginUrlFault>
     ensures random { IfOk result (λ (_, kept). (second : Stream) × (third : Stream)
         × IsRandomText 16 (R.stream rng.old) second kept.login.state
         × IsRandomText 32 second third kept.login.verifier
@@ -70,25 +69,28 @@ pub fn start_login<R: Rng>(
         × (client.now.auth_url ≡ Some endpoint) × ExtendsQuery endpoint.url url
         (openid_pairs client.now kept.login.state kept.login.verifier kept.nonce)) }
     ensures redirect_uri { IfOk result
-        (λ (_, kept). kept.login.redirect_uri ≡ client.now.redirect_url) }
-    ensures refusal { IfErr result IsOutOfRoom }
+        (λ (_, kept). (kept.login.redirect_uri ≡ client.now.redirect_url)
+        × IsSome client.now.redirect_url) }
+    ensures refusal { result ≡ Err OpenIdLoginUrlFault.NoRedirectUri
+        → client.now.redirect_url ≡ None }
 {
     Ok(OpenIdLogin::start(alloc, client, rng)?.url(alloc)?)
 }
 
-/// Who the user is and the tokens, if the redirect has the login's state and the provider's issuer,
-/// and the ID token meets each rule. All is what one request with the code and the login's verifier
-/// was answered.
-pub fn finish_login<C: SyncHttpClient>(
+/// Who the user is and the tokens, if the redirect has the login's state and may come from the
+/// provider, and the ID token meets each rule at the moment that the clock tells. All is what one
+/// request with the code and the login's verifier was answered.
+pub fn finish_login<C: SyncHttpClient, K: FnOnce() -> Timestamp + Drop>(
     alloc: Global,
     client: &OpenIdClient,
     http_client: &mut C,
     login: OpenIdLogin,
     redirect: &Url,
     provider: &OpenIdProvider<'_>,
-    now: Timestamp,
+    clock: K,
 ) -> Result<OpenIdLoginEnd<OpenIdTokenResponse>, OpenIdLoginError<C::Error, BasicErrorResponse>>
-    requires { C.is_ready http_client.old }
+    requires client { C.is_ready http_client.old }
+    requires clock { K.IsAlwaysCallable clock }
     ensures other_state { let state = sole_text (codes "state") (query_form redirect.now) in
         is_state login.login.state state ≡ false → http_client.new ≡ http_client.old }
     ensures user { IfOk result (λ end. (code : List ℕ)
@@ -99,6 +101,7 @@ pub fn finish_login<C: SyncHttpClient>(
         ⟦<BasicErrorResponse as FromJson>⟧.reading C.step
         client.now login.login code http_client.old response http_client.new
         × (id_token_reading response.extra_fields.value ≡ Some (Ok (token_of end.id_token)))
+        × (now : Timestamp) × K.post clock now
         × Holds (expected_of provider.now client.now login) response.access_token now.nanosecond
         (token_of end.id_token)) }
     ensures no_id_token { result ≡ Err OpenIdLoginError.NoIdToken → (code : List ℕ)
@@ -117,6 +120,7 @@ pub fn finish_login<C: SyncHttpClient>(
         ⟦<BasicErrorResponse as FromJson>⟧.reading C.step
         client.now login.login code http_client.old response http_client.new
         × (token : DecodedToken) × (id_token_reading response.extra_fields.value ≡ Some (Ok token))
+        × (now : Timestamp) × K.post clock now
         × (token_checked (expected_of provider.now client.now login) response.access_token
         now.nanosecond token ≡ Err error) }
     ensures unread { (error : _) → result ≡ Err (OpenIdLoginError.Read error) → (code : List ℕ)
@@ -128,16 +132,29 @@ pub fn finish_login<C: SyncHttpClient>(
         client.now login.login code http_client.old response http_client.new
         × (fault : TokenFault) × (fault_told error ≡ Some fault)
         × (id_token_reading response.extra_fields.value ≡ Some (Err fault)) }
-    ensures login { (error : _) → result ≡ Err (OpenIdLoginError.Login error)
-        → EndsLogin ⟦<OpenIdTokenResponse as FromJson>⟧.meaning
+    ensures memory { result ≡ Err OpenIdLoginError.Memory → (code : List ℕ)
+        × (answer login.login.state (redirect_issuer provider.now) (query_form redirect.now)
+        ≡ Ok code)
+        × (response : ⟦<OpenIdTokenResponse as FromJson>⟧.Meaning)
+        × IsAnsweredBy ⟦<OpenIdTokenResponse as FromJson>⟧.reading
+        ⟦<BasicErrorResponse as FromJson>⟧.reading C.step
+        client.now login.login code http_client.old response http_client.new
+        × IsSome response.extra_fields.value }
+    ensures given_back { (error : _) (kept : OpenIdKept)
+        → result ≡ Err (OpenIdLoginError.Redirect error kept)
+        → (kept ≡ login) × (http_client.new ≡ http_client.old) }
+    ensures redirect { (error : _) (kept : OpenIdKept)
+        → result ≡ Err (OpenIdLoginError.Redirect error kept) → TellsRefusal error
+        (answer login.login.state (redirect_issuer provider.now) (query_form redirect.now)) }
+    ensures token { (error : _) → result ≡ Err (OpenIdLoginError.Token error) → (code : List ℕ)
+        × (answer login.login.state (redirect_issuer provider.now) (query_form redirect.now)
+        ≡ Ok code)
+        × ExchangesCode ⟦<OpenIdTokenResponse as FromJson>⟧.meaning
         ⟦<BasicErrorResponse as FromJson>⟧.meaning
         ⟦<OpenIdTokenResponse as FromJson>⟧.reading
-        ⟦<BasicErrorResponse as FromJson>⟧.reading C.step client.now login.login
-        (answer login.login.state (redirect_issuer provider.now) (query_form redirect.now))
+        ⟦<BasicErrorResponse as FromJson>⟧.reading C.step client.now login.login code
         http_client.old (Err error) http_client.new }
-    ensures memory { result ≡ Err (OpenIdLoginError.Memory false)
-        → http_client.new ≡ http_client.old }
     ensures ready { C.is_ready http_client.new }
 {
-    login.finish(alloc, client, http_client, redirect, provider, now)
+    login.finish(alloc, client, http_client, redirect, provider, clock)
 }

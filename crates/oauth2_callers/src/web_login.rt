@@ -1,15 +1,15 @@
 //! A web login: the URL that leads the user away, and the token when the user is back.
 
-ghost use Rattle.std.specs.Prelude.{◌≡◌, ℕ, List, Ok, IfOk, option_copied};
+ghost use Rattle.std.specs.Prelude.{◌≡◌, ℕ, List, Ok, IfOk};
 ghost use Rattle.oauth2_json.specs.Body.{body_reading};
 ghost use Rattle.oauth2_form.specs.Query.{query_form};
 ghost use Rattle.oauth2_redirect.specs.Login.{Kept, login_reading};
-ghost use Rattle.oauth2_redirect.specs.Redirect.{answer};
+ghost use Rattle.oauth2_redirect.specs.Redirect.{answer, issuer_expectation};
 
 use oauth2::basic::{BasicClient, BasicErrorResponse, BasicTokenResponse};
 use oauth2::url::{ParseError, Url};
 use oauth2::{EndpointNotSet, EndpointSet, ReadError, Scope, SyncHttpClient, compact, read_body};
-use oauth2_redirect::{Login, LoginError};
+use oauth2_redirect::{ExpectedIssuer, Login, LoginError};
 use rand_core::Rng;
 use std::alloc::Global;
 
@@ -46,20 +46,20 @@ pub fn begin<R: Rng>(
     }
 }
 
-/// The token, when the user comes back by this redirect to a session that holds this text. The
-/// server's issuer is expected, if one is given.
+/// The token, when the user comes back by this redirect to a session that holds this text.
 pub fn end<C: SyncHttpClient>(
     alloc: Global,
     client: &LoginClient,
     http_client: &mut C,
     session: &str,
     redirect: &Url,
-    issuer: Option<&str>,
+    issuer: ExpectedIssuer<'_>,
 ) -> Result<BasicTokenResponse, WebLoginError<C::Error>>
     requires { C.is_ready http_client.old }
     ensures { IfOk result (λ _. (login : Kept) × (code : List ℕ)
         × (body_reading login_reading session.now ≡ Ok login)
-        × (answer login.state (option_copied issuer.entry) (query_form redirect.now) ≡ Ok code)) }
+        × (answer login.state (issuer_expectation issuer.entry) (query_form redirect.now)
+        ≡ Ok code)) }
 {
     let login: Login = match read_body(alloc, session.as_bytes()) {
         Ok(login) => login,

@@ -1,15 +1,23 @@
 -- The command `metadata`, from its request.
-use Rattle.std.proofs.Common.{◌≡◌, ℕ, List, Bool, true, false, None, Result, Ok, Err, inl, inr, refl, append-nil}
-use Rattle.std.specs.Prelude.{bytes_eq, IsOkAnd}
+use Rattle.std.proofs.Common.{◌≡◌, ℕ, List, Bool, true, false, Option, Some, None, Result, Ok, Err, inl, inr, refl, append-nil}
+use Rattle.std.specs.Prelude.{bytes_eq, unwrap_or, IsOkAnd}
+use Rattle.std.proofs.lemmas.Slice.Eq.{bytes_eq-Decides}
 use Rattle.form_urlencoded.specs.Form.{raw_pairs, split}
 use Rattle.http_uri.specs.Uri.{uri_text}
 use Rattle.serde_json.specs.Data.{object, no_members}
 use Rattle.serde_json.specs.Written.{has_float}
 use Rattle.oauth2.specs.Settings.{Settings}
 use Rattle.oauth2_json.specs.Writing.{Writing}
-use Rattle.oauth2_metadata.specs.Issuer.{IsOutOfRoom, issuer_error_text}
+use Rattle.oauth2_metadata.specs.EndpointFault.{endpoint_fault}
+use Rattle.oauth2_metadata.specs.Issuer.{issuer_error_text}
 use Rattle.oauth2_metadata.specs.Metadata.{metadata_writing, metadata_names, metadata_rows}
-use Rattle.oauth2_metadata.specs.Request.{MetadataQuery, IsAsked, IsGetOf, checked}
+use Rattle.oauth2_metadata.specs.Reply.{found_seen}
+use Rattle.oauth2_metadata.specs.Request.{MetadataQuery, IsAsked, IsChecked, IsGetOf, IsJudged}
+use Rattle.oauth2_metadata.specs.declared.endpoint_fault.EndpointFault.{EndpointFault}
+use Rattle.oauth2_metadata.specs.declared.metadata_error.MetadataError.{MetadataError}
+use Rattle.oauth2_metadata.specs.declared.metadata_error.MetadataError.TheVariants as errors
+use Rattle.oauth2_metadata.specs.declared.reply.OtherReply.{OtherReply}
+use Rattle.oauth2_world.specs.declared.replay.NoReply.{NoReply}
 use Rattle.oauth2_metadata.specs.declared.issuer.IssuerError.{IssuerError}
 use Rattle.oauth2_metadata.specs.declared.issuer.IssuerError.TheVariants.{NotUrl}
 use Rattle.oauth2_wire.specs.Request.{RequestView, authorization_of}
@@ -17,11 +25,11 @@ use Rattle.oauth2_world.specs.Lines.{basic_line}
 use Rattle.oauth2_world.specs.RequestLines.{view_lines, request_lines}
 use Rattle.oauth2_script.specs.MetadataParams.{MetadataParams}
 use Rattle.oauth2_script.specs.Replies.{Reply}
-use Rattle.oauth2_commands.specs.Metadata.{IsDiscovered, IsMetadataOutput, get_lines, metadata_data, metadata_output, place}
-use Rattle.oauth2_commands.specs.private.Discovery.{MetadataSeen, discovery_output, metadata_meaning}
+use Rattle.oauth2_commands.specs.Metadata.{IsDiscovered, IsMetadataOutput, document_output, expected_issuer, get_lines, metadata_data, metadata_output, place}
+use Rattle.oauth2_commands.specs.private.Discovery.{HasRoom, MetadataSeen, discovery_output, metadata_meaning}
 use Rattle.oauth2_commands.proofs.NoFloats.{metadata_data-no_float}
 use Rattle.oauth2_request_commands.specs.Out.{Output, failure_output, Adds, AddsOutput}
-use Rattle.oauth2_request_commands.specs.private.Results.{ShownFault, end_output, error_seen}
+use Rattle.oauth2_request_commands.specs.private.Results.{ErrorResponse, ShownFault, end_output, error_seen}
 use Rattle.oauth2_request_commands.specs.declared.status.RunStatus.{RunStatus}
 use Rattle.oauth2_request_commands.proofs.Results.{free_of}
 
@@ -48,34 +56,50 @@ metadata_free m = free_of (metadata_written m) (metadata_data (metadata_meaning 
 
 -- ---- the end of the request
 
--- metadata is shown by whether it names the issuer
-pub checked_shown : (issuer : List ℕ) (outcome : Result MetadataSeen ShownFault)
-    → discovery_output (checked issuer outcome) ≡ end_output error_seen (λ m. metadata_output issuer (metadata_meaning m)) outcome
-checked_shown issuer (Err fault) = refl
-checked_shown issuer (Ok m) = by_test (bytes_eq m.issuer issuer) refl
-  where
-    by_test : (b : Bool) → bytes_eq m.issuer issuer ≡ b → discovery_output (checked issuer (Ok m)) ≡ metadata_output issuer (metadata_meaning m)
-    by_test true e = rw e refl
-    by_test false e = rw e refl
+off : (b : Bool) → (b ≡ true → ⊥) → b ≡ false
+off true h = absurd (h refl)
+off false h = refl
+
+-- a document is shown by its endpoints and by whether it names the issuer
+document_shown : (issuer : List ℕ) (m : MetadataSeen) (fault : Option EndpointFault) (result : Result MetadataSeen (MetadataError NoReply ErrorResponse))
+    → IsChecked issuer m fault result → discovery_output result ≡ document_output issuer (metadata_meaning m) fault
+document_shown issuer m (Some fault) result h = rw h refl
+document_shown issuer m None (Ok found) (is, names) =
+    let same : bytes_eq m.issuer issuer ≡ true = (bytes_eq-Decides m.issuer issuer).1 names in
+    rw (is, same) refl
+document_shown issuer m None (Err (errors.OtherIssuer named)) (is, other) =
+    let differs : bytes_eq m.issuer issuer ≡ false = off (bytes_eq m.issuer issuer) (λ same. other ((bytes_eq-Decides m.issuer issuer).0 same)) in
+    rw (differs, is) refl
+document_shown issuer m None (Err (errors.Reply fault)) h = absurd h
+document_shown issuer m None (Err (errors.Status reply)) h = absurd h
+document_shown issuer m None (Err (errors.Endpoint fault)) h = absurd h
+
+-- the result is shown as what was found
+pub judged_shown : (issuer : List ℕ) (outcome : Result (Result MetadataSeen OtherReply) ShownFault) (result : Result MetadataSeen (MetadataError NoReply ErrorResponse))
+    → IsJudged issuer outcome result → discovery_output result ≡ end_output error_seen (λ found. metadata_output issuer (found_seen metadata_meaning found)) outcome
+judged_shown issuer (Err fault) result h = rw h refl
+judged_shown issuer (Ok (Err reply)) result h = rw h refl
+judged_shown issuer (Ok (Ok m)) result h = document_shown issuer m (endpoint_fault m.endpoints) result h
 
 module _ (client : Settings) (p : MetadataParams) (replies : List Reply) (old new : List ℕ) (s : RunStatus) where
   abbrev IsOutput : Output → Type 0
   IsOutput o = IsMetadataOutput client p replies o
 
   -- a text that is no issuer
-  pub issuer_refused : (error : IssuerError) → IsAsked (place p.well_known) p.issuer (Err error) → ¬ (IsOutOfRoom error)
+  pub issuer_refused : (error : IssuerError) → IsAsked (place p.well_known) p.issuer (Err error) → HasRoom error
       → AddsOutput old new s (failure_output (issuer_error_text error)) → Adds old new s IsOutput
-  issuer_refused error (inl (inl (is, cause, parsed))) room printed =
+  issuer_refused error (inl (inl is)) room printed = absurd (room.0 is)
+  issuer_refused error (inl (inr (is, cause, parsed, other))) room printed =
       let told : AddsOutput old new s (failure_output (issuer_error_text NotUrl)) = rw is at printed in
       (failure_output (issuer_error_text NotUrl), rw parsed refl, told.0, told.1)
-  issuer_refused error (inl (inr out)) room printed = absurd (room out)
   issuer_refused error (inr (url, parsed, inl refused)) room printed =
       (failure_output (issuer_error_text error), rw (parsed, refused) refl, printed.0, printed.1)
-  issuer_refused error (inr (url, parsed, inr (accepted, out))) room printed = absurd (room out)
+  issuer_refused error (inr (url, parsed, inr (accepted, inl (is, long)))) room printed = absurd (room.1 is)
+  issuer_refused error (inr (url, parsed, inr (accepted, inr (is, short)))) room printed = absurd (room.0 is)
 
-  -- a request with the rule of the client
-  pub issuer_asked : (query asked : MetadataQuery) → IsAsked (place p.well_known) p.issuer (Ok query) → asked ≡ record query { reply_rule = client.reply_rule }
+  -- a request with the rule of the client and the issuer that is expected
+  pub issuer_asked : (query asked : MetadataQuery) → IsAsked (place p.well_known) p.issuer (Ok query) → asked ≡ record query { reply_rule = client.reply_rule; issuer = unwrap_or p.expected_issuer query.issuer }
       → Adds old new s (λ o. IsDiscovered asked.reply_rule asked.issuer asked.url replies o) → Adds old new s IsOutput
   issuer_asked query asked (url, parsed, accepted, made) is (o, discovered, grown, ended) =
-      let there : IsDiscovered client.reply_rule p.issuer (place p.well_known url) replies o = rw (is, made) at discovered in
+      let there : IsDiscovered client.reply_rule (expected_issuer p) (place p.well_known url) replies o = rw (is, made) at discovered in
       (o, rw (parsed, accepted) there, grown, ended)

@@ -1,5 +1,5 @@
 -- What the calls of a keeper add to the lines of a run.
-use Rattle.std.proofs.Common.{◌≡◌, ℕ, ℤ, List, [], ◌∷◌, ◌++◌, true, false, Option, Some, None, Result, Ok, Err, String, Global, string_bytes, inl, inr, refl, ap, sym, subst, ◌∙◌, append_assoc, append-nil, ◌+◌, ◌<◌, length, take, get_or, map, arith}
+use Rattle.std.proofs.Common.{rules, ◌≡◌, ℕ, ℤ, List, [], ◌∷◌, ◌++◌, true, false, Option, Some, None, Result, Ok, Err, String, Global, string_bytes, inl, inr, refl, ap, sym, subst, ◌∙◌, append_assoc, append-nil, ◌+◌, ◌<◌, length, take, get_or, map, arith}
 use Rattle.std.specs.Prelude.{◌≢◌, IsSomeAnd, IsTrue, Bool, not, ◌&&◌, pos, neg_ℤ, ◌+ℤ◌, int_lt, int_div, option_map, codes, if◌then◌else◌}
 use Rattle.std.specs.Fmt.{signed_decimal}
 use Rattle.jiff_core.specs.Timestamp.{IsTimestampNanos}
@@ -23,7 +23,7 @@ use Rattle.oauth2_wire.specs.Request.{HttpRequest, RequestView, IsRequestOf, vie
 use Rattle.oauth2_wire.specs.declared.error.RequestTokenError.TheVariants.{ServerResponse, Request, Parse, Other, Memory}
 use Rattle.oauth2_wire.specs.declared.request.RequestFault.TheVariants as fault
 use Rattle.oauth2_keeper.specs.Keeper.{Keeper, AcceptedToken, quiet, accepted, failed, is_good, accept, renewal, KeeperCalls}
-use Rattle.oauth2_keeper.specs.Patience.{Patient, counts, is_waiting_for, is_held_back, lasts, called, failed_call, IsUntil, PatientCalls}
+use Rattle.oauth2_keeper.specs.Patience.{Patient, counts, waits_from, is_waiting_for, is_held_back, held_back, lasts, called, failed_call, IsUntil, PatientCalls}
 use Rattle.oauth2_keeper.specs.declared.patient_keeper.PatientError.{PatientError}
 use Rattle.oauth2_keeper.specs.declared.patient_keeper.PatientError.TheVariants as patient_error
 use Rattle.oauth2_keeper.proofs.SentFaults.{of_reply, shown as shown_counts, not_http_counts}
@@ -32,7 +32,7 @@ use Rattle.oauth2_script.specs.KeeperParams.{KeeperParams}
 use Rattle.oauth2_script.specs.Replies.{Reply}
 use Rattle.oauth2_request_commands.specs.Client.{WithEndpoint, WithToken, missing}
 use Rattle.oauth2_request_commands.specs.Exchange.{BasicToken, other_text, token_answer}
-use Rattle.oauth2_commands.specs.Keeper.{Standing, is_early, end_text, waiting, IsCall, IsRenewal, IsSentAt, AreCalls, IsKeeperOutput, kept_after_reply, renewal_output, both, both_outputs, nothing}
+use Rattle.oauth2_commands.specs.Keeper.{Standing, is_early, end_at, end_text, waiting, IsCall, IsRenewal, IsSentAt, AreCalls, IsKeeperOutput, kept_after_reply, renewal_output, both, both_outputs, nothing}
 use Rattle.oauth2_world.specs.Lines.{expected_lines, quotation}
 use Rattle.oauth2_request_commands.specs.Out.{Output, after, success_output, failure_output as shown_fault, no_memory_output, Adds, AddsOutput}
 use Rattle.oauth2_commands.specs.private.Kept.{standing, end_of_wait, patient_standing, wait_after, told_by, AreKept, ShowsCall, ShowsError}
@@ -79,13 +79,13 @@ module _ (retry_after : Option ℕ) (keeper kept : Keeper) (until later : Option
 
   module _ (stale : is_good keeper now ≡ false) where
     -- it waits
-    pub waited : (end : ℤ) → until ≡ Some end → is_early now until ≡ true → mid ≡ before → kept ≡ keeper → later ≡ until → mid.is_starved ≡ false
-        → AddsOutput (string_bytes mid.lines) lines s (waiting end) → Told
-    waited end is_until early same is waits fed p =
+    pub waited : (end : ℤ) → later ≡ Some end → is_early now (end_at now until retry_after) ≡ true → mid ≡ before → kept ≡ keeper → later ≡ end_at now until retry_after
+        → mid.is_starved ≡ false → AddsOutput (string_bytes mid.lines) lines s (waiting end) → Told
+    waited end is_later early same is waits fed p =
         let all : lines ≡ string_bytes before.lines ++ (waiting end).lines = p.0 ∙ ap (λ (c : ScriptedClient). string_bytes c.lines ++ (waiting end).lines) same in
-        (ap (λ (c : ScriptedClient). c.is_starved) (sym same) ∙ fed, (waiting end, inr (inl (stale, early, rw is_until refl, rw (is, waits, same) refl)), (all, p.1)))
+        (ap (λ (c : ScriptedClient). c.is_starved) (sym same) ∙ fed, (waiting end, inr (inl (stale, early, rw is_later refl, rw (is, waits, same) refl)), (all, p.1)))
 
-    module _ (free : is_early now until ≡ false) (endpoint : Addressed) (there : keeper.client.token_url ≡ Some endpoint) (fed : mid.is_starved ≡ false) where
+    module _ (free : is_early now (end_at now until retry_after) ≡ false) (endpoint : Addressed) (there : keeper.client.token_url ≡ Some endpoint) (fed : mid.is_starved ≡ false) where
       -- no request is made
       unsent : (o : Output) → mid ≡ before → kept ≡ keeper → later ≡ until → IsRenewal retry_after (standing keeper until before) now o (standing keeper until before)
           → AddsOutput (string_bytes mid.lines) lines s o → Told
@@ -155,7 +155,7 @@ module _ (retry_after : Option ℕ) (keeper kept : Keeper) (until later : Option
   goes_on : (error : ShownFault) → counts error ≡ false → IsWaitAfter error → later ≡ until
   goes_on error is waits = waits ∙ if-false (counts error) (wait_from retry_after now) until is
 
-  module _ (stale : is_good keeper now ≡ false) (free : is_early now until ≡ false) (endpoint : Addressed) (there : keeper.client.token_url ≡ Some endpoint) where
+  module _ (stale : is_good keeper now ≡ false) (free : is_early now (end_at now until retry_after) ≡ false) (endpoint : Addressed) (there : keeper.client.token_url ≡ Some endpoint) where
     -- what is asked of the client here
     abbrev AsksHere : Result TokenSeen ShownFault → Type 0
     AsksHere result = AsksForRenewal keeper.client.reply_rule (IsRequestOf (renewal keeper)) (serialize endpoint.url) before result mid
@@ -231,7 +231,7 @@ module _ (retry_after : Option ℕ) (keeper kept : Keeper) (until later : Option
 
   -- a call that nothing holds back
   pub call_told : (result : Result Unit ShownFault) → KeeperCalls AsksForRenewal told_by keeper now before result mid kept → later ≡ wait_after retry_after until now (is_good keeper now) result
-      → (is_good keeper now ≡ false → is_early now until ≡ false) → ShowsCall (string_bytes mid.lines) lines s kept result → IsTold
+      → (is_good keeper now ≡ false → is_early now (end_at now until retry_after) ≡ false) → ShowsCall (string_bytes mid.lines) lines s kept result → IsTold
   call_told (Ok done) (quiet, (good, same, stays), is) waits free p =
       shown retry_after keeper kept until later now before mid lines s good stays is (waits ∙ if-true (is_good keeper now) until None good) fed p
   call_told (Err error) (quiet, (good, same, stays), is) waits free p = cc
@@ -297,9 +297,20 @@ ends_at end h = if-true (is_instant end) (signed_decimal (int_div end (pos 1_000
 pub never_ends : (end : ℤ) → (IsTimestampNanos end → ⊥) → end_text end ≡ codes "null"
 never_ends end out = if-false (is_instant end) (signed_decimal (int_div end (pos 1_000_000_000))) (codes "null") (no (is_instant end) (λ e. out (inside end e)))
 
-early_is : (wait : ℕ) (now : ℤ) (failed_at : Option ℤ) → is_early now (end_of_wait wait failed_at) ≡ is_waiting_for wait now failed_at
-early_is wait now None = refl
-early_is wait now (Some moment) = refl
+-- the wait after a call, counted from its end or from its beginning
+shifted : (wait : ℕ) (now moment : ℤ) → (if int_lt (now +ℤ pos wait) (moment +ℤ pos wait) then now +ℤ pos wait else moment +ℤ pos wait) ≡ waits_from now moment +ℤ pos wait
+shifted wait now moment = search (rules, signed_arith)
+
+end_is : (wait : ℕ) (now : ℤ) (failed_at : Option ℤ) → end_at now (end_of_wait wait failed_at) (Some wait) ≡ end_of_wait wait (option_map (waits_from now) failed_at)
+end_is wait now None = refl
+end_is wait now (Some moment) = ap (λ (end : ℤ). Some end) (shifted wait now moment)
+
+is_early-is : (wait : ℕ) (now : ℤ) (failed_at : Option ℤ) → is_early now (end_of_wait wait (option_map (waits_from now) failed_at)) ≡ is_waiting_for wait now failed_at
+is_early-is wait now None = refl
+is_early-is wait now (Some moment) = refl
+
+early_is : (wait : ℕ) (now : ℤ) (failed_at : Option ℤ) → is_early now (end_at now (end_of_wait wait failed_at) (Some wait)) ≡ is_waiting_for wait now failed_at
+early_is wait now failed_at = ap (is_early now) (end_is wait now failed_at) ∙ is_early-is wait now failed_at
 
 end_of_if : (wait : ℕ) (b : Bool) (x y : Option ℤ) → end_of_wait wait (if b then x else y) ≡ (if b then end_of_wait wait x else end_of_wait wait y)
 end_of_if wait true x y = refl
@@ -315,7 +326,7 @@ module _ (patient : Patient) (now : ℤ) (before mid : ScriptedClient) (lines : 
       (before.is_starved ≡ false)
       × ((o : Output) × IsCall (Some patient.wait) (patient_standing patient before) now o (patient_standing kept mid) × AddsOutput (string_bytes before.lines) lines s o)
 
-  free_if : is_held_back patient now ≡ false → is_good patient.keeper now ≡ false → is_early now until ≡ false
+  free_if : is_held_back patient now ≡ false → is_good patient.keeper now ≡ false → is_early now (end_at now until (Some patient.wait)) ≡ false
   free_if free stale = early_is patient.wait now patient.failed_at ∙ free_to_ask (is_good patient.keeper now) (is_waiting_for patient.wait now patient.failed_at) free stale
 
   pub got_told : (kept : Patient) → PatientCalls AsksForRenewal told_by patient now before (Ok tt) mid kept
@@ -335,19 +346,22 @@ module _ (patient : Patient) (now : ℤ) (before mid : ScriptedClient) (lines : 
       (end_of_if patient.wait (counts error) (Some now) patient.failed_at) (free_if free) p in
       subst IsPatientTold (sym is) told
 
-  waited_told : (failed_at : Option ℤ) → patient.failed_at ≡ failed_at → IsTrue (is_held_back patient now) → (ends : Option Timestamp)
+  waited_told : (failed_at : Option ℤ) → (held_back patient now).failed_at ≡ failed_at → IsTrue (is_held_back patient now) → (ends : Option Timestamp)
       → IsSomeAnd failed_at (λ moment. IsUntil (moment +ℤ pos patient.wait) ends) → mid ≡ before
-      → ((end : ℤ) → IsUntil end ends → AddsOutput (string_bytes mid.lines) lines s (waiting end)) → IsPatientTold patient
+      → ((end : ℤ) → IsUntil end ends → AddsOutput (string_bytes mid.lines) lines s (waiting end)) → IsPatientTold (held_back patient now)
   waited_told None e held ends is same p = absurd is
   waited_told (Some moment) e held ends is same p =
       let parts = both-true (not (is_good patient.keeper now)) (is_waiting_for patient.wait now patient.failed_at) held in
-      waited (Some patient.wait) patient.keeper patient.keeper until until now before mid lines s (not-true (is_good patient.keeper now) parts.0) (moment +ℤ pos patient.wait)
-      (ap (end_of_wait patient.wait) e) (early_is patient.wait now patient.failed_at ∙ parts.1) same refl refl fed (p (moment +ℤ pos patient.wait) is)
+      waited (Some patient.wait) patient.keeper patient.keeper until (end_of_wait patient.wait (held_back patient now).failed_at) now before mid lines s
+      (not-true (is_good patient.keeper now) parts.0) (moment +ℤ pos patient.wait)
+      (ap (end_of_wait patient.wait) e) (early_is patient.wait now patient.failed_at ∙ parts.1) same refl (sym (end_is patient.wait now patient.failed_at)) fed (p (moment +ℤ pos patient.wait) is)
 
   wait_told : (kept : Patient) (ends : Option Timestamp) → PatientCalls AsksForRenewal told_by patient now before (Err (patient_error.Waits ends)) mid kept
       → ((end : ℤ) → IsUntil end ends → AddsOutput (string_bytes mid.lines) lines s (waiting end)) → IsPatientTold kept
   wait_told kept ends (held, is_until, same, is) p =
-      subst IsPatientTold (sym is) (waited_told patient.failed_at refl (both-true (is_held_back patient now) (not (lasts patient now)) held).0 ends is_until same p)
+      let until_here = subst (λ (k : Patient). IsSomeAnd k.failed_at (λ from. IsUntil (from +ℤ pos k.wait) ends)) is is_until in
+      subst IsPatientTold (sym is)
+      (waited_told (held_back patient now).failed_at refl (both-true (is_held_back patient now) (not (lasts patient now)) held).0 ends until_here same p)
 
   pub no_token_told : (kept : Patient) (error : PatientError NoReply ErrorResponse) → PatientCalls AsksForRenewal told_by patient now before (Err error) mid kept
       → ShowsError (string_bytes mid.lines) lines s error → IsPatientTold kept

@@ -5,7 +5,8 @@ use Rattle.serde_json.specs.Written.{compact_text}
 use Rattle.oauth2.specs.Settings.{Settings}
 use Rattle.oauth2_json.specs.ErrorTexts.{parse_fault_text}
 use Rattle.oauth2_json.specs.Puts.{put_all}
-use Rattle.oauth2_openid.specs.Claims.{Claims, Expectation}
+use Rattle.oauth2_openid.specs.Claims.{Claims, Expectation, NamedIssuers}
+use Rattle.oauth2_openid.specs.Claims as named
 use Rattle.oauth2_openid.specs.ErrorTexts.{claims_error_text, part_text}
 use Rattle.oauth2_openid.specs.Reading.{compact_token_reading, id_token_rows}
 use Rattle.oauth2_openid.specs.Token.{DecodedToken, TokenFault, TokenReading, not_three_parts, not_base64, at_fault}
@@ -15,13 +16,21 @@ use Rattle.oauth2_openid.specs.declared.access_token_hash.AccessTokenHash.TheVar
 use Rattle.oauth2_openid.specs.declared.claims_error.ClaimsError.{ClaimsError}
 use Rattle.oauth2_world.specs.Clock.{Clock, reading_of}
 use Rattle.oauth2_request_commands.specs.Out.{Output, success_output, failure_output}
-use Rattle.oauth2_script.specs.IdTokenParams.{IdTokenParams}
+use Rattle.oauth2_script.specs.IdTokenParams.{IdTokenParams, IssuerPart}
+use Rattle.oauth2_script.specs.IdTokenParams as part
+
+abbrev pub issuers_of : IssuerPart → NamedIssuers
+issuers_of (part.is issuer) = named.is issuer
+issuers_of (part.one_of issuers) = named.one_of issuers
+issuers_of (part.per_tenant before after) = named.per_tenant before after
 
 -- what the client of a script expects of an ID token
 abbrev pub params_expectation : Settings → IdTokenParams → Expectation
 params_expectation client p = record {
-  issuer = p.issuer;
+  issuer = issuers_of p.issuer;
   client = client.client_id;
+  other_audiences = p.other_audiences;
+  authorized_parties = p.authorized_parties;
   algorithm = p.algorithm;
   nonce = p.nonce;
   leeway = p.leeway;

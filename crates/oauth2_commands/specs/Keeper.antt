@@ -44,6 +44,13 @@ abbrev pub is_early : ℤ → Option ℤ → Bool
 is_early now None = false
 is_early now (Some until) = int_lt now until
 
+-- where a wait ends at a call, which is one wait after that call at the latest: the clock may have been
+-- set back
+abbrev pub end_at : ℤ → Option ℤ → Option ℕ → Option ℤ
+end_at now None retry_after = None
+end_at now (Some until) None = Some until
+end_at now (Some until) (Some wait) = Some (if int_lt (now +ℤ pos wait) until then now +ℤ pos wait else until)
+
 -- the first second at which a request may be made again; no reading comes later than `jiff` counts
 abbrev pub end_text : ℤ → List ℕ
 end_text until = if is_instant until then signed_decimal (int_div until (pos 1_000_000_000)) else codes "null"
@@ -99,9 +106,9 @@ module _ (retry_after : Option ℕ) where
   IsCall before now o kept =
       (IsTrue (is_good before.keeper now)
       × IsSomeAnd before.keeper.token (λ token. o ≡ success_output (quotation token.access_token)) × (kept ≡ before))
-      ⊎ ((is_good before.keeper now ≡ false) × IsTrue (is_early now before.waits_until)
-      × IsSomeAnd before.waits_until (λ until. o ≡ waiting until) × (kept ≡ before))
-      ⊎ ((is_good before.keeper now ≡ false) × (is_early now before.waits_until ≡ false) × IsRenewal before now o kept)
+      ⊎ ((is_good before.keeper now ≡ false) × IsTrue (is_early now (end_at now before.waits_until retry_after))
+      × IsSomeAnd kept.waits_until (λ until. o ≡ waiting until) × (kept ≡ record before { waits_until = end_at now before.waits_until retry_after }))
+      ⊎ ((is_good before.keeper now ≡ false) × (is_early now (end_at now before.waits_until retry_after) ≡ false) × IsRenewal before now o kept)
 
 -- ---- calls
 

@@ -1,5 +1,5 @@
 -- The command `metadata`: an issuer's metadata is asked for (RFC 8414, 3; OpenID Connect Discovery 1.0, 4).
-use Rattle.std.specs.Prelude.{◌≡◌, ℕ, List, [], ◌++◌, bytes_eq, if◌then◌else◌, Option, None, Some, Ok, Err, codes}
+use Rattle.std.specs.Prelude.{◌≡◌, ℕ, List, [], ◌++◌, bytes_eq, if◌then◌else◌, Option, None, Some, Ok, Err, codes, unwrap_or}
 use Rattle.serde_json.specs.Data.{Data, object, no_members}
 use Rattle.serde_json.specs.Written.{compact_text}
 use Rattle.url.specs.Parser.{Parsed, parse_url}
@@ -9,12 +9,16 @@ use Rattle.oauth2_codes.specs.ErrorCodes.{ErrorCode, error_code_text, error_code
 use Rattle.oauth2_codes.specs.ErrorResponse.{ErrorParts, error_reading}
 use Rattle.oauth2_json.specs.Puts.{put_all}
 use Rattle.oauth2_metadata.specs.Issuer.{issuer_error_text, metadata_place, openid_place, issuer_refusal}
+use Rattle.oauth2_metadata.specs.EndpointFault.{endpoint_fault, fault_text}
 use Rattle.oauth2_metadata.specs.Metadata.{Metadata, metadata_reading, metadata_rows}
+use Rattle.oauth2_metadata.specs.Reply.{Found, found_answer, other_reply_text}
+use Rattle.oauth2_metadata.specs.Request.{other_issuer_text}
+use Rattle.oauth2_metadata.specs.declared.endpoint_fault.EndpointFault.{EndpointFault}
 use Rattle.oauth2_metadata.specs.declared.issuer.IssuerError.{IssuerError}
 use Rattle.oauth2_metadata.specs.declared.issuer.IssuerError.TheVariants.{NotUrl}
 use Rattle.oauth2_replies.specs.Kept.{any_object}
 use Rattle.oauth2_wire.specs.declared.content_type.ReplyRule.{ReplyRule}
-use Rattle.oauth2_wire.specs.Reply.{Answer, ReplyView, answer_of}
+use Rattle.oauth2_wire.specs.Reply.{Answer, ReplyView}
 use Rattle.oauth2_world.specs.Lines.{request_line, authorization_line, body_line, basic_line}
 use Rattle.oauth2_request_commands.specs.Exchange.{IsRequestShown, error_display}
 use Rattle.oauth2_request_commands.specs.Out.{Output, success_output, failure_output}
@@ -42,20 +46,29 @@ metadata_data m = object (put_all (metadata_rows m) no_members)
 unfoldable pub metadata_json : BasicMetadata → List ℕ
 metadata_json m = compact_text (metadata_data m)
 
--- it counts where it names the issuer, byte for byte (RFC 8414, 3.3)
-abbrev pub metadata_output : List ℕ → BasicMetadata → Output
-metadata_output issuer m =
-    if bytes_eq m.issuer issuer then success_output (metadata_json m) else failure_output (codes "metadata is another issuer's")
+-- it counts where a client may call its endpoints and it names the issuer, byte for byte (RFC 8414, 3.3)
+abbrev pub document_output : List ℕ → BasicMetadata → Option EndpointFault → Output
+document_output issuer m (Some fault) = failure_output (fault_text fault)
+document_output issuer m None =
+    if bytes_eq m.issuer issuer then success_output (metadata_json m) else failure_output (other_issuer_text m.issuer)
 
-abbrev pub metadata_answer : ReplyRule → ReplyView → Answer BasicMetadata (ErrorParts ErrorCode)
-metadata_answer rule = answer_of rule (metadata_reading any_object) (error_reading error_code_reading)
+abbrev pub metadata_output : List ℕ → Found BasicMetadata → Output
+metadata_output issuer (Ok m) = document_output issuer m (endpoint_fault m.endpoints)
+metadata_output issuer (Err (status, body)) = failure_output (other_reply_text status)
+
+abbrev pub metadata_answer : ReplyRule → ReplyView → Answer (Found BasicMetadata) (ErrorParts ErrorCode)
+metadata_answer rule = found_answer rule (metadata_reading any_object) (error_reading error_code_reading)
 
 abbrev pub IsDiscovered : ReplyRule → List ℕ → Parts → List Reply → Output → Type 0
 IsDiscovered rule issuer = IsRequestShown (metadata_output issuer) (error_display error_code_text) (metadata_answer rule) get_lines
 
+-- the issuer that the metadata has to name: the one that is asked for, unless another is expected
+abbrev pub expected_issuer : MetadataParams → List ℕ
+expected_issuer p = unwrap_or p.expected_issuer p.issuer
+
 -- a URL that is an issuer has its metadata at that place, and any other is refused
 abbrev pub IsIssuerOutput : ReplyRule → MetadataParams → List Reply → Parts → Option IssuerError → Output → Type 0
-IsIssuerOutput rule p replies url None o = IsDiscovered rule p.issuer (place p.well_known url) replies o
+IsIssuerOutput rule p replies url None o = IsDiscovered rule (expected_issuer p) (place p.well_known url) replies o
 IsIssuerOutput rule p replies url (Some error) o = o ≡ failure_output (issuer_error_text error)
 
 abbrev pub IsUrlOutput : ReplyRule → MetadataParams → List Reply → Parsed Parts → Output → Type 0

@@ -2,11 +2,11 @@
 use Rattle.std.specs.Prelude.{◌≡◌, ℕ, List, Result, Ok, Err, codes}
 use Rattle.oauth2_codes.specs.AuthorizationCodes.{authorization_error_code_text}
 use Rattle.oauth2_form.specs.Query.{query_form}
-use Rattle.oauth2_redirect.specs.Redirect.{RedirectRefusal, other_state, other_issuer, refused, no_code, answer}
+use Rattle.oauth2_redirect.specs.Redirect.{IssuerExpectation, required, compared, unknown, RedirectRefusal, other_state, other_issuer, refused, no_code, answer}
 use Rattle.oauth2_world.specs.Lines.{quotation}
 use Rattle.oauth2_request_commands.specs.Exchange.{error_display}
 use Rattle.oauth2_request_commands.specs.Out.{Output, success_output, failure_output}
-use Rattle.oauth2_script.specs.RedirectParams.{RedirectParams}
+use Rattle.oauth2_script.specs.RedirectParams as script
 
 -- why there is no code; an error of the server is shown with its description and its page
 abbrev pub refusal_text : RedirectRefusal → List ℕ
@@ -19,9 +19,15 @@ abbrev pub shown_answer : Result (List ℕ) RedirectRefusal → Output
 shown_answer (Ok code) = success_output (quotation code)
 shown_answer (Err why) = failure_output (refusal_text why)
 
--- what the redirect says to a client whose login has this state and expects this issuer, if any
-abbrev pub redirect_answer : RedirectParams → Result (List ℕ) RedirectRefusal
-redirect_answer p = answer p.state p.issuer (query_form p.redirect.url)
+-- the issuer that a script expects
+abbrev pub rule_of : script.Issuer → IssuerExpectation
+rule_of (script.required issuer) = required issuer
+rule_of (script.compared issuer) = compared issuer
+rule_of script.unknown = unknown
 
-abbrev pub IsRedirectOutput : RedirectParams → Output → Type 0
+-- what the redirect says to a client whose login has this state and expects that issuer
+abbrev pub redirect_answer : script.RedirectParams → Result (List ℕ) RedirectRefusal
+redirect_answer p = answer p.state (rule_of p.issuer) (query_form p.redirect.url)
+
+abbrev pub IsRedirectOutput : script.RedirectParams → Output → Type 0
 IsRedirectOutput p o = o ≡ shown_answer (redirect_answer p)

@@ -3,19 +3,21 @@
 ghost use Rattle.std.specs.Prelude.{◌≡◌, IfOk, option_map, string_bytes};
 ghost use Rattle.oauth2_commands.specs.IdToken as spec;
 ghost use Rattle.oauth2_request_commands.specs.Out.{Output, Adds, AddsOutput};
+ghost use Rattle.oauth2_openid.specs.Issuers.{named_issuers};
 ghost use Rattle.oauth2_openid.specs.Seen.{token_of};
 ghost use Rattle.oauth2_openid.specs.Token.{DecodedToken, TokenErrsAs, TokenReading};
 ghost use Rattle.oauth2_openid.specs.TokenRules.{token_checked};
-ghost use Rattle.oauth2_script.specs.Views.{id_token_view};
+ghost use Rattle.oauth2_script.specs.Views.{id_token_view, issuer_view};
 
 use crate::id_token_json::CheckedToken;
 use jiff::Timestamp;
 use oauth2::TryClone;
 use oauth2_openid::{
-    AccessTokenHash, ClaimsError, Expected, IdToken, IdTokenClaims, IdTokenReadError, Nonce,
+    AccessTokenHash, ClaimsError, Expected, IdToken, IdTokenClaims, IdTokenReadError, IssuerRule,
+    Nonce,
 };
 use oauth2_request_commands::{RunStatus, ScriptClient, show_answer, show_error_text};
-use oauth2_script::IdTokenParams;
+use oauth2_script::{IdTokenParams, IssuerParam};
 use oauth2_world::ScriptedClock;
 use std::alloc::{AllocError, Global};
 
@@ -25,6 +27,16 @@ fn nonce_of(text: Option<String>) -> Option<Nonce>
     match text {
         Some(text) => Some(Nonce::new(text)),
         None => None,
+    }
+}
+
+fn rule_of(issuer: IssuerParam) -> IssuerRule
+    ensures { named_issuers result ≡ spec.issuers_of (issuer_view issuer) }
+{
+    match issuer {
+        IssuerParam::Is(issuer) => IssuerRule::Is(issuer),
+        IssuerParam::OneOf(issuers) => IssuerRule::OneOf(issuers),
+        IssuerParam::PerTenant { before, after } => IssuerRule::PerTenant { before, after },
     }
 }
 
@@ -42,8 +54,10 @@ fn check(
         now.nanosecond (token_of token.now)) }
 {
     let expected = Expected {
-        issuer: params.issuer,
+        issuer: rule_of(params.issuer),
         client_id: client.client_id().try_clone(alloc)?,
+        other_audiences: params.other_audiences,
+        authorized_parties: params.authorized_parties,
         algorithm: params.algorithm,
         nonce: nonce_of(params.nonce),
         leeway: params.leeway,

@@ -1,11 +1,12 @@
 //! The command `metadata`: an issuer's metadata is asked for.
 
-ghost use Rattle.std.specs.Prelude.{◌≡◌, false, string_bytes, IfOk};
+ghost use Rattle.std.specs.Prelude.{◌≡◌, false, option_map, string_bytes, unwrap_or, IfOk};
 ghost use Rattle.oauth2_commands.specs.Metadata as spec;
 ghost use Rattle.oauth2_request_commands.specs.Out.{failure_output, Adds, AddsOutput};
 ghost use Rattle.oauth2_commands.specs.private.Discovery.{discovery_output};
 ghost use Rattle.oauth2_commands.specs.private.Discovery.{metadata_error_output};
-ghost use Rattle.oauth2_metadata.specs.Issuer.{IsOutOfRoom, issuer_error_text};
+ghost use Rattle.oauth2_commands.specs.private.Discovery.{HasRoom};
+ghost use Rattle.oauth2_metadata.specs.Issuer.{issuer_error_text};
 ghost use Rattle.oauth2_metadata.specs.Request.{IsAsked};
 ghost use Rattle.oauth2_script.specs.Views.{metadata_view};
 ghost use Rattle.oauth2_world.specs.Replay.{client_replies};
@@ -20,22 +21,38 @@ use std::alloc::{AllocError, Global};
 type Metadata = ServerMetadata<EmptyExtraTokenFields>;
 
 // The request to the place that a well-known URI has.
-fn request_of(alloc: Global, params: MetadataParams) -> Result<MetadataRequest, IssuerError>
-    ensures { IsAsked (spec.place params.well_known) (string_bytes params.issuer) result }
+fn request_of(
+    alloc: Global,
+    issuer: String,
+    well_known: WellKnown,
+) -> Result<MetadataRequest, IssuerError>
+    ensures { IsAsked (spec.place well_known) (string_bytes issuer) result }
 {
-    match params.well_known {
-        WellKnown::OauthAuthorizationServer => MetadataRequest::new(alloc, params.issuer),
-        WellKnown::OpenidConfiguration => MetadataRequest::openid(alloc, params.issuer),
+    match well_known {
+        WellKnown::OauthAuthorizationServer => MetadataRequest::new(alloc, issuer),
+        WellKnown::OpenidConfiguration => MetadataRequest::openid(alloc, issuer),
     }
 }
 
-// Why a text is no issuer. Want of room for a URL is want of memory.
+// The same request, for metadata that has to name this issuer, if one is given.
+fn expecting(request: MetadataRequest, issuer: Option<String>) -> MetadataRequest
+    ensures { result ≡ record request {
+      issuer = unwrap_or (option_map string_bytes issuer) request.issuer;
+    } }
+{
+    match issuer {
+        Some(issuer) => request.set_expected_issuer(issuer),
+        None => request,
+    }
+}
+
+// Why a text is no issuer. A URL that is too long is want of memory here.
 fn show_issuer_error(
     alloc: Global,
     lines: &mut String,
     error: IssuerError,
 ) -> Result<RunStatus, AllocError>
-    ensures { IfOk result (λ status. ¬ (IsOutOfRoom error)
+    ensures { IfOk result (λ status. HasRoom error
         × AddsOutput (string_bytes lines.old) (string_bytes lines.new) status
         (failure_output (issuer_error_text error))) }
 {
@@ -56,7 +73,9 @@ fn show_metadata_error(
 {
     match error {
         MetadataError::Reply(fault) => show_fault(alloc, lines, fault),
-        MetadataError::OtherIssuer => show_error_text(alloc, lines, error),
+        MetadataError::Status(_) => show_error_text(alloc, lines, error),
+        MetadataError::Endpoint(_) => show_error_text(alloc, lines, error),
+        MetadataError::OtherIssuer(_) => show_error_text(alloc, lines, error),
     }
 }
 
@@ -102,8 +121,11 @@ pub fn run_metadata(
         (client_replies http_client.old))) }
 {
     let rule = client.reply_rule();
-    match request_of(alloc, params) {
-        Ok(request) => ask(alloc, request.set_reply_rule(rule), http_client),
+    match request_of(alloc, params.issuer, params.well_known) {
+        Ok(request) => {
+            let request = expecting(request.set_reply_rule(rule), params.expected_issuer);
+            ask(alloc, request, http_client)
+        }
         Err(error) => show_issuer_error(alloc, &mut http_client.lines, error),
     }
 }

@@ -1,24 +1,40 @@
 //! The command `redirect`: what the redirect says by which a user comes back.
 
-ghost use Rattle.std.specs.Prelude.{ℕ, List, Result, string_bytes, IfOk};
+ghost use Rattle.std.specs.Prelude.{◌≡◌, ℕ, List, Result, string_bytes, IfOk};
 ghost use Rattle.oauth2_request_commands.specs.Out.{success_output, Adds, AddsOutput};
 ghost use Rattle.oauth2_commands.specs.Redirect as spec;
-ghost use Rattle.oauth2_redirect.specs.Redirect.{RedirectRefusal, Tells, TellsRefusal};
-ghost use Rattle.oauth2_script.specs.Views.{redirect_view};
+ghost use Rattle.oauth2_redirect.specs.Redirect.{
+  RedirectRefusal,
+  Tells,
+  TellsRefusal,
+  issuer_expectation,
+};
+ghost use Rattle.oauth2_script.specs.Views.{expected_issuer_view, redirect_view};
 ghost use Rattle.oauth2_world.specs.Lines.{quotation};
 
 use oauth2::AuthorizationCode;
-use oauth2_redirect::{RedirectError, read_redirect};
+use oauth2_redirect::{ExpectedIssuer, RedirectError, read_redirect};
 use oauth2_request_commands::{RunStatus, show_error_text};
-use oauth2_script::RedirectParams;
+use oauth2_script::{ExpectedIssuerParam, RedirectParams};
 use oauth2_world::{print_answer, quoted};
 use std::alloc::{AllocError, Global};
 
 fn read(alloc: Global, params: &RedirectParams) -> Result<AuthorizationCode, RedirectError>
     ensures { Tells result (spec.redirect_answer (redirect_view params.now)) }
 {
-    let issuer = params.issuer.as_deref();
+    let issuer = expected_issuer(&params.issuer);
     read_redirect(alloc, params.redirect.url(), &params.state, issuer)
+}
+
+// The issuer that a script expects.
+fn expected_issuer(issuer: &ExpectedIssuerParam) -> ExpectedIssuer<'_>
+    ensures { issuer_expectation result ≡ spec.rule_of (expected_issuer_view issuer.now) }
+{
+    match issuer {
+        ExpectedIssuerParam::Required(issuer) => ExpectedIssuer::Required(issuer.as_str()),
+        ExpectedIssuerParam::Compared(issuer) => ExpectedIssuer::Compared(issuer.as_str()),
+        ExpectedIssuerParam::Unknown => ExpectedIssuer::Unknown,
+    }
 }
 
 fn show_code(

@@ -14,7 +14,7 @@ use crate::over_connection::{HttpClient, connected, ended};
 use jiff::Timestamp;
 use oauth2::{ParamText, compact, read_body};
 use oauth2_keeper::{BasicPatientKeeper, BasicTokenKeeper, PatientError, TokenKeeper};
-use oauth2_stored_token::{StoredToken, starting_from_stored, to_stored};
+use oauth2_stored_token::{StoredToken, start_from_stored, to_stored};
 use serde_json::{Value, json};
 use std::alloc::{AllocError, Global};
 use std::fs;
@@ -64,9 +64,7 @@ fn keeper<'a>(
     let margin = Duration::from_secs(MARGIN_SECONDS);
     let lifetime = Duration::from_secs(LIFETIME_SECONDS);
     let mut keeper: BasicTokenKeeper<'a> = TokenKeeper::new(client, None, margin, lifetime);
-    if let Some(stored) = load(rt, store)? {
-        keeper = starting_from_stored(keeper, stored);
-    }
+    restore(rt, &mut keeper, store)?;
     keeper.add_scopes(rt.alloc(), settings.scopes()?)?;
     if let Some(audience) = settings.optional::<String>("audience")? {
         let name = ParamText::Borrowed("audience");
@@ -74,6 +72,17 @@ fn keeper<'a>(
     }
     let wait = Duration::from_secs(WAIT_SECONDS);
     Ok(keeper.set_retry_after(wait).use_token_until_end())
+}
+
+// Goes on with what was stored, which has to be of this client and of this token endpoint.
+fn restore(rt: &HostRuntime, keeper: &mut BasicTokenKeeper<'_>, store: &str) -> Result<(), Fault> {
+    match load(rt, store)? {
+        Some(stored) => match start_from_stored(keeper, stored) {
+            Ok(()) => Ok(()),
+            Err(error) => Err(Fault::unanswered(rt.alloc(), &error)),
+        },
+        None => Ok(()),
+    }
 }
 
 fn load(rt: &HostRuntime, store: &str) -> Result<Option<StoredToken>, Fault> {

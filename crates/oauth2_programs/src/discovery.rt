@@ -1,20 +1,25 @@
-//! Finds the endpoints of an authorization server by its issuer (RFC 8414), and gets a token there.
+//! Finds the endpoints of an authorization server by its issuer (RFC 8414), and starts a login there.
 
 use crate::canned_client::CannedClient;
 use oauth2::basic::BasicClient;
-use oauth2::{ClientId, ClientSecret, EndpointMaybeSet, TokenResponse};
+use oauth2::url::Url;
+use oauth2::{ClientId, EndpointMaybeSet, EndpointSet, RedirectUrl};
 use oauth2_metadata::{MetadataRequest, ServerMetadata};
+use oauth2_redirect::Login;
+use rand::rngs::StdRng;
 use std::alloc::Global;
 
-const METADATA: &str =
-    r#"{"issuer":"https://as.example","token_endpoint":"https://as.example/token"}"#;
+const METADATA: &str = r#"{"issuer":"https://as.example",
+    "authorization_endpoint":"https://as.example/authorize",
+    "token_endpoint":"https://as.example/token"}"#;
 
+/// A client whose metadata has an authorization and a token endpoint, and perhaps the others.
 type FoundClient = BasicClient<
+    EndpointSet,
     EndpointMaybeSet,
     EndpointMaybeSet,
     EndpointMaybeSet,
-    EndpointMaybeSet,
-    EndpointMaybeSet,
+    EndpointSet,
 >;
 
 fn metadata(
@@ -26,32 +31,28 @@ fn metadata(
     Ok(MetadataRequest::new(alloc, issuer)?.request(alloc, http_client)?)
 }
 
-/// A client with the endpoints that the metadata has. Each may be absent.
+/// The client, with the endpoints that the metadata has. An error names the one that is missing.
 fn client(alloc: Global, metadata: &ServerMetadata) -> anyhow::Result<FoundClient> {
     let id = ClientId::from_str(alloc, "aaa")?;
-    let secret = ClientSecret::from_str(alloc, "bbb")?;
-    Ok(metadata.endpoints_of(alloc, BasicClient::new(id).set_client_secret(secret))?)
+    let redirect = RedirectUrl::parse(alloc, "http://127.0.0.1:8080/")?;
+    let client = BasicClient::new(id).set_redirect_uri(redirect);
+    Ok(metadata.login_client_of(alloc, client)?)
 }
 
-fn token(
-    rt: &HostRuntime,
-    client: &FoundClient,
-    http_client: &mut CannedClient<'_>,
-) -> anyhow::Result<()> {
-    let token = client
-        .exchange_client_credentials(rt.alloc())?
-        .request(rt.alloc(), http_client)?;
-    println!(rt; "token: {}", token.access_token().secret())?;
-    Ok(())
+/// The URL to send a user to, and what to keep until the user is back.
+fn start(rt: &HostRuntime, client: &FoundClient) -> anyhow::Result<(Url, Login)> {
+    let mut rng: StdRng = rand::make_rng(rt)?;
+    Ok(Login::start(rt.alloc(), client, &mut rng)?.url(rt.alloc())?)
 }
 
 pub fn main(rt: HostRuntime) -> anyhow::Result<()> {
     let alloc = rt.alloc();
-    let replies = [
-        (200, METADATA),
-        (200, r#"{"access_token":"abc","token_type":"bearer"}"#),
-    ];
+    let replies = [(200, METADATA)];
     let mut http_client = CannedClient::new(alloc, &replies);
     let metadata = metadata(alloc, &mut http_client, "https://as.example")?;
-    token(&rt, &client(alloc, &metadata)?, &mut http_client)
+    let client = client(alloc, &metadata)?;
+    let (url, _login) = start(&rt, &client)?;
+    eprintln!(rt; "browse to: {url}")?;
+    println!(rt; "users log in at: {}", client.auth_uri().as_str())?;
+    Ok(())
 }

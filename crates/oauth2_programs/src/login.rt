@@ -5,7 +5,7 @@ use crate::canned_client::CannedClient;
 use oauth2::basic::{BasicClient, BasicLoginClient};
 use oauth2::url::{ParseError, Url};
 use oauth2::{AuthUrl, ClientId, RedirectUrl, Scope, TokenResponse, TokenUrl};
-use oauth2_redirect::Login;
+use oauth2_redirect::{ExpectedIssuer, Login};
 use rand::rngs::StdRng;
 use std::alloc::Global;
 
@@ -34,7 +34,8 @@ fn start(rt: &HostRuntime, client: &BasicLoginClient) -> anyhow::Result<Login> {
     Ok(login)
 }
 
-/// Reads the redirect, and has its code exchanged for a token if its state is the login's.
+/// Reads the redirect, and has its code exchanged for a token if its state is the login's and it
+/// tells no other issuer than the server's.
 fn finish(rt: &HostRuntime, client: &BasicLoginClient, login: Login) -> anyhow::Result<()> {
     let alloc = rt.alloc();
     let replies = [(200, r#"{"access_token":"abc","token_type":"bearer"}"#)];
@@ -42,7 +43,8 @@ fn finish(rt: &HostRuntime, client: &BasicLoginClient, login: Login) -> anyhow::
     let mut line = String::new(alloc);
     rt.read_line(&mut line)?;
     let redirect = Url::parse(alloc, line.as_str().trim())?;
-    let token = login.finish(alloc, client, &mut http_client, &redirect, None)?;
+    let issuer = ExpectedIssuer::Compared("https://as.example");
+    let token = login.finish(alloc, client, &mut http_client, &redirect, issuer)?;
     println!(rt; "token: {}", token.access_token().secret())?;
     Ok(())
 }

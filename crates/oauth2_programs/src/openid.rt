@@ -37,12 +37,7 @@ fn client(alloc: Global) -> Result<OpenIdClient, ParseError> {
 }
 
 fn provider() -> OpenIdProvider<'static> {
-    OpenIdProvider {
-        issuer: "http://server.example.com",
-        tells_issuer_in_redirect: false,
-        algorithm: Some("RS256"),
-        leeway: Duration::from_secs(60),
-    }
+    OpenIdProvider::new("http://server.example.com", Duration::from_secs(60)).set_algorithm("RS256")
 }
 
 /// The first handler: the URL to send the user to, and what to keep with the session.
@@ -55,7 +50,8 @@ fn start(rt: &HostRuntime, client: &OpenIdClient) -> anyhow::Result<(Url, String
     Ok((url, compact(alloc, &login)?))
 }
 
-/// The second handler: who the user is that came back.
+/// The second handler: who the user is that came back. Its clock is asked after the reply: that of
+/// a program of yours is `|| Timestamp::now(rt).unwrap_or(Timestamp::MAX)`.
 fn finish(
     alloc: Global,
     client: &OpenIdClient,
@@ -67,7 +63,14 @@ fn finish(
     let mut http_client = CannedClient::new(alloc, &replies);
     let login: OpenIdLogin = read_body(alloc, kept.as_bytes())?;
     let redirect = Url::parse(alloc, redirect)?;
-    let end = login.finish(alloc, client, &mut http_client, &redirect, &provider(), now)?;
+    let end = login.finish(
+        alloc,
+        client,
+        &mut http_client,
+        &redirect,
+        &provider(),
+        || now,
+    )?;
     let claims = end.id_token.claims();
     Ok(format!(in alloc; "{} of {}", claims.subject(), claims.issuer())?)
 }

@@ -7,7 +7,7 @@ use crate::show::{show_answer, show_bytes};
 use oauth2::basic::{BasicErrorResponse, BasicTokenResponse};
 use oauth2::url::Url;
 use oauth2::{RedirectUrl, Scope};
-use oauth2_redirect::{Login, LoginError, LoginRequest, RedirectError};
+use oauth2_redirect::{ExpectedIssuer, Login, LoginError, LoginRequest, RedirectError};
 use oauth2_refused_memory_values_tests::{Ended, Repeated, Want, text};
 use std::alloc::Global;
 use std::io::Write;
@@ -62,7 +62,8 @@ fn show_finished<W: Write>(
     mut http_client: CountingClient,
     out: &mut W,
 ) -> Result<(), Ended> {
-    let finished = login.finish(alloc, client, &mut http_client, callback, None);
+    let issuer = ExpectedIssuer::Unknown;
+    let finished = login.finish(alloc, client, &mut http_client, callback, issuer);
     writeln!(out, "calls {}", http_client.calls)?;
     if let Some(request) = &http_client.request {
         show_bytes(out, "body", request.body())?;
@@ -74,9 +75,9 @@ fn show_end<W: Write>(out: &mut W, finished: Finished) -> Result<(), Ended> {
     match finished {
         Ok(token) => show_answer::<W, BasicErrorResponse>(out, Ok(token)),
         Err(LoginError::Token(error)) => show_answer(out, Err(error)),
-        Err(LoginError::Redirect(RedirectError::Memory)) => {
-            Err(Ended::Starved(Want::RedirectError))
-        }
-        Err(LoginError::Redirect(_)) => Err(Ended::Refused),
+        Err(LoginError::Redirect { error, login: _ }) => match error {
+            RedirectError::Memory => Err(Ended::Starved(Want::RedirectError)),
+            _ => Err(Ended::Refused),
+        },
     }
 }

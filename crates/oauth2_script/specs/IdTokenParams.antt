@@ -1,30 +1,56 @@
 -- The parameters of the command `id_token`.
-use Rattle.std.specs.Prelude.{ℕ, List, Option, Some, unwrap_or, codes}
-use Rattle.serde_json.specs.Data.{Data}
+use Rattle.std.specs.Prelude.{ℕ, List, Option, Some, None, option_map, unwrap_or, codes}
+use Rattle.serde_json.specs.Data.{Data, null, boolean, number, string, array, object}
 use Rattle.serde_json.specs.Find.{as_str}
-use Rattle.oauth2_script.specs.Part.{◌>>=◌, needed_part, present_part, duration}
+use Rattle.oauth2_script.specs.Part.{◌>>=◌, needed_part, present_part, list_part, each_item, duration}
 
--- the text of the ID token, the access token that came with it, the issuer that is expected, the
--- algorithm that the client registered, the nonce that was sent, how far the clocks may be apart, and
--- the maximum age that was sent; lengths in nanoseconds
+-- the issuers that are expected: one; or one of these; or what stands before a tenant's name and after it
+pub data IssuerPart : Type 0 where
+  is : List ℕ → IssuerPart
+  one_of : List (List ℕ) → IssuerPart
+  per_tenant : List ℕ → List ℕ → IssuerPart
+
+unfoldable pub tenants : Data → Option IssuerPart
+tenants d = do
+  before ← needed_part as_str (codes "before") d
+  after ← needed_part as_str (codes "after") d
+  Some (per_tenant before after)
+
+-- a text; a list of texts; or an object with two texts
+abbrev pub issuer_part : Data → Option IssuerPart
+issuer_part null = None
+issuer_part (boolean b) = None
+issuer_part (number n) = None
+issuer_part (string s) = Some (is s)
+issuer_part (array ds) = option_map one_of (each_item as_str ds)
+issuer_part (object ms) = tenants (object ms)
+
+-- the text of the ID token, the access token that came with it, the issuers that are expected, the
+-- algorithm that the client registered, the nonce that was sent, how far the clocks may be apart, the
+-- maximum age that was sent, the audiences beside the client that it trusts, and the parties beside it to
+-- which the token may be issued; lengths in nanoseconds
 pub record IdTokenParams : Type 0 where
   pub id_token : List ℕ
   pub access_token : List ℕ
-  pub issuer : List ℕ
+  pub issuer : IssuerPart
   pub algorithm : Option (List ℕ)
   pub nonce : Option (List ℕ)
   pub leeway : ℕ
   pub max_age : Option ℕ
+  pub other_audiences : List (List ℕ)
+  pub authorized_parties : List (List ℕ)
 
 unfoldable pub id_token_params : Data → Option IdTokenParams
 id_token_params d = do
   id_token ← needed_part as_str (codes "id_token") d
   access_token ← needed_part as_str (codes "access_token") d
-  issuer ← needed_part as_str (codes "issuer") d
+  issuer ← needed_part issuer_part (codes "issuer") d
   algorithm ← present_part as_str (codes "algorithm") d
   nonce ← present_part as_str (codes "nonce") d
   leeway ← present_part duration (codes "leeway") d
   max_age ← present_part duration (codes "max_age") d
+  other_audiences ← list_part as_str (codes "other_audiences") d
+  authorized_parties ← list_part as_str (codes "authorized_parties") d
   Some (record {
     id_token = id_token;
     access_token = access_token;
@@ -33,4 +59,6 @@ id_token_params d = do
     nonce = nonce;
     leeway = unwrap_or leeway 0;
     max_age = max_age;
+    other_audiences = other_audiences;
+    authorized_parties = authorized_parties;
   })

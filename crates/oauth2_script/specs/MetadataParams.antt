@@ -10,6 +10,7 @@ use Rattle.oauth2_script.specs.declared.metadata_params.WellKnown.TheVariants.{O
 pub record MetadataParams : Type 0 where
   pub issuer : List ℕ
   pub well_known : WellKnown
+  pub expected_issuer : Option (List ℕ)
 
 -- the name of a well-known URI (RFC 8414, 7.3; OpenID Connect Discovery 1.0, 4)
 unfoldable pub well_known_of : List ℕ → Option WellKnown
@@ -24,4 +25,5 @@ unfoldable pub metadata_params : Data → Option MetadataParams
 metadata_params d = do
   issuer ← needed_part as_str (codes "issuer") d
   well_known ← present_part well_known (codes "well_known") d
-  Some (record { issuer = issuer; well_known = unwrap_or well_known OauthAuthorizationServer })
+  expected_issuer ← present_part as_str (codes "expected_issuer") d
+  Some (record { issuer = issuer; well_known = unwrap_or well_known OauthAuthorizationServer; expected_issuer = expected_issuer })

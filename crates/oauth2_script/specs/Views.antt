@@ -29,10 +29,14 @@ use Rattle.oauth2_script.specs.declared.device_poll_params.DevicePollParams.{Dev
 use Rattle.oauth2_script.specs.declared.introspect_params.IntrospectParams.{IntrospectParams}
 use Rattle.oauth2_script.specs.declared.revoke_params.RevokeParams.{RevokeParams}
 use Rattle.oauth2_script.specs.declared.authorize_params.AuthorizeParams.{AuthorizeParams}
+use Rattle.oauth2_script.specs.declared.redirect_params.ExpectedIssuerParam.{ExpectedIssuerParam}
+use Rattle.oauth2_script.specs.declared.redirect_params.ExpectedIssuerParam.TheVariants as issuer_param
 use Rattle.oauth2_script.specs.declared.redirect_params.RedirectParams.{RedirectParams}
 use Rattle.oauth2_script.specs.declared.keeper_params.KeeperParams.{KeeperParams}
 use Rattle.oauth2_script.specs.declared.metadata_params.MetadataParams.{MetadataParams}
 use Rattle.oauth2_script.specs.declared.id_token_params.IdTokenParams.{IdTokenParams}
+use Rattle.oauth2_script.specs.declared.id_token_params.IssuerParam.{IssuerParam}
+use Rattle.oauth2_script.specs.declared.id_token_params.IssuerParam.TheVariants.{Is, OneOf, PerTenant}
 use Rattle.oauth2_script.specs.declared.client_part.ClientPart.{ClientPart}
 use Rattle.oauth2_script.specs.declared.client_part.Endpoints.{Endpoints}
 use Rattle.oauth2_script.specs.declared.command.Command.{Command}
@@ -111,11 +115,16 @@ authorize_view p = record {
   extra_params = map (λ e. (string_bytes e.0, string_bytes e.1)) p.extra_params.items;
 }
 
+abbrev pub expected_issuer_view : ExpectedIssuerParam → redirect_spec.Issuer
+expected_issuer_view (issuer_param.Required text) = redirect_spec.required (string_bytes text)
+expected_issuer_view (issuer_param.Compared text) = redirect_spec.compared (string_bytes text)
+expected_issuer_view issuer_param.Unknown = redirect_spec.unknown
+
 abbrev pub redirect_view : RedirectParams → redirect_spec.RedirectParams
 redirect_view p = record {
   state = p.state;
   redirect = p.redirect;
-  issuer = option_map string_bytes p.issuer;
+  issuer = expected_issuer_view p.issuer;
 }
 
 abbrev pub keeper_view : KeeperParams → keeper_spec.KeeperParams
@@ -132,17 +141,25 @@ abbrev pub metadata_view : MetadataParams → metadata_spec.MetadataParams
 metadata_view p = record {
   issuer = string_bytes p.issuer;
   well_known = p.well_known;
+  expected_issuer = option_map string_bytes p.expected_issuer;
 }
+
+abbrev pub issuer_view : IssuerParam → id_token_spec.IssuerPart
+issuer_view (Is issuer) = id_token_spec.is (string_bytes issuer)
+issuer_view (OneOf issuers) = id_token_spec.one_of (map string_bytes issuers.items)
+issuer_view (PerTenant before after) = id_token_spec.per_tenant (string_bytes before) (string_bytes after)
 
 abbrev pub id_token_view : IdTokenParams → id_token_spec.IdTokenParams
 id_token_view p = record {
   id_token = string_bytes p.id_token;
   access_token = p.access_token;
-  issuer = string_bytes p.issuer;
+  issuer = issuer_view p.issuer;
   algorithm = option_map string_bytes p.algorithm;
   nonce = option_map string_bytes p.nonce;
   leeway = as_nanos p.leeway;
   max_age = option_map as_nanos p.max_age;
+  other_audiences = map string_bytes p.other_audiences.items;
+  authorized_parties = map string_bytes p.authorized_parties.items;
 }
 
 abbrev pub endpoints_view : Endpoints → client_spec.Endpoints

@@ -1,13 +1,25 @@
 //! The parameters of the command `id_token`.
 
+ghost use Rattle.serde_json.specs.View.{view};
+ghost use Rattle.oauth2_script.specs.Gives.{Gives};
 ghost use Rattle.oauth2_script.specs.IdTokenParams as spec;
+ghost use Rattle.oauth2_script.specs.Views.{issuer_view};
 
-use crate::part::{Part, needed, optional};
+use crate::part::{Part, each, listed, needed, optional};
 use crate::script_error::ScriptError;
 use oauth2_types::AccessToken;
 use serde_json::Value;
 use std::alloc::Global;
 use std::time::Duration;
+
+/// The issuers that are expected of an ID token.
+#[derive(Drop)]
+pub enum IssuerParam {
+    Is(String),
+    OneOf(Vec<String>),
+    /// What stands before the tenant that the token names, and after it.
+    PerTenant { before: String, after: String },
+}
 
 /// What the check of an ID token takes.
 #[derive(Drop)]
@@ -16,8 +28,8 @@ pub struct IdTokenParams {
     pub id_token: String,
     /// The access token that came with it.
     pub access_token: AccessToken,
-    /// The issuer that is expected.
-    pub issuer: String,
+    /// The issuers that are expected.
+    pub issuer: IssuerParam,
     /// The algorithm that the client registered.
     pub algorithm: Option<String>,
     /// The nonce that was sent.
@@ -26,6 +38,36 @@ pub struct IdTokenParams {
     pub leeway: Duration,
     /// The maximum age that was sent.
     pub max_age: Option<Duration>,
+    /// The audiences beside the client that it trusts.
+    pub other_audiences: Vec<String>,
+    /// The parties beside the client to which the token may be issued.
+    pub authorized_parties: Vec<String>,
+}
+
+#[tactic(auto, unfolding(crate::specs::IdTokenParams::tenants))]
+fn per_tenant(alloc: Global, value: &Value) -> Result<IssuerParam, ScriptError>
+    ensures { Gives issuer_view result (spec.tenants (view value.now)) }
+{
+    let before = needed(alloc, value, "before")?;
+    let after = needed(alloc, value, "after")?;
+    Ok(IssuerParam::PerTenant { before, after })
+}
+
+impl Part for IssuerParam {
+    ghost Meaning = { spec.IssuerPart };
+
+    ghost meaning = { issuer_view };
+
+    ghost reading = { spec.issuer_part };
+
+    fn from_value(alloc: Global, value: &Value) -> Result<IssuerParam, ScriptError> {
+        match value {
+            Value::String(text) => Ok(IssuerParam::Is(String::from_str(alloc, text.as_str())?)),
+            Value::Array(items) => Ok(IssuerParam::OneOf(each(alloc, items.as_slice())?)),
+            Value::Object(_) => per_tenant(alloc, value),
+            _ => Err(ScriptError::Bad),
+        }
+    }
 }
 
 impl Part for IdTokenParams {
@@ -46,6 +88,8 @@ impl Part for IdTokenParams {
         let nonce = optional(alloc, value, "nonce")?;
         let leeway = optional(alloc, value, "leeway")?;
         let max_age = optional(alloc, value, "max_age")?;
+        let other_audiences = listed(alloc, value, "other_audiences")?;
+        let authorized_parties = listed(alloc, value, "authorized_parties")?;
         Ok(IdTokenParams {
             id_token,
             access_token,
@@ -54,6 +98,8 @@ impl Part for IdTokenParams {
             nonce,
             leeway: leeway.unwrap_or(Duration::ZERO),
             max_age,
+            other_audiences,
+            authorized_parties,
         })
     }
 }

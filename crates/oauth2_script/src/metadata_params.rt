@@ -20,6 +20,8 @@ pub enum WellKnown {
 pub struct MetadataParams {
     pub issuer: String,
     pub well_known: WellKnown,
+    /// The issuer that the metadata has to name in place of that one.
+    pub expected_issuer: Option<String>,
 }
 
 impl Part for WellKnown {
@@ -57,9 +59,11 @@ impl Part for MetadataParams {
     fn from_value(alloc: Global, value: &Value) -> Result<MetadataParams, ScriptError> {
         let issuer = needed(alloc, value, "issuer")?;
         let well_known = optional(alloc, value, "well_known")?;
+        let expected_issuer = optional(alloc, value, "expected_issuer")?;
         Ok(MetadataParams {
             issuer,
             well_known: well_known.unwrap_or(WellKnown::OauthAuthorizationServer),
+            expected_issuer,
         })
     }
 }

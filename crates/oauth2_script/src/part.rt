@@ -62,7 +62,7 @@ pub fn optional<T: Part>(
     }
 }
 
-fn each<T: Part + Drop>(alloc: Global, values: &[Value]) -> Result<Vec<T>, ScriptError>
+pub(crate) fn each<T: Part + Drop>(alloc: Global, values: &[Value]) -> Result<Vec<T>, ScriptError>
     ensures { Gives (λ v. map T.meaning v.items) result
         (spec.each_item T.reading (items_view values.now)) }
 {

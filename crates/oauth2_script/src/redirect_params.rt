@@ -1,6 +1,9 @@
 //! The parameters of the command `redirect`.
 
+ghost use Rattle.std.specs.Prelude.{option_map, string_bytes};
+ghost use Rattle.oauth2_script.specs.Gives.{Gives};
 ghost use Rattle.oauth2_script.specs.RedirectParams as spec;
+ghost use Rattle.oauth2_script.specs.Views.{expected_issuer_view};
 
 use crate::part::{Part, needed, optional};
 use crate::script_error::ScriptError;
@@ -9,14 +12,24 @@ use oauth2_urls::RedirectUrl;
 use serde_json::Value;
 use std::alloc::Global;
 
+/// The issuer that is expected of a redirect.
+#[derive(Drop)]
+pub enum ExpectedIssuerParam {
+    /// It has to be told.
+    Required(String),
+    /// It may be left out.
+    Compared(String),
+    /// None is expected.
+    Unknown,
+}
+
 /// What the reading of a redirect takes.
 #[derive(Drop)]
 pub struct RedirectParams {
     pub state: CsrfToken,
     /// The URL by which the user came back.
     pub redirect: RedirectUrl,
-    /// The issuer that is expected.
-    pub issuer: Option<String>,
+    pub issuer: ExpectedIssuerParam,
 }
 
 impl Part for RedirectParams {
@@ -33,10 +46,27 @@ impl Part for RedirectParams {
         let state = needed(alloc, value, "state")?;
         let redirect = needed(alloc, value, "redirect")?;
         let issuer = optional(alloc, value, "issuer")?;
+        let issuer_compared = optional(alloc, value, "issuer_compared")?;
         Ok(RedirectParams {
             state,
             redirect,
-            issuer,
+            issuer: issuer_of(issuer, issuer_compared)?,
         })
+    }
+}
+
+// The issuer that the two members say, of which one may be given.
+fn issuer_of(
+    required: Option<String>,
+    compared: Option<String>,
+) -> Result<ExpectedIssuerParam, ScriptError>
+    ensures { Gives expected_issuer_view result (spec.issuer_of (option_map string_bytes required)
+        (option_map string_bytes compared)) }
+{
+    match (required, compared) {
+        (Some(issuer), None) => Ok(ExpectedIssuerParam::Required(issuer)),
+        (None, Some(issuer)) => Ok(ExpectedIssuerParam::Compared(issuer)),
+        (None, None) => Ok(ExpectedIssuerParam::Unknown),
+        (Some(_), Some(_)) => Err(ScriptError::Bad),
     }
 }

@@ -1,14 +1,23 @@
 -- How the end of a request for metadata is shown.
-use Rattle.std.specs.Prelude.{Result, Ok, Err, codes}
+use Rattle.std.specs.Prelude.{◌≡◌, Result, Ok, Err, string_bytes}
+use Rattle.oauth2_metadata.specs.EndpointFault.{fault_text}
 use Rattle.oauth2_metadata.specs.Metadata.{Metadata, metadata_seen}
+use Rattle.oauth2_metadata.specs.Reply.{other_reply_text}
+use Rattle.oauth2_metadata.specs.Request.{other_issuer_text}
+use Rattle.oauth2_metadata.specs.declared.issuer.IssuerError.{IssuerError}
+use Rattle.oauth2_metadata.specs.declared.issuer.IssuerError.TheVariants.{Memory, TooLong}
 use Rattle.oauth2_metadata.specs.declared.metadata_error.MetadataError.{MetadataError}
-use Rattle.oauth2_metadata.specs.declared.metadata_error.MetadataError.TheVariants.{OtherIssuer, Reply}
+use Rattle.oauth2_metadata.specs.declared.metadata_error.MetadataError.TheVariants.{Endpoint, OtherIssuer, Reply, Status}
 use Rattle.oauth2_replies.specs.declared.token.EmptyExtraTokenFields.{EmptyExtraTokenFields}
 use Rattle.oauth2_commands.specs.Metadata.{BasicMetadata, metadata_json}
 use Rattle.oauth2_request_commands.specs.Out.{Output, success_output, failure_output}
 use Rattle.oauth2_request_commands.specs.Faults.{fault_output}
 use Rattle.oauth2_request_commands.specs.private.Results.{ErrorResponse, error_seen}
 use Rattle.oauth2_world.specs.declared.replay.NoReply.{NoReply}
+
+-- the error is no want of room
+abbrev pub HasRoom : IssuerError → Type 0
+HasRoom error = ¬ (error ≡ Memory) × ¬ (error ≡ TooLong)
 
 abbrev pub MetadataSeen : Type 0
 MetadataSeen = Metadata EmptyExtraTokenFields
@@ -18,7 +27,9 @@ metadata_meaning m = metadata_seen (λ _. tt) m
 
 abbrev pub metadata_error_output : MetadataError NoReply ErrorResponse → Output
 metadata_error_output (Reply fault) = fault_output error_seen fault
-metadata_error_output OtherIssuer = failure_output (codes "metadata is another issuer's")
+metadata_error_output (Status reply) = failure_output (other_reply_text reply.status)
+metadata_error_output (Endpoint fault) = failure_output (fault_text fault)
+metadata_error_output (OtherIssuer issuer) = failure_output (other_issuer_text (string_bytes issuer))
 
 -- metadata, or why there is none
 abbrev pub discovery_output : Result MetadataSeen (MetadataError NoReply ErrorResponse) → Output

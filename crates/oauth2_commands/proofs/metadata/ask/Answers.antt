@@ -3,13 +3,14 @@ use Rattle.std.proofs.lemmas.Result.{IfOk-weaker}
 use Rattle.url.specs.Parts.{serialize}
 use Rattle.oauth2_codes.specs.ErrorCodes.{error_code, error_code_text}
 use Rattle.oauth2_codes.specs.ErrorResponse.{parts_of}
+use Rattle.oauth2_metadata.specs.Reply.{found_seen}
 use Rattle.oauth2_metadata.specs.Request.{IsGetOf}
 use Rattle.oauth2_request_commands.specs.Exchange.{error_display}
 use Rattle.oauth2_commands.specs.Metadata.{get_lines, metadata_answer, metadata_output}
 use Rattle.oauth2_request_commands.specs.Out.{AddsOutput}
 use Rattle.oauth2_commands.specs.private.Discovery.{discovery_output, metadata_meaning}
 use Rattle.oauth2_request_commands.specs.private.Results.{end_output, error_seen}
-use Rattle.oauth2_commands.proofs.Discovery.{checked_shown, request_lines-get}
+use Rattle.oauth2_commands.proofs.Discovery.{judged_shown, request_lines-get}
 use Rattle.oauth2_request_commands.proofs.Exchanges.{request_told}
 use Rattle.oauth2_commands.proofs.metadata.ask.Goals as goal
 
@@ -18,13 +19,13 @@ returns c =
     let query = c.args.request in
     let once = c.request-end.ensures.once in
     let outcome = once.0 in
-    let same : discovery_output c.request-end.result ≡ end_output error_seen (λ m. metadata_output query.issuer (metadata_meaning m)) outcome =
-    rw once.1 (checked_shown query.issuer outcome) in
+    let same : discovery_output c.request-end.result ≡ end_output error_seen (λ found. metadata_output query.issuer (found_seen metadata_meaning found)) outcome =
+    judged_shown query.issuer outcome c.request-end.result once.1 in
     IfOk-weaker c.show_metadata.result _ _
     (λ status printed. λ fed.
     (let told : AddsOutput (string_bytes c.request-end.new.http_client.lines) (string_bytes c.show_metadata.new.lines) status
-    (end_output error_seen (λ m. metadata_output query.issuer (metadata_meaning m)) outcome) = rw same at printed in
-    request_told metadata_meaning (parts_of error_code) (metadata_output query.issuer) (error_display error_code_text) (metadata_answer query.reply_rule)
+    (end_output error_seen (λ found. metadata_output query.issuer (found_seen metadata_meaning found)) outcome) = rw same at printed in
+    request_told (found_seen metadata_meaning) (parts_of error_code) (metadata_output query.issuer) (error_display error_code_text) (metadata_answer query.reply_rule)
     IsGetOf get_lines query.url (λ v is. (is.target, request_lines-get (serialize query.url) v is))
     c.args.http_client.now c.request-end.new.http_client (string_bytes c.show_metadata.new.lines) status outcome once.2 fed told))
     c.show_metadata.ensures

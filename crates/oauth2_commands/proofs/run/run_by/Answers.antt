@@ -6,4 +6,4 @@ use Rattle.oauth2_commands.proofs.run.run_by.Goals as goal
 pub returns : goal.returns
 returns c =
     let is : c.client_of.result ≡ settings_of (client_view c.args.client) = c.client_of.ensures in
-    rw is at c.run_command-2.ensures
+    rw is at c.run_command.ensures
