@@ -5,7 +5,7 @@ import re
 import sys
 
 import endings
-from endings import ERROR_RESPONSE, NO_ANSWER, Stop, status_of_fault
+from endings import ERROR_RESPONSE, NO_ANSWER, TRY_AGAIN, Stop, status_of_fault
 
 OUTPUTS = {'json': 'the whole reply as one line of JSON', 'token': 'the access token alone',
            'header': 'the header of a request that has the token (RFC 6750, 2.1)'}
@@ -99,6 +99,7 @@ def fault_of(outcome, where='', hint='is the URL that of the endpoint?', has_sec
     text, reply = outcome.answer.partition(' ')[2], outcome.reply or {}
     why, end = json.JSONDecoder().raw_decode(text)
     status, at = status_of_fault(why), (outcome.url or '') + where
+    status = TRY_AGAIN if status == endings.FAULT and outcome.may_retry else status
     if 'status' not in reply:
         said = outcome.note if outcome.note and why == 'Request failed' else why + text[end:]
         return said.replace(outcome.url, at, 1) if outcome.url else said, status
@@ -142,6 +143,8 @@ def need_output():
 def put(text):
     """Writes a text to standard output."""
     rest = text.encode()
+    if endings.columns:
+        endings.put('')
     try:
         while rest:
             rest = rest[os.write(1, rest):]

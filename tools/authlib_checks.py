@@ -4,11 +4,15 @@ As a program it writes Authlib's version, and then for each line of standard inp
 takes the token, or the text of its error. So it can run in another Python than the tool's, which may be the one that has Authlib.
 """
 import collections
+import fractions
 import json
 import subprocess
 import sys
 
-PYTHONS = (sys.executable, '/usr/bin/python3')
+sys.dont_write_bytecode = True
+import pythons
+
+PYTHONS = pythons.PYTHONS
 MISSING = 'no Python here has Authlib (Debian has it as python3-authlib), so nothing is compared with it'
 # A token as both have judged it: what the client expects, the moment, the members of header and claims, and the text of each one's fault
 # (none where it takes the token).
@@ -54,7 +58,9 @@ def is_empty_but_expected(it):
 
 
 def is_last_second(it):
-    return it.theirs is None and it.ours == 'the token has expired' and it.claims['exp'] + it.params.get('leeway', 0) == it.now
+    if it.theirs is not None or it.ours != 'the token has expired':
+        return False
+    return abs(fractions.Fraction(it.claims['exp']) + it.params.get('leeway', 0) - it.now) < fractions.Fraction(1, 10 ** 9)
 
 
 def is_unknown_hash(it):
@@ -68,8 +74,12 @@ CLASSES = [
           said('the token has no signature', 'the algorithm is not the registered one')),
     Class('crit', 'RFC 7515, 4.1.11', "so is the header's crit", said('the header has an extension that has to be understood')),
     Class('type', '2', 'Authlib looks at the types of exp, iat and auth_time alone, and at that of amr in part', is_type),
-    Class('time with a fraction', 'RFC 7519, 2', 'Authlib takes fractions, which this repository refuses by its own choice',
-          lambda it: it.theirs is None and it.ours is not None and it.ours.endswith(': not a whole number')),
+    Class('unneeded claim', '2', 'Authlib refuses an auth_time that is no number and an amr that is no list, which no rule needs',
+          lambda it: it.ours is None and it.theirs in refused_for('auth_time') + refused_for('amr')),
+    Class('audience that is not trusted', '3.1.3.7, 3', 'Authlib takes any audience beside the client',
+          said('an audience is not trusted')),
+    Class('other party', '3.1.3.7, 5', 'Authlib takes no other party than the client',
+          lambda it: it.ours is None and it.theirs in refused_for('azp') and it.claims['azp'] in it.params.get('authorized_parties', [])),
     Class('time out of range', 'RFC 7519, 2', 'Authlib takes a time past the year 9999',
           lambda it: it.theirs is None and it.ours is not None and it.ours.endswith(': out of range')),
     Class('last second', '3.1.3.7, 9', 'Authlib takes a token at the second of its exp, though now has to be before that', is_last_second),
@@ -98,24 +108,25 @@ def class_of(it):
 def verdicts(rows):
     """Authlib's version, and what it says of each row, a client, params, moment, and texts of header and claims; None where no Python has
     it."""
+    python = pythons.that_has('authlib', PYTHONS)
+    if not python:
+        return None
     text = ''.join(json.dumps(row) + '\n' for row in rows)
-    for python in dict.fromkeys(PYTHONS):
-        try:
-            run = subprocess.run([python, __file__], input=text, capture_output=True, text=True)
-        except OSError:
-            continue
-        if run.returncode == 0:
-            version, *lines = run.stdout.splitlines()
-            return version, [json.loads(line) for line in lines]
-        if "No module named 'authlib'" not in run.stderr:
-            raise RuntimeError(run.stderr)
-    return None
+    run = subprocess.run([python, __file__], input=text, capture_output=True, text=True)
+    if run.returncode:
+        raise RuntimeError(run.stderr)
+    version, *lines = run.stdout.splitlines()
+    return version, [json.loads(line) for line in lines]
 
 
 def verdict(client, params, now, header, claims):
     """The text of Authlib's fault; None where it takes the claims."""
     from authlib.oidc.core import CodeIDToken
-    options = {'iss': {'essential': True, 'value': params['issuer']}, 'aud': {'essential': True, 'value': client}}
+    issuer = params['issuer']
+    if isinstance(issuer, dict):  # Authlib knows no tenants: the one that the token names
+        issuer = '%s%s%s' % (issuer['before'], json.loads(claims).get('tid'), issuer['after'])
+    named = {'values': issuer} if isinstance(issuer, list) else {'value': issuer}
+    options = {'iss': {'essential': True, **named}, 'aud': {'essential': True, 'value': client}}
     expected = {'client_id': client, **{name: params[name] for name in ('nonce', 'max_age', 'access_token') if name in params}}
     try:
         CodeIDToken(json.loads(claims), json.loads(header), options, expected).validate(now=now, leeway=params.get('leeway', 0))

@@ -31,6 +31,17 @@ def tokens(text):
     return [token for token in TOKEN.findall(text) if not token.startswith('"')]
 
 
+def head_end(text, at, end):
+    """Where an item's head stops: at its first brace or semicolon, unless that is in brackets, as in `[u8; 32]`."""
+    depth = 0
+    for m in re.compile(r'[][{;]').finditer(text, at, end):
+        if m.group() in '[]':
+            depth += 1 if m.group() == '[' else -1
+        elif not depth:
+            return m.start()
+    raise ValueError('an item without an end')
+
+
 def closing(text, at):
     """Where the brace closes that opens here."""
     depth = 0
@@ -246,7 +257,7 @@ class Source:
             stop = self.text.index(';', at)
             self.use(self.text[m.end():stop])
             return stop + 1
-        stop = re.compile(r'[{;]').search(self.text, at, end).start()
+        stop = head_end(self.text, at, end)
         head = self.text[at:stop]
         if kind == 'fn':
             first = re.search(r'\b(?:requires|ensures)\b', head)
@@ -259,7 +270,7 @@ class Source:
                     break
                 stop = closing(self.text, clause.end() - 1) + 1
                 clauses.append(self.text[clause.end():stop - 1])
-            stop = re.compile(r'[{;]').search(self.text, stop, end).start()
+            stop = head_end(self.text, stop, end)
             stop = closing(self.text, stop) + 1 if self.text[stop] == '{' else stop + 1
             name = re.search(r'\bfn\s+(\w+)', head).group(1)
             items.append(Item(self, kind, name, at, stop, owner, head=head, ghosts=clauses))

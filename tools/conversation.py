@@ -9,14 +9,15 @@ import program
 import repository
 import endings
 from endings import BAD_SETTING, FAULT, NO_ANSWER, NO_MEMORY, Stop
-from http_requests import reply_to
+from http_requests import RETRIED, Reply, reply_to
 
 LAST_READING = 253402207200  # that a script may have
 # What a line of the program says. Of a request, value is its URL; of another line, what follows its kind.
 Event = collections.namedtuple('Event', 'kind value method authorization body', defaults=(None, None, None))
 # What came of a command: the program's status, its answer, the last reply as the script has it (none where there was none), the URL of
-# the request for that, when it was sent, and what only this tool knows of it: why there is no reply, or where it sends to.
-Outcome = collections.namedtuple('Outcome', 'status answer reply url asked_at note', defaults=(None,))
+# the request for that, when it was sent, and what only this tool knows of it: why there is no reply, or where it sends to; and whether
+# another try may have another result.
+Outcome = collections.namedtuple('Outcome', 'status answer reply url asked_at note may_retry', defaults=(None, False))
 
 
 def program_path(tool='oauth2'):
@@ -51,7 +52,8 @@ def program_path(tool='oauth2'):
 def ran(path, script):
     """The status of a run, and its events in order."""
     try:
-        run = subprocess.run([path], input=json.dumps(script).encode(), stdout=subprocess.PIPE, env={})
+        # in a session of its own, so that Ctrl-C, which this tool may let wait, does not end it
+        run = subprocess.run([path], input=json.dumps(script).encode(), stdout=subprocess.PIPE, env={}, start_new_session=True)
         return run.returncode, list(events_in(run.stdout.decode('utf-8').split('\n')[:-1]))
     except (OSError, ValueError, IndexError) as error:
         raise Stop('%s is not the program of docs/SCRIPT.md, it seems: %s' % (path, error))
@@ -85,9 +87,19 @@ def next_of(events, replies, sleeps):
     return None
 
 
-def answered(path, script, limit):
-    """Does what the program says until its answer stands: what came of it."""
-    script, sleeps, url, asked_at, note = dict(script, replies=[]), 0, None, int(time.time()), None
+def sleep(seconds):
+    endings.note('waiting %g seconds' % seconds)
+    sleep_until(time.monotonic() + seconds)
+
+
+def sleep_until(end):
+    while time.monotonic() < end:
+        time.sleep(min(end - time.monotonic(), 3600))
+
+
+def answered(path, script, limit, renewal=None, sleep=sleep):
+    """Does what the program says until its answer stands: what came of it. renewal is told of what is sent, if that is a refresh token."""
+    script, sleeps, url, asked_at, got = dict(script, replies=[]), 0, None, int(time.time()), Reply(None)
     if script['command'] == 'device_poll':
         script['readings'] = [asked_at] * 2  # as the poll begins, and in its first round
     most = script['params'].get('max_polls')
@@ -101,17 +113,26 @@ def answered(path, script, limit):
             then = step(path, later, sleeps + 1)
             event, status = then if then[0].kind == 'answer' else (event, status)  # one that no reply decides needs no wait
         if event.kind == 'answer':
-            return Outcome(status, event.value, (script['replies'] or [None])[-1], url, asked_at, note)
-        if note:
-            endings.tell(note)
+            return Outcome(status, event.value, (script['replies'] or [None])[-1], url, asked_at, got.note, got.may_retry)
+        if got.note:
+            endings.tell(got.note)
         if event.kind == 'request':
             url, asked_at = event.value, int(time.time())
-            reply, note = reply_to(event, limit)
-            script['replies'].append(reply)
+            got = reply_to(event, limit, renewal)
+            got = of_poll(event, got) if script['command'] == 'device_poll' else got
+            script['replies'].append(got.reply)
         else:
             sleep(float(event.value))
-            sleeps, note = sleeps + 1, None
+            sleeps, got = sleeps + 1, Reply(None)
             script['readings'].append(int(time.time()))
+
+
+def of_poll(request, got):
+    """What a poll makes of a reply: one of a server that is in trouble is as none, so that the next request comes later (RFC 8628, 3.5)."""
+    status = got.reply.get('status')
+    if status not in RETRIED:
+        return got
+    return Reply({'fail': True}, '%s %s: HTTP status %d' % (request.method, request.value, status), True)
 
 
 def step(path, script, sleeps):
@@ -133,10 +154,3 @@ def refused_setting(path, script):
             if ran(path, dict(script, **{member: kept}))[0] in (0, FAULT):
                 return 'the program does not take the "%s" of the %s: docs/SCRIPT.md says what it may be' % (name, member)
     return 'the program does not take this script of the command "%s": docs/SCRIPT.md says what it may be' % script['command']
-
-
-def sleep(seconds):
-    endings.note('waiting %g seconds' % seconds)
-    end = time.monotonic() + seconds
-    while time.monotonic() < end:
-        time.sleep(min(end - time.monotonic(), 3600))

@@ -3,7 +3,8 @@ import json
 
 import answers
 import conversation
-from endings import BAD_SETTING, FAULT, NOT_DISCOVERED, Stop
+from addresses import shown
+from endings import BAD_SETTING, FAULT, NOT_DISCOVERED, TRY_AGAIN, Stop
 from settings import ENDPOINTS, check_url, flag_of
 
 # The places of an issuer's metadata, in the order in which they are asked: RFC 8414, 3, and OpenID Connect Discovery 1.0, 4.
@@ -13,7 +14,7 @@ ANOTHER = "metadata is another issuer's"
 
 def metadata_of(path, settings, limit):
     """The metadata of the issuer, by the names of RFC 8414, 2, as the program at this path reads them. Stops where no place has them."""
-    faults, other, issuer = [], None, settings['issuer']
+    faults, other, issuer, may_retry = [], None, settings['issuer'], False
     for place in PLACES:
         params = {'issuer': issuer, 'well_known': place}
         outcome = conversation.answered(path, {'client': {'id': settings['client_id']}, 'command': 'metadata', 'params': params}, limit)
@@ -24,20 +25,21 @@ def metadata_of(path, settings, limit):
         fault, _ = answers.fault_of(outcome, hint='')
         if not outcome.url:  # the text is no issuer, so no place was asked
             raise Stop('%s is "%s": %s' % (flag_of('issuer'), issuer, fault), BAD_SETTING)
-        if outcome.answer.endswith('"%s"' % ANOTHER):
+        may_retry = may_retry or outcome.may_retry
+        if '"%s: ' % ANOTHER in outcome.answer:
             other = other_issuer(outcome, issuer)
         if outcome.reply.get('fail') and faults and faults[0].rpartition(': ')[2] == fault.rpartition(': ')[2]:
             continue  # one cause, such as a host that is unknown
         faults.append(fault)
     raise Stop(other or 'the endpoints of the issuer %s can not be discovered (is --issuer right?): %s' % (issuer, '; '.join(faults)),
-               NOT_DISCOVERED)
+               TRY_AGAIN if may_retry and not other else NOT_DISCOVERED)
 
 
 def other_issuer(outcome, issuer):
     """What to do where metadata are another issuer's (RFC 8414, 3.3): not to use them, and to look at what was given."""
     named = json.loads(outcome.reply['body'])['issuer']
     return ('--issuer is "%s", and the metadata at %s name the issuer "%s", so they are not used: if that is the server that you mean, '
-            'give --issuer so, letter by letter' % (issuer, outcome.url, named))
+            'give --issuer so, letter by letter' % (issuer, outcome.url, shown(named)))
 
 
 def endpoint(metadata, name):

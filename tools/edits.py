@@ -20,6 +20,10 @@ REFUSED, PASSED, BAD = 'refused', 'NOT REFUSED', 'BAD'
 # A line that places what was refused, and what a proof file says that names something the edit took away.
 PLACED = re.compile(r'(?:note: )?(?:\./)?((?:src|specs|proofs)/\S+?:\d+:\d+: .*)')
 NAMES_WHAT_WENT = re.compile(r'proofs/.*(has no field|is not in scope|has no `|was not admitted|was rejected)')
+ONLY_A_PROOF = 'only a proof file that names what the edit took away: '
+# The proof file of a placed line, and the place of such a line.
+OF_A_PROOF = re.compile(r'(?:\./)?(proofs/(\S+)/\w+\.antt):\d+:\d+: ')
+PLACE = re.compile(r'^\S+:\d+:\d+: ')
 # The line that ends what a check says of an item, and a function whose refusal says that another is refused.
 VERDICT = re.compile(r'(?:fn|struct|enum|impl|trait) (\S+): (.*)')
 CALLS_REFUSED = re.compile(r'it calls (.*), which (?:is|are) not proved')
@@ -161,16 +165,25 @@ def stopped_at_goals(said):
 
 
 def goals_of(lines):
-    """The lines that place a goal that was not proved."""
-    placed = [m.group(1) for m in map(PLACED.match, lines) if m]
-    return [it for it in placed if ': error' in it or 'not proved' in it]
+    """What places a goal that was not proved: a line, with those behind it that go on with it."""
+    found, goes_on = [], False
+    for line in lines:
+        placed = PLACED.match(line)
+        if placed:
+            goes_on = ': error' in line or 'not proved' in line
+            found += [placed.group(1)] * goes_on
+        elif goes_on and line.startswith('  '):
+            found[-1] += ' ' + line.strip()
+        else:
+            goes_on = False
+    return found
 
 
 def judged_by(goals):
     """What the goals of a function that was refused say of its edit."""
     meant = [it for it in goals if not NAMES_WHAT_WENT.match(it)]
     if not meant:
-        return BAD, 'only a proof file that names what the edit took away: ' + goals[0]
+        return BAD, ONLY_A_PROOF + goals[0]
     if unread(meant[0]):
         return BAD, 'it does not compile: ' + meant[0]
     return REFUSED, meant[0]
@@ -184,17 +197,32 @@ def unread(line):
 
 
 def verdicts(said):
-    """For each function that a check speaks of: what it says of it, the goals that it left, and the refused ones that it calls."""
-    found, before = {}, []
+    """For each function that a check speaks of: what it says of it, the goals that it left, and the refused ones that it calls. A goal
+    of src/ is that of the verdict behind it, and one of a proof file that of the function whose folder it is in, wherever it stands."""
+    found, before, of_proofs = {}, [], []
     for line in said.split('\n'):
         end = VERDICT.match(line)
         if end:
             calls = CALLS_REFUSED.search(line)
-            found[end.group(1)] = end.group(2), goals_of(before), re.findall(r'`([^`]+)`', calls.group(1)) if calls else []
+            goals = goals_of(before)
+            of_proofs += [it for it in goals if it.startswith('proofs/')]
+            own = [it for it in goals if not it.startswith('proofs/')]
+            found[end.group(1)] = end.group(2), own, re.findall(r'`([^`]+)`', calls.group(1)) if calls else []
             before = []
         else:
             before.append(line)
+    for goal in of_proofs:
+        owner = function_of_proof(goal, found)
+        if owner:
+            found[owner][1].append(goal)
     return found
+
+
+def function_of_proof(goal, functions):
+    """The function in whose folder of proofs a goal is; None for a file of lemmas."""
+    at = OF_A_PROOF.match(goal)
+    words = at.group(2).split('/') if at else []
+    return next((it for it in functions if words and it.split('::')[1:] == words), None)
 
 
 def check(folder, jobs):
@@ -207,8 +235,9 @@ def check(folder, jobs):
     return run.returncode, said
 
 
-def tried(room, crate, edits, jobs, log):
-    """The status of a check of a copy on which edits are made, and what it said. room has the crate as it is proved."""
+def tried(room, crate, edits, jobs, log, left_out=()):
+    """The status of a check of a copy on which edits are made, and what it said. room has the crate as it is proved. The proof files
+    left_out are not in the copy."""
     texts = {}
     for edit in edits:
         for (file, number), line in edit.lines.items():
@@ -218,6 +247,8 @@ def tried(room, crate, edits, jobs, log):
         for file, lines in texts.items():
             with open(os.path.join(folder, file), 'w', encoding='utf-8') as f:
                 f.write('\n'.join(lines))
+        for file in left_out:
+            os.remove(os.path.join(folder, file))
         status, said = check(folder, jobs)
     if log:
         with open(log, 'w') as f:
@@ -256,7 +287,7 @@ def judged_in_round(edits, said):
             waits_for = refused_below(name, by_function) & beside - edit.functions
             if waits_for and not (goals and verdict[0] == REFUSED):
                 edit.apart |= waits_for
-            elif goals or re.match(r'not proved|no proof', said_of_it):
+            elif not verdict[1].startswith(ONLY_A_PROOF) and (goals or re.match(r'not proved|no proof', said_of_it)):
                 results[edit] = verdict
     return results
 
@@ -300,10 +331,26 @@ def in_rounds(edits, tries, found):
         waiting = [it for it in waiting if it not in alone]
 
 
+def tried_alone(room, crate, edit, log):
+    """What a check says of an edit that is tried alone. One that only stored answers stop is tried once more without these, and refused
+    if it leaves a goal open that the crate as it is proved does not leave open without them."""
+    status, said = tried(room, crate, [edit], 1, log(edit.name))
+    verdict, why = judged(status, said)
+    answers = {it.group(1) for it in map(OF_A_PROOF.match, goals_of(said.split('\n'))) if it and it.group(1).endswith('/Answers.antt')}
+    if not why.startswith(ONLY_A_PROOF) or not answers:
+        return verdict, why
+    open_anyway = {PLACE.sub('', it) for it in goals_of(tried(room, crate, [], 1, None, answers)[1].split('\n'))}
+    status, said = tried(room, crate, [edit], 1, log(edit.name + '.clause'), answers)
+    if status == 0:
+        return judged(status, said)
+    of_the_edit = [it for it in goals_of(said.split('\n')) if PLACE.sub('', it) not in open_anyway]
+    return judged_by(of_the_edit) if of_the_edit and stopped_at_goals(said) else (verdict, why)
+
+
 def try_all(room, crate, edits, pool, jobs, logs, found):
     """Tries edits of a crate that is proved as it stands in room, and passes the verdict on each to found as it comes."""
     log = lambda name: logs and os.path.join(logs, '%s.%s' % (crate, name))
     left = in_rounds(edits, lambda batch, number: tried(room, crate, batch, jobs, log('round%d' % number)), found)
-    runs = {pool.submit(tried, room, crate, [it], 1, log(it.name)): it for it in left}
+    runs = {pool.submit(tried_alone, room, crate, it, log): it for it in left}
     for run in as_completed(runs):
-        found(runs[run], *judged(*run.result()))
+        found(runs[run], *run.result())

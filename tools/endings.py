@@ -6,6 +6,7 @@ import re
 import sys
 
 NO_ANSWER, FAULT, BAD_SETTING, NO_MEMORY, NOT_KEPT, SIGN_IN, NOT_DISCOVERED, REFUSED_ID_TOKEN, NO_ID_TOKEN = 125, 1, 2, 3, 4, 5, 6, 7, 8
+TRY_AGAIN = 9
 # The status of each error code that a standard names: RFC 6749, 5.2 and 4.1.2.1; RFC 8628, 3.5; RFC 7009, 2.2.1.
 OF_CODE = {'invalid_request': 10, 'invalid_client': 11, 'invalid_grant': 12, 'unauthorized_client': 13, 'unsupported_grant_type': 14,
            'invalid_scope': 15, 'access_denied': 16, 'unsupported_response_type': 17, 'server_error': 18, 'temporarily_unavailable': 19,
@@ -15,6 +16,7 @@ ERROR_RESPONSE = 'Server returned error response: '
 
 DISK = (errno.ENOSPC, errno.EDQUOT, errno.EIO)
 quiet = False  # --quiet: no notes
+columns = 0  # of a line on the terminal that the next one is written over
 
 
 class Stop(Exception):
@@ -27,9 +29,27 @@ class Stop(Exception):
 
 def say(text):
     """Writes a line to standard error, if that can be written. What a server wrote can't steer the terminal."""
-    line = ''.join(it if it.isprintable() else '?' for it in text) + '\n'
+    put(printable(text) + '\n')
+
+
+def printable(text):
+    return ''.join(it if it.isprintable() else '?' for it in text)
+
+
+def put(text):
+    """Writes a text to standard error, if that can be written, over a line that is there to be written over."""
+    global columns
+    over, columns = '\r%s\r' % (' ' * columns) if columns else '', 0
     with contextlib.suppress(OSError):
-        os.write(2, line.encode(getattr(sys.stderr, 'encoding', None) or 'utf-8', 'backslashreplace'))
+        os.write(2, (over + text).encode(getattr(sys.stderr, 'encoding', None) or 'utf-8', 'backslashreplace'))
+
+
+def say_for_now(text):
+    """Writes a line to a terminal that the next one is written over."""
+    global columns
+    text = printable(text)[:(os.get_terminal_size(2).columns or 80) - 1]
+    put(text)
+    columns = len(text)
 
 
 def tell(text, tool='oauth2'):

@@ -1,35 +1,50 @@
 """How tools/oauth2 sends a request that the program shows, and what of the reply it hands to the program; for that tool."""
 import base64
+import collections
+import contextlib
 import http.client
 import os
-import signal
 import socket
 import ssl
+import time
 import urllib.parse
 import urllib.request
 
+from addresses import shown
 from endings import BAD_SETTING, Stop
 from settings import LOOPBACK
+from time_limits import in_time
 
 MOST_BYTES = 1 << 20  # of a reply's body
+RETRIED = (429, *range(500, 600))  # the HTTP statuses of a server that another try may find better
 
 
 class Unanswered(Exception):
-    """Why a request has no reply that a script can hold."""
+    """Why a request has no reply that a script can hold; and whether another try may have one."""
+
+    def __init__(self, why, may_retry=False):
+        super().__init__(why)
+        self.may_retry = may_retry
 
 
-def reply_to(request, limit):
-    """What the script says of a request that is sent now, its reply or that it failed; and what the user should know of that, or None.
-    limit is how many seconds it may take."""
+# What the script says of a request, its reply or that it failed; what the user should know of that, or None; and whether another try may
+# have another result, as where the network was at fault.
+Reply = collections.namedtuple('Reply', 'reply note may_retry', defaults=(None, False))
+
+
+def reply_to(request, limit, renewal=None):
+    """The Reply to a request that is sent now. limit is how many seconds it may take; renewal is told of one that has a refresh token."""
     try:
-        return sent(request, limit)
+        return sent(request, limit, renewal)
     except (TimeoutError, socket.timeout):
-        why = out_of_time(limit)
+        why, may_retry = out_of_time(renewal and renewal.limit or limit), True
     except ssl.SSLError as error:
-        why = why_no_tls(error)
-    except (OSError, ValueError, http.client.HTTPException, Unanswered) as error:
-        why = why_of(error)
-    return {'fail': True}, '%s %s: %s' % (request.method, request.value, why)
+        why, may_retry = why_no_tls(error), False
+    except (OSError, http.client.HTTPException) as error:
+        why, may_retry = why_of(error), True
+    except (ValueError, Unanswered) as error:
+        why, may_retry = why_of(error), getattr(error, 'may_retry', False)
+    return Reply({'fail': True}, '%s %s: %s' % (request.method, request.value, why), may_retry)
 
 
 def why_of(error):
@@ -72,15 +87,26 @@ def connection_to(target, limit):
     proxy = urllib.request.getproxies().get('https')
     if not proxy or urllib.request.proxy_bypass(host):
         return connected(http.client.HTTPSConnection(target.hostname, target.port, timeout=limit, context=context))
-    by = urllib.parse.urlsplit(proxy if '://' in proxy else 'http://' + proxy)
-    if by.scheme != 'http' or not by.hostname:
-        raise Unanswered('HTTPS_PROXY is no URL of a proxy that this tool can use: it has to be http://HOST:PORT')
-    connection, headers = http.client.HTTPSConnection(by.hostname, by.port or 80, timeout=limit, context=context), {}
+    by, port = proxy_at(proxy if '://' in proxy else 'http://' + proxy)
+    connection, headers = http.client.HTTPSConnection(by.hostname, port, timeout=limit, context=context), {}
     if by.username is not None:
         login = urllib.parse.unquote_to_bytes(by.username) + b':' + urllib.parse.unquote_to_bytes(by.password or '')
         headers['Proxy-Authorization'] = 'Basic ' + base64.b64encode(login).decode()
     connection.set_tunnel(target.hostname, target.port, headers)
-    return connected(connection, 'the proxy %s:%d (HTTPS_PROXY): ' % (by.hostname, by.port or 80))
+    return connected(connection, 'the proxy %s:%d (HTTPS_PROXY): ' % (by.hostname, port))
+
+
+def proxy_at(text):
+    """The parts of a proxy's URL, and its port. What is wrong with one is not shown, since it may have a password."""
+    try:
+        by = urllib.parse.urlsplit(text)
+        port = by.port or 80
+        is_it = by.scheme == 'http' and by.hostname
+    except ValueError:
+        is_it = False
+    if not is_it:
+        raise Unanswered('HTTPS_PROXY is no URL of a proxy that this tool can use: it has to be http://HOST:PORT')
+    return by, port
 
 
 def connected(connection, proxy=''):
@@ -91,32 +117,54 @@ def connected(connection, proxy=''):
     except (TimeoutError, socket.timeout, ssl.SSLError, Unanswered):
         raise
     except OSError as error:
-        raise Unanswered(proxy + why_of(error))
+        raise Unanswered(proxy + why_of(error), may_retry=True)
 
 
-def sent(request, limit):
-    target = urllib.parse.urlsplit(request.value)
+def sent(request, limit, renewal):
+    """A reply, which has to be there in so many seconds: the look-up of the server's name and the connection are in them."""
+    target, begun = urllib.parse.urlsplit(request.value), time.monotonic()
+    connection = in_time(lambda: connection_to(target, limit), limit)
+    lent = connection.sock  # which the connection lets go once there is a reply
+    left = begun + limit - time.monotonic()
+    if renewal:
+        left = renewal.sending(limit)
+        connection.sock.settimeout(left)
+    try:
+        return in_time(lambda: exchanged(connection, request, renewal), left)
+    except TimeoutError:
+        with contextlib.suppress(OSError):
+            socket.socket.shutdown(lent, socket.SHUT_RDWR)  # so that the other thread ends
+        raise
+
+
+def exchanged(connection, request, renewal):
+    """What comes of a request over a connection, which is closed then."""
     headers, body = {'Accept': 'application/json', 'Connection': 'close'}, None
     if request.method == 'POST':
         headers['Content-Type'], body = 'application/x-www-form-urlencoded', request.body.encode()
     if request.authorization:
         headers['Authorization'] = request.authorization
-
-    def stop(*_):
-        raise Unanswered(out_of_time(limit))
-    signal.signal(signal.SIGALRM, stop)
-    signal.setitimer(signal.ITIMER_REAL, limit)
-    connection = None
-    try:
-        connection = connection_to(target, limit)
-        where = '/' + ''.join(request.value.partition('#')[0].split('/', 3)[3:])
+    where = '/' + ''.join(request.value.partition('#')[0].split('/', 3)[3:])
+    with contextlib.closing(connection):
         connection.request(request.method, where, body, headers)
         reply = connection.getresponse()
-        return in_script(request.method, reply.status, reply.headers, reply.read(MOST_BYTES + 1))
-    finally:
-        signal.setitimer(signal.ITIMER_REAL, 0)
-        if connection:
-            connection.close()
+        got, error = body_of(reply)
+        if renewal:
+            renewal.received(reply.status, got)
+        if error:
+            raise error
+        return in_script(request.method, reply.status, reply.headers, got)
+
+
+def body_of(reply):
+    """The bytes of a reply's body, up to one more than it may have; and why there are no more, if it is cut off."""
+    cut = Unanswered('the reply is cut off', may_retry=True)
+    try:
+        got = reply.read(MOST_BYTES + 1)
+    except http.client.IncompleteRead as error:
+        return error.partial, cut
+    # .length is how many bytes of its Content-Length are missing
+    return got, cut if reply.length and len(got) <= MOST_BYTES else None
 
 
 def in_script(method, status, headers, body):
@@ -130,13 +178,14 @@ def in_script(method, status, headers, body):
         reply = {'status': status, 'body': body.decode('utf-8')}
     except ValueError:
         raise Unanswered('the reply has HTTP status %d and a body that is not UTF-8' % status)
-    return reply if content_type is None else dict(reply, content_type=content_type), elsewhere(method, status, location)
+    reply = reply if content_type is None else dict(reply, content_type=content_type)
+    return Reply(reply, elsewhere(method, status, location), status in RETRIED)
 
 
 def elsewhere(method, status, location):
     """That a reply is a redirect; None where it is none."""
     if not 300 <= status < 400:
         return None
-    to = ' to ' + location.partition('?')[0] if location else ''
+    to = ' to ' + shown(location.partition('?')[0]) if location else ''
     return ('the server sends elsewhere%s (HTTP status %d), which is not followed: give the URL of the %s itself'
             % (to, status, 'endpoint' if method == 'POST' else 'issuer'))

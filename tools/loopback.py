@@ -1,4 +1,4 @@
-"""How `tools/oauth2 login --listen` receives the redirect: a server on this machine for one request (RFC 8252, 7.3); for that tool."""
+"""How `tools/oauth2 login --listen` receives the redirect: a server on this machine (RFC 8252, 7.3); for that tool."""
 import http.server
 import os
 import queue
@@ -7,6 +7,7 @@ import socketserver
 import subprocess
 import sys
 import threading
+import time
 import urllib.parse
 
 from endings import BAD_SETTING, Stop, tell
@@ -16,8 +17,18 @@ ADDRESSES = {'localhost': ('127.0.0.1', '::1'), '127.0.0.1': ('127.0.0.1',), '::
 PAGE = b'''<!doctype html><meta charset="utf-8"><title>Back to the terminal</title>
 <p>The answer of the sign-in has arrived. The terminal says whether it was taken. This page can be closed.
 '''
+OTHER_PAGE = b'''<!doctype html><meta charset="utf-8"><title>Another sign-in</title>
+<p>This is not the answer of the sign-in for which the terminal waits. It was not taken, and the terminal goes on waiting.
+'''
 HEADERS = {'Content-Type': 'text/html; charset=utf-8', 'Cache-Control': 'no-store', 'Referrer-Policy': 'no-referrer',
            'Content-Security-Policy': "default-src 'none'", 'Connection': 'close'}
+
+
+class Visit:
+    """A request for the path of the redirect. Once it is judged, .is_ours says whether it is of the login that waits."""
+
+    def __init__(self, path):
+        self.path, self.is_ours, self.judged, self.answered = path, False, threading.Event(), threading.Event()
 
 
 class Handler(http.server.BaseHTTPRequestHandler):
@@ -26,17 +37,24 @@ class Handler(http.server.BaseHTTPRequestHandler):
     server_version, sys_version = 'oauth2', ''
 
     def do_GET(self):
-        is_it = self.path.partition('?')[0] == self.server.path
+        if self.path.partition('?')[0] != self.server.path:
+            self.answer(404, b'')
+            return
+        visit = Visit(self.path)
+        self.server.found.put(visit)
+        visit.judged.wait(self.timeout)
         try:
-            self.send_response(200 if is_it else 404)
-            for name, value in {**HEADERS, 'Content-Length': str(len(PAGE) if is_it else 0)}.items():
-                self.send_header(name, value)
-            self.end_headers()
-            self.wfile.write(PAGE if is_it else b'')
-            self.wfile.flush()
+            self.answer(*((200, PAGE) if visit.is_ours else (400, OTHER_PAGE)))
         finally:
-            if is_it:
-                self.server.found.put(self.path)
+            visit.answered.set()
+
+    def answer(self, status, page):
+        self.send_response(status)
+        for name, value in {**HEADERS, 'Content-Length': str(len(page))}.items():
+            self.send_header(name, value)
+        self.end_headers()
+        self.wfile.write(page)
+        self.wfile.flush()
 
     def log_message(self, *_):
         """Says nothing: the request has the code."""
@@ -79,14 +97,27 @@ class Listener:
         for it in self.servers:
             threading.Thread(target=it.serve_forever, kwargs={'poll_interval': 0.05}, daemon=True).start()
 
-    def received(self, seconds):
-        """The whole URL to which the browser was sent, once it comes."""
+    def received(self, seconds, is_ours):
+        """The whole URL to which the browser was sent, once one comes that is_ours takes."""
+        end = time.monotonic() + seconds
         try:
-            path = self.found.get(timeout=seconds)
+            while True:
+                visit = self.found.get(timeout=max(0, end - time.monotonic()))
+                url = self.url_of(visit.path)
+                try:
+                    visit.is_ours = is_ours(url)
+                finally:
+                    visit.judged.set()
+                if visit.is_ours:
+                    visit.answered.wait(Handler.timeout)
+                    return url
+                tell('a redirect came that has not the state of this login, so it was not taken; waiting on')
         except queue.Empty:
             raise Stop('no browser was sent to %s within %g seconds (--wait)' % (self.redirect, seconds))
         finally:
             self.close()
+
+    def url_of(self, path):
         # the request's line is read byte by byte, so that each letter past ASCII is a byte of the URL
         return self.base + urllib.parse.quote(path, safe=''.join(map(chr, range(0x21, 0x7f))), encoding='latin-1')
 

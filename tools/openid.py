@@ -13,7 +13,8 @@ ALGORITHM = '--algorithm says which one the client is registered with'
 OTHER_CLIENT = 'it is not for this client alone'
 # What may be done where a rule does not hold, by the program's text.
 HINTS = {'the token has no signature': ALGORITHM, 'the algorithm is not the registered one': ALGORITHM,
-         'the client is not in the audience': OTHER_CLIENT, 'several audiences, and no authorized party': OTHER_CLIENT,
+         'the client is not in the audience': OTHER_CLIENT, 'an audience is not trusted': OTHER_CLIENT,
+         'several audiences, and no authorized party': OTHER_CLIENT,
          'the authorized party is another one': OTHER_CLIENT, 'the token has expired': CLOCK, 'the token was issued in the future': CLOCK,
          'the token has no nonce': OTHER_LOGIN, 'the nonce is another one': OTHER_LOGIN}
 LEFT_OUT = 'nothing of the reply is shown or kept'

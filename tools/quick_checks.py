@@ -31,7 +31,7 @@ def of_tool(name, *words):
 def pages():
     """What the pages say of the sources."""
     reading = os.path.join('docs', 'READING.md')
-    return [of_tool('definitions', '--check', reading), of_tool('examples'), of_tool('crate-pages'),
+    return [of_tool('definitions', '--check', reading), of_tool('examples'), of_tool('crate-pages'), of_tool('standards'),
             of_tool('public-names', '--check', NAMES)]
 
 
@@ -62,20 +62,10 @@ def tests_of(crate):
     return Check('tests of ' + crate, folder, ['rt', 'try', '--test'], b'', fault_of_status)
 
 
-def data_of(folder):
-    """The flags by which a run gets the files of a program's `data`, each under its name in that folder."""
-    found, top = [], os.path.join(folder, 'data')
-    for at, _, names in os.walk(top):
-        for name in sorted(names):
-            path = os.path.join(at, name)
-            found += ['--data', '%s=%s' % (os.path.relpath(path, top), os.path.relpath(path, folder))]
-    return found
-
-
 def run_of(crate):
     """A program's stored run, compiled without proofs."""
     folder, wanted = os.path.join(repository.CRATES, crate), program.stored(crate, 'stdout')
-    arguments, status = program.stored(crate, 'args').decode().splitlines(), int(program.stored(crate, 'status') or 0)
+    status = int(program.stored(crate, 'status') or 0)
 
     def fault(_, out, err):
         ended = program.status_of_try(err)
@@ -84,7 +74,7 @@ def run_of(crate):
         if ended != status:
             return 'it ends with status %d, and not %d' % (ended, status)
         return None if out == wanted else 'it writes something other than crates/%s/stdout: %s' % (crate, first_difference(wanted, out))
-    command = ['rt', 'try', *data_of(folder), *['--'] * bool(arguments), *arguments]
+    command = ['rt', 'try', *program.flags_of_run(crate)]
     return Check('stored run of ' + crate, folder, command, program.stored(crate, 'stdin'), fault)
 
 

@@ -24,9 +24,12 @@ Names = collections.namedtuple('Names', 'needed all')
 def rows(page, head):
     """The names in the second column of a table, by the last word of the first; those in brackets, or behind one, are not needed. A row
     without a first cell goes on with the row above."""
-    table = re.search(r'^%s.*\n\|-.*\n((?:\|.*\n)+)' % re.escape(head), page, re.M).group(1).replace(' |\n| | ', ' ')
-    cells = [row.split('|')[1:3] for row in table.splitlines()]
-    return {re.findall(r'\w+', first)[-1]: Names(names_in(second.partition('[')[0]), names_in(second)) for first, second in cells}
+    table = re.search(r'^%s.*\n\|-.*\n((?:\|.*\n)+)' % re.escape(head), page, re.M).group(1)
+    cells = {}
+    for first, second in (row.split('|')[1:3] for row in table.splitlines()):
+        called = re.findall(r'\w+', first)[-1] if first.strip() else called
+        cells[called] = cells.get(called, '') + second
+    return {called: Names(names_in(cell.partition('[')[0]), names_in(cell)) for called, cell in cells.items()}
 
 
 def names_in(cell):

@@ -1,12 +1,12 @@
 """The settings of tools/oauth2, from flags, environment and file, and its secrets; for that tool."""
-import contextlib
-import getpass
 import json
 import os
 import stat
 import sys
 import urllib.parse
 
+import terminal
+from addresses import has_login
 from endings import BAD_SETTING, Stop, status_at, tell
 
 LOOPBACK = ('localhost', '127.0.0.1', '::1')
@@ -62,6 +62,7 @@ def settings_of(given, kept):
     found['scopes'] = getattr(given, 'scope', None) or scopes_of_environment() or found.get('scopes') or []
     if not isinstance(found['scopes'], list) or not all(isinstance(it, str) for it in found['scopes']):
         raise Stop('%s: "scopes" is no list of texts' % path, BAD_SETTING)
+    found['scopes'] = ' '.join(found['scopes']).split()  # a scope has no space (RFC 6749, 3.3)
     if getattr(given, 'openid', False):
         check_openid(found)
     if getattr(given, 'listen', None) is not None:
@@ -99,13 +100,18 @@ def missing_of(command, found):
     return [name for name in needed if not found['issuer'] or name not in ENDPOINTS]
 
 
+# What can be given in the place of a setting.
+OR = {**dict.fromkeys(ENDPOINTS, '; or --issuer, to discover it'),
+      'redirect': '; or --listen, to receive the redirect on this machine'}
+
+
 def check_complete(given, found, path=None):
     """Stops where a setting that a command needs is missing. path is that of a cache that has no token yet."""
     for name in missing_of(given.command, found):
         first = 'there is no token in %s yet: sign in first, by tools/oauth2 login --cache; or ask for one here: ' % path
         raise Stop('%s%s is not set: give %s, OAUTH2_%s, or "%s" in the file that --config names%s'
                    % (first * bool(path and given.command in ('token', 'refresh')), TEXTS[name].partition(' (with')[0], flag_of(name),
-                      name.upper(), name, '; or --issuer, to discover it' * (name in ENDPOINTS)), BAD_SETTING)
+                      name.upper(), name, OR.get(name, '')), BAD_SETTING)
 
 
 def check(given, found):
@@ -139,6 +145,8 @@ def check_url(name, text, label, status=BAD_SETTING):
         is_url = url.scheme and (name == 'redirect' or url.hostname and url.port != 0)
     except ValueError:
         is_url = False
+    if has_login(text):
+        raise Stop('%s has a user or a password in it, which is not sent: leave it out' % label, status)
     if not is_url or name != 'redirect' and url.scheme not in ('https', 'http'):
         raise Stop('%s is "%s", which is no URL: it has to be whole, as https://server.example/path' % (label, text), status)
     if url.scheme == 'http' and url.hostname not in LOOPBACK and name != 'redirect':
@@ -174,13 +182,20 @@ def asked(variable, what):
     """A secret from the environment, or a line that is read: from a terminal without showing it."""
     if variable and os.environ.get(variable):
         return os.environ[variable]
-    text = ''
-    with contextlib.suppress(EOFError):
-        if sys.stdin.isatty():
-            text = getpass.getpass(what + ': ', stream=sys.stderr)
-        else:
-            text = sys.stdin.readline().rstrip('\r\n')
+    try:
+        text = line_of_input(what + ': ').decode('utf-8')
+    except ValueError:
+        raise Stop('%s is not UTF-8' % what, BAD_SETTING)
+    except OSError as error:
+        raise Stop('%s can not be read from standard input: %s' % (what, error.strerror), BAD_SETTING)
     if not text:
         raise Stop('%s is missing: %sgive it as a line of standard input' % (what, variable + ' has it, or ' if variable else ''),
                    BAD_SETTING)
     return text
+
+
+def line_of_input(prompt):
+    """The bytes of a line of standard input; one that is typed is not shown."""
+    if sys.stdin.isatty():
+        return terminal.line_of(sys.stdin.fileno(), prompt)
+    return sys.stdin.buffer.readline().rstrip(b'\r\n')

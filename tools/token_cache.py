@@ -1,14 +1,17 @@
 """The file in which tools/oauth2 keeps a token and how it is renewed; for that tool."""
 import contextlib
-import fcntl
 import json
 import os
 import stat
 import tempfile
+import time
 
 import answers
-from endings import BAD_SETTING, Stop, note, status_at
+import locks
+import signals
+from endings import BAD_SETTING, TRY_AGAIN, Stop, note, status_at
 
+SPARE = 1 << 14  # bytes that a new file may have beyond twice those of the old one
 FORMAT = 'cache of tools/oauth2, 1'
 # What the file has: of which request the token came, when, until when it is good, the reply, the refresh token that is newest, and who
 # signed in by an ID token that was checked.
@@ -34,48 +37,93 @@ def entry_in(text, path):
     return found
 
 
-class Cache:
-    """The file while this process alone has it, as a context. What is kept is .entry, or None."""
+class NotAsked(Stop):
+    """Why no token is asked for, though one was to be."""
 
-    def __init__(self, path):
-        self.path, self.file = os.path.realpath(path), None
+
+def opened(path, flags):
+    """The file at a path, and its status. Stops where it is not one that this user alone can read and write."""
+    file = os.fdopen(os.open(path, flags | os.O_NONBLOCK | os.O_NOCTTY, 0o600), 'r', encoding='utf-8')
+    found, said = os.fstat(file.fileno()), None
+    if not stat.S_ISREG(found.st_mode) or found.st_uid != os.geteuid():
+        said = '%s is no file of this user, so it is left as it is: name another by --cache' % path
+    elif found.st_mode & 0o077:
+        said = 'others can read or write %s, so it is left as it is: chmod 600 %s makes it usable' % (path, path)
+    if said:
+        file.close()
+        raise Stop(said, BAD_SETTING)
+    return file, found
+
+
+@contextlib.contextmanager
+def told(path):
+    """Stops where a file can't be read, or is no text."""
+    try:
+        yield
+    except UnicodeDecodeError:
+        raise Stop('%s is no cache of this tool, so it is left as it is: name another file by --cache' % path, BAD_SETTING)
+    except OSError as error:
+        raise Stop('%s can not be used as a cache: %s' % (path, error.strerror), status_at(error))
+
+
+def read(path):
+    """What a cache keeps now, without waiting for other runs, which put a new file in its place; None where there is no file yet."""
+    path = os.path.realpath(path)
+    with told(path):
+        try:
+            file, _ = opened(path, os.O_RDONLY)
+        except FileNotFoundError:
+            return None
+        with file:
+            return entry_in(file.read(), path)
+
+
+class Cache:
+    """The file while this process alone has it, as a context. What is kept is .entry, or None. limit is how many seconds it may be waited
+    for."""
+
+    def __init__(self, path, limit):
+        self.path, self.limit, self.file, self.new, self.room = os.path.realpath(path), limit, None, None, None
 
     def __enter__(self):
+        end = time.monotonic() + self.limit
         try:
-            while not self.file:
-                self.open()
-            self.entry = entry_in(self.file.read(), self.path)
-        except UnicodeDecodeError:
-            self.__exit__()
-            raise Stop('%s is no cache of this tool, so it is left as it is: name another file by --cache' % self.path, BAD_SETTING)
-        except OSError as error:
-            self.__exit__()
-            raise Stop('%s can not be used as a cache: %s' % (self.path, error.strerror), status_at(error))
+            with told(self.path):
+                while not self.file:
+                    self.open(end)
+                self.entry = entry_in(self.file.read(), self.path)
         except Stop:
             self.__exit__()
             raise
         return self
 
-    def open(self):
+    def open(self, end):
         """Opens and locks the file; not where another run has put a new one in its place meanwhile."""
-        file = os.fdopen(os.open(self.path, os.O_RDWR | os.O_CREAT | os.O_NONBLOCK | os.O_NOCTTY, 0o600), 'r', encoding='utf-8')
+        file, found = opened(self.path, os.O_RDWR | os.O_CREAT)
         try:
-            found = os.fstat(file.fileno())
-            if not stat.S_ISREG(found.st_mode) or found.st_uid != os.geteuid():
-                raise Stop('%s is no file of this user, so it is left as it is: name another by --cache' % self.path, BAD_SETTING)
-            if found.st_mode & 0o077:
-                raise Stop('others can read or write %s, so it is left as it is: chmod 600 %s makes it usable' % (self.path, self.path),
-                           BAD_SETTING)
             if not os.access(os.path.dirname(self.path), os.W_OK):
                 raise Stop('the folder of %s can not be written' % self.path, BAD_SETTING)
-            lock(file, self.path)
-            if os.path.exists(self.path) and os.path.samestat(os.stat(self.path), os.fstat(file.fileno())):
+            self.lock(file, end)
+            if os.path.exists(self.path) and os.path.samestat(os.stat(self.path), found):
                 self.file, file = file, None
         finally:
             if file:
                 file.close()
 
+    def lock(self, file, end):
+        """Waits until no other run has the file."""
+        is_said = False
+        while not locks.takes(file):
+            if not is_said:
+                note('waiting for %s, which uses %s' % (locks.holder(file), self.path))
+                is_said = True
+            if time.monotonic() >= end:
+                raise NotAsked('%s has used %s for more than %g seconds (--timeout), so nothing was sent'
+                               % (locks.holder(file), self.path, self.limit), TRY_AGAIN)
+            time.sleep(0.05)
+
     def __exit__(self, *_):
+        self.drop()
         if self.file:
             self.file.close()
             self.file = None
@@ -87,42 +135,58 @@ class Cache:
         except OSError as error:
             raise Stop('%s could not be removed: %s' % (self.path, error.strerror))
 
+    def make_room(self):
+        """Makes the file that will take the place of this one. Stops where that can't be."""
+        try:
+            self.reserve()
+        except OSError as error:
+            raise NotAsked('there is no room for a new token beside %s (%s), so nothing was sent' % (self.path, error.strerror),
+                           status_at(error))
+
+    def reserve(self):
+        """Makes a new file, of its full size. OSError if that can't be."""
+        folder, name = os.path.split(self.path)
+        number, self.new = tempfile.mkstemp(prefix='.%s.' % name, dir=folder)
+        signals.to_undo.append(self.drop)
+        self.room = os.fdopen(number, 'wb')
+        os.posix_fallocate(number, 0, 2 * os.fstat(self.file.fileno()).st_size + SPARE)
+
+    def drop(self):
+        """Removes the file that was made, where it has not taken the place of the old one."""
+        new, room, self.new, self.room = self.new, self.room, None, None
+        if self.drop in signals.to_undo:
+            signals.to_undo.remove(self.drop)
+        with contextlib.suppress(OSError):
+            if new:
+                os.unlink(new)
+            if room:
+                room.close()
+
     def write(self, entry):
         """Puts a new file in the place of the old one, whole or not at all. OSError if it can't be written."""
-        folder, name = os.path.split(self.path)
-        number, new = tempfile.mkstemp(prefix='.%s.' % name, dir=folder)
+        text = text_of(entry)
         try:
-            with os.fdopen(number, 'w', encoding='utf-8') as f:
-                json.dump({'format': FORMAT, **entry}, f)
-                f.flush()
-                os.fsync(f.fileno())
-            os.replace(new, self.path)
-        except BaseException:
-            os.unlink(new)
-            raise
+            if not self.room:
+                self.reserve()
+            self.room.write(text)
+            self.room.truncate()
+            os.fsync(self.room.fileno())
+            os.replace(self.new, self.path)
+            self.new = None
+        finally:
+            self.drop()
         self.entry = entry
         with contextlib.suppress(OSError):  # so that the new file is the one that a sudden end of the machine leaves, where that can be
-            at = os.open(folder, os.O_RDONLY)
+            at = os.open(os.path.dirname(self.path), os.O_RDONLY)
             try:
                 os.fsync(at)
             finally:
                 os.close(at)
 
 
-def lock(file, path):
-    try:
-        fcntl.flock(file, fcntl.LOCK_EX | fcntl.LOCK_NB)
-    except BlockingIOError:
-        note('waiting for another run that uses %s' % path)
-        fcntl.flock(file, fcntl.LOCK_EX)
-
-
-def peek(path):
-    """What a cache keeps now; None where there is no file yet."""
-    if not os.path.exists(path):
-        return None
-    with Cache(path) as cache:
-        return cache.entry
+def text_of(entry):
+    """The bytes of a file that keeps this."""
+    return json.dumps({'format': FORMAT, **entry}).encode()
 
 
 def is_good(entry, now, margin):
@@ -137,6 +201,23 @@ def entry_of(outcome, life, before, **how):
     seconds, refresh = answers.member(text, 'expires_in'), answers.member(text, 'refresh_token') or (before or {}).get('refresh_token')
     ends = outcome.asked_at + (seconds if isinstance(seconds, int) else life)
     return dict(how, obtained_at=outcome.asked_at, expires_at=ends, answer=text, refresh_token=refresh)
+
+
+def has_end(entry):
+    """Whether the server said when the token ends."""
+    return answers.member(entry['answer'], 'expires_in') is not None
+
+
+def how_long(entry, now):
+    """What is said of a token that has not ended."""
+    what = 'is good' if has_end(entry) else 'came without a lifetime and is taken as good'
+    return '%s for %d more seconds' % (what, entry['expires_at'] - now)
+
+
+def how_ended(entry):
+    """What is said of a token that is no longer handed out."""
+    seconds = entry['expires_at'] - entry['obtained_at']
+    return 'has ended' if has_end(entry) else 'came without a lifetime, is older than %d seconds (--life),' % seconds
 
 
 def answer_of(entry, now):

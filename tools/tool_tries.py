@@ -8,6 +8,7 @@ import shutil
 import socket
 import threading
 import time
+import urllib.error
 import urllib.parse
 import urllib.request
 
@@ -38,13 +39,26 @@ def issuer(tries):
 
 
 def listener(tries):
-    """A login whose redirect is received by --listen; a client follows it there, as a browser does."""
+    """A login whose redirect is received by --listen; a client follows it there, as a browser does, after one with another state."""
     run = tries.start('login', '--listen', str(tries.server.listen_port), OAUTH2_REDIRECT=LISTENED)
     for line in run.stderr:
         if line.startswith('https://'):
-            visit(tries.server.agreed(line.strip()))
+            back = tries.server.agreed(line.strip())
+            other = status_of(back.replace('state=', 'state=x'))
+            tries.row('another state received by --listen', 'HTTP status %d, and it goes on' % other, other == 400)
+            visit(back)
             break
     tries.end('redirect received by --listen', run, '', 'access_token')
+
+
+def status_of(url):
+    """The HTTP status of a visit."""
+    try:
+        visit(url)
+        return 200
+    except urllib.error.HTTPError as error:
+        error.close()
+        return error.code
 
 
 def visit(url):
@@ -153,6 +167,12 @@ def cache(tries):
     tries.row('cache: five runs at once', '%d new token%s for all' % (len(found), 's' * (len(found) > 1)),
               len(found) == 1 and second.get('access_token') not in found and '' not in found)
     tries.end('cache: renewed once more', start('--margin', '1000000'), '', 'access_token')
+    for moment in range(10):
+        run = start('--margin', '1000000')
+        time.sleep(0.1 * moment)
+        run.terminate()
+        run.communicate()
+    tries.end('cache: renewed after ten renewals that SIGTERM met', start('--margin', '1000000'), '', 'access_token')
     tries.end('cache: signed out', tries.start('revoke', '--cache', path, OAUTH2_CLIENT_ID=''), '', 'null')
     tries.row('cache: the file once signed out', 'there' if os.path.exists(path) else 'removed', not os.path.exists(path))
 
@@ -197,6 +217,8 @@ BROKEN = [('500 with HTML', 500, {'Content-Type': 'text/html'}, b'<p>oops', r'HT
           ('302', 302, {'Location': 'https://localhost/elsewhere'}, b'', r'HTTP status 302'),
           ('200 with an empty body', 200, {'Content-Type': 'application/json'}, b'', r'empty response body \(HTTP status 200\)'),
           ('200 with HTML', 200, {'Content-Type': 'text/html'}, b'<p>hello', r'HTTP status 200.*text/html and not a JSON object'),
+          ('a body shorter than its Content-Length', 200, {'Content-Type': 'application/json', 'Content-Length': '100'}, b'{"a":1}',
+           r'the reply is cut off'),
           ('a reply that never ends', 200, {'Content-Type': 'application/json'}, None, r'no whole reply within 2 seconds')]
 
 

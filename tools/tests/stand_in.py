@@ -3,6 +3,7 @@ import http.server
 import json
 import os
 import shutil
+import signal
 import ssl
 import subprocess
 import sys
@@ -11,6 +12,11 @@ import threading
 import unittest
 
 import tool
+
+# A run in the background has signals that are ignored, and what it starts inherits that. The tests send these signals.
+for number in (signal.SIGHUP, signal.SIGINT, signal.SIGQUIT):
+    if signal.getsignal(number) == signal.SIG_IGN:
+        signal.signal(number, signal.SIG_DFL)
 
 # Does what docs/SCRIPT.md says, as far as the tests need it, and notes each script.
 PROGRAM = '''#!%s -IS
@@ -71,7 +77,7 @@ def metadata():
     if reply['status'] != 200:
         end(1, 'fault "Failed to parse server response" "error" Missing')
     found = json.loads(reply['body'])
-    end(*(0, 'ok', json.dumps(found)) if found['issuer'] == issuer else (1, 'fault', json.dumps("metadata is another issuer's")))
+    end(*(0, 'ok', json.dumps(found)) if found['issuer'] == issuer else (1, 'fault', json.dumps("metadata is another issuer's: " + found['issuer'])))
 
 def poll():
     found, clock = params['device'], script['readings']

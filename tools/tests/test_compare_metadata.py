@@ -16,13 +16,19 @@ BUGS = [("path[:-1] if path.endswith('/') else path", 'path'), ("path[:-1] if pa
         ('else path + name', 'else name + path'), ('name + path if', 'path + name if'),
         ("'' if port == PORTS[scheme] else", "'' if port in PORTS.values() else"),
         ('scheme, found[1].lower(), port', 'scheme, found[1], port'), ("scheme == 'http' and is_loopback(host)", "scheme == 'http'"),
-        ("not (scheme == 'http' and is_loopback(host))", 'True'),
+        ("scheme == 'http' and is_loopback(host)", 'False'),
         ("if host == 'localhost' or host == '[::1]'", "if host.startswith(('localhost', '[::1]'))"),
         ('.is_loopback', " == ipaddress.IPv4Address('127.0.0.1')"), ('if query is not None', 'if query'),
-        ('if query is not None', 'if False'), ('if fragment is not None', 'if fragment'), ("found['issuer'] != params['issuer']", 'False'),
-        ("found['issuer'] != params['issuer']", "found['issuer'].rstrip('/') != params['issuer'].rstrip('/')"),
-        ("found['issuer'] != params['issuer']", "found['issuer'].lower() != params['issuer'].lower()"),
-        ("reply['status'] == 200", "reply['status'] // 100 == 2"), ('and not is_taken(content_type, rule)', 'and False'),
+        ('if query is not None', 'if False'), ('if fragment is not None', 'if fragment'), ("found['issuer'] != expected", 'False'),
+        ("found['issuer'] != expected", "found['issuer'].rstrip('/') != expected.rstrip('/')"),
+        ("found['issuer'] != expected", "found['issuer'].lower() != expected.lower()"),
+        ("found['issuer'] != expected", "found['issuer'] not in (expected, params['issuer'])"),
+        ("params.get('expected_issuer', params.get('issuer'))", "params.get('issuer')"),
+        ("reply['status'] != 200", "reply['status'] // 100 != 2"), ("reply['status'] in REDIRECTS", "reply['status'] // 100 == 3"),
+        ('301, 302, 303, 307, 308', '301, 302, 303, 307'), ('if not is_secure(*parts[:2])', 'if False'),
+        ('name in WITHOUT_FRAGMENT and parts[5] is not None', 'name in WITHOUT_FRAGMENT and parts[5]'),
+        ('name in WITHOUT_FRAGMENT and parts[5] is not None', 'parts[5] is not None'),
+        ("'token_endpoint', 'revocation_endpoint')", "'token_endpoint')"), ('and not is_taken(content_type, rule)', 'and False'),
         ("rule == 'prefix' or rest", 'rest'), ("rule == 'prefix' or rest[:1]", 'True or rest[:1]'),
         ('content_type[:16].lower()', 'content_type[:16]'),
         ("client.get('reply_rule', 'prefix')", "client.get('reply_rule', 'media_type')"), ("if not reply['body']", 'if False'),
@@ -33,7 +39,8 @@ BUGS = [("path[:-1] if path.endswith('/') else path", 'path'), ("path[:-1] if pa
         ("'device_authorization_endpoint': 'URL',", ''),
         ("'code_challenge_methods_supported': 'texts',", "'code_challenge_methods_supported': 'text',"), ('DEEPEST = 127', 'DEEPEST = 128'),
         ('value.encode()', 'pass'), ('math.isinf(float(number))', 'False'), ("('error', 'error_description')", "('error',)"),
-        ('sort_keys=True', 'sort_keys=False'), ("'authorization none'", "'authorization Basic'"), ('raise Fault(*faults)', 'pass')]
+        ('sort_keys=True', 'sort_keys=False'), ("'authorization none'", "'authorization Basic'"), ('raise Fault(*faults)', 'pass'),
+        ('raise Fault(*refused)', 'pass')]
 
 
 def with_bug(old, new):
@@ -52,7 +59,7 @@ def ran_by(made):
     def told(_, script):
         try:
             lines, answers, status = made.read(script)
-        except KeyError:
+        except (KeyError, TypeError):
             return [''], 101, ''
         return lines + [answers[0], ''], status, ''
     return told

@@ -70,7 +70,7 @@ class Classes(unittest.TestCase):
              'both framing fields'),
             (OK.replace(b'\r', b'') + b'\nhello', refused('a line ends in a line feed alone'), 'a line feed alone'),
             (OK + b'A: b\r\n c\r\n\r\nhello', refused('its head or its trailers do not parse'), 'folded'),
-            (b'\r\n' + OK + b'\r\nhello', READ, 'blank lines'),
+            (OK + b'Transfer-Encoding: gzip\r\n\r\nhello', replies.Refused(replies.CODING), 'not undone'),
         ])
 
     def test_none(self):

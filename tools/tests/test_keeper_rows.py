@@ -36,9 +36,10 @@ EMPTY = (500, None)
 STORED = ('abc', at(100, 5), at(10, 1), 'tGzv3JOkF0XG5Qx2TlKWIA')
 LATE = ('abc', at(253402207100), at(200), None)
 AUDIENCE = ('audience', 'https://api.example.com/')
-# What a row has in place of these: what its keeper starts from, the scopes of client credentials and of a refresh, extra parameters, the
+ID, URL = 's6BhdRkqt3', 'https://server.example.com/token'
+# What a row has in place of these: what its keeper starts from and forgets of that, the scopes of client credentials and of a refresh, extra parameters, the
 # margin, the wait, whether the token is used to its end, the calls, and a moment at which the token is read.
-USUAL = dict(start=None, scopes=[], refresh_scopes=[], extra=[], margin=at(10), wait=at(30), until_end=False, calls=[], last=0)
+USUAL = dict(start=None, forgotten=None, scopes=[], refresh_scopes=[], extra=[], margin=at(10), wait=at(30), until_end=False, calls=[], last=0)
 ROWS = {
     'scopes': dict(start=STORED, scopes=['read', 'write', 'admin'], refresh_scopes=['read', 'write'], extra=[AUDIENCE, ('resource', 'a b')],
                    calls=[(at(100, 5), TOKENS), (at(101), TOKENS), (at(3691), TOKEN)], last=at(3691)),
@@ -48,17 +49,26 @@ ROWS = {
     'starting_from': dict(start=STORED, margin=at(3), calls=[(at(107, 6), TOKEN), (at(107, 7), TOKEN)], last=at(3704, 7)),
     'starting_from_json': dict(start=('abc', at(-1, 999999999), at(10, 2), 'def'), margin=0,
                                calls=[(at(10, 1), TOKEN), (at(10, 2), TOKEN)], last=at(10, 2)),
+    'starting_from_json_of_this_client': dict(start=('abc', 0, at(60), None), last=at(50)),
+    'forgotten_token': dict(start=STORED, forgotten='token', calls=[(at(100, 5), TOKEN)], last=at(100, 5)),
+    'forgotten_refresh_token': dict(start=STORED, forgotten='refresh_token', margin=0, calls=[(at(110, 6), TOKEN), (at(110, 7), TOKEN)],
+                                    last=at(110, 7)),
     'good_until_the_end': dict(start=LATE, margin=at(99, 1), calls=[(LAST, TOKEN)], last=LAST),
     'good_past_the_end': dict(start=LATE, margin=at(99), last=LAST),
     'empty': {},
     'waits': dict(calls=[(0, TOKEN), (at(3600), REFUSED), (at(3590), TOKEN), (at(3629, 999999999), TOKEN), (at(3630), EMPTY),
                          (at(3631), TOKEN), (at(3660), TOKEN)], last=at(3660)),
+    'waits_after_the_clock_was_set_back': dict(calls=[(at(1000), REFUSED), (at(10), TOKEN), (0, TOKEN), (at(29, 999999999), TOKEN),
+                                                      (at(30), TOKEN)], last=at(30)),
     'waits_with_the_token': dict(until_end=True, last=at(3621), calls=[(0, TOKEN), (at(3591), REFUSED), (at(3600), TOKEN),
                                                                        (at(3600, 1), TOKEN), (at(3621), TOKEN)]),
     'waits_past_the_end': dict(wait=MOST_SPAN, calls=[(0, REFUSED), (at(1), TOKEN)])}
-# The stored tokens that are only read and written.
-TEXTS = {'stored_before_1970': ('abc', at(-377705023201, 1), MOST_SPAN, None),
-         'stored_past_the_end': ('abc', at(253402207200, SECOND), 0, 'def')}
+# The stored tokens that are only read and written; of which client and endpoint they are is not stored.
+TEXTS = {'stored_before_1970': ('abc', at(-377705023201, 1), MOST_SPAN, None, None, None),
+         'stored_past_the_end': ('abc', at(253402207200, SECOND), 0, 'def', None, None)}
+# Those that a keeper does not take, and what they are of.
+NOT_TAKEN = {'stored_of_another_client': (('abc', 0, at(60), 'def', 's6BhdRkqt', 'https://other.example.com/token'), 'client'),
+             'stored_of_another_endpoint': (('abc', 0, at(60), None, None, URL + '2'), 'token endpoint')}
 
 
 def shown(name, moment):
@@ -69,12 +79,12 @@ def shown(name, moment):
     return '%s %d %d' % (name, sign * (abs(moment) // SECOND), sign * (abs(moment) % SECOND))
 
 
-def written(token, accepted_at, lifetime, refresh_token):
+def written(token, accepted_at, lifetime, refresh_token, client_id, token_url):
     """A stored token as JSON, its members in the order of their names."""
     members = {'access_token': token, 'accepted_at': accepted_at // SECOND, 'accepted_at_nanoseconds': accepted_at % SECOND,
                'lifetime': lifetime // SECOND, 'lifetime_nanoseconds': lifetime % SECOND}
-    if refresh_token is not None:
-        members['refresh_token'] = refresh_token
+    members.update({name: it for name, it in (('refresh_token', refresh_token), ('client_id', client_id), ('token_url', token_url))
+                    if it is not None})
     return 'json ' + json.dumps(members, sort_keys=True, separators=(',', ':'))
 
 
@@ -84,6 +94,8 @@ class Keeper:
     def __init__(self, row):
         self.row = row
         self.token, self.accepted_at, self.lifetime, self.refresh_token = row['start'] or (None, None, None, None)
+        if row['forgotten']:
+            setattr(self, row['forgotten'], None)
         self.failed_at = None
 
     def lasts(self, now, margin):
@@ -101,7 +113,8 @@ class Keeper:
         """The lines of a call, by the table of `keeper`; `reply` is None for a client that fails."""
         if self.lasts(now, self.row['margin']):
             return ['token ' + self.token]
-        if self.failed_at is not None and now < self.failed_at + self.row['wait']:
+        if self.failed_at is not None and now < min(self.failed_at, now) + self.row['wait']:
+            self.failed_at = min(self.failed_at, now)
             if self.row['until_end'] and self.lasts(now, 0):
                 return ['token ' + self.token]
             return ['error The last request failed, and none is made yet', shown('waits until', self.failed_at + self.row['wait'])]
@@ -125,7 +138,7 @@ class Keeper:
             return ['accepted at none', 'lifetime none', 'good until none', *refresh, 'nothing to store']
         lines = [shown('accepted at', self.accepted_at), 'lifetime %d %d' % divmod(self.lifetime, SECOND),
                  shown('good until', self.accepted_at + self.lifetime - self.row['margin']), *refresh]
-        return lines + [written(self.token, self.accepted_at, self.lifetime, self.refresh_token)]
+        return lines + [written(self.token, self.accepted_at, self.lifetime, self.refresh_token, ID, URL)]
 
 
 def keeper_lines(row):
@@ -141,8 +154,14 @@ def text_lines(stored):
     return ['debug StoredToken([redacted]) StoredToken([redacted])', written(*stored)]
 
 
+def not_taken_lines(stored, what):
+    return ['error The stored token is of another ' + what, 'nothing to store', written(*stored)]
+
+
 def row_lines(name):
-    return ['row ' + name] + (text_lines(TEXTS[name]) if name in TEXTS else keeper_lines({**USUAL, **ROWS[name]}))
+    if name in TEXTS:
+        return ['row ' + name] + text_lines(TEXTS[name])
+    return ['row ' + name] + (not_taken_lines(*NOT_TAKEN[name]) if name in NOT_TAKEN else keeper_lines({**USUAL, **ROWS[name]}))
 
 
 class KeeperRows(unittest.TestCase):
@@ -154,7 +173,7 @@ class KeeperRows(unittest.TestCase):
     def test_lines(self):
         with open(os.path.join(CRATE, 'stdin')) as names, open(os.path.join(CRATE, 'stdout')) as wanted:
             names = names.read().splitlines()
-            self.assertEqual(names, [*ROWS, *TEXTS])
+            self.assertEqual(names, [*ROWS, *TEXTS, *NOT_TAKEN])
             self.assertEqual([line for name in names for line in row_lines(name)], wanted.read().splitlines())
 
 

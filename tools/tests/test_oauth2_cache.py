@@ -144,7 +144,7 @@ class Cache(stand_in.Case):
         self.assertEqual(self.kept(), before)
         self.change(expires_at=int(time.time()))
         self.server.reply = (503, {}, '')
-        self.assertEqual(self.token(), (1, ''))
+        self.assertEqual(self.token(), (9, ''))
         self.assertIn('(HTTP status 503)', self.err)
 
     def test_refresh_renews_whatever_the_margin(self):
@@ -175,7 +175,7 @@ class Cache(stand_in.Case):
             self.change(**member)
             server.reply = (503, {}, '')
             status, _, err = self.run_tool('revoke', '--cache', self.path, OAUTH2_CLIENT_ID='')
-            self.assertEqual(status, 1)
+            self.assertEqual(status, 9)
             self.assertIn('%s stays, since its token is not revoked' % self.path, err)
             self.assertTrue(os.path.exists(self.path))
             self.assertEqual(self.run_tool('revoke', '--cache', self.path, '--client-id', 'other')[0], 2)
@@ -271,6 +271,16 @@ class Cache(stand_in.Case):
         self.assertEqual(self.token('--margin', '0'), (0, 't'))
         self.assertEqual(self.token('--margin', '100'), (0, 'u'))
 
+    def test_a_token_without_a_lifetime_is_not_called_ended(self):
+        self.server.reply = {'access_token': 't', 'token_type': 'bearer'}
+        self.token('--username', 'ann', '--life', '100', command='password', OAUTH2_PASSWORD='p')
+        self.token(command='password')
+        self.assertIn('came without a lifetime and is taken as good for ', self.err)
+        self.change(expires_at=int(time.time()) - 1, obtained_at=int(time.time()) - 101)
+        self.assertEqual(self.token(), (5, ''))
+        self.assertIn('came without a lifetime, is older than 100 seconds (--life), and can not be renewed', self.err)
+        self.assertNotIn('ended', self.err)
+
     def test_a_clock_that_was_put_back(self):
         self.token()
         self.change(obtained_at=int(time.time()) + 1000, expires_at=int(time.time()) + 9000)
@@ -290,7 +300,7 @@ class Whole(unittest.TestCase):
         self.addCleanup(case.doCleanups)
         case.token()
         before = case.kept()
-        with token_cache.Cache(case.path) as cache, mock.patch.object(os, 'fsync', side_effect=OSError(28, 'no space')):
+        with token_cache.Cache(case.path, 1) as cache, mock.patch.object(os, 'fsync', side_effect=OSError(28, 'no space')):
             self.assertRaises(OSError, cache.write, dict(cache.entry, answer='{}'))
         self.assertEqual(case.kept(), before)
         self.assertEqual(sorted(os.listdir(case.room)), ['cache', 'program', 'scripts'])

@@ -127,7 +127,7 @@ class Endpoints(Case):
         self.assertEqual(status, 6)
         self.assertIn('sends elsewhere to https://x.example/y (HTTP status 302), which is not followed: give the URL of the issuer', err)
         status, _, err = self.run_tool('token', '--issuer', 'http://127.0.0.1:1')
-        self.assertEqual(status, 6)
+        self.assertEqual(status, 9)
         self.assertEqual(err, 'tools/oauth2: the endpoints of the issuer http://127.0.0.1:1 can not be discovered (is --issuer right?): '
                               'GET http://127.0.0.1:1%s: Connection refused\n' % FIRST)
 

@@ -64,6 +64,10 @@ class Listener(stand_in.Case):
             self.assertEqual(run.returncode, 16)
             self.assertIn('the server answers: access_denied', err)
 
+    def test_a_port_need_not_be_given(self):
+        run = self.start('login', '--listen', '--no-browser', '--wait', '0.1')
+        self.assertRegex(run.communicate(timeout=60)[1], r'no browser was sent to http://127\.0\.0\.1:\d+/ within')
+
     def test_bytes_past_ascii_stay_bytes(self):
         run, asked = self.begun()
         url = urllib.parse.urlsplit(asked['redirect_uri'])
@@ -81,11 +85,23 @@ class Listener(stand_in.Case):
             run.communicate(timeout=10)
         self.assertEqual(run.returncode, 0)
 
-    def test_another_state_ends_the_login(self):
+    def test_another_state_is_refused_and_the_login_goes_on(self):
         run, asked = self.begun()
-        self.visit(asked['redirect_uri'], '?code=c&state=other')
-        self.assertIn('has not the state of this login', run.communicate(timeout=60)[1])
-        self.assertEqual((run.returncode, self.server.asked), (1, []))
+        for more in '?code=c&state=other', '?code=c', '', '?error=access_denied&state=other':
+            status, _, page = self.visit(asked['redirect_uri'], more)
+            self.assertEqual(status, 400)
+            self.assertIn('the terminal goes on waiting', page)
+        self.assertEqual(self.visit(asked['redirect_uri'], '?code=c&state=' + asked['state'])[0], 200)
+        out, err = run.communicate(timeout=60)
+        self.assertEqual((run.returncode, json.loads(out)), (0, stand_in.OK))
+        self.assertEqual(err.count('a redirect came that has not the state of this login, so it was not taken'), 4)
+        self.assertEqual(len(self.server.asked), 1)
+
+    def test_another_state_does_not_end_the_wait_or_lengthen_it(self):
+        run, asked = self.begun('--wait', '5')
+        self.assertEqual(self.visit(asked['redirect_uri'], '?code=c&state=other')[0], 400)
+        self.assertIn('within 5 seconds', run.communicate(timeout=60)[1])
+        self.assertEqual((run.returncode, self.server.asked), (125, []))
 
     def test_nobody_comes(self):
         status, _, err = self.run_tool('login', '--listen', '0', '--wait', '0.1')

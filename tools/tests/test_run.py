@@ -66,8 +66,11 @@ class Faults(unittest.TestCase):
 
 class Page(unittest.TestCase):
     def defined(self, name):
-        """The members that a file of definitions reads, and those of them that it needs."""
+        """The members that a file of definitions reads, and those of them that it needs: of a command's parameters by its last definition,
+        since those before it are of parts."""
         text = sources.read(os.path.join(SPECS, name + '.antt'))
+        if name.endswith('Params'):
+            text = text[text.rindex('\nunfoldable pub '):]
         return [re.findall(r'(?:%s)[ (\w]* \(codes "(\w+)"\)' % kinds, text) for kinds in ('needed_part', 'needed_part|present_part|list_part|get')]
 
     def test_names_are_those_of_the_definitions(self):

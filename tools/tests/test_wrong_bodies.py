@@ -7,7 +7,9 @@ import shutil
 import subprocess
 import sys
 import tempfile
+import types
 import unittest
+import unittest.mock
 
 sys.dont_write_bytecode = True
 TOOLS = os.path.dirname(os.path.dirname(os.path.abspath(__file__)))
@@ -230,6 +232,30 @@ class Judging(unittest.TestCase):
         for status, said, verdict in rows:
             with self.subTest(said):
                 self.assertEqual(edits.judged(status, said)[0], verdict)
+
+    def test_a_stored_proof_speaks_of_its_own_function(self):
+        gone = './proofs/x/b/Answers.antt:3:5: error: record `R` (nearest: .c)\n  has no field `d`\n'
+        lemma = './proofs/Lemmas.antt:3:5: error: two types differ\n'
+        said = gone + lemma + 'fn low::x::a: proved\nsrc/x.rt:9:1: note: it is not proved that a goal holds\nfn low::x::c: not proved\n'
+        said += 'fn low::x::b: not proved\nlogic=not-proved\n'
+        found = edits.verdicts(said)
+        self.assertEqual([found[it][1] for it in ('low::x::a', 'low::x::c')],
+                         [[], ['src/x.rt:9:1: note: it is not proved that a goal holds']])
+        self.assertEqual(len(found['low::x::b'][1]), 1)
+        self.assertEqual(edits.judged_by(found['low::x::b'][1])[0], edits.BAD)
+
+    def test_an_edit_that_only_answers_stop_is_judged_by_its_clauses(self):
+        gone = 'proofs/x/b/Answers.antt:3:5: error: record `R`\n  has no field `d`\nfn low::x::b: not proved\nlogic=not-proved\n'
+        needs = 'src/x.rt:3:1: note: it is not proved that a clause holds (`returns`)\nlogic=not-proved\n'
+        other = needs.replace('returns', 'loop')
+        rows = [(needs, edits.BAD), (needs + other, edits.REFUSED)]
+        for without, verdict in rows:
+            answers = {(True, False): gone, (False, True): needs, (True, True): without}
+            def tried(room, crate, made, jobs, log, left_out=()):
+                self.assertLessEqual(set(left_out), {'proofs/x/b/Answers.antt'})
+                return 1, answers[bool(made), bool(left_out)]
+            with self.subTest(verdict), unittest.mock.patch.object(edits, 'tried', tried):
+                self.assertEqual(edits.tried_alone('room', 'low', types.SimpleNamespace(name='b'), lambda name: None)[0], verdict)
 
     def test_a_missing_library_refuses_nothing(self):
         goal = 'src/x.rt:3:5: error: a goal of the library\nfn low::a: not proved\nlogic=not-proved\n'

@@ -1,0 +1,132 @@
+"""Tests of tools/compare-signatures: the examples of RFC 7515, A.2 and A.3, and that its cases show a program that is wrong."""
+import base64
+import contextlib
+import importlib.util
+import io
+import random
+import sys
+import unittest
+from unittest import mock
+
+import tool
+
+sys.path.insert(0, tool.TOOLS)
+import ecdsa_cases  # noqa: E402, of the folder above
+
+TOOL = tool.load('compare-signatures')
+
+
+def decoded(text):
+    return base64.urlsafe_b64decode(text + '=' * (-len(text) % 4))
+
+
+# RFC 7515, A.2: the modulus, what is signed, and the signature.
+MODULUS = int.from_bytes(decoded(
+    'ofgWCuLjybRlzo0tZWJjNiuSfb4p4fAkd_wWJcyQoTbji9k0l8W26mPddxHmfHQp-Vaw-4qPCJrcS2mJPMEzP1Pt0Bm4d4QlL-yRT-SFd2lZS-pCgNMsD1W_'
+    'YpRPEwOWvG6b32690r2jZ47soMZo9wGzjb_7OMg0LOL-bSf63kpaSHSXndS5z5rexMdbBYUsLA9e-KXBdQOS-UTo7WTBEMa2R2CapHg665xsmtdVMTBQY4uD'
+    'Zlxvb3qCo5ZwKh9kG4LT6_I5IhlJH7aGhyxXFvUK-DWNmoudF8NAco9_h9iaGNj8q2ethFkMLs91kzk2PAcDTW9gb54h4FRWyuXpoQ'), 'big')
+SIGNED = b'eyJhbGciOiJSUzI1NiJ9.eyJpc3MiOiJqb2UiLA0KICJleHAiOjEzMDA4MTkzODAsDQogImh0dHA6Ly9leGFtcGxlLmNvbS9pc19yb290Ijp0cnVlfQ'
+SIGNATURE = int.from_bytes(decoded(
+    'cC4hiUPoj9Eetdgtv3hF80EGrhuB__dzERat0XF9g2VtQgr9PJbu3XOiZj5RZmh7AAuHIm4Bh-0Qc_lF5YKt_O8W2Fp5jujGbds9uJdbF9CUAr7t1dnZcAcQ'
+    'jbKBYNX4BAynRFdiuB--f_nZLgrnbyTyWzO75vRK5h6xBArLIARNPvkSjtQBMHlb1L07Qe7K0GarZRmB_eSN9383LcOLn6_dO--xi12jzDwusC-eOkHWEsqt'
+    'FZESc6BfI7noOPqvhJ1phCnvWh6IeYI2w9QOYEUipUTI8np6LbgGY9Fs98rqVt5AXLIhWkWywlVmtVrBp0igcN_IoypGlUPQGe77Rw'), 'big')
+
+
+def judged_by(verdict):
+    """What takes the place of a run of the program: the keys judged rightly, and each signature by this function."""
+    def told(_, text):
+        lines = [it.replace('-', '').split(' ') for it in text.splitlines()]
+        size = (len(lines[4][1]) + 1) // 2
+        said = ['the modulus is even', 'the exponent is less than 3', 'the exponent is even', 'the exponent has more than 64 bits',
+                '%d octets, exponent %d' % (size, int(lines[4][2], 16))]
+        return said + [verdict(int(lines[4][1], 16), int(lines[4][2], 16), size, *it) for it in lines[5:]]
+    return told
+
+
+def by_pkcs1(modulus, exponent, size, algorithm, message, signature):
+    """Whether a signature is that of the one encoding of RFC 8017, 9.2; none is good by RSASSA-PSS."""
+    prefix = TOOL.PREFIXES[algorithm[2:]]
+    encoded = TOOL.padded(size, prefix + TOOL.digest(algorithm[2:], bytes.fromhex(message)))
+    found = pow(int(signature or '0', 16), exponent, modulus)
+    is_good = len(signature) == 2 * size and int(signature, 16) < modulus and found == int.from_bytes(encoded, 'big')
+    return str(algorithm.startswith('RS') and is_good).lower()
+
+
+def by_the_end(modulus, exponent, size, algorithm, message, signature):
+    """As by_pkcs1, but with no look at the padding."""
+    text = TOOL.PREFIXES[algorithm[2:]] + TOOL.digest(algorithm[2:], bytes.fromhex(message))
+    found = pow(int(signature or '0', 16), exponent, modulus).to_bytes(size, 'big')
+    return str(algorithm.startswith('RS') and len(signature) == 2 * size and found.endswith(text)).lower()
+
+
+# RFC 7515, A.3: the key, what is signed, and the signature.
+POINT = tuple(int.from_bytes(decoded(it), 'big') for it in (
+    'f83OJ3D2xF1Bg8vub9tLe1gHMzV76e8Tus9uPHvRVEU', 'x_FEzRu9m36HLN_tue659LNpXW6pCyStikYjKIWI5a0'))
+SIGNED_BY_POINT = b'eyJhbGciOiJFUzI1NiJ9.' + SIGNED.partition(b'.')[2]
+SIGNATURE_BY_POINT = decoded('DtEhU3ljbEg8L38VWAfUAqOyKAM6-Xx-F4GawxaepmXFCgfTjDxw5djxLa8ISlSApmWQxfKTUJqPP3-Kg6NU1Q')
+
+
+def judged_by_point(verdict):
+    """What takes the place of a run of the program for ECDSA: the keys judged rightly, and each signature by this function."""
+    def told(_, text):
+        lines = [it.replace('-', '').split(' ') for it in text.splitlines()]
+        key = tuple(int(it, 16) for it in lines[5][1:])
+        said = ['a coordinate is not below p'] * 3 + ['the point is not on the curve'] * 2 + ['true']
+        return said + [str(verdict(key, *(bytes.fromhex(word) for word in it[1:]))).lower() for it in lines[6:]]
+    return told
+
+
+def by_integers(key, message, signature):
+    """As SEC 1 says, but with r and s of any size, and taken modulo n."""
+    r, s = (int.from_bytes(it, 'big') % ecdsa_cases.N for it in (signature[:32], signature[32:]))
+    return ecdsa_cases.is_signature(key, message, ecdsa_cases.joined(r, s))
+
+
+class Signatures(unittest.TestCase):
+    def test_the_encoding_of_an_example(self):
+        encoded = TOOL.padded(256, TOOL.PREFIXES['256'] + TOOL.digest('256', SIGNED))
+        self.assertEqual(pow(SIGNATURE, 65537, MODULUS), int.from_bytes(encoded, 'big'))
+
+    def test_a_key_signs(self):
+        key = TOOL.Key(random.Random(1), 2049, 3)
+        self.assertEqual((key.modulus.bit_length(), key.size), (2049, 257))
+        self.assertEqual(pow(key.root(12345), 3, key.modulus), 12345)
+
+    def compared(self, verdict, number):
+        """How many cases differ, and what was printed."""
+        said = io.StringIO()
+        with mock.patch.object(TOOL, 'told', judged_by(verdict)), contextlib.redirect_stdout(said):
+            return TOOL.compare('/program', number, 1), said.getvalue().splitlines()
+
+    @unittest.skipUnless(importlib.util.find_spec('cryptography'), 'no python3-cryptography')
+    def test_a_program_that_is_right_or_wrong(self):
+        differences, said = self.compared(by_pkcs1, 800)
+        self.assertEqual((differences, said[-1]), (0, '800 cases, 0 differences'))
+        differences, said = self.compared(lambda *_: 'true', 800)
+        self.assertGreater(differences, 700)
+        differences, said = self.compared(by_the_end, 800)
+        self.assertGreater(differences, 10)
+
+    def test_an_example_by_a_point(self):
+        self.assertTrue(ecdsa_cases.is_signature(POINT, SIGNED_BY_POINT, SIGNATURE_BY_POINT))
+        self.assertFalse(ecdsa_cases.is_signature(POINT, SIGNED_BY_POINT + b'.', SIGNATURE_BY_POINT))
+        self.assertFalse(ecdsa_cases.is_signature(POINT, SIGNED_BY_POINT, SIGNATURE_BY_POINT + b'\0'))
+
+    def compared_by_points(self, verdict, number):
+        """How many cases of ECDSA differ, and what was printed."""
+        said = io.StringIO()
+        with mock.patch.object(TOOL, 'told', judged_by_point(verdict)), contextlib.redirect_stdout(said):
+            return TOOL.compare_ecdsa('/program', number, 1), said.getvalue().splitlines()
+
+    @unittest.skipUnless(importlib.util.find_spec('cryptography'), 'no python3-cryptography')
+    def test_a_program_for_points_that_is_right_or_wrong(self):
+        differences, said = self.compared_by_points(ecdsa_cases.is_signature, 105)
+        self.assertEqual((differences, said[-1]), (0, '105 cases, 0 differences'))
+        differences, said = self.compared_by_points(lambda *_: True, 105)
+        self.assertGreater(differences, 80)
+        differences, said = self.compared_by_points(by_integers, 105)
+        self.assertGreater(differences, 3)
+
+
+if __name__ == '__main__':
+    unittest.main()
