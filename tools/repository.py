@@ -23,6 +23,18 @@ def rows_of(text):
     return {row.partition(':')[0].split()[0]: row for row in rows if row}
 
 
+def layers_of(text):
+    """The layers of a text of crates.txt, lowest first: of each its heading, a comment on a line of its own, and its crates. What is above
+    the first heading is a layer without one."""
+    found = [('', [])]
+    for line in map(str.strip, text.split('\n')):
+        if line.startswith('#'):
+            found.append((line.strip('# '), []))
+        elif line:
+            found[-1][1].extend(rows_of(line))
+    return [layer for layer in found if any(layer)]
+
+
 def below(root=ROOT):
     """The crates of the repository that each one stands on, lowest first."""
     uses = {name: row.partition(':')[2].split() for name, row in lines(root).items()}

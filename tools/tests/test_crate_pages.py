@@ -1,4 +1,4 @@
-"""Tests of tools/crate-pages: which names and paths of a page are missing in the sources."""
+"""Tests of tools/crate-pages: which names and paths of a page are missing in the sources, and when crates.txt is out of order."""
 import os
 import sys
 import unittest
@@ -28,6 +28,17 @@ class Pages(unittest.TestCase):
 
     def test_a_long_page(self):
         self.assertEqual(faults('a line\n' * 61), ['61 lines, and not at most 60'])
+
+
+class Order(unittest.TestCase):
+    def test_lowest_first_under_headings(self):
+        self.assertEqual(crate_pages.faults_of_order('# Low\none: url\ntwo: one  # why\n\n# High\nthree: two one\n'), [])
+
+    def test_a_crate_above_one_that_it_uses(self):
+        self.assertEqual(crate_pages.faults_of_order('# Low\ntwo: one\none: url\n'), ['two is above one, which it uses'])
+
+    def test_a_crate_without_a_heading(self):
+        self.assertEqual(crate_pages.faults_of_order('one: url\n# High\ntwo: one\n'), ['one is under no heading'])
 
 
 if __name__ == '__main__':
