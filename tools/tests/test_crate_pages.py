@@ -1,4 +1,5 @@
-"""Tests of tools/crate-pages: which names and paths of a page are missing in the sources, and when crates.txt is out of order."""
+"""Tests of tools/crate-pages: which names and paths of a page are missing in the sources, when crates.txt is
+out of order, and where docs/ARCHITECTURE.md differs from it."""
 import os
 import sys
 import unittest
@@ -39,6 +40,29 @@ class Order(unittest.TestCase):
 
     def test_a_crate_without_a_heading(self):
         self.assertEqual(crate_pages.faults_of_order('one: url\n# High\ntwo: one\n'), ['one is under no heading'])
+
+
+class Layers(unittest.TestCase):
+    PAGE = '# A\n\n## The crates\n\n### Low\n\nText.\n\n- [`one`](../crates/one/README.md): `two` uses it\n  → no `three`: text\n' \
+           '\n### High\n\n- `two` and\n  `three`: tests\n\n## More\n\n- `four`: text\n'
+
+    def faults(self, text):
+        return crate_pages.faults_of_layers(crate_pages.repository.layers_of(text), crate_pages.layers_on(self.PAGE))
+
+    def test_the_same_layers(self):
+        self.assertEqual(self.faults('# Low\none:\n\n# High\nthree: one\ntwo: one\n'), [])
+
+    def test_a_crate_that_the_page_lacks(self):
+        self.assertEqual(self.faults('# Low\none:\nfive:\n# High\ntwo:\nthree:\n'), ['five is not under Low'])
+
+    def test_a_crate_under_another_heading(self):
+        self.assertEqual(self.faults('# Low\none:\ntwo:\n# High\nthree:\n'), ['two is not under Low'])
+
+    def test_a_crate_that_went(self):
+        self.assertEqual(self.faults('# Low\none:\n# High\nthree:\n'), ['two is no crate'])
+
+    def test_headings_in_another_order(self):
+        self.assertEqual(self.faults('# High\ntwo:\nthree:\n# Low\none:\n'), ['the layers are Low, High, and not High, Low'])
 
 
 if __name__ == '__main__':
