@@ -403,6 +403,17 @@ class Repository:
             self.specs[at] = Specs(at)
         return self.specs[at]
 
+    def definitions(self):
+        """The names of all definitions."""
+        found = set()
+        for crate in self.crates:
+            top = os.path.join(CRATES, crate, 'specs')
+            for at, _, names in os.walk(top):
+                for name in names:
+                    path = os.path.relpath(os.path.join(at, name), top).removesuffix('.antt').split(os.sep)
+                    found.update(self.file(crate, path).own)
+        return found
+
     def imported(self, crate, part, path, name):
         """What an import brings: its sort, what it is, and whether it is a constructor."""
         if crate not in self.crates or part != 'specs':

@@ -1,4 +1,4 @@
-"""Tests of tools/crate-pages: which names and paths of a page are missing in the sources, when crates.txt is
+"""Tests of tools/crate-pages: which names and paths of a page are missing in the sources, which crate declares a name, when crates.txt is
 out of order, and where docs/ARCHITECTURE.md differs from it."""
 import os
 import sys
@@ -63,6 +63,54 @@ class Layers(unittest.TestCase):
 
     def test_headings_in_another_order(self):
         self.assertEqual(self.faults('# High\ntwo:\nthree:\n# Low\none:\n'), ['the layers are Low, High, and not High, Low'])
+
+
+class Names(unittest.TestCase):
+    """Names on the pages of docs/ and beside them."""
+
+    def faults(self, page, words=('append_pair', 'take_claims', 'Here'), others=('gh',)):
+        return crate_pages.faults_of_names([('docs/A.md', page + ' `gh`')], set(words), others)
+
+    def test_names_of_sources_and_of_others(self):
+        self.assertEqual(self.faults('`append_pair(take_..)`, `docs/NONE.md`, `3f17f65b` and none\n```\n`no`\n```\n<!-- `no` -->\n'), [])
+
+    def test_a_name_that_is_nowhere(self):
+        self.assertEqual(self.faults('`append_pear`\n'), ['docs/A.md: no `append_pear` in the crates or tools, nor in tools/names.txt'])
+
+    def test_a_name_of_others_on_no_page(self):
+        self.assertEqual(self.faults('', others=('gh', 'curl')), ['tools/names.txt: curl is on no page'])
+
+    def test_columns_of_another_library(self):
+        table = '| Theirs | Here | Why |\n|---|---|---|\n| `pear(\\|x\\|)` | `append_pair` | %s |\n'
+        self.assertEqual(self.faults(table % 'so'), [])
+        self.assertEqual(len(self.faults(table % '`pear`')), 1)
+        self.assertEqual(len(self.faults('| Theirs | Ours |\n|---|---|\n| `pear` | `append_pair` |\n')), 1)
+
+
+class Owners(unittest.TestCase):
+    """Names of which a page says that a crate has them."""
+    DECLARED = {'low': {'form', 'AsksOnce'}, 'high': {'pairs'}}
+
+    def faults(self, page):
+        return crate_pages.faults_of_owners(page, self.DECLARED, self.DECLARED.get)
+
+    def test_names_of_their_crates(self):
+        self.assertEqual(self.faults("`form` of `low`, `x::pairs(form)` of\n`high`, `low`'s `AsksOnce`, `max` of `Vec`\n"), [])
+
+    def test_a_name_of_another_crate(self):
+        self.assertEqual(self.faults('(`AsksOnce` of `high`)'), ['no `AsksOnce` of `high`'])
+        self.assertEqual(self.faults("the crate `low`'s `pairs`"), ['no `pairs` of `low`'])
+
+    def test_names_in_the_items_of_a_list(self):
+        page = '## The crates\n\n### Low\n\n- `low`: a `form`, and `high` uses it\n  → `pairs` of `high`\n- `high`: text\n  → `%s`\n\n`form`\n'
+        self.assertEqual(crate_pages.faults_of_items(page % 'pairs', self.DECLARED, self.DECLARED.get), [])
+        self.assertEqual(crate_pages.faults_of_items(page % 'form', self.DECLARED, self.DECLARED.get), ['no `form` of the crate of its item'])
+
+    def test_what_a_crate_declares(self):
+        text = 'use low::Import;\npub enum One {\n    Two(u8),\n}\nfn three()\n    ensures four { five }\n{\n    six();\n}\n'
+        names = {name for names in crate_pages.DECLARED.findall(text) for name in names}
+        self.assertLessEqual({'One', 'Two', 'three', 'four'}, names)
+        self.assertFalse(names & {'Import', 'five'})
 
 
 if __name__ == '__main__':
