@@ -102,9 +102,10 @@ class Owners(unittest.TestCase):
         self.assertEqual(self.faults("the crate `low`'s `pairs`"), ['no `pairs` of `low`'])
 
     def test_names_in_the_items_of_a_list(self):
-        page = '## The crates\n\n### Low\n\n- `low`: a `form`, and `high` uses it\n  → `pairs` of `high`\n- `high`: text\n  → `%s`\n\n`form`\n'
+        page = '## The crates\n\n- `low`: a `form`, and `high` uses it\n  → `pairs` of `high`\n- `high`: text\n  → `%s`\n\n`form`\n'
         self.assertEqual(crate_pages.faults_of_items(page % 'pairs', self.DECLARED, self.DECLARED.get), [])
-        self.assertEqual(crate_pages.faults_of_items(page % 'form', self.DECLARED, self.DECLARED.get), ['no `form` of the crate of its item'])
+        found = crate_pages.faults_of_items(page % 'form', self.DECLARED, self.DECLARED.get)
+        self.assertEqual(found, ['no `form` of the crate of its item'])
 
     def test_what_a_crate_declares(self):
         text = 'use low::Import;\npub enum One {\n    Two(u8),\n}\nfn three()\n    ensures four { five }\n{\n    six();\n}\n'
