@@ -24,7 +24,7 @@ ghost use Rattle.oauth2_urls.specs.Addressed.{Addressed};
 ghost use Rattle.oauth2_form.specs.Query.{ExtendsQuery, query_form};
 ghost use Rattle.oauth2_redirect.specs.End.{ExchangesCode};
 ghost use Rattle.oauth2_redirect.specs.Query.{sole_text};
-ghost use Rattle.oauth2_redirect.specs.Redirect.{TellsRefusal, answer, is_state};
+ghost use Rattle.oauth2_redirect.specs.Redirect.{MayWantMemory, TellsRefusal, answer, is_state};
 ghost use Rattle.oauth2_openid.specs.Seen.{token_of};
 ghost use Rattle.oauth2_openid.specs.Token.{DecodedToken, TokenFault};
 ghost use Rattle.oauth2_openid.specs.TokenRules.{Holds, token_checked};
@@ -41,6 +41,7 @@ use oauth2_openid_login::{
     OpenIdClient, OpenIdLogin, OpenIdLoginEnd, OpenIdLoginError, OpenIdLoginUrlFault,
     OpenIdProvider, OpenIdTokenResponse,
 };
+use oauth2_redirect::RedirectError;
 use rand_core::Rng;
 use std::alloc::Global;
 use std::time::Duration;
@@ -146,6 +147,10 @@ pub fn finish_login<C: SyncHttpClient, K: FnOnce() -> Timestamp + Drop>(
     ensures redirect { (error : _) (kept : OpenIdKept)
         → result ≡ Err (OpenIdLoginError.Redirect error kept) → TellsRefusal error
         (answer login.login.state (redirect_issuer provider.now) (query_form redirect.now)) }
+    ensures redirect_memory { result ≡ Err (OpenIdLoginError.Redirect RedirectError.Memory login)
+        → MayWantMemory login.login.state (redirect_issuer provider.now) (query_form redirect.now) }
+    ensures no_state { sole_text (codes "state") (query_form redirect.now) ≡ None
+        → result ≡ Err (OpenIdLoginError.Redirect RedirectError.OtherState login) }
     ensures token { (error : _) → result ≡ Err (OpenIdLoginError.Token error) → (code : List ℕ)
         × (answer login.login.state (redirect_issuer provider.now) (query_form redirect.now)
         ≡ Ok code)

@@ -1,5 +1,5 @@
 -- How a login ends.
-use Rattle.std.proofs.Common.{◌≡◌, ℕ, ℤ, List, Option, Some, None, Ok, Err, refl, ap, subst, ◌∙◌, inl, inr}
+use Rattle.std.proofs.Common.{◌≡◌, ℕ, ℤ, List, Option, Some, None, Err, refl, ap, subst, ◌∙◌, inl, inr}
 use Rattle.std.specs.Prelude.{IsSome, Result}
 use Rattle.serde_json.specs.Data.{Data}
 use Rattle.jiff.specs.Types.{Timestamp}
@@ -7,10 +7,7 @@ use Rattle.oauth2_json.specs.Reading.{Reading}
 use Rattle.oauth2_wire.specs.Request.{HttpRequest}
 use Rattle.oauth2_wire.specs.Reply.{HttpResponse}
 use Rattle.oauth2.specs.Settings.{Settings}
-use Rattle.oauth2_redirect.specs.End.{EndsLogin}
 use Rattle.oauth2_redirect.specs.Redirect.{RedirectRefusal}
-use Rattle.oauth2_redirect.specs.declared.login_error.LoginError.{LoginError}
-use Rattle.oauth2_redirect.specs.declared.login_error.LoginError.TheVariants as by_code
 use Rattle.oauth2_redirect.specs.declared.redirect.RedirectError.{RedirectError}
 use Rattle.std.proofs.lemmas.Option.{none-some}
 use Rattle.oauth2_openid.specs.declared.read_error.IdTokenReadError.{IdTokenReadError}
@@ -23,7 +20,7 @@ use Rattle.oauth2_openid_login.specs.End.{JudgesIdToken, EndsOpenIdLogin, id_tok
 use Rattle.oauth2_openid_login.specs.declared.login_error.OpenIdLoginError.TheVariants.{Redirect}
 use Rattle.oauth2_openid_login.specs.declared.login_end.OpenIdLoginEnd.{OpenIdLoginEnd}
 use Rattle.oauth2_openid_login.specs.Login.{OpenIdKept}
-use Rattle.oauth2_openid_login.specs.private.Told.{refused_as, told_as}
+use Rattle.oauth2_openid_login.specs.private.Told.{told_as}
 
 -- what reads to something is there
 read_of_some : (text : Option (List ℕ)) (told : TokenReading DecodedToken) → id_token_reading text ≡ Some told → IsSome text
@@ -40,17 +37,6 @@ module _ {D RE T : Type 0} (access_token : D → List ℕ) (id_token : D → Opt
   JudgesIdToken-unread read.Memory told unread same is errs = rw same (read_of_some (id_token response) told is)
 
 module _ {D A T E RE C : Type 0} (meaning : D → A) (error_meaning : T → E) (reading : Data → Reading A) (error_reading : Data → Reading E) (step : C → HttpRequest → Result HttpResponse RE → C → Type 0) (access_token token_type : D → List ℕ) (id_token : D → Option (List ℕ)) (client : Settings) (login : OpenIdKept) (expected : Expectation) (ToldByClock : Timestamp → Type 0) (told : Result (List ℕ) RedirectRefusal) (before after : C) where
-  -- a login whose login by a code gave no token response
-  pub EndsOpenIdLogin-refused : (error : LoginError RE T) → EndsLogin meaning error_meaning reading error_reading step client login.login told before (Err error) after
-      → EndsOpenIdLogin meaning error_meaning reading error_reading step access_token token_type id_token client login expected ToldByClock told before (Err (refused_as login.nonce login.max_age error)) after
-  EndsOpenIdLogin-refused error (inl (code, is, Ok token, same, asked)) = cc
-  EndsOpenIdLogin-refused error (inl (code, is, Err fault, same, asked)) =
-      let e : error ≡ by_code.Token fault = cc in
-      inr (inl (code, is, fault, ap (λ (x : LoginError RE T). Err (refused_as login.nonce login.max_age x)) e, asked))
-  EndsOpenIdLogin-refused error (inr (why, same, shown, stayed)) =
-      let e : error ≡ by_code.Redirect why login.login = cc in
-      inr (inr (why, ap (λ (x : LoginError RE T). Err (refused_as login.nonce login.max_age x)) e, shown, stayed))
-
   -- a login that is given back is the login, and nothing was sent
   pub openid_login-given_back : (result : Result (OpenIdLoginEnd D) (OpenIdLoginError RE T))
       → EndsOpenIdLogin meaning error_meaning reading error_reading step access_token token_type id_token client login expected ToldByClock told before result after

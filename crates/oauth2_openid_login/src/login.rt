@@ -24,7 +24,13 @@ ghost use Rattle.jiff.specs.Types.{Timestamp};
 ghost use Rattle.oauth2_form.specs.Pairs.{form};
 ghost use Rattle.oauth2_form.specs.Query.{query_form};
 ghost use Rattle.oauth2_redirect.specs.Query.{sole_text};
-ghost use Rattle.oauth2_redirect.specs.Redirect.{RedirectRefusal, answer, is_state};
+ghost use Rattle.oauth2_redirect.specs.Redirect.{
+  MayWantMemory,
+  RedirectRefusal,
+  TellsRefusal,
+  answer,
+  is_state,
+};
 ghost use Rattle.oauth2_openid.specs.Seen.{token_of};
 ghost use Rattle.oauth2_openid.specs.TokenRules.{Holds};
 ghost use Rattle.oauth2_openid.specs.Claims.{Expectation};
@@ -42,7 +48,7 @@ ghost use Rattle.oauth2_openid_login.specs.Provider.{
   redirect_issuer,
 };
 ghost use Rattle.oauth2_openid_login.specs.Start.{openid_authorization};
-ghost use Rattle.oauth2_openid_login.specs.private.Told.{refused_as, told_as};
+ghost use Rattle.oauth2_openid_login.specs.private.Told.{told_as};
 
 use crate::login_end::OpenIdLoginEnd;
 use crate::login_error::OpenIdLoginError;
@@ -53,8 +59,8 @@ use jiff::Timestamp;
 use oauth2::{Client, EndpointSet, EndpointState};
 use oauth2_codes::ErrorResponse;
 use oauth2_openid::{Expected, IdToken, IdTokenReadError, Nonce};
-use oauth2_redirect::{Login, LoginError, RedirectError};
-use oauth2_types::{ClientId, CsrfToken, Scope, TryClone};
+use oauth2_redirect::{Login, RedirectError, read_redirect_query};
+use oauth2_types::{AuthorizationCode, ClientId, CsrfToken, Scope, TryClone};
 use oauth2_wire::SyncHttpClient;
 use rand_core::Rng;
 use std::alloc::{AllocError, Global};
@@ -176,6 +182,13 @@ impl OpenIdLogin {
         ensures given_back { (error : _) (login : OpenIdKept)
             → result ≡ Err (OpenIdLoginError.Redirect error login)
             → (login ≡ self) × (http_client.new ≡ http_client.old) }
+        ensures memory { result ≡ Err (OpenIdLoginError.Redirect RedirectError.Memory self)
+            → MayWantMemory self.login.state (redirect_issuer provider.now)
+            (query_form redirect.now) }
+
+        // One that tells no state, or several, needs no memory.
+        ensures no_state { sole_text (codes "state") (query_form redirect.now) ≡ None
+            → result ≡ Err (OpenIdLoginError.Redirect RedirectError.OtherState self) }
         ensures ready { C.is_ready http_client.new }
     {
         let query = query_of(redirect);
@@ -226,22 +239,83 @@ impl OpenIdLogin {
         ensures given_back { (error : _) (login : OpenIdKept)
             → result ≡ Err (OpenIdLoginError.Redirect error login)
             → (login ≡ self) × (http_client.new ≡ http_client.old) }
+        ensures memory { result ≡ Err (OpenIdLoginError.Redirect RedirectError.Memory self)
+            → MayWantMemory self.login.state (redirect_issuer provider.now) (form query.now) }
+
+        // One that tells no state, or several, needs no memory.
+        ensures no_state { sole_text (codes "state") (form query.now) ≡ None
+            → result ≡ Err (OpenIdLoginError.Redirect RedirectError.OtherState self) }
         ensures ready { C.is_ready http_client.new }
     {
-        // Made first, so that want of memory for it costs no code.
-        let Ok(expected) = self.expected(alloc, client.client_id(), provider) else {
-            return Err(OpenIdLoginError::Redirect {
-                error: RedirectError::Memory,
-                login: self,
-            });
-        };
+        match self.code_of(alloc, client.client_id(), query, provider) {
+            Ok((code, expected)) => {
+                self.finish_with_code(alloc, client, http_client, code, &expected, clock)
+            }
+            Err(error) => Err(OpenIdLoginError::Redirect { error, login: self }),
+        }
+    }
+
+    // The code that the redirect brings, and what the ID token is checked against.
+    fn code_of(
+        &self,
+        alloc: Global,
+        client_id: &ClientId,
+        query: &str,
+        provider: &OpenIdProvider<'_>,
+    ) -> Result<(AuthorizationCode, Expected), RedirectError>
+        ensures code { IfOk result (λ (code, _).
+            answer self.now.login.state (redirect_issuer provider.now) (form query.now)
+            ≡ Ok code) }
+        ensures expected { IfOk result (λ (_, expected). expected
+            ≡ login_expectation provider.now client_id.now self.now.nonce self.now.max_age) }
+        ensures refusal { IfErr result (λ error. TellsRefusal error
+            (answer self.now.login.state (redirect_issuer provider.now) (form query.now))) }
+        ensures memory { result ≡ Err RedirectError.Memory → MayWantMemory self.now.login.state
+            (redirect_issuer provider.now) (form query.now) }
+        ensures no_state { sole_text (codes "state") (form query.now) ≡ None
+            → result ≡ Err RedirectError.OtherState }
+    {
         let issuer = provider.redirect_issuer();
+        let code = read_redirect_query(alloc, query, self.login.state(), issuer)?;
+        // Made before the code is sent, so that want of memory for it costs none.
+        let expected = self.expected(alloc, client_id, provider)?;
+        Ok((code, expected))
+    }
+
+    // What comes of the request for this code.
+    fn finish_with_code<TE, TR, TIR, RT, TRE, A, D, I, R, C: SyncHttpClient, K>(
+        self,
+        alloc: Global,
+        client: &Client<TE, TR, TIR, RT, TRE, A, D, I, R, EndpointSet>,
+        http_client: &mut C,
+        code: AuthorizationCode,
+        expected: &Expected,
+        clock: K,
+    ) -> Result<OpenIdLoginEnd<TR>, OpenIdLoginError<C::Error, TE>>
+    where
+        TE: ErrorResponse,
+        TR: HasIdToken,
+        A: EndpointState,
+        D: EndpointState,
+        I: EndpointState,
+        R: EndpointState,
+        K: FnOnce() -> Timestamp + Drop,
+        requires client { C.is_ready http_client.old }
+        requires clock { K.IsAlwaysCallable clock }
+        ensures end { EndsOpenIdLogin TR.meaning TE.meaning TR.reading TE.reading C.step
+            TR.access_token TR.token_type_text TR.id_token client.now self expected.now
+            (K.post clock) (Ok code) http_client.old result http_client.new }
+        ensures rules { IfOk result (λ end. (now : Timestamp) × K.post clock now
+            × Holds expected.now (TR.access_token end.token_response) now.nanosecond
+            (token_of end.id_token)) }
+        ensures ready { C.is_ready http_client.new }
+    {
         match self
             .login
-            .finish_query(alloc, client, http_client, query, issuer)
+            .finish_with_code(alloc, client, http_client, code)
         {
-            Ok(response) => judged(alloc, response, &expected, clock()),
-            Err(error) => Err(refused(error, self.nonce, self.max_age)),
+            Ok(response) => judged(alloc, response, expected, clock()),
+            Err(error) => Err(OpenIdLoginError::Token(error)),
         }
     }
 
@@ -265,23 +339,6 @@ fn query_of(redirect: &Url) -> &str
     ensures { form result.now ≡ query_form redirect.now }
 {
     redirect.query().unwrap_or("")
-}
-
-// Why the login by a code gave no token response.
-fn refused<RE, T>(
-    error: LoginError<RE, T>,
-    nonce: Nonce,
-    max_age: Option<u64>,
-) -> OpenIdLoginError<RE, T>
-    ensures { result ≡ refused_as nonce max_age error }
-{
-    match error {
-        LoginError::Redirect { error, login } => OpenIdLoginError::Redirect {
-            error,
-            login: OpenIdLogin::new(login, nonce, max_age),
-        },
-        LoginError::Token(error) => OpenIdLoginError::Token(error),
-    }
 }
 
 // What comes of a response.

@@ -1,7 +1,7 @@
 //! A login by a code from its start to its token (RFC 6749, section 4.1; RFC 7636).
 
 ghost use Rattle.std.specs.Fmt.{DisplaysOnOk, WritesStyledOnOk};
-ghost use Rattle.std.specs.Prelude.{◌≡◌, ℕ, List, Ok, Err, Some, IfOk, false, codes};
+ghost use Rattle.std.specs.Prelude.{◌≡◌, ℕ, List, Ok, Err, Some, None, IfOk, false, codes};
 ghost use Rattle.rand_core.specs.Stream.{Stream};
 ghost use Rattle.oauth2_types.specs.Pkce.{IsRandomText};
 ghost use Rattle.oauth2_urls.specs.Addressed.{Addressed};
@@ -29,7 +29,7 @@ use oauth2_replies::TokenResponse;
 use oauth2_requests::CodeTokenRequest;
 use oauth2_types::{AuthorizationCode, CsrfToken, PkceCodeChallenge, PkceCodeVerifier, TryClone};
 use oauth2_urls::RedirectUrl;
-use oauth2_wire::{RedirectRef, SyncHttpClient};
+use oauth2_wire::{RedirectRef, RequestTokenError, SyncHttpClient};
 use rand_core::Rng;
 use std::alloc::{AllocError, Global};
 use std::fmt;
@@ -148,6 +148,10 @@ impl Login {
             → result ≡ Err (LoginError.Redirect error login) → login ≡ self }
         ensures memory { result ≡ Err (LoginError.Redirect RedirectError.Memory self)
             → MayWantMemory self.state (issuer_expectation issuer.entry) (query_form redirect.now) }
+
+        // One that tells no state, or several, needs no memory.
+        ensures no_state { sole_text (codes "state") (query_form redirect.now) ≡ None
+            → result ≡ Err (LoginError.Redirect RedirectError.OtherState self) }
         ensures ready { C.is_ready http_client.new }
     {
         let query = redirect.query().unwrap_or("");
@@ -190,6 +194,10 @@ impl Login {
             → result ≡ Err (LoginError.Redirect error login) → login ≡ self }
         ensures memory { result ≡ Err (LoginError.Redirect RedirectError.Memory self)
             → MayWantMemory self.state (issuer_expectation issuer.entry) (form query.now) }
+
+        // One that tells no state, or several, needs no memory.
+        ensures no_state { sole_text (codes "state") (form query.now) ≡ None
+            → result ≡ Err (LoginError.Redirect RedirectError.OtherState self) }
         ensures ready { C.is_ready http_client.new }
     {
         match read_redirect_query(alloc, query, &self.state, issuer) {
@@ -198,7 +206,33 @@ impl Login {
         }
     }
 
-    // The token for this code.
+    /// The token for this code, which is what `finish` returns where the redirect tells it: for a
+    /// caller that reads the redirect itself (`read_redirect`), since it has more to do before the
+    /// code is sent. That the redirect is this login's is not looked at here.
+    pub fn finish_with_code<TE, TR, TIR, RT, TRE, A, D, I, R, C: SyncHttpClient>(
+        self,
+        alloc: Global,
+        client: &Client<TE, TR, TIR, RT, TRE, A, D, I, R, EndpointSet>,
+        http_client: &mut C,
+        code: AuthorizationCode,
+    ) -> Result<TR, RequestTokenError<C::Error, TE>>
+    where
+        TE: ErrorResponse,
+        TR: TokenResponse,
+        A: EndpointState,
+        D: EndpointState,
+        I: EndpointState,
+        R: EndpointState,
+        requires { C.is_ready http_client.old }
+        ensures once { ExchangesCode TR.meaning TE.meaning TR.reading TE.reading C.step client.now
+            self code http_client.old result http_client.new }
+        ensures ready { C.is_ready http_client.new }
+    {
+        self.exchange(alloc, client, code)
+            .request(alloc, http_client)
+    }
+
+    // The same, with the error as one of a login.
     fn exchanged<TE, TR, TIR, RT, TRE, A, D, I, R, C: SyncHttpClient>(
         self,
         alloc: Global,
@@ -218,10 +252,7 @@ impl Login {
             (Ok code) http_client.old result http_client.new }
         ensures ready { C.is_ready http_client.new }
     {
-        match self
-            .exchange(alloc, client, code)
-            .request(alloc, http_client)
-        {
+        match self.finish_with_code(alloc, client, http_client, code) {
             Ok(token) => Ok(token),
             Err(error) => Err(LoginError::Token(error)),
         }

@@ -1,10 +1,12 @@
-use Rattle.std.proofs.Common.{◌≡◌, List, Err, subst, false}
+use Rattle.std.proofs.Common.{◌≡◌, List, None, Err, subst, false}
 use Rattle.std.specs.Prelude.{codes}
 use Rattle.oauth2_form.specs.Pairs.{Pair, form}
 use Rattle.oauth2_form.specs.Query.{query_form}
 use Rattle.oauth2_redirect.specs.Query.{sole_text}
-use Rattle.oauth2_redirect.specs.Redirect.{RedirectRefusal, answer, is_state}
+use Rattle.oauth2_redirect.specs.Redirect.{MayWantMemory, RedirectRefusal, answer, is_state}
+use Rattle.oauth2_redirect.specs.declared.redirect.RedirectError.TheVariants.{Memory, OtherState}
 use Rattle.oauth2_openid_login.specs.End.{EndsOpenIdLogin}
+use Rattle.oauth2_openid_login.specs.declared.login_error.OpenIdLoginError.TheVariants.{Redirect}
 use Rattle.oauth2_openid_login.specs.Provider.{expected_of, redirect_issuer}
 use Rattle.oauth2_openid_login.proofs.login.OpenIdLogin.finish.Goals as goal
 
@@ -22,3 +24,13 @@ pub returns-clause-no_code : goal.returns-clause-no_code
 returns-clause-no_code g c =
     let same : form c.query_of-query.result.now ≡ query_form c.args.redirect.now = c.query_of-query.ensures in
     subst (λ (pairs : List Pair). (why : RedirectRefusal) → answer c.args.self.login.state (redirect_issuer c.args.provider.now) pairs ≡ Err why → c.finish_query.new.http_client ≡ c.args.http_client.now) same c.finish_query.ensures.no_code
+
+pub returns-clause-memory : goal.returns-clause-memory
+returns-clause-memory g c =
+    let same : form c.query_of-query.result.now ≡ query_form c.args.redirect.now = c.query_of-query.ensures in
+    subst (λ (pairs : List Pair). c.finish_query.result ≡ Err (Redirect Memory c.args.self) → MayWantMemory c.args.self.login.state (redirect_issuer c.args.provider.now) pairs) same c.finish_query.ensures.memory
+
+pub returns-clause-no_state : goal.returns-clause-no_state
+returns-clause-no_state g c =
+    let same : form c.query_of-query.result.now ≡ query_form c.args.redirect.now = c.query_of-query.ensures in
+    subst (λ (pairs : List Pair). sole_text (codes "state") pairs ≡ None → c.finish_query.result ≡ Err (Redirect OtherState c.args.self)) same c.finish_query.ensures.no_state

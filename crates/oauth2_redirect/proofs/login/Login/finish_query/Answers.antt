@@ -41,3 +41,8 @@ pub returns-in-Ok-clause-memory : goal.returns-in-Ok-clause-memory
 returns-in-Ok-clause-memory g c = λ is state issuer.
     let told = subst (λ (l : Kept). answer l.state (issuer_expectation c.args.issuer) (form c.args.query.now) ≡ Ok c.in-Ok.code) c.self.view_is c.in-Ok.ensures.tells in
     subst HoldsTexts (sym told) tt
+
+pub returns-in-Ok-clause-no_state : goal.returns-in-Ok-clause-no_state
+returns-in-Ok-clause-no_state g c = λ none.
+    let refused = c.in-Ok.ensures.no_state none in
+    cc
