@@ -1,7 +1,7 @@
 -- HMAC (RFC 2104, 2).
 use Rattle.std.specs.Prelude.{ℕ, ◌-◌, List, ◌++◌, length, map, replicate, bit_xor, nat_lt, if◌then◌else◌}
-use Rattle.hmac_signatures.specs.declared.hash_function.HashFunction.{HashFunction}
-use Rattle.hmac_signatures.specs.HashFunction.{hashed, block_size}
+use Rattle.hash_functions.specs.declared.hash_function.HashFunction.{HashFunction}
+use Rattle.hash_functions.specs.HashFunction.{hashed, block_size}
 
 -- zeros appended to a key to make a string of B octets (step 1)
 abbrev pub zero_filled : HashFunction → List ℕ → List ℕ

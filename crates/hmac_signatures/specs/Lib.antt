@@ -1,4 +1,3 @@
 pub mod ErrorTexts
-pub mod HashFunction
 pub mod Hmac
 pub mod SecretKey

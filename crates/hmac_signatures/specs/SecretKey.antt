@@ -1,9 +1,9 @@
 -- The keys that are taken (RFC 7518, 3.2).
 use Rattle.std.specs.Prelude.{ℕ, List, length, nat_lt, if◌then◌else◌, Result, Ok, Err}
-use Rattle.hmac_signatures.specs.declared.hash_function.HashFunction.{HashFunction}
+use Rattle.hash_functions.specs.declared.hash_function.HashFunction.{HashFunction}
 use Rattle.hmac_signatures.specs.declared.key_error.HmacKeyError.{HmacKeyError}
 use Rattle.hmac_signatures.specs.declared.key_error.HmacKeyError.TheVariants.{TooShort}
-use Rattle.hmac_signatures.specs.HashFunction.{hash_size}
+use Rattle.hash_functions.specs.HashFunction.{hash_size}
 
 -- the octets of a key, and the hash function that it is used with
 pub record SecretKey : Type 0 where

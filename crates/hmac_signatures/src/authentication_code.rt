@@ -6,8 +6,8 @@ ghost use Rattle.std.specs.Prelude.{◌≡◌, ℕ, ◌≤◌, List, length, tak
 use std::fmt;
 use std::marker::Model;
 
-/// A message authentication code: 32, 48 or 64 octets. `{:?}` does not show them, since whoever reads
-/// a code can send the message with it.
+/// A message authentication code: 32, 48 or 64 octets. `{:?}` does not show them, since whoever
+/// reads a code can send the message with it.
 #[derive(Drop)]
 pub struct AuthenticationCode {
     octets: [u8; 64],

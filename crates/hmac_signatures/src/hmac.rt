@@ -13,10 +13,10 @@ ghost use Rattle.std.specs.Prelude.{
   bit_xor,
   IsTrue,
 };
-ghost use Rattle.hmac_signatures.specs.HashFunction.{block_size, hash_size, hashed};
+ghost use Rattle.hash_functions.specs.HashFunction.{block_size, hash_size, hashed};
 ghost use Rattle.hmac_signatures.specs.Hmac.{hmac, hmac_of_block, zero_filled};
 
-use crate::hash_function::HashFunction;
+use hash_functions::HashFunction;
 
 const LARGEST_BLOCK: usize = 128;
 
@@ -40,7 +40,7 @@ fn digest_after_key(hash: HashFunction, key: &[u8], with: u8, text: &[u8]) -> [u
         (map (λ octet. bit_xor octet with) (zero_filled hash key.now) ++ text.now) }
 {
     let padded = padded(key, with);
-    hash.digest(&padded[..hash.block_size()], text)
+    hash.digest(&padded[..hash.block_size()], text, &[])
 }
 
 // The HMAC by a key of at most a block, as the first octets.
@@ -58,7 +58,7 @@ pub(crate) fn hmac(hash: HashFunction, key: &[u8], text: &[u8]) -> [u8; 64]
     ensures { take (hash_size hash) result ≡ hmac hash key.now text.now }
 {
     if key.len() > hash.block_size() {
-        let digest = hash.digest(key, &[]);
+        let digest = hash.digest(key, &[], &[]);
         hmac_of_block(hash, &digest[..hash.size()], text)
     } else {
         hmac_of_block(hash, key, text)

@@ -3,12 +3,11 @@
 #![tactic(auto)]
 
 mod authentication_code;
-mod hash_function;
 mod hmac;
 mod key_error;
 mod secret_key;
 
 pub use authentication_code::AuthenticationCode;
-pub use hash_function::HashFunction;
+pub use hash_functions::HashFunction;
 pub use key_error::HmacKeyError;
 pub use secret_key::HmacKey;

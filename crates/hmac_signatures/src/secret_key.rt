@@ -2,19 +2,19 @@
 
 ghost use Rattle.std.specs.Fmt.{DisplaysOnOk, WritesStyledOnOk};
 ghost use Rattle.std.specs.Prelude.{◌≡◌, ◌<◌, ◌≤◌, ◌↔◌, IsTrue, Some, codes};
-ghost use Rattle.hmac_signatures.specs.HashFunction.{hash_size};
+ghost use Rattle.hash_functions.specs.HashFunction.{hash_size};
 ghost use Rattle.hmac_signatures.specs.Hmac.{hmac};
 ghost use Rattle.hmac_signatures.specs.SecretKey.{SecretKey, key_of};
 
 use crate::authentication_code::AuthenticationCode;
-use crate::hash_function::HashFunction;
 use crate::hmac::{hmac, is_same};
 use crate::key_error::HmacKeyError;
+use hash_functions::HashFunction;
 use std::fmt;
 use std::marker::Model;
 
-/// A secret key for HMAC with one hash function: for `HS256`, `HS384` or `HS512` of RFC 7518, 3.2. It
-/// borrows the octets, and `{:?}` does not show them.
+/// A secret key for HMAC with one hash function: for `HS256`, `HS384` or `HS512` of RFC 7518, 3.2.
+/// It borrows the octets, and `{:?}` does not show them.
 #[derive(Drop)]
 pub struct HmacKey<'a> {
     hash: HashFunction,
@@ -55,8 +55,8 @@ impl<'a> HmacKey<'a> {
         AuthenticationCode::new(hmac(self.hash, self.octets, message), self.hash.size())
     }
 
-    /// Whether these octets are the code of the message, and all of it. Octets as many as the code are
-    /// all looked at, wherever they differ, so that the time tells nothing of where.
+    /// Whether these octets are the code of the message, and all of it. Octets as many as the code
+    /// are all looked at, wherever they differ, so that the time tells nothing of where.
     pub fn verify(&self, message: &[u8], signature: &[u8]) -> bool
         ensures { IsTrue result
             ↔ (signature.now ≡ hmac self.now.hash self.now.octets message.now) }

@@ -2,7 +2,7 @@
 use Rattle.std.specs.Prelude.{ℕ, List, codes, bytes_eq, if◌then◌else◌, Option, Some, None}
 use Rattle.rsa_signatures.specs.declared.signature_scheme.SignatureScheme.{SignatureScheme}
 use Rattle.rsa_signatures.specs.declared.signature_scheme.SignatureScheme.TheVariants.{Pkcs1v15, Pss}
-use Rattle.rsa_signatures.specs.declared.hash_function.HashFunction.TheVariants.{Sha256, Sha384, Sha512}
+use Rattle.hash_functions.specs.declared.hash_function.HashFunction.TheVariants.{Sha256, Sha384, Sha512}
 use Rattle.rsa_signatures.specs.Signature.{IsSignature as IsRsaSignature}
 use Rattle.ecdsa_signatures.specs.Signature.{IsSignature as IsEcdsaSignature}
 use Rattle.oauth2_keys.specs.declared.algorithm.SignatureAlgorithm.{SignatureAlgorithm}

@@ -1,8 +1,8 @@
 -- An ID token that is signed by the client's secret (OpenID Connect Core 1.0, 3.1.3.7, 8, and 10.1).
 use Rattle.std.specs.Prelude.{◌≡◌, ◌≢◌, ◌<◌, ◌≤◌, ℕ, List, length, codes}
-use Rattle.hmac_signatures.specs.declared.hash_function.HashFunction.{HashFunction}
-use Rattle.hmac_signatures.specs.declared.hash_function.HashFunction.TheVariants.{Sha256, Sha384, Sha512}
-use Rattle.hmac_signatures.specs.HashFunction.{hash_size}
+use Rattle.hash_functions.specs.declared.hash_function.HashFunction.{HashFunction}
+use Rattle.hash_functions.specs.declared.hash_function.HashFunction.TheVariants.{Sha256, Sha384, Sha512}
+use Rattle.hash_functions.specs.HashFunction.{hash_size}
 use Rattle.hmac_signatures.specs.Hmac.{hmac}
 use Rattle.oauth2_openid.specs.Token.{DecodedToken}
 use Rattle.oauth2_keys.specs.declared.secret_algorithm.SecretAlgorithm.{SecretAlgorithm}

@@ -2,12 +2,12 @@
 use Rattle.std.proofs.Common.{◌≡◌, ℕ, zero, suc, ◌+◌, ◌-◌, ◌*◌, ◌/◌, ◌%◌, ◌^◌, ◌<◌, ◌≤◌, List, [], ◌∷◌, ◌++◌, length, take, get_or, set, bit_xor, refl, ◌∙◌, arith, inl, inr, length-append, length-take-le, lt_of_lt_of_le}
 use Rattle.std.proofs.lemmas.Bool.{cases_lt}
 use Rattle.std.proofs.lemmas.List.{get_or_append_left, get_or-append_right, get_or-take}
-use Rattle.rsa_signatures.specs.declared.hash_function.HashFunction.{HashFunction}
-use Rattle.rsa_signatures.specs.declared.hash_function.HashFunction.TheVariants.{Sha256, Sha384, Sha512}
-use Rattle.rsa_signatures.specs.HashFunction.{hashed, hash_size}
+use Rattle.hash_functions.specs.declared.hash_function.HashFunction.{HashFunction}
+use Rattle.hash_functions.specs.declared.hash_function.HashFunction.TheVariants.{Sha256, Sha384, Sha512}
+use Rattle.hash_functions.specs.HashFunction.{hashed, hash_size}
 use Rattle.rsa_signatures.specs.Octets.{octets_of}
 use Rattle.rsa_signatures.specs.Pss.{mask_blocks, mgf1, xored, with_zero_bits}
-use Rattle.rsa_signatures.proofs.Digests.{length-hashed}
+use Rattle.hash_functions.proofs.Digests.{length-hashed}
 
 -- octet k of a mask
 abbrev pub mask_octet : HashFunction → List ℕ → ℕ → ℕ

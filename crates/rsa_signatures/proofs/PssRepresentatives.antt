@@ -1,6 +1,6 @@
 -- What the check of RSASSA-PSS found out.
 use Rattle.std.proofs.Common.{◌≡◌, ℕ, ◌-◌, ◌*◌, ◌^◌, ◌<◌, ◌↔◌, List, Bool, IsTrue, subst, sym}
-use Rattle.rsa_signatures.specs.declared.hash_function.HashFunction.{HashFunction}
+use Rattle.hash_functions.specs.declared.hash_function.HashFunction.{HashFunction}
 use Rattle.rsa_signatures.specs.Octets.{HasBits, octets_of}
 use Rattle.rsa_signatures.specs.Pss.{IsPssEncoding, IsPssRepresentative, em_size}
 use Rattle.rsa_signatures.proofs.OctetNumbers.{HasBits-one}

@@ -1,5 +1,4 @@
 pub mod ErrorTexts
-pub mod HashFunction
 pub mod Octets
 pub mod Pkcs1
 pub mod Pss

@@ -1,8 +1,8 @@
 -- EMSA-PKCS1-v1_5-ENCODE (RFC 8017, 9.2).
 use Rattle.std.specs.Prelude.{ℕ, ◌-◌, List, [], ◌∷◌, ◌++◌, length, replicate}
-use Rattle.rsa_signatures.specs.declared.hash_function.HashFunction.{HashFunction}
-use Rattle.rsa_signatures.specs.declared.hash_function.HashFunction.TheVariants.{Sha256, Sha384, Sha512}
-use Rattle.rsa_signatures.specs.HashFunction.{hashed}
+use Rattle.hash_functions.specs.declared.hash_function.HashFunction.{HashFunction}
+use Rattle.hash_functions.specs.declared.hash_function.HashFunction.TheVariants.{Sha256, Sha384, Sha512}
+use Rattle.hash_functions.specs.HashFunction.{hashed}
 
 -- what comes before the digest in the DER of its DigestInfo (note 1)
 abbrev pub digest_prefix : HashFunction → List ℕ

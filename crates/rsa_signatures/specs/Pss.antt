@@ -1,8 +1,8 @@
 -- EMSA-PSS-VERIFY (RFC 8017, 9.1.2), with MGF1 (B.2.1) over the hash function of the message, and a
 -- salt as long as a digest (RFC 7518, 3.5).
 use Rattle.std.specs.Prelude.{◌≡◌, ℕ, zero, suc, ◌+◌, ◌-◌, ◌*◌, ◌/◌, ◌%◌, ◌^◌, ◌<◌, List, [], ◌∷◌, ◌++◌, length, take, drop, replicate, bit_xor, slice_index}
-use Rattle.rsa_signatures.specs.declared.hash_function.HashFunction.{HashFunction}
-use Rattle.rsa_signatures.specs.HashFunction.{hashed, hash_size}
+use Rattle.hash_functions.specs.declared.hash_function.HashFunction.{HashFunction}
+use Rattle.hash_functions.specs.HashFunction.{hashed, hash_size}
 use Rattle.rsa_signatures.specs.Octets.{HasBits, octets_of}
 
 -- the first blocks of a mask: Hash (seed || 00 00 00 00) || Hash (seed || 00 00 00 01) || ..

@@ -5,8 +5,8 @@ ghost use Rattle.modular_arithmetic.specs.Octets.{number};
 ghost use Rattle.rsa_signatures.specs.Pkcs1.{digest_prefix, padded, pkcs1_encoded};
 ghost use Rattle.modular_arithmetic.specs.Limbs.{value_below};
 
-use crate::hash_function::HashFunction;
 use crate::octets::{LIMBS, push_repeated};
+use hash_functions::HashFunction;
 use modular_arithmetic::{is_equal, push_all};
 
 fn digest_prefix(hash: HashFunction) -> [u8; 19]

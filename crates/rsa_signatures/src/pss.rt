@@ -22,7 +22,7 @@ ghost use Rattle.std.specs.Prelude.{
   IsTrue,
   EachIndex,
 };
-ghost use Rattle.rsa_signatures.specs.HashFunction.{hashed, hash_size};
+ghost use Rattle.hash_functions.specs.HashFunction.{hashed, hash_size};
 ghost use Rattle.rsa_signatures.specs.Octets.{HasBits, octets_of};
 ghost use Rattle.rsa_signatures.specs.Pss.{
   IsPssEncoding,
@@ -34,8 +34,8 @@ ghost use Rattle.rsa_signatures.specs.Pss.{
 };
 ghost use Rattle.modular_arithmetic.specs.Limbs.{value_below};
 
-use crate::hash_function::HashFunction;
 use crate::octets::{LIMBS, OCTETS, octets_of};
+use hash_functions::HashFunction;
 
 // A block of MGF1's mask (RFC 8017, B.2.1), as the first octets.
 fn mask_block(hash: HashFunction, seed: &[u8], counter: usize) -> [u8; 64]

@@ -5,10 +5,10 @@ ghost use Rattle.rsa_signatures.specs.Octets.{HasBits};
 ghost use Rattle.rsa_signatures.specs.Signature.{IsEncoded};
 ghost use Rattle.modular_arithmetic.specs.Limbs.{value_below};
 
-use crate::hash_function::HashFunction;
 use crate::octets::LIMBS;
 use crate::pkcs1::is_pkcs1;
 use crate::pss::is_pss;
+use hash_functions::HashFunction;
 
 /// How a signature is made of a message (RFC 8017, 8).
 #[derive(Clone, Copy, Debug, PartialEq, Eq, Drop)]

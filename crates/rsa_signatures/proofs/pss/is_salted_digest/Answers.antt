@@ -2,7 +2,7 @@ use Rattle.std.proofs.Common.{◌≡◌, ◌++◌, [], take, replicate, ap, ◌�
 use Rattle.std.proofs.lemmas.List.{append-nil}
 use Rattle.std.proofs.lemmas.Bool.Decides.{Decides-eqb}
 use Rattle.std.proofs.lemmas.Slice.Eq.{slice_eq-Decides}
-use Rattle.rsa_signatures.specs.HashFunction.{hashed}
+use Rattle.hash_functions.specs.HashFunction.{hashed}
 use Rattle.rsa_signatures.proofs.pss.is_salted_digest.Goals as goal
 
 pub returns : goal.returns

@@ -2,7 +2,7 @@ use Rattle.std.proofs.Common.{◌≡◌, ℕ, ◌%◌, ◌<◌, ◌≤◌, ◌++
 use Rattle.std.proofs.Math.Nat.{zero-mod}
 use Rattle.std.proofs.Math.ListN.{length-set}
 use Rattle.std.proofs.lemmas.List.{get_or-take, length-replicate}
-use Rattle.rsa_signatures.specs.HashFunction.{hashed, hash_size}
+use Rattle.hash_functions.specs.HashFunction.{hashed, hash_size}
 use Rattle.rsa_signatures.specs.Octets.{octets_of}
 use Rattle.rsa_signatures.specs.Pss.{mgf1}
 use Rattle.rsa_signatures.proofs.Masks.{mask_octet, mgf1-at, length-mgf1, same_block, xored_is}

@@ -1,5 +1,5 @@
 use Rattle.std.proofs.Common.{◌≡◌, ℕ, ◌/◌, ◌%◌, ◌<◌, ◌++◌, length, take, get_or, bit_xor}
-use Rattle.rsa_signatures.specs.HashFunction.{hashed, hash_size}
+use Rattle.hash_functions.specs.HashFunction.{hashed, hash_size}
 use Rattle.rsa_signatures.specs.Octets.{octets_of}
 use Rattle.rsa_signatures.proofs.Masks.{mask_octet}
 use Rattle.rsa_signatures.proofs.pss.unmasked.Given as goal

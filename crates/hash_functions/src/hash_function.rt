@@ -1,11 +1,11 @@
 //! The hash functions that signatures are made with.
 
 ghost use Rattle.std.specs.Prelude.{◌≡◌, ◌≤◌, ◌++◌, length, take};
-ghost use Rattle.rsa_signatures.specs.HashFunction.{hash_size, hashed};
+ghost use Rattle.hash_functions.specs.HashFunction.{block_size, hash_size, hashed};
 
 use sha2::{Digest, Sha256, Sha384, Sha512};
 
-/// A hash function of FIPS 180-4 that RFC 8017, B.1, recommends and RFC 7518, 3.1, uses.
+/// A hash function of FIPS 180-4 that RFC 8017, B.1, recommends, and that RFC 7518, 3.1, uses.
 #[derive(Clone, Copy, Debug, PartialEq, Eq, Drop)]
 pub enum HashFunction {
     Sha256,
@@ -24,8 +24,8 @@ fn filled(octets: &[u8]) -> [u8; 64]
 }
 
 impl HashFunction {
-    // The octets of a digest.
-    pub(crate) fn size(self) -> usize
+    /// The octets of a digest.
+    pub fn size(self) -> usize
         ensures value { result ≡ hash_size self }
         ensures least { 32 ≤ result }
         ensures most { result ≤ 64 }
@@ -37,9 +37,22 @@ impl HashFunction {
         }
     }
 
-    // The digest of a message in three parts, as the first octets.
-    pub(crate) fn digest(self, first: &[u8], second: &[u8], third: &[u8]) -> [u8; 64]
-        ensures { take (hash_size self) result ≡ hashed self (first.now ++ second.now ++ third.now) }
+    /// The octets of a block, of which one is hashed at a time.
+    pub fn block_size(self) -> usize
+        ensures value { result ≡ block_size self }
+        ensures least { 64 ≤ result }
+        ensures most { result ≤ 128 }
+    {
+        match self {
+            HashFunction::Sha256 => 64,
+            HashFunction::Sha384 | HashFunction::Sha512 => 128,
+        }
+    }
+
+    /// The digest of a message in three parts: the first octets of the result, as many as `size`.
+    pub fn digest(self, first: &[u8], second: &[u8], third: &[u8]) -> [u8; 64]
+        ensures { take (hash_size self) result
+            ≡ hashed self (first.now ++ second.now ++ third.now) }
     {
         match self {
             HashFunction::Sha256 => {

@@ -1,0 +1,3 @@
+pub mod Digests
+pub mod Digests256
+pub mod Digests512
