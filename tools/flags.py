@@ -1,0 +1,200 @@
+"""The flags of tools/oauth2, and what its help says of each command; for that tool."""
+import argparse
+import math
+import os
+import subprocess
+import sys
+
+import answers
+import openid
+import program
+import repository
+from endings import BAD_SETTING, Stop
+from settings import NO_FLAGS, TEXTS, flag_of, takes
+
+GIVES_NO_TOKEN = ('introspect', 'revoke')
+# The one place to which a further parameter goes, of a command that has several.
+EXTRA_GOES = {'login': ', of the authorization URL alone', 'device': ', of the first request alone, which asks for the code'}
+MORE = 'tools/oauth2 --help says where settings and secrets come from, and what the exit status means.'
+STDIN = '%s, or a line of standard input that a terminal does not show.'
+# Each command: what it does, more of that, and an example.
+ABOUT = {
+    'login': ('sends the user to the authorization URL and exchanges the code that comes back',
+              'Prints the URL. Then it reads the address that the browser is sent back to, as a line of standard input that a terminal\n'
+              'does not show; or with --listen it waits for the browser on this machine, at the path of --redirect (RFC 8252, 7.3).\n'
+              'It goes on only if the program reads a code from that address: its state has to be the one that was sent, and with\n'
+              '--issuer it has to name that issuer. If metadata were asked for and do not promise the name, it may be left out.\n'
+              'With --openid the server has to send an ID token, which the program checks.',
+              'tools/oauth2 login --client-id aaa --auth-url https://as.example/authorize --token-url https://as.example/token \\\n'
+              '    --redirect http://127.0.0.1/back --listen --scope openid'),
+    'token': ('asks for a token for the client itself, by its client credentials',
+              'With --cache it prints the token that the file keeps, renewed where that is needed, whatever command has put it there.',
+              'tools/oauth2 token --client-id aaa --ask-secret --token-url https://as.example/token --output token'),
+    'password': ("exchanges a user's name and password", 'The password is ' + STDIN % 'OAUTH2_PASSWORD',
+                 'tools/oauth2 password --client-id aaa --token-url https://as.example/token --username ann'),
+    'refresh': ('exchanges a refresh token', 'The refresh token is the one of --cache, OAUTH2_REFRESH_TOKEN' + STDIN % '',
+                'tools/oauth2 refresh --client-id aaa --token-url https://as.example/token'),
+    'device': ('signs in on another device', 'Prints the code and where to enter it, then asks until the server answers.',
+               'tools/oauth2 device --client-id aaa --device-url https://as.example/device --token-url https://as.example/token'),
+    'introspect': ('asks about a token', 'The token is ' + STDIN % 'OAUTH2_TOKEN',
+                   'tools/oauth2 introspect --client-id aaa --ask-secret --introspection-url https://as.example/introspect'),
+    'revoke': ('revokes a token', 'The token is the one of --cache, OAUTH2_TOKEN' + STDIN % '' + '\n'
+               'With --cache the refresh token of the file is revoked, or its access token if it has no other; then the file is removed.',
+               'tools/oauth2 revoke --cache ~/.token --revocation-url https://as.example/revoke'),
+}
+
+
+def pair_of(text):
+    name, is_pair, value = text.partition('=')
+    if not is_pair:
+        raise argparse.ArgumentTypeError('it has to be NAME=VALUE')  # what it is may be a secret
+    return [name, value]
+
+
+def seconds_of(text):
+    """A time that a wait can have."""
+    try:
+        found = float(text)
+    except ValueError:
+        found = math.nan
+    if not 0 < found <= 1e8:
+        raise argparse.ArgumentTypeError('"%s" is no number of seconds above 0' % text)
+    return found
+
+
+def whole_from(least):
+    def whole(text):
+        if not text.isascii() or not text.isdigit() or not least <= int(text) < 1 << 64:
+            raise argparse.ArgumentTypeError('"%s" is no whole number from %d on' % (text, least))
+        return int(text)
+    return whole
+
+
+def file_of(text):
+    if not text:
+        raise argparse.ArgumentTypeError('it has to name a file')  # not none, as where a variable is empty
+    return text
+
+
+def port_of(text):
+    if not text.isascii() or not text.isdigit() or int(text) > 65535:
+        raise argparse.ArgumentTypeError('"%s" is no port: it is 0 to 65535' % text)
+    return int(text)
+
+
+def add_for_all(it, name):
+    for setting, what in TEXTS.items():
+        if takes(name, setting):
+            it.add_argument(flag_of(setting), help=what)
+    it.add_argument('--config', type=file_of, metavar='FILE', help='the JSON file of settings')
+    it.add_argument('--ask-secret', action='store_true', help="read the client's secret first")
+    it.add_argument('--client-secret-file', type=file_of, metavar='FILE',
+                    help="a file with the client's secret; a newline at its end is left out")
+    it.add_argument('--quiet', action='store_true',
+                    help='leave out the notes on standard error: only errors, warnings, and what the user has to do')
+    it.add_argument('--extra', action='append', type=pair_of, metavar='NAME=VALUE',
+                    help='a further parameter%s; may be given again' % EXTRA_GOES.get(name, ''))
+    it.add_argument('--timeout', type=seconds_of, default=30, metavar='SECONDS', help='how long a reply may take (%(default)s)')
+
+
+def add_for_tokens(it):
+    it.add_argument('--scope', action='append', help='a scope, or several with spaces between them; may be given again')
+    it.add_argument('--output', choices=answers.OUTPUTS, default='json',
+                    help='; '.join('%s: %s' % form for form in answers.OUTPUTS.items()) + ' (%(default)s)')
+    it.add_argument('--show', action='store_true', help='write the tokens to a terminal without a warning')
+    it.add_argument('--cache', type=file_of, metavar='FILE',
+                    help='keep the token in this file, and use the one that it has while that is good')
+    it.add_argument('--margin', type=whole_from(0), default=60, metavar='SECONDS',
+                    help='renew a kept token so long before its end (%(default)s)')
+    it.add_argument('--life', type=whole_from(0), default=3600, metavar='SECONDS',
+                    help='how long a kept token is good whose reply does not say (%(default)s)')
+    it.add_argument('--anew', action='store_true', help='ask for a token whatever --cache has, and keep the new one')
+
+
+def add_for_one(it, name):
+    if name == 'login':
+        it.add_argument('--listen', type=port_of, metavar='PORT', nargs='?', const=0,
+                        help='receive the redirect at this port of this machine; 0, or no PORT, takes a free one')
+        it.add_argument('--wait', type=seconds_of, default=600, metavar='SECONDS', help='how long --listen waits (%(default)s)')
+        it.add_argument('--no-browser', action='store_true', help='open no browser with --listen')
+        it.add_argument('--openid', action='store_true', help='ask for an ID token (OpenID Connect), check it, and name the user')
+        it.add_argument('--max-age', type=whole_from(0), metavar='SECONDS',
+                        help='with --openid: how long ago the user may have signed in (--cache then signs in anew, too)')
+        it.add_argument('--leeway', type=whole_from(0), metavar='SECONDS',
+                        help="with --openid: how far this clock and the server's may differ (%d)" % openid.LEEWAY)
+        it.add_argument('--algorithm', help='with --openid: the algorithm of the ID token that is registered (else any but none)')
+    if name == 'introspect':
+        it.add_argument('--hint', help='what the token is, as access_token')
+    if name == 'revoke':
+        it.add_argument('--kind', choices=('access', 'refresh'), help='what the token is (access)')
+        it.add_argument('--cache', type=file_of, metavar='FILE', help='revoke the token of this file, and remove the file')
+    if name == 'device':
+        it.add_argument('--max-polls', type=whole_from(1), default=1000, metavar='N', help='how often to ask at most (%(default)s)')
+        it.add_argument('--give-up', type=whole_from(0), metavar='SECONDS', help='when to give up (else as the server says)')
+        it.add_argument('--cap', type=whole_from(0), metavar='SECONDS',
+                        help='a request without a reply doubles the wait before the next one, up to this (10)')
+
+
+class Parser(argparse.ArgumentParser):
+    """Says an error in one line, and writes the help as an answer."""
+
+    def error(self, message):
+        raise Stop('%s (%s --help lists the flags)' % (message, self.prog), BAD_SETTING)
+
+    def print_help(self, file=None):
+        answers.put(self.format_help())
+
+
+class Version(argparse.Action):
+    def __call__(self, parser, *_):
+        # also in a checkout of another user, whose code runs here anyway
+        words = ['git', '-c', 'safe.directory=' + repository.ROOT, '-C', repository.ROOT, 'rev-parse', '--short', 'HEAD']
+        try:
+            revision = subprocess.run(words, stdin=subprocess.DEVNULL, capture_output=True, text=True).stdout.strip()
+        except OSError:
+            revision = ''
+        path = os.environ.get('OAUTH2_PROGRAM')
+        runs = 'program %s' % path if path else 'proved program' if program.is_proved() else 'program without proofs'
+        answers.put('tools/oauth2 revision %s, %s\n' % (revision or 'unknown', runs))
+        parser.exit()
+
+
+def arguments(doc):
+    check_secrets(sys.argv[1:])
+    looks = dict(formatter_class=argparse.RawDescriptionHelpFormatter, allow_abbrev=False)
+    parser = repository.parser_of(argparse, 'oauth2', doc, Parser, allow_abbrev=False)
+    parser.add_argument('--version', action=Version, nargs=0, help='say which revision this is, and which program it runs')
+    several = parser.add_subparsers(dest='command', metavar='COMMAND', required=True, help='one of ' + ', '.join(ABOUT))
+    for name, (about, more, example) in ABOUT.items():
+        more = '%s\n\nExample:\n    %s\n\n%s' % (more, example, MORE)
+        it = several.add_parser(name, description=about + '.', epilog=more, **looks)
+        add_for_all(it, name)
+        if name not in GIVES_NO_TOKEN:
+            add_for_tokens(it)
+        add_for_one(it, name)
+    given, unknown = parser.parse_known_args()
+    check_flags(several.choices[given.command], given, unknown)
+    return given
+
+
+def check_secrets(words):
+    """Stops at a flag that would have a secret, before anything of it is shown."""
+    for word in words:
+        if word.partition('=')[0] in NO_FLAGS:
+            name = word.partition('=')[0]
+            raise Stop('%s is no flag, since all users of a machine can see its processes with their flags: give %s'
+                       % (name, NO_FLAGS[name]), BAD_SETTING)
+
+
+def check_flags(parser, given, unknown):
+    """Stops at a flag that is unknown, or that goes with another that is not given. What no flag takes is not shown: it may be a secret."""
+    if unknown:
+        names = [it.partition('=')[0] for it in unknown if it.startswith('--')]
+        parser.error('there is no flag %s' % names[0] if names else 'there is an argument that no flag takes')
+    for name in ('max_age', 'leeway', 'algorithm') if given.command == 'login' else ():
+        if getattr(given, name) is not None and not given.openid:
+            parser.error('%s goes with --openid' % flag_of(name))
+    if given.command == 'login':
+        given.anew = given.anew or given.max_age is not None
+    if given.command == 'revoke' and given.cache and given.kind:
+        parser.error('--kind goes without --cache')
