@@ -19,7 +19,7 @@ def metadata_of(path, settings, limit):
         params = {'issuer': issuer, 'well_known': place}
         outcome = conversation.answered(path, {'client': {'id': settings['client_id']}, 'command': 'metadata', 'params': params}, limit)
         if not outcome.status:
-            return json.loads(outcome.answer.partition(' ')[2])
+            return with_userinfo(json.loads(outcome.answer.partition(' ')[2]), outcome.reply['body'])
         if outcome.status != FAULT:
             raise Stop('%s ended with %d and no metadata' % (path, outcome.status), outcome.status)
         fault, _ = answers.fault_of(outcome, hint='')
@@ -35,6 +35,13 @@ def metadata_of(path, settings, limit):
                TRY_AGAIN if may_retry and not other else NOT_DISCOVERED)
 
 
+def with_userinfo(found, body):
+    """The metadata that the program has read, and of their text the member that it does not read."""
+    more = dict(answers.others(body, found))
+    name = ENDPOINTS['userinfo_url']
+    return {**found, name: json.loads(more[name])} if name in more else found
+
+
 def other_issuer(outcome, issuer):
     """What to do where metadata are another issuer's (RFC 8414, 3.3): not to use them, and to look at what was given."""
     named = json.loads(outcome.reply['body'])['issuer']
@@ -48,6 +55,8 @@ def endpoint(metadata, name):
     if not metadata.get(member):
         raise Stop('the metadata of the issuer %s has no "%s": give %s, OAUTH2_%s, or "%s" in the file that --config names'
                    % (metadata['issuer'], member, flag_of(name), name.upper(), name), NOT_DISCOVERED)
+    if not isinstance(metadata[member], str):
+        raise Stop('the metadata of the issuer %s have a "%s" that is no text' % (metadata['issuer'], member), NOT_DISCOVERED)
     check_url(member, metadata[member], '"%s" in the metadata of the issuer' % member, NOT_DISCOVERED)
     return metadata[member]
 

@@ -6,13 +6,16 @@ import subprocess
 import sys
 
 import answers
+import endings
 import openid
+import profiles
 import program
 import repository
 from endings import BAD_SETTING, Stop
 from settings import NO_FLAGS, TEXTS, flag_of, takes
 
-GIVES_NO_TOKEN = ('introspect', 'revoke')
+OF_KEPT = ('status', 'whoami', 'logout')  # the commands that are about a token that is kept, so that its place has to be known
+GIVES_NO_TOKEN = ('introspect', 'revoke', *OF_KEPT)
 # The one place to which a further parameter goes, of a command that has several.
 EXTRA_GOES = {'login': ', of the authorization URL alone', 'device': ', of the first request alone, which asks for the code'}
 MORE = 'tools/oauth2 --help says where settings and secrets come from, and what the exit status means.'
@@ -41,6 +44,17 @@ ABOUT = {
     'revoke': ('revokes a token', 'The token is the one of --cache, OAUTH2_TOKEN' + STDIN % '' + '\n'
                'With --cache the refresh token of the file is revoked, or its access token if it has no other; then the file is removed.',
                'tools/oauth2 revoke --cache ~/.token --revocation-url https://as.example/revoke'),
+    'status': ('says whose token is kept, from which server, and until when it is good',
+               'No secret is shown, and no request is made. The exit status is 5 if a user has to sign in for a good token.',
+               'tools/oauth2 status --profile work'),
+    'whoami': ('asks the UserInfo endpoint about the user who has signed in',
+               'The token is the kept one of a login with --openid, renewed where that is needed. The answer is shown if its "sub" is\n'
+               'that of the ID token (OpenID Connect Core 1.0, 5.3.2).',
+               'tools/oauth2 whoami --profile work'),
+    'logout': ('revokes the kept token, and removes the file',
+               'The refresh token is revoked, or the access token if there is no other. The file is removed also if the server could not\n'
+               'be asked or said no, and standard error says so.',
+               'tools/oauth2 logout --profile work'),
 }
 
 
@@ -83,17 +97,24 @@ def port_of(text):
 
 
 def add_for_all(it, name):
+    it.set_defaults(cache=None, extra=None, openid=False, anew=False)
+    it.add_argument('--profile', metavar='NAME', help='the profile whose settings are used, and whose token is kept')
+    it.add_argument('--no-profile', action='store_true', help='use no profile, also if the file of profiles names a default one')
+    it.add_argument('--config', type=file_of, metavar='FILE', help='the file of settings: JSON, or profiles if it ends in .toml')
+    it.add_argument('--quiet', action='store_true',
+                    help='leave out the notes on standard error: only errors, warnings, and what the user has to do')
+
+
+def add_for_requests(it, name):
     for setting, what in TEXTS.items():
         if takes(name, setting):
             it.add_argument(flag_of(setting), help=what)
-    it.add_argument('--config', type=file_of, metavar='FILE', help='the JSON file of settings')
     it.add_argument('--ask-secret', action='store_true', help="read the client's secret first")
     it.add_argument('--client-secret-file', type=file_of, metavar='FILE',
                     help="a file with the client's secret; a newline at its end is left out")
-    it.add_argument('--quiet', action='store_true',
-                    help='leave out the notes on standard error: only errors, warnings, and what the user has to do')
-    it.add_argument('--extra', action='append', type=pair_of, metavar='NAME=VALUE',
-                    help='a further parameter%s; may be given again' % EXTRA_GOES.get(name, ''))
+    if name != 'whoami':
+        it.add_argument('--extra', action='append', type=pair_of, metavar='NAME=VALUE',
+                        help='a further parameter%s; may be given again' % EXTRA_GOES.get(name, ''))
     it.add_argument('--timeout', type=seconds_of, default=30, metavar='SECONDS', help='how long a reply may take (%(default)s)')
 
 
@@ -104,11 +125,24 @@ def add_for_tokens(it):
     it.add_argument('--show', action='store_true', help='write the tokens to a terminal without a warning')
     it.add_argument('--cache', type=file_of, metavar='FILE',
                     help='keep the token in this file, and use the one that it has while that is good')
+    add_for_renewals(it)
+    it.add_argument('--anew', action='store_true', help='ask for a token whatever --cache has, and keep the new one')
+
+
+def add_for_renewals(it):
     it.add_argument('--margin', type=whole_from(0), default=60, metavar='SECONDS',
                     help='renew a kept token so long before its end (%(default)s)')
     it.add_argument('--life', type=whole_from(0), default=3600, metavar='SECONDS',
                     help='how long a kept token is good whose reply does not say (%(default)s)')
-    it.add_argument('--anew', action='store_true', help='ask for a token whatever --cache has, and keep the new one')
+
+
+def add_for_kept(it, name):
+    """The flags of the commands that are about a token that is kept."""
+    it.add_argument('--cache', type=file_of, metavar='FILE', help='the file that keeps the token (else that of the profile)')
+    if name == 'status':
+        it.add_argument('--output', choices=('text', 'json'), default='text', help='lines for people, or one line of JSON (%(default)s)')
+    if name == 'whoami':
+        add_for_renewals(it)
 
 
 def add_for_one(it, name):
@@ -169,11 +203,18 @@ def arguments(doc):
         more = '%s\n\nExample:\n    %s\n\n%s' % (more, example, MORE)
         it = several.add_parser(name, description=about + '.', epilog=more, **looks)
         add_for_all(it, name)
+        if name != 'status':
+            add_for_requests(it, name)
+        if name in OF_KEPT:
+            add_for_kept(it, name)
         if name not in GIVES_NO_TOKEN:
             add_for_tokens(it)
         add_for_one(it, name)
     given, unknown = parser.parse_known_args()
-    check_flags(several.choices[given.command], given, unknown)
+    check_known(several.choices[given.command], unknown)
+    endings.quiet = given.quiet
+    profiles.apply(given)
+    check_flags(several.choices[given.command], given)
     return given
 
 
@@ -186,11 +227,15 @@ def check_secrets(words):
                        % (name, NO_FLAGS[name]), BAD_SETTING)
 
 
-def check_flags(parser, given, unknown):
-    """Stops at a flag that is unknown, or that goes with another that is not given. What no flag takes is not shown: it may be a secret."""
+def check_known(parser, unknown):
+    """Stops at a flag that is unknown. What no flag takes is not shown: it may be a secret."""
     if unknown:
         names = [it.partition('=')[0] for it in unknown if it.startswith('--')]
         parser.error('there is no flag %s' % names[0] if names else 'there is an argument that no flag takes')
+
+
+def check_flags(parser, given):
+    """Stops at a flag that goes with another that is not given, or without one that is."""
     for name in ('max_age', 'leeway', 'algorithm') if given.command == 'login' else ():
         if getattr(given, name) is not None and not given.openid:
             parser.error('%s goes with --openid' % flag_of(name))
@@ -198,3 +243,5 @@ def check_flags(parser, given, unknown):
         given.anew = given.anew or given.max_age is not None
     if given.command == 'revoke' and given.cache and given.kind:
         parser.error('--kind goes without --cache')
+    if given.command in OF_KEPT and not given.cache:
+        parser.error('%s needs --profile or --cache, to know whose token it is' % given.command)

@@ -12,17 +12,18 @@ from endings import BAD_SETTING, Stop, status_at, tell
 LOOPBACK = ('localhost', '127.0.0.1', '::1')
 URLS = {'auth_url': 'the authorization endpoint', 'token_url': 'the token endpoint', 'device_url': 'the device authorization endpoint',
         'introspection_url': 'the introspection endpoint', 'revocation_url': 'the revocation endpoint',
+        'userinfo_url': 'the UserInfo endpoint',
         'redirect': 'where the server sends the user back (with --listen: http://127.0.0.1/ if not given)'}
-# The member of an issuer's metadata that has each endpoint (RFC 8414, 2; RFC 8628, 4).
+# The member of an issuer's metadata that has each endpoint (RFC 8414, 2; RFC 8628, 4; OpenID Connect Discovery 1.0, 3).
 ENDPOINTS = {'auth_url': 'authorization_endpoint', 'token_url': 'token_endpoint', 'device_url': 'device_authorization_endpoint',
-             'introspection_url': 'introspection_endpoint', 'revocation_url': 'revocation_endpoint'}
+             'introspection_url': 'introspection_endpoint', 'revocation_url': 'revocation_endpoint', 'userinfo_url': 'userinfo_endpoint'}
 # The settings that are texts, each with what it is.
 TEXTS = {'client_id': "the client's identifier", 'auth': 'where the secret goes: basic (a header; the default) or body',
          'issuer': 'the issuer, whose metadata names the endpoints that are not set (RFC 8414)',
          'id_token_issuer': 'the issuer of the ID token of --openid, if it is not --issuer', 'username': "the user's name", **URLS}
 NEEDED = {'login': ('auth_url', 'token_url', 'redirect'), 'token': ('token_url',), 'password': ('token_url', 'username'),
           'refresh': ('token_url',), 'device': ('device_url', 'token_url'), 'introspect': ('introspection_url',),
-          'revoke': ('revocation_url',)}
+          'revoke': ('revocation_url',), 'logout': ('revocation_url',), 'whoami': ('userinfo_url',), 'status': ()}
 # Those that only some commands take, each with the commands that take it and can do without it.
 OPTIONAL = {'username': (), 'id_token_issuer': ('login',), **dict.fromkeys(URLS, ())}
 
@@ -44,13 +45,16 @@ NO_FLAGS = {'--client-secret': OF_CLIENT, '--secret': OF_CLIENT, '--password': '
 TO_TOKEN = ('grant_type', 'client_secret')
 SENT = {'login': ('response_type', 'client_id', 'redirect_uri', 'state', 'code_challenge', 'code_challenge_method'), 'token': TO_TOKEN,
         'password': (*TO_TOKEN, 'username', 'password'), 'refresh': (*TO_TOKEN, 'refresh_token'), 'device': TO_TOKEN,
-        'introspect': ('client_secret', 'token'), 'revoke': ('client_secret', 'token', 'token_type_hint')}
+        'introspect': ('client_secret', 'token'), 'revoke': ('client_secret', 'token', 'token_type_hint'),
+        'logout': ('client_secret', 'token', 'token_type_hint'), 'whoami': ()}
 
 
 def settings_of(given, kept):
     """The settings by name, from flags, environment and file; where those lack one, as the cache has kept it for the same issuer."""
     path, found = given.config or os.environ.get('OAUTH2_CONFIG'), {}
-    if path:
+    if given.of_profile:
+        path, found = given.of_profile.path, dict(given.of_profile.members)
+    elif path and not is_of_profiles(path):
         found = read_file(path)
     for name in (*TEXTS, 'client_secret'):
         found[name] = getattr(given, name, None) or os.environ.get('OAUTH2_' + name.upper()) or found.get(name)
@@ -63,12 +67,14 @@ def settings_of(given, kept):
     if not isinstance(found['scopes'], list) or not all(isinstance(it, str) for it in found['scopes']):
         raise Stop('%s: "scopes" is no list of texts' % path, BAD_SETTING)
     found['scopes'] = ' '.join(found['scopes']).split()  # a scope has no space (RFC 6749, 3.3)
-    if getattr(given, 'openid', False):
+    if given.openid:
         check_openid(found)
     if getattr(given, 'listen', None) is not None:
         found['redirect'] = found['redirect'] or 'http://127.0.0.1/'
     if given.client_secret_file:
-        found['client_secret'] = secret_in(given.client_secret_file)
+        found['client_secret'] = secret_in(given.client_secret_file, '--client-secret-file')
+    elif found.get('client_secret_file') and not found['client_secret'] and not given.ask_secret:
+        found['client_secret'] = secret_in(found['client_secret_file'], '"client_secret_file"')
     elif os.environ.get('OAUTH2_CLIENT_SECRET') == '' and not found['client_secret'] and not given.ask_secret:
         tell('OAUTH2_CLIENT_SECRET is empty, so no secret is sent')
     check(given, found)
@@ -79,18 +85,23 @@ def scopes_of_environment():
     return (os.environ.get('OAUTH2_SCOPES') or os.environ.get('OAUTH2_SCOPE') or '').split()
 
 
-def secret_in(path):
+def is_of_profiles(path):
+    """Whether a file of settings is one of profiles; the others are JSON."""
+    return path.endswith('.toml')
+
+
+def secret_in(path, label):
     """The secret that a file has, as one that is mounted. Its path is not shown, since it may be the secret by mistake."""
     try:
         with open(path, encoding='utf-8', newline='') as f:
             text = f.read()
     except OSError as error:
-        raise Stop('the file of --client-secret-file can not be read: %s' % error.strerror, status_at(error))
+        raise Stop('the file of %s can not be read: %s' % (label, error.strerror), status_at(error))
     except ValueError:
-        raise Stop('the file of --client-secret-file is not UTF-8', BAD_SETTING)
+        raise Stop('the file of %s is not UTF-8' % label, BAD_SETTING)
     text = text[:-1] if text.endswith('\n') else text
     if not text:
-        raise Stop('the file of --client-secret-file is empty', BAD_SETTING)
+        raise Stop('the file of %s is empty' % label, BAD_SETTING)
     return text
 
 
@@ -108,10 +119,12 @@ OR = {**dict.fromkeys(ENDPOINTS, '; or --issuer, to discover it'),
 def check_complete(given, found, path=None):
     """Stops where a setting that a command needs is missing. path is that of a cache that has no token yet."""
     for name in missing_of(given.command, found):
-        first = 'there is no token in %s yet: sign in first, by tools/oauth2 login --cache; or ask for one here: ' % path
-        raise Stop('%s%s is not set: give %s, OAUTH2_%s, or "%s" in the file that --config names%s'
-                   % (first * bool(path and given.command in ('token', 'refresh')), TEXTS[name].partition(' (with')[0], flag_of(name),
-                      name.upper(), name, OR.get(name, '')), BAD_SETTING)
+        first = ''
+        if path and given.command in ('token', 'refresh'):
+            first = 'there is no token in %s yet: sign in first, by tools/oauth2 login %s; or ask for one here: ' % (path, given.place)
+        file = given.of_profile.path if given.of_profile else 'the file that --config names'
+        raise Stop('%s%s is not set: give %s, OAUTH2_%s, or "%s" in %s%s'
+                   % (first, TEXTS[name].partition(' (with')[0], flag_of(name), name.upper(), name, file, OR.get(name, '')), BAD_SETTING)
 
 
 def check(given, found):
@@ -122,7 +135,7 @@ def check(given, found):
             check_url(name, found[name], flag_of(name))
     if found['auth'] not in (None, 'basic', 'body'):
         raise Stop('--auth is "%s": it has to be basic or body' % found['auth'], BAD_SETTING)
-    sent = SENT[given.command] + ('scope',) * bool(found['scopes']) + ('nonce',) * bool(getattr(given, 'openid', False))
+    sent = SENT[given.command] + ('scope',) * bool(found['scopes']) + ('nonce',) * bool(given.openid)
     sent += ('max_age',) * (getattr(given, 'max_age', None) is not None)
     for name, _ in given.extra or ():
         if name in sent:

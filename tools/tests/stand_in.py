@@ -218,7 +218,7 @@ class Case(unittest.TestCase):
             f.write(PROGRAM % (sys.executable, self.notes))
         os.chmod(self.program, 0o700)
         self.server = self.serve()
-        self.env = {'PATH': os.environ['PATH'], 'OAUTH2_PROGRAM': self.program, 'OAUTH2_CLIENT_ID': 'aaa'}
+        self.env = {'PATH': os.environ['PATH'], 'HOME': '/none', 'OAUTH2_PROGRAM': self.program, 'OAUTH2_CLIENT_ID': 'aaa'}
         for name in ('token', 'auth', 'device', 'introspection', 'revocation'):
             self.env['OAUTH2_%s_URL' % name.upper()] = '%s/%s' % (self.server.url, name)
 

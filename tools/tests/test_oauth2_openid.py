@@ -170,6 +170,12 @@ class Cache(Case):
         self.assertNotIn('signed in', self.again()[2])
         self.assertNotIn('signed in', self.run_tool('token', '--cache', self.path)[2])
 
+    def test_the_scope_that_the_flag_adds_need_not_be_given_later(self):
+        self.login('--openid', '--scope', 'read', '--cache', self.path)
+        self.assertEqual(self.kept()['scopes'], ['openid', 'read'])
+        for scopes, status in ('read', 0), ('read openid', 0), ('other', 2), ('openid', 2):
+            self.assertEqual(self.run_tool('token', '--cache', self.path, '--scope', scopes)[0], status)
+
     def test_a_renewed_token_keeps_the_user(self):
         self.login('--openid', '--cache', self.path)
         self.change(refresh_token='r')

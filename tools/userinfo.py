@@ -1,0 +1,37 @@
+"""Asks the UserInfo endpoint who has signed in (OpenID Connect Core 1.0, 5.3); for tools/oauth2.
+
+The tool makes this request itself; the program has no part in it.
+"""
+from __future__ import annotations
+
+import json
+
+import answers
+from conversation import Event
+from endings import FAULT, REFUSED_ID_TOKEN, SIGN_IN, TRY_AGAIN, Stop
+from http_requests import reply_to
+
+
+def asked(url: str, token: str, limit: float, sub: str) -> str:
+    """What the endpoint says of the user whose ID token has this sub, as a line of JSON.
+
+    Stops where it says nothing, or something of another user (5.3.2).
+    """
+    got = reply_to(Event('request', url, 'GET', 'Bearer ' + token), limit)
+    if got.note:
+        raise Stop(got.note, TRY_AGAIN if got.may_retry else FAULT)
+    status, body = got.reply['status'], got.reply['body']
+    if status == 401:
+        raise Stop('%s does not take the token (HTTP status 401): sign in anew' % url, SIGN_IN)
+    if status != 200:
+        raise Stop('%s answers with HTTP status %d' % (url, status),
+                   TRY_AGAIN if got.may_retry else FAULT)
+    try:
+        found = answers.members_in(body)
+        named = json.loads(dict(found).get('sub', 'null'))
+    except (ValueError, RecursionError):
+        raise Stop('%s: %s' % (url, answers.no_object(got.reply)), FAULT)
+    if named != sub:
+        raise Stop('the answer of %s is refused: it is not about the user of the ID token; nothing '
+                   'of it is shown' % url, REFUSED_ID_TOKEN)
+    return answers.object_of(found)
