@@ -5,10 +5,14 @@ import re
 import sys
 
 import endings
+import exec_credential
 from endings import ERROR_RESPONSE, NO_ANSWER, TRY_AGAIN, Stop, status_of_fault
+from moments import moment
 
 OUTPUTS = {'json': 'the whole reply as one line of JSON', 'token': 'the access token alone',
-           'header': 'the header of a request that has the token (RFC 6750, 2.1)'}
+           'header': 'the header of a request that has the token (RFC 6750, 2.1)',
+           'exec-credential': 'the ExecCredential that kubectl takes'}
+EXPIRES = 'expires_at'  # the member that --expires adds
 OF_AN_ERROR = ('error', 'error_description', 'error_uri')  # what the text of a fault has
 
 
@@ -122,15 +126,35 @@ def no_object(reply):
     return said + ', or it is cut off' * (kind.startswith('application/json') and reply['body'].lstrip().startswith('{'))
 
 
-def in_form(text, output):
-    """The answer in one of the forms of --output."""
-    if output == 'json':
-        return text
+def end_in(text, asked_at):
+    """When the token of an answer ends, in seconds since 1970; None where the server doesn't say."""
+    seconds = member(text, 'expires_in')
+    return asked_at + seconds if isinstance(seconds, int) else None
+
+
+def with_end(text, ends):
+    """The answer with the moment at which its token ends."""
+    found = [it for it in members_in(text) if it[0] != EXPIRES]
+    return object_of(found + [(EXPIRES, 'null' if ends is None else json.dumps(moment(ends)))])
+
+
+def token_in(text, is_bearer=True):
+    """The access token of an answer. Stops where it can't be sent, or is not of the type bearer."""
     token, kind = member(text, 'access_token'), member(text, 'token_type')
     if not all('!' <= it <= '~' for it in token):
         raise Stop('the access token has a character that no header may have: take it from --output json')
-    if output == 'header' and str(kind).lower() != 'bearer':
+    if is_bearer and str(kind).lower() != 'bearer':
         raise Stop('the token is of the type "%s", and only for "bearer" this tool knows the header: take it from --output json' % kind)
+    return token
+
+
+def in_form(text, output, ends=None):
+    """The answer in one of the forms of --output, with a token that ends then."""
+    if output == 'json':
+        return text
+    token = token_in(text, is_bearer=output != 'token')
+    if output == 'exec-credential':
+        return exec_credential.text_of(token, ends)
     return token if output == 'token' else 'Authorization: Bearer ' + token
 
 
@@ -152,9 +176,9 @@ def put(text):
         raise Stop('the answer can not be written to standard output: %s' % error.strerror, NO_ANSWER)
 
 
-def write(text, output, is_secret):
+def write(text, output, is_secret, ends=None):
     """Writes an answer to standard output, where a terminal gets a warning before a secret."""
-    line = in_form(text, output)
+    line = in_form(text, output, ends)
     if is_secret and os.isatty(1):
         endings.tell('what follows is secret: whoever has it can use it; clear the terminal after use (--show writes it without this line)')
     put(line + '\n')

@@ -14,7 +14,7 @@ import repository
 from endings import BAD_SETTING, Stop
 from settings import NO_FLAGS, TEXTS, flag_of, takes
 
-OF_KEPT = ('status', 'whoami', 'logout')  # the commands that are about a token that is kept, so that its place has to be known
+OF_KEPT = ('status', 'whoami', 'logout', 'git-credential')  # the commands that are about a token that is kept, so that its place has to be known
 GIVES_NO_TOKEN = ('introspect', 'revoke', *OF_KEPT)
 # The one place to which a further parameter goes, of a command that has several.
 EXTRA_GOES = {'login': ', of the authorization URL alone', 'device': ', of the first request alone, which asks for the code'}
@@ -55,6 +55,11 @@ ABOUT = {
                'The refresh token is revoked, or the access token if there is no other. The file is removed also if the server could not\n'
                'be asked or said no, and standard error says so.',
                'tools/oauth2 logout --profile work'),
+    'git-credential': ('gives git the kept token as a password',
+                       'git runs it and adds what it wants: get, store or erase. It answers for --host alone, over https. A token that a\n'
+                       'server has refused (erase) is renewed at the next use.',
+                       "git config --global credential.https://git.example.helper \\\n"
+                       "    '!tools/oauth2 git-credential --profile work --host git.example'"),
 }
 
 
@@ -112,7 +117,7 @@ def add_for_requests(it, name):
     it.add_argument('--ask-secret', action='store_true', help="read the client's secret first")
     it.add_argument('--client-secret-file', type=file_of, metavar='FILE',
                     help="a file with the client's secret; a newline at its end is left out")
-    if name != 'whoami':
+    if name not in ('whoami', 'git-credential'):
         it.add_argument('--extra', action='append', type=pair_of, metavar='NAME=VALUE',
                         help='a further parameter%s; may be given again' % EXTRA_GOES.get(name, ''))
     it.add_argument('--timeout', type=seconds_of, default=30, metavar='SECONDS', help='how long a reply may take (%(default)s)')
@@ -122,6 +127,8 @@ def add_for_tokens(it):
     it.add_argument('--scope', action='append', help='a scope, or several with spaces between them; may be given again')
     it.add_argument('--output', choices=answers.OUTPUTS, default='json',
                     help='; '.join('%s: %s' % form for form in answers.OUTPUTS.items()) + ' (%(default)s)')
+    it.add_argument('--expires', action='store_true',
+                    help='with --output json: add the moment at which the token ends, as expires_at (RFC 3339)')
     it.add_argument('--show', action='store_true', help='write the tokens to a terminal without a warning')
     it.add_argument('--cache', type=file_of, metavar='FILE',
                     help='keep the token in this file, and use the one that it has while that is good')
@@ -141,8 +148,12 @@ def add_for_kept(it, name):
     it.add_argument('--cache', type=file_of, metavar='FILE', help='the file that keeps the token (else that of the profile)')
     if name == 'status':
         it.add_argument('--output', choices=('text', 'json'), default='text', help='lines for people, or one line of JSON (%(default)s)')
-    if name == 'whoami':
+    if name in ('whoami', 'git-credential'):
         add_for_renewals(it)
+    if name == 'git-credential':
+        it.add_argument('--host', action='append', required=True, help='a host for which the token is; may be given again')
+        it.add_argument('--user', default='oauth2', metavar='NAME', help='the name that goes with the token (%(default)s)')
+        it.add_argument('operation', help='what git wants: get, store or erase; others do nothing')
 
 
 def add_for_one(it, name):
@@ -243,5 +254,7 @@ def check_flags(parser, given):
         given.anew = given.anew or given.max_age is not None
     if given.command == 'revoke' and given.cache and given.kind:
         parser.error('--kind goes without --cache')
+    if given.command not in GIVES_NO_TOKEN and given.expires and given.output != 'json':
+        parser.error('--expires goes with --output json')
     if given.command in OF_KEPT and not given.cache:
         parser.error('%s needs --profile or --cache, to know whose token it is' % given.command)

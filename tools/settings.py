@@ -23,7 +23,8 @@ TEXTS = {'client_id': "the client's identifier", 'auth': 'where the secret goes:
          'id_token_issuer': 'the issuer of the ID token of --openid, if it is not --issuer', 'username': "the user's name", **URLS}
 NEEDED = {'login': ('auth_url', 'token_url', 'redirect'), 'token': ('token_url',), 'password': ('token_url', 'username'),
           'refresh': ('token_url',), 'device': ('device_url', 'token_url'), 'introspect': ('introspection_url',),
-          'revoke': ('revocation_url',), 'logout': ('revocation_url',), 'whoami': ('userinfo_url',), 'status': ()}
+          'revoke': ('revocation_url',), 'logout': ('revocation_url',), 'whoami': ('userinfo_url',), 'status': (),
+          'git-credential': ()}
 # Those that only some commands take, each with the commands that take it and can do without it.
 OPTIONAL = {'username': (), 'id_token_issuer': ('login',), **dict.fromkeys(URLS, ())}
 
@@ -46,7 +47,7 @@ TO_TOKEN = ('grant_type', 'client_secret')
 SENT = {'login': ('response_type', 'client_id', 'redirect_uri', 'state', 'code_challenge', 'code_challenge_method'), 'token': TO_TOKEN,
         'password': (*TO_TOKEN, 'username', 'password'), 'refresh': (*TO_TOKEN, 'refresh_token'), 'device': TO_TOKEN,
         'introspect': ('client_secret', 'token'), 'revoke': ('client_secret', 'token', 'token_type_hint'),
-        'logout': ('client_secret', 'token', 'token_type_hint'), 'whoami': ()}
+        'logout': ('client_secret', 'token', 'token_type_hint'), 'whoami': (), 'git-credential': ()}
 
 
 def settings_of(given, kept):

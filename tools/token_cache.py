@@ -208,6 +208,16 @@ def has_end(entry):
     return answers.member(entry['answer'], 'expires_in') is not None
 
 
+def end_of(entry):
+    """When the token ends; None where the server didn't say."""
+    return entry['expires_at'] if has_end(entry) else None
+
+
+def ended(entry):
+    """The entry as it is once its token has ended."""
+    return dict(entry, expires_at=entry['obtained_at'])
+
+
 def how_long(entry, now):
     """What is said of a token that has not ended."""
     what = 'is good' if has_end(entry) else 'came without a lifetime and is taken as good'

@@ -314,7 +314,7 @@ class Whole(unittest.TestCase):
         with mock.patch.object(token_cache, 'entry_of', return_value=entry), mock.patch.object(oauth2, 'write') as write, \
                 mock.patch.object(oauth2, 'tell') as say:
             self.assertEqual(oauth2.keep(session, cache, outcome), endings.NOT_KEPT)
-        write.assert_called_once_with(session, '{}')
+        write.assert_called_once_with(session, '{}', None)
         self.assertIn('/c could not be written (no space)', say.call_args.args[0])
 
 
