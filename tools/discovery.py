@@ -9,6 +9,7 @@ from settings import ENDPOINTS, check_url, flag_of
 
 # The places of an issuer's metadata, in the order in which they are asked: RFC 8414, 3, and OpenID Connect Discovery 1.0, 4.
 PLACES = ('oauth-authorization-server', 'openid-configuration')
+ALIASES = 'mtls_endpoint_aliases'
 ANOTHER = "metadata is another issuer's"
 
 
@@ -19,7 +20,7 @@ def metadata_of(path, settings, limit):
         params = {'issuer': issuer, 'well_known': place}
         outcome = conversation.answered(path, {'client': {'id': settings['client_id']}, 'command': 'metadata', 'params': params}, limit)
         if not outcome.status:
-            return with_userinfo(json.loads(outcome.answer.partition(' ')[2]), outcome.reply['body'])
+            return with_others(json.loads(outcome.answer.partition(' ')[2]), outcome.reply['body'], settings['client_cert'])
         if outcome.status != FAULT:
             raise Stop('%s ended with %d and no metadata' % (path, outcome.status), outcome.status)
         fault, _ = answers.fault_of(outcome, hint='')
@@ -35,11 +36,15 @@ def metadata_of(path, settings, limit):
                TRY_AGAIN if may_retry and not other else NOT_DISCOVERED)
 
 
-def with_userinfo(found, body):
-    """The metadata that the program has read, and of their text the member that it does not read."""
-    more = dict(answers.others(body, found))
-    name = ENDPOINTS['userinfo_url']
-    return {**found, name: json.loads(more[name])} if name in more else found
+def with_others(found, body, by_certificate):
+    """The metadata that the program has read, and of their text what it does not read: the UserInfo endpoint, and for a client that
+    shows its certificate the endpoints where it does (RFC 8705, 5)."""
+    more = {name: json.loads(value) for name, value in answers.others(body, ()) if name in ('userinfo_endpoint', ALIASES)}
+    aliases = more.pop(ALIASES, None) if by_certificate else None
+    if isinstance(aliases, dict):
+        more.update((name, aliases[name]) for name in ENDPOINTS.values() if name in aliases and name != ENDPOINTS['auth_url'])
+    more.pop(ALIASES, None)
+    return {**found, **more}
 
 
 def other_issuer(outcome, issuer):

@@ -12,7 +12,7 @@ import profiles
 import program
 import repository
 from endings import BAD_SETTING, Stop
-from settings import NO_FLAGS, TEXTS, flag_of, takes
+from settings import FILES, NO_FLAGS, TEXTS, flag_of, takes
 
 OF_KEPT = ('status', 'whoami', 'logout', 'git-credential')  # the commands that are about a token that is kept, so that its place has to be known
 GIVES_NO_TOKEN = ('introspect', 'revoke', *OF_KEPT)
@@ -114,6 +114,10 @@ def add_for_requests(it, name):
     for setting, what in TEXTS.items():
         if takes(name, setting):
             it.add_argument(flag_of(setting), help=what)
+    for setting, what in FILES.items():
+        it.add_argument(flag_of(setting), type=file_of, metavar='FILE', help=what)
+    it.add_argument('--verbose', action='store_true',
+                    help='show each request and reply on standard error, with *** in the place of each secret')
     it.add_argument('--ask-secret', action='store_true', help="read the client's secret first")
     it.add_argument('--client-secret-file', type=file_of, metavar='FILE',
                     help="a file with the client's secret; a newline at its end is left out")

@@ -3,20 +3,27 @@ import base64
 import collections
 import contextlib
 import http.client
-import os
 import socket
 import ssl
 import time
 import urllib.parse
 import urllib.request
 
+import tls
+import wire_log
 from addresses import shown
-from endings import BAD_SETTING, Stop
 from settings import LOOPBACK
 from time_limits import in_time
 
 MOST_BYTES = 1 << 20  # of a reply's body
 RETRIED = (429, *range(500, 600))  # the HTTP statuses of a server that another try may find better
+
+
+NOT_TAKEN = "the server does not take the client's certificate (--client-cert)"
+# What a server says about the client's certificate, by the names of OpenSSL for the alerts of TLS (RFC 8446, 6.2).
+NO_CERTIFICATE = {'TLSV13_ALERT_CERTIFICATE_REQUIRED': "the server asks for the client's certificate: give --client-cert",
+                  **dict.fromkeys(('TLSV1_ALERT_UNKNOWN_CA', 'SSLV3_ALERT_BAD_CERTIFICATE', 'SSLV3_ALERT_CERTIFICATE_UNKNOWN',
+                                   'SSLV3_ALERT_CERTIFICATE_EXPIRED', 'SSLV3_ALERT_UNSUPPORTED_CERTIFICATE'), NOT_TAKEN)}
 
 
 class Unanswered(Exception):
@@ -53,7 +60,11 @@ def why_of(error):
 
 def why_no_tls(error):
     if isinstance(error, ssl.SSLCertVerificationError):
-        return "the server's certificate is not one that this machine trusts (SSL_CERT_FILE names others): %s" % error.verify_message
+        return "the server's certificate is not one that is trusted here (--cacert names others): %s" % error.verify_message
+    if error.reason in NO_CERTIFICATE:
+        return NO_CERTIFICATE[error.reason]
+    if isinstance(error, ssl.SSLEOFError):
+        return 'the server has closed the connection; it may want a certificate of the client, or another one (--client-cert)'
     if error.reason in ('WRONG_VERSION_NUMBER', 'HTTP_REQUEST', 'RECORD_LAYER_FAILURE'):
         return 'the server speaks no TLS at this port, so it is not one for https'
     return 'no TLS connection: %s' % (error.reason or why_of(error)).replace('_', ' ').lower()
@@ -63,27 +74,13 @@ def out_of_time(limit):
     return 'no whole reply within %g seconds (--timeout)' % limit
 
 
-def trust():
-    """The TLS settings, with the certificates that are trusted. Stops where SSL_CERT_FILE has none."""
-    path = os.environ.get('SSL_CERT_FILE')
-    try:
-        context = ssl.create_default_context()
-        if path:
-            context.load_verify_locations(path)
-        return context
-    except ssl.SSLError:
-        raise Stop('SSL_CERT_FILE is %s, which has no certificates' % path, BAD_SETTING)
-    except OSError as error:
-        raise Stop('SSL_CERT_FILE is %s, which can not be read: %s' % (path, error.strerror), BAD_SETTING)
-
-
 def connection_to(target, limit):
     """A connection to the server of a URL, as the standard library reads the environment: direct, or by the proxy for it."""
     if target.scheme == 'http' and target.hostname in LOOPBACK:
         return connected(http.client.HTTPConnection(target.hostname, target.port, timeout=limit))
     if target.scheme != 'https':
         raise Unanswered('not sent, since it would not be encrypted: give an https URL')
-    context, host = trust(), target.netloc.rpartition('@')[2]
+    context, host = tls.context(), target.netloc.rpartition('@')[2]
     proxy = urllib.request.getproxies().get('https')
     if not proxy or urllib.request.proxy_bypass(host):
         return connected(http.client.HTTPSConnection(target.hostname, target.port, timeout=limit, context=context))
@@ -125,6 +122,7 @@ def sent(request, limit, renewal):
     target, begun = urllib.parse.urlsplit(request.value), time.monotonic()
     connection = in_time(lambda: connection_to(target, limit), limit)
     lent = connection.sock  # which the connection lets go once there is a reply
+    wire_log.connected(target.netloc, lent.version() if isinstance(lent, ssl.SSLSocket) else None)
     left = begun + limit - time.monotonic()
     if renewal:
         left = renewal.sending(limit)
@@ -146,14 +144,26 @@ def exchanged(connection, request, renewal):
         headers['Authorization'] = request.authorization
     where = '/' + ''.join(request.value.partition('#')[0].split('/', 3)[3:])
     with contextlib.closing(connection):
-        connection.request(request.method, where, body, headers)
+        wire_log.sending(request.method, request.value, headers, body)
+        send(connection, request.method, where, body, headers)
         reply = connection.getresponse()
         got, error = body_of(reply)
+        wire_log.received(reply.status, reply.reason, reply.getheaders(), got)
         if renewal:
             renewal.received(reply.status, got)
         if error:
             raise error
         return in_script(request.method, reply.status, reply.headers, got)
+
+
+def send(connection, *request):
+    """Sends a request. Where the server has closed the connection, what it has said before is the error."""
+    try:
+        connection.request(*request)
+    except (ConnectionError, ssl.SSLEOFError):
+        with contextlib.suppress(ConnectionError, ssl.SSLEOFError):
+            connection.sock.recv(1)
+        raise
 
 
 def body_of(reply):

@@ -20,13 +20,13 @@ from typing import Any, Optional
 
 import toml_subset
 from endings import BAD_SETTING, Stop, status_at, tell
-from settings import TEXTS, is_of_profiles
+from settings import FILES, TEXTS, is_of_profiles
 
 NAME = re.compile('[A-Za-z0-9][A-Za-z0-9_-]{0,99}')
 # The commands by which a profile may get its token, and those that use the file in which it is kept.
 SIGNS_IN = ('login', 'device', 'password', 'token')
 KEEPS = (*SIGNS_IN, 'refresh', 'status', 'logout', 'whoami', 'git-credential')
-PATHS = ('client_secret_file',)
+PATHS = ('client_secret_file', *FILES)
 # What each member of a profile has to be.
 KINDS: dict[str, type] = {**dict.fromkeys((*TEXTS, 'client_secret', *PATHS, 'sign_in'), str),
                           'scopes': list, 'openid': bool, 'listen': int}

@@ -6,6 +6,7 @@ import sys
 import urllib.parse
 
 import terminal
+import wire_log
 from addresses import has_login
 from endings import BAD_SETTING, Stop, status_at, tell
 
@@ -21,6 +22,10 @@ ENDPOINTS = {'auth_url': 'authorization_endpoint', 'token_url': 'token_endpoint'
 TEXTS = {'client_id': "the client's identifier", 'auth': 'where the secret goes: basic (a header; the default) or body',
          'issuer': 'the issuer, whose metadata names the endpoints that are not set (RFC 8414)',
          'id_token_issuer': 'the issuer of the ID token of --openid, if it is not --issuer', 'username': "the user's name", **URLS}
+# The settings that are paths of files, each with what it has (RFC 8705, 2).
+FILES = {'cacert': 'a file with the certificates of the authorities that are trusted; no others are',
+         'client_cert': "a file with the client's certificate, which servers get that ask for one",
+         'client_key': 'the file with the key of that certificate, if it is another one'}
 NEEDED = {'login': ('auth_url', 'token_url', 'redirect'), 'token': ('token_url',), 'password': ('token_url', 'username'),
           'refresh': ('token_url',), 'device': ('device_url', 'token_url'), 'introspect': ('introspection_url',),
           'revoke': ('revocation_url',), 'logout': ('revocation_url',), 'whoami': ('userinfo_url',), 'status': (),
@@ -57,7 +62,7 @@ def settings_of(given, kept):
         path, found = given.of_profile.path, dict(given.of_profile.members)
     elif path and not is_of_profiles(path):
         found = read_file(path)
-    for name in (*TEXTS, 'client_secret'):
+    for name in (*TEXTS, *FILES, 'client_secret'):
         found[name] = getattr(given, name, None) or os.environ.get('OAUTH2_' + name.upper()) or found.get(name)
         if not isinstance(found[name], (str, type(None))):
             raise Stop('%s: "%s" is no text' % (path, name), BAD_SETTING)
@@ -183,9 +188,9 @@ def read_file(path):
         raise Stop('the file of settings %s can not be read as JSON: %s' % (path, error), BAD_SETTING)
     if not isinstance(found, dict):
         raise Stop('%s has to hold one JSON object, as {"client_id": "..", "token_url": ".."}' % path, BAD_SETTING)
-    unknown = found.keys() - TEXTS.keys() - {'client_secret', 'scopes'}
+    unknown = found.keys() - TEXTS.keys() - FILES.keys() - {'client_secret', 'scopes'}
     if unknown:
-        raise Stop('%s: "%s" is no setting: there are client_secret, scopes, %s' % (path, sorted(unknown)[0], ', '.join(TEXTS)),
+        raise Stop('%s: "%s" is no setting: there are client_secret, scopes, %s' % (path, sorted(unknown)[0], ', '.join((*TEXTS, *FILES))),
                    BAD_SETTING)
     if 'client_secret' in found and mode & (stat.S_IRGRP | stat.S_IROTH):
         tell('%s holds a secret, and others can read it: chmod 600 %s' % (path, path))
@@ -194,8 +199,13 @@ def read_file(path):
 
 def asked(variable, what):
     """A secret from the environment, or a line that is read: from a terminal without showing it."""
-    if variable and os.environ.get(variable):
-        return os.environ[variable]
+    text = variable and os.environ.get(variable) or read_line(variable, what)
+    wire_log.secrets.add(text)
+    return text
+
+
+def read_line(variable, what):
+    """A secret that is read from standard input."""
     try:
         text = line_of_input(what + ': ').decode('utf-8')
     except ValueError:

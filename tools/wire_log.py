@@ -22,6 +22,7 @@ SENT = {*TOKENS, 'code', 'code_verifier', 'password', 'assertion', 'client_asser
 HARMLESS = {'access_type', 'acr_values', 'audience', 'client_assertion_type', 'display', 'prompt',
             'requested_token_type', 'resource', 'response_mode', 'scope', 'subject_token_type',
             'actor_token_type', 'ui_locales'}
+TOLD = ('iss', 'error', 'error_description', 'error_uri')  # by a redirect
 MEMBER = re.compile(r'"(?:%s)"\s*:\s*"((?:[^"\\]|\\.)*)' % '|'.join(TOKENS))
 
 is_on = False
@@ -60,6 +61,15 @@ def received(status: int, reason: str, headers: Iterable[tuple[str, str]], body:
     show('<', ['%d %s' % (status, reason), *lines], text)
 
 
+def redirect(url: str) -> None:
+    """Shows the redirect that has come back: of its parameters only those that say who has answered, and which error."""
+    if is_on:
+        place, mark, query = url.partition('?')
+        pairs = [it.partition('=')[::2] for it in query.partition('#')[0].split('&')]
+        shown = ['%s=%s' % (name, value if name in TOLD else MASK) for name, value in pairs if name]
+        say('< %s' % secrets.masked(place + mark + '&'.join(shown)))
+
+
 def of_header(name: str, value: str) -> str:
     """The value of a header of a reply. Of a redirect only the place is shown, since its query may have a code."""
     if name == 'set-cookie':
@@ -71,13 +81,11 @@ def of_header(name: str, value: str) -> str:
 
 
 def show(mark: str, head: list[str], body: str) -> None:
-    text = secrets.masked(body)
-    more = len(text) - MOST
     lines = [secrets.masked(it) for it in head]
-    if text:
-        lines += ['', *text[:MOST].splitlines()]
-    if more > 0:
-        lines.append('.. and %d letters more' % more)
+    if body:
+        lines += ['', *secrets.masked(body, MOST).splitlines()]
+    if len(body) > MOST:
+        lines.append('.. and %d letters more' % (len(body) - MOST))
     for line in lines:
         say(('%s %s' % (mark, line)).rstrip())
 

@@ -77,7 +77,8 @@ def metadata():
     if reply['status'] != 200:
         end(1, 'fault "Failed to parse server response" "error" Missing')
     found = json.loads(reply['body'])
-    end(*(0, 'ok', json.dumps(found)) if found['issuer'] == issuer else (1, 'fault', json.dumps("metadata is another issuer's: " + found['issuer'])))
+    read = {it: found[it] for it in found if it not in ('userinfo_endpoint', 'mtls_endpoint_aliases')}
+    end(*(0, 'ok', json.dumps(read)) if found['issuer'] == issuer else (1, 'fault', json.dumps("metadata is another issuer's: " + found['issuer'])))
 
 def poll():
     found, clock = params['device'], script['readings']
@@ -193,13 +194,16 @@ class Server(http.server.ThreadingHTTPServer):
     Answers each GET by the triple that .documents has for the path, or by 404; notes it in .looked_at."""
     block_on_close = False
 
-    def __init__(self, certificate=None):
-        """Speaks TLS, if there is a file of a certificate."""
+    def __init__(self, certificate=None, clients=None):
+        """Speaks TLS, if there is a file of a certificate; and asks for that of a client, if there is a file of those that it takes."""
         super().__init__(('127.0.0.1', 0), Handler)
         self.asked, self.reply, self.url = [], OK, 'http%s://127.0.0.1:%d' % ('s' * bool(certificate), self.server_port)
         if certificate:
             context = ssl.SSLContext(ssl.PROTOCOL_TLS_SERVER)
             context.load_cert_chain(certificate)
+            if clients:
+                context.load_verify_locations(clients)
+                context.verify_mode = ssl.CERT_REQUIRED
             self.socket = context.wrap_socket(self.socket, server_side=True)
         self.looked_at, self.documents = [], {}
         threading.Thread(target=self.serve_forever, kwargs={'poll_interval': 0.02}, daemon=True).start()
@@ -229,11 +233,17 @@ class Case(unittest.TestCase):
         self.addCleanup(server.shutdown)
         return server
 
-    def by_tls(self):
-        """A server of https, to which the tool goes for a revocation, and where it is trusted."""
+    def certificate(self):
+        """The path of a file that has the certificate of localhost, and its key."""
         path = os.path.join(self.folder(), 'cert.pem')
         with open(path, 'w', encoding='utf-8') as f:
             f.write(CERTIFICATE)
+        os.chmod(path, 0o600)
+        return path
+
+    def by_tls(self):
+        """A server of https, to which the tool goes for a revocation, and where it is trusted."""
+        path = self.certificate()
         server = self.serve(path)
         self.env.update(SSL_CERT_FILE=path, OAUTH2_REVOCATION_URL=server.url + '/revocation')
         return server

@@ -277,7 +277,7 @@ class Requests(stand_in.Case):
         plain = self.server.url.replace('http:', 'https:')
         for url, path, status, said in ((server.url, self.env['SSL_CERT_FILE'], 0, ''), (server.url, empty, 2, 'which has no certificates'),
                                         (server.url, '/none', 2, 'SSL_CERT_FILE is /none, which can not be read: No such file'),
-                                        (server.url, '', 1, 'not one that this machine trusts'),
+                                        (server.url, '', 1, 'not one that is trusted here'),
                                         (plain, '', 1, 'the server speaks no TLS at this port')):
             found = self.run_tool('token', '--token-url', url + '/token', SSL_CERT_FILE=path)
             self.assertEqual(found[0], status)
