@@ -1,11 +1,12 @@
 """What tools/try-servers tries of tools/oauth2 itself: endpoints by discovery, the listener, also with a browser, ID tokens, the cache, a
-proxy, and endpoints that answer what they should not."""
+proxy, profiles, what other programs get, and endpoints that answer what they should not."""
 import http.server
 import json
 import os
 import re
 import shutil
 import socket
+import subprocess
 import threading
 import time
 import urllib.error
@@ -19,7 +20,7 @@ LISTENED = 'http://127.0.0.1/back'  # the redirect that is received on this mach
 
 def at_server(tries):
     """All that needs a server: a login that listens or that names its issuer, endpoints by discovery, ID tokens, a token in a cache, a
-    proxy."""
+    proxy, a profile, what other programs get, and what is shown."""
     issuer(tries)
     listener(tries)
     if tries.server.agreed_in and shutil.which(firefox.PROGRAM):
@@ -29,6 +30,10 @@ def at_server(tries):
     openid(tries)
     cache(tries)
     proxy(tries)
+    profile(tries)
+    for_others(tries)
+    shown(tries)
+    certificates(tries)
 
 
 def issuer(tries):
@@ -175,6 +180,72 @@ def cache(tries):
     tries.end('cache: renewed after ten renewals that SIGTERM met', start('--margin', '1000000'), '', 'access_token')
     tries.end('cache: signed out', tries.start('revoke', '--cache', path, OAUTH2_CLIENT_ID=''), '', 'null')
     tries.row('cache: the file once signed out', 'there' if os.path.exists(path) else 'removed', not os.path.exists(path))
+
+
+def write_profile(server):
+    """Writes a file with a profile of a login at this server by OpenID Connect."""
+    found = {'client_id': 'code', 'redirect': 'https://localhost/back', 'sign_in': 'login'}
+    if server.issuer:
+        found['issuer'] = server.base + server.issuer
+    else:
+        found.update((name, server.base + path) for name, path in server.urls.items())
+        found.update(id_token_issuer=server.base + server.openid_issuer, userinfo_url=server.base + server.userinfo)
+    folder = os.path.join(server.folder, 'lifecrib')
+    os.makedirs(folder, mode=0o700, exist_ok=True)
+    with open(os.path.join(folder, 'config.toml'), 'w', encoding='utf-8') as f:
+        f.write('[profile.tried]\nopenid = true\n' + ''.join('%s = "%s"\n' % it for it in found.items()))
+
+
+def profile(tries):
+    """A profile, from the login to the logout."""
+    server, at = tries.server, ['--profile', 'tried']
+    write_profile(server)
+    none = dict.fromkeys(('OAUTH2_CLIENT_ID', 'OAUTH2_REDIRECT', *('OAUTH2_' + name.upper() for name in server.urls)), '')
+    tries.end('profile: a token before the login', tries.start('token', *at, **none), '', '!has no token yet')
+    run, url = tries.login_begun(*at, **none)
+    answer = tries.end('profile: a login', run, server.agreed(url) + '\n', 'access_token')
+    token = re.escape(answer.get('access_token', 'none'))
+    tries.end('profile: a token by the name alone', tries.start('token', *at, **none), '', '"access_token":"%s"' % token)
+    tries.end('profile: status', tries.start('status', *at, '--output', 'json', **none), '', '"is_good":true')
+    tries.end('profile: who has signed in, by the UserInfo endpoint', tries.start('whoami', *at, **none), '', '"sub":')
+    run = tries.start('logout', *at, **none)
+    last = run.communicate()[1].strip().split('\n')[-1]
+    tries.row('profile: signed out', last, run.returncode == 0 and last.endswith('is removed'))
+    refresh = tries.start('refresh', '--no-profile', OAUTH2_REFRESH_TOKEN=answer.get('refresh_token', 'none'), **by_openid(server))
+    tries.end('profile: the refresh token afterwards', refresh, '', '!invalid_grant|empty error response')
+
+
+def for_others(tries):
+    """What kubectl and git get."""
+    tries.end('what kubectl gets', tries.start('token', '--output', 'exec-credential'), '', '"kind":"ExecCredential"')
+    tries.end('when the token ends', tries.start('token', '--expires'), '', '"expires_at":"[0-9-]{10}T[0-9:]{8}Z"')
+    path = os.path.join(tries.server.folder, 'git.cache')
+    answer = tries.end('a token for git', tries.start('token', '--cache', path), '', 'access_token')
+    if not shutil.which('git'):
+        return
+    helper = "!'%s' git-credential --cache '%s' --host git.example" % (tries.tool, path)
+    run = subprocess.run(['git', '-c', 'credential.https://git.example.helper=' + helper, 'credential', 'fill'], capture_output=True,
+                         input='protocol=https\nhost=git.example\n\n', env={**tries.env, 'GIT_TERMINAL_PROMPT': '0'}, text=True)
+    tries.row('what git gets', 'the token' if run.returncode == 0 else run.stderr.strip(),
+              'password=%s\n' % answer.get('access_token') in run.stdout)
+
+
+def shown(tries):
+    """What --verbose shows of a request: no secret."""
+    run = tries.start('token', '--verbose')
+    out, err = run.communicate()
+    token = json.loads(out)['access_token'] if run.returncode == 0 else 'none'
+    hidden = [token, tries.server.secret, urllib.parse.quote(tries.server.secret), urllib.parse.quote_plus(tries.server.secret)]
+    lines = [it for it in err.splitlines() if it[:2] in ('* ', '> ', '< ')]
+    tries.row('what --verbose shows', '%s: no secret in it' % lines[0] if lines else err.strip(),
+              '***' in err and '< 200 ' in err and not any(it in err for it in hidden))
+
+
+def certificates(tries):
+    """The certificate of the server, which no authority of this machine has signed."""
+    path = os.path.join(tries.server.folder, 'cert.pem')
+    tries.end('--cacert with the certificate of the server', tries.start('token', '--cacert', path, SSL_CERT_FILE=''), '', 'access_token')
+    tries.end('without it', tries.start('token', SSL_CERT_FILE=''), '', '!not one that is trusted here')
 
 
 class Proxy:
