@@ -25,6 +25,10 @@ def program_path(tool='oauth2'):
     path = os.environ.get('OAUTH2_PROGRAM')
     if path and not os.access(path, os.X_OK):
         raise Stop('OAUTH2_PROGRAM names %s, which is no program' % path, BAD_SETTING)
+    if not path and program.packed():
+        path = program.packed()
+        if not program.is_proved_here():
+            endings.note('the program that runs here is not proved', tool)
     if not path and program.is_proved():
         path = program.PROGRAM
         if not os.access(path, os.X_OK):

@@ -15,6 +15,7 @@ ERROR_RESPONSE = 'Server returned error response: '
 
 
 DISK = (errno.ENOSPC, errno.EDQUOT, errno.EIO)
+command = 'tools/oauth2'  # by which the tool is run; a package has another one
 quiet = False  # --quiet: no notes
 columns = 0  # of a line on the terminal that the next one is written over
 
@@ -54,7 +55,7 @@ def say_for_now(text):
 
 def tell(text, tool='oauth2'):
     """Says an error or a warning."""
-    say('tools/%s: %s' % (tool, text))
+    say('%s: %s' % (command if tool == 'oauth2' else 'tools/' + tool, text))
 
 
 def note(text, tool='oauth2'):

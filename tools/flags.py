@@ -11,6 +11,7 @@ import openid
 import profiles
 import program
 import repository
+import version
 from endings import BAD_SETTING, Stop
 from settings import FILES, NO_FLAGS, TEXTS, flag_of, takes
 
@@ -198,24 +199,28 @@ class Version(argparse.Action):
     def __call__(self, parser, *_):
         # also in a checkout of another user, whose code runs here anyway
         words = ['git', '-c', 'safe.directory=' + repository.ROOT, '-C', repository.ROOT, 'rev-parse', '--short', 'HEAD']
+        path = os.environ.get('OAUTH2_PROGRAM')
+        runs = 'program %s' % path if path else 'proved program' if program.is_proved_here() else 'program without proofs'
+        if program.packed():
+            answers.put('%s %s, %s\n' % (endings.command, version.VERSION, runs))
+            parser.exit()
         try:
             revision = subprocess.run(words, stdin=subprocess.DEVNULL, capture_output=True, text=True).stdout.strip()
         except OSError:
             revision = ''
-        path = os.environ.get('OAUTH2_PROGRAM')
-        runs = 'program %s' % path if path else 'proved program' if program.is_proved() else 'program without proofs'
-        answers.put('tools/oauth2 revision %s, %s\n' % (revision or 'unknown', runs))
+        answers.put('tools/oauth2 %s, revision %s, %s\n' % (version.VERSION, revision or 'unknown', runs))
         parser.exit()
 
 
-def arguments(doc):
-    check_secrets(sys.argv[1:])
+def parser_of(doc):
+    """The parser of all flags, and those of the commands by name."""
     looks = dict(formatter_class=argparse.RawDescriptionHelpFormatter, allow_abbrev=False)
-    parser = repository.parser_of(argparse, 'oauth2', doc, Parser, allow_abbrev=False)
+    parser = repository.parser_of(argparse, 'oauth2', in_package(doc), Parser, allow_abbrev=False)
+    parser.prog = endings.command
     parser.add_argument('--version', action=Version, nargs=0, help='say which revision this is, and which program it runs')
     several = parser.add_subparsers(dest='command', metavar='COMMAND', required=True, help='one of ' + ', '.join(ABOUT))
     for name, (about, more, example) in ABOUT.items():
-        more = '%s\n\nExample:\n    %s\n\n%s' % (more, example, MORE)
+        more = in_package('%s\n\nExample:\n    %s\n\n%s' % (more, example, MORE))
         it = several.add_parser(name, description=about + '.', epilog=more, **looks)
         add_for_all(it, name)
         if name != 'status':
@@ -225,11 +230,24 @@ def arguments(doc):
         if name not in GIVES_NO_TOKEN:
             add_for_tokens(it)
         add_for_one(it, name)
+    return parser, several.choices
+
+
+def in_package(text):
+    """A text of the help, as a package has it: with its name of the tool, and the page beside it."""
+    if endings.command == 'tools/oauth2':
+        return text
+    return text.replace('tools/oauth2', endings.command).replace('docs/TOOL.md', 'the page TOOL.md')
+
+
+def arguments(doc):
+    check_secrets(sys.argv[1:])
+    parser, of_commands = parser_of(doc)
     given, unknown = parser.parse_known_args()
-    check_known(several.choices[given.command], unknown)
+    check_known(of_commands[given.command], unknown)
     endings.quiet = given.quiet
     profiles.apply(given)
-    check_flags(several.choices[given.command], given)
+    check_flags(of_commands[given.command], given)
     return given
 
 

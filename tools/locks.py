@@ -31,6 +31,7 @@ def holder(file: IO[str]) -> str:
     except (OSError, ValueError, IndexError, StopIteration):
         return NOBODY
     names = [os.path.basename(it) for it in words]
+    ours = [at for at, it in enumerate(names) if it in ('oauth2', 'lifecrib')]
     # of the others, some may be secrets of the user
-    command = ' '.join(words[names.index('oauth2'):][:2]) if 'oauth2' in names else names[0]
+    command = ' '.join(words[ours[0]:][:2]) if ours else names[0]
     return 'process %d (%s)' % (number, command)

@@ -5,6 +5,7 @@ import stat
 import sys
 import urllib.parse
 
+import endings
 import terminal
 import wire_log
 from addresses import has_login
@@ -127,7 +128,8 @@ def check_complete(given, found, path=None):
     for name in missing_of(given.command, found):
         first = ''
         if path and given.command in ('token', 'refresh'):
-            first = 'there is no token in %s yet: sign in first, by tools/oauth2 login %s; or ask for one here: ' % (path, given.place)
+            first = ('there is no token in %s yet: sign in first, by %s login %s; or ask for one here: '
+                     % (path, endings.command, given.place))
         file = given.of_profile.path if given.of_profile else 'the file that --config names'
         raise Stop('%s%s is not set: give %s, OAUTH2_%s, or "%s" in %s%s'
                    % (first, TEXTS[name].partition(' (with')[0], flag_of(name), name.upper(), name, file, OR.get(name, '')), BAD_SETTING)

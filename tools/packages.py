@@ -1,0 +1,216 @@
+"""What the packages of tools/oauth2 have in them, and how they are written; for tools/package."""
+from __future__ import annotations
+
+import ast
+import base64
+import gzip
+import hashlib
+import os
+import re
+import shutil
+import subprocess
+import tempfile
+import zipfile
+from typing import NamedTuple, Optional
+
+import endings
+import flags
+import manual
+import program
+import repository
+import version
+
+NAME = 'lifecrib'
+TOOLS = os.path.dirname(os.path.abspath(__file__))
+TIME = (1980, 1, 1, 0, 0, 0)  # of each file, so that the same files make the same package
+ABOUT = 'tokens of OAuth 2.0 from the command line'
+LICENSES = ('LICENSE', 'LICENSE-APACHE', 'LICENSE-MIT')
+PYTHON = (3, 9)
+# Starts the tool of a package: its modules are found beside this file, before any others.
+MAIN = '''"""Starts lifecrib."""
+import os
+import signal
+import sys
+
+if signal.getsignal(signal.SIGINT) != signal.SIG_IGN:
+    signal.signal(signal.SIGINT, signal.SIG_DFL)  # until the tool can say that it is stopped
+sys.path.insert(0, os.path.dirname(os.path.abspath(__file__)))
+import endings
+
+endings.command = 'lifecrib'
+import lifecrib_tool
+
+
+def main():
+    sys.exit(lifecrib_tool.main())
+
+
+if __name__ == '__main__':
+    main()
+'''
+STARTER = '''#!/usr/bin/python3 -I
+import sys
+
+sys.dont_write_bytecode = True  # dpkg would not know of it
+sys.path.insert(0, '/usr/lib/lifecrib')
+from lifecrib.__main__ import main
+
+main()
+'''
+
+
+class Contents(NamedTuple):
+    """The files of the package by their names, those beside them, and the libc that the program needs."""
+
+    package: dict[str, bytes]
+    licenses: dict[str, bytes]
+    page: bytes
+    man_page: bytes
+    bash: bytes
+    zsh: bytes
+    glibc: Optional[tuple[int, int]]
+
+
+def contents(path: str, proved: Optional[str]) -> Contents:
+    """What a package has that is made with the program at a path; proved is the record of a proved one."""
+    found = {name + '.py': read(os.path.join(TOOLS, name + '.py')) for name in modules('oauth2')}
+    found['lifecrib_tool.py'] = read(os.path.join(TOOLS, 'oauth2'))
+    found['__init__.py'] = ('"""%s."""\n' % ABOUT.capitalize()).encode()
+    found['__main__.py'] = MAIN.encode()
+    found[program.NAME] = read(path)
+    if proved:
+        found[program.NAME + '.proved'] = proved.encode()
+    licenses = {name: read(os.path.join(repository.ROOT, name)) for name in LICENSES}
+    page = read(os.path.join(repository.ROOT, 'docs', 'TOOL.md'))
+    return Contents(found, licenses, page, *manuals(), glibc_of(found[program.NAME]))
+
+
+def read(path: str) -> bytes:
+    with open(path, 'rb') as f:
+        return f.read()
+
+
+def modules(name: str, found: Optional[list[str]] = None) -> list[str]:
+    """The modules beside this file that a tool needs, each once."""
+    found = [] if found is None else found
+    for node in ast.walk(ast.parse(read(os.path.join(TOOLS, name)))):
+        names = [it.name for it in node.names] if isinstance(node, ast.Import) else []
+        if isinstance(node, ast.ImportFrom):
+            names = [node.module or '']
+        for it in names:
+            if it not in found and os.path.exists(os.path.join(TOOLS, it + '.py')):
+                found.append(it)
+                modules(it + '.py', found)
+    return sorted(found)
+
+
+def manuals() -> tuple[bytes, bytes, bytes]:
+    """The man page, and the completion of bash and of zsh."""
+    doc = ast.get_docstring(ast.parse(read(os.path.join(TOOLS, 'oauth2'))), clean=False) or ''
+    before, endings.command = endings.command, NAME
+    try:
+        parser, commands = flags.parser_of(doc)
+        return (manual.man_page(NAME, version.VERSION, flags.in_package(doc), parser, commands).encode(),
+                manual.bash(NAME, parser, commands).encode(), manual.zsh(NAME, parser, commands).encode())
+    finally:
+        endings.command = before
+
+
+def glibc_of(text: bytes) -> Optional[tuple[int, int]]:
+    """The oldest glibc with which a program runs, by the versions that it names; None if it is a script."""
+    if not text.startswith(b'\x7fELF'):
+        return None
+    found = re.findall(rb'\0GLIBC_([0-9]+)\.([0-9]+)(?:\.[0-9]+)?(?=\0)', text)
+    return max([(int(one), int(two)) for one, two in found], default=(2, 17))
+
+
+# The wheel (PEP 427, PEP 600)
+
+
+def wheel(it: Contents, to: str) -> str:
+    """Writes the wheel into a folder: its path."""
+    tag = 'py3-none-' + ('manylinux_%d_%d_x86_64' % it.glibc if it.glibc else 'any')
+    base = '%s-%s' % (NAME, version.VERSION)
+    info, data = base + '.dist-info/', base + '.data/data/share/'
+    files = {'%s/%s' % (NAME, name): text for name, text in it.package.items()}
+    files.update({data + 'doc/%s/TOOL.md' % NAME: it.page, data + 'man/man1/%s.1' % NAME: it.man_page,
+                  data + 'bash-completion/completions/' + NAME: it.bash,
+                  data + 'zsh/site-functions/_' + NAME: it.zsh,
+                  info + 'METADATA': metadata(), info + 'WHEEL': about_wheel(tag),
+                  info + 'entry_points.txt': ('[console_scripts]\n%s = %s.__main__:main\n' % (NAME, NAME)).encode()})
+    files.update({info + 'licenses/' + name: text for name, text in it.licenses.items()})
+    files[info + 'RECORD'] = record(files, info + 'RECORD')
+    path = os.path.join(to, '%s-%s.whl' % (base, tag))
+    with zipfile.ZipFile(path, 'w', zipfile.ZIP_DEFLATED) as f:
+        for name, text in files.items():
+            entry = zipfile.ZipInfo(name, TIME)
+            entry.compress_type, entry.create_system = zipfile.ZIP_DEFLATED, 3
+            entry.external_attr = (0o100755 if name == '%s/%s' % (NAME, program.NAME) else 0o100644) << 16
+            f.writestr(entry, text)
+    return path
+
+
+def metadata() -> bytes:
+    lines = ['Metadata-Version: 2.1', 'Name: ' + NAME, 'Version: ' + version.VERSION, 'Summary: ' + ABOUT,
+             'License: MIT OR Apache-2.0', 'Requires-Python: >=%d.%d' % PYTHON,
+             *('License-File: ' + it for it in LICENSES)]
+    return ('\n'.join(lines) + '\n').encode()
+
+
+def about_wheel(tag: str) -> bytes:
+    lines = ['Wheel-Version: 1.0', 'Generator: tools/package', 'Root-Is-Purelib: false', 'Tag: ' + tag]
+    return ('\n'.join(lines) + '\n').encode()
+
+
+def record(files: dict[str, bytes], own: str) -> bytes:
+    """The list of a wheel's files, each with its sum and its length."""
+    lines = []
+    for name, text in files.items():
+        digest = base64.urlsafe_b64encode(hashlib.sha256(text).digest()).rstrip(b'=').decode()
+        lines.append('%s,sha256=%s,%d' % (name, digest, len(text)))
+    return ('\n'.join([*lines, own + ',,']) + '\n').encode()
+
+
+# The package of Debian
+
+
+def deb(it: Contents, to: str) -> str:
+    """Writes the .deb into a folder: its path."""
+    if not shutil.which('dpkg-deb'):
+        raise ValueError('there is no dpkg-deb here, which a .deb needs')
+    share = 'usr/share/'
+    files = {'usr/lib/lifecrib/lifecrib/' + name: text for name, text in it.package.items()}
+    files.update({'usr/bin/' + NAME: STARTER.encode(), 'DEBIAN/control': control(it).encode(),
+                  share + 'man/man1/%s.1.gz' % NAME: gzip.compress(it.man_page, 9, mtime=0),
+                  share + 'bash-completion/completions/' + NAME: it.bash,
+                  share + 'zsh/vendor-completions/_' + NAME: it.zsh,
+                  share + 'doc/%s/TOOL.md' % NAME: it.page,
+                  share + 'doc/%s/copyright' % NAME: b'\n'.join(it.licenses.values())})
+    path = os.path.join(to, '%s_%s_amd64.deb' % (NAME, version.VERSION))
+    with tempfile.TemporaryDirectory() as room:
+        for name, text in files.items():
+            put(os.path.join(room, name), text, name == 'usr/bin/' + NAME or name.endswith('/' + program.NAME))
+        for at, _, _ in os.walk(room):
+            os.chmod(at, 0o755)
+        words = ['dpkg-deb', '--root-owner-group', '--build', room, path]
+        run = subprocess.run(words, env=dict(os.environ, SOURCE_DATE_EPOCH='315532800'), capture_output=True, text=True)
+    if run.returncode:
+        raise ValueError(run.stderr.strip())
+    return path
+
+
+def put(path: str, text: bytes, is_program: bool) -> None:
+    """Writes a file, and makes the folders above it."""
+    os.makedirs(os.path.dirname(path), mode=0o755, exist_ok=True)
+    with open(path, 'wb') as f:
+        f.write(text)
+    os.chmod(path, 0o755 if is_program else 0o644)
+
+
+def control(it: Contents) -> str:
+    needs = ['python3 (>= %d.%d)' % PYTHON, *(['libc6 (>= %d.%d)' % it.glibc, 'libgcc-s1'] if it.glibc else [])]
+    lines = ['Package: ' + NAME, 'Version: ' + version.VERSION, 'Architecture: amd64', 'Priority: optional', 'Section: net',
+             'Maintainer: Lifecrib maintainers <maintainers@users.noreply.lifecrib.example>', 'Depends: ' + ', '.join(needs),
+             'Description: ' + ABOUT, ' The command lifecrib gets a token from a server of OAuth 2.0, renews it, asks about it',
+             ' and revokes it.']
+    return '\n'.join(lines) + '\n'

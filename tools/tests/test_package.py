@@ -1,0 +1,152 @@
+"""Tests of tools/package, whose packages have the stand-in of the program here."""
+import base64
+import hashlib
+import importlib.util
+import os
+import shutil
+import subprocess
+import sys
+import unittest
+import zipfile
+
+import stand_in
+import tool
+
+sys.path.insert(0, tool.TOOLS)
+import packages
+import program
+import version
+
+
+class Packages(stand_in.Case):
+    def setUp(self):
+        super().setUp()
+        self.to = self.folder()
+        self.env = {'HOME': '/none', 'PATH': '/usr/bin:/bin'}
+
+    def package(self, kind):
+        """The path of a package with the stand-in."""
+        words = [os.path.join(tool.TOOLS, 'package'), '--program', self.program, '--to', self.to, kind]
+        run = subprocess.run(words, capture_output=True, text=True, timeout=300)
+        self.assertEqual((run.returncode, run.stderr), (0, ''))
+        return run.stdout.strip()
+
+    def gets_a_token(self, *command):
+        """A run of what is installed gets a token at a server."""
+        words = [*command, 'token', '--client-id', 'aaa', '--token-url', self.server.url + '/token', '--output', 'token']
+        run = subprocess.run(words, env=self.env, cwd='/', capture_output=True, text=True, timeout=300)
+        self.assertEqual((run.returncode, run.stdout, run.stderr),
+                         (0, 't1\n', 'lifecrib: the program that runs here is not proved\n'))
+        run = subprocess.run([*command, '--help'], env=self.env, cwd='/', capture_output=True, text=True, timeout=300)
+        self.assertEqual(run.returncode, 0)
+        self.assertNotIn('tools/', run.stdout.replace('tools/prove', '').replace('tools/test', ''))
+
+    def test_a_wheel(self):
+        path = self.package('wheel')
+        self.assertEqual(os.path.basename(path), 'lifecrib-%s-py3-none-any.whl' % version.VERSION)
+        with zipfile.ZipFile(path) as f:
+            files = {it.filename: f.read(it) for it in f.infolist()}
+            modes = {it.filename: it.external_attr >> 16 & 0o777 for it in f.infolist()}
+            f.extractall(self.folder())
+        info = 'lifecrib-%s.dist-info/' % version.VERSION
+        rows = [it.split(',') for it in files[info + 'RECORD'].decode().splitlines()]
+        self.assertEqual(sorted(it[0] for it in rows), sorted(files))
+        for name, digest, length in rows[:-1]:
+            found = base64.urlsafe_b64encode(hashlib.sha256(files[name]).digest()).decode().rstrip('=')
+            self.assertEqual((digest, length), ('sha256=' + found, str(len(files[name]))))
+        self.assertEqual([name for name, mode in modes.items() if mode != 0o644], ['lifecrib/' + program.NAME])
+        self.assertTrue({info + 'licenses/' + it for it in packages.LICENSES} <= set(files))
+        with open(path, 'rb') as f:
+            before = f.read()
+        with open(self.package('wheel'), 'rb') as f:
+            self.assertEqual(f.read(), before)
+
+    @unittest.skipUnless(importlib.util.find_spec('ensurepip'), 'this Python has no pip for a virtual environment')
+    def test_an_installed_wheel(self):
+        room = self.folder()
+        subprocess.run([sys.executable, '-m', 'venv', room], check=True, capture_output=True)
+        words = [room + '/bin/pip', 'install', '--quiet', '--no-index', '--no-deps', self.package('wheel')]
+        subprocess.run(words, check=True, capture_output=True)
+        self.gets_a_token(room + '/bin/lifecrib')
+        self.assertTrue(os.path.exists(room + '/share/man/man1/lifecrib.1'))
+
+    @unittest.skipUnless(shutil.which('dpkg-deb'), 'there is no dpkg-deb here')
+    def test_a_deb(self):
+        room = self.folder()
+        subprocess.run(['dpkg-deb', '-x', self.package('deb'), room], check=True)
+        for name in ('usr/bin/lifecrib', 'usr/share/man/man1/lifecrib.1.gz', 'usr/share/bash-completion/completions/lifecrib',
+                     'usr/share/zsh/vendor-completions/_lifecrib', 'usr/share/doc/lifecrib/copyright'):
+            self.assertTrue(os.path.exists(os.path.join(room, name)), name)
+        for at, folders, _ in os.walk(room):
+            self.assertTrue(all(os.stat(os.path.join(at, it)).st_mode & 0o777 == 0o755 for it in folders))
+        start = os.path.join(room, 'usr/bin/lifecrib')
+        with open(start, encoding='utf-8') as f:
+            text = f.read()
+        with open(start, 'w', encoding='utf-8') as f:
+            f.write(text.replace('/usr/lib', room + '/usr/lib'))
+        self.gets_a_token(sys.executable, '-I', start)
+
+    def test_without_a_program(self):
+        words = [os.path.join(tool.TOOLS, 'package'), '--program', '/none', '--to', self.to]
+        run = subprocess.run(words, capture_output=True, text=True, timeout=60)
+        self.assertEqual((run.returncode, run.stderr), (1, 'tools/package: /none is no program\n'))
+
+
+class Proved(unittest.TestCase):
+    def test_the_record_of_a_packed_program(self):
+        case = stand_in.Case('run')
+        room = case.folder()
+        self.addCleanup(case.doCleanups)
+        path = os.path.join(room, 'p')
+        for text, record, is_proved in (b'x', None, False), (b'x', 'sum ' + hashlib.sha256(b'x').hexdigest(), True), (b'y', None, False):
+            with open(path, 'wb') as f:
+                f.write(text)
+            if record:
+                with open(path + '.proved', 'w') as f:
+                    f.write(record)
+            before, program.PACKED = program.PACKED, path
+            try:
+                self.assertEqual((program.packed(), program.is_proved_here()), (path, is_proved))
+            finally:
+                program.PACKED = before
+        self.assertIsNone(program.packed())
+
+
+class Manuals(unittest.TestCase):
+    def setUp(self):
+        self.man_page, self.bash, self.zsh = (it.decode() for it in packages.manuals())
+
+    def test_each_flag_is_there(self):
+        parser, commands = packages.flags.parser_of('x: y.\n\nz')
+        self.assertIn('token', commands)
+        for name, it in commands.items():
+            self.assertIn('COMMAND ' + name.replace('-', '\\-'), self.man_page)
+            for flag in (it.option_strings[-1] for it in packages.manual.actions_of(it)):
+                for text in self.man_page.replace('\\-', '-'), self.bash, self.zsh:
+                    self.assertIn(flag, text)
+        for text in self.man_page, self.bash, self.zsh:
+            self.assertNotIn('tools/oauth2', text)
+
+    @unittest.skipUnless(shutil.which('groff'), 'there is no groff here')
+    def test_the_man_page_is_read_without_a_warning(self):
+        run = subprocess.run(['groff', '-man', '-ww', '-Tutf8'], input=self.man_page.encode(), capture_output=True)
+        self.assertEqual((run.returncode, run.stderr), (0, b''))
+
+    @unittest.skipUnless(shutil.which('bash'), 'there is no bash here')
+    def test_completion(self):
+        for words, wanted in (('lo', 'login logout'), ('token --output he', 'header'), ('status --output t', 'token text'),
+                              ('status --pro', '--profile'), ('revoke --kind ', 'access refresh'), ('token --client-s', '--client-secret-file')):
+            line = self.bash + 'COMP_WORDS=(lifecrib %s); COMP_CWORD=%d; _lifecrib; echo ${COMPREPLY[@]}'
+            given = words.split() + ['""'] * words.endswith(' ')
+            run = subprocess.run(['bash', '-c', line % (' '.join(given), len(given))], capture_output=True, text=True)
+            self.assertEqual((run.stdout.strip(), run.stderr), (wanted, ''))
+
+
+class Programs(unittest.TestCase):
+    def test_the_libc_that_a_program_needs(self):
+        for text, wanted in ((b'#!/bin/sh', None), (b'\x7fELF\0GLIBC_2.4\0GLIBC_2.34\0GLIBC_2.2.5\0', (2, 34)), (b'\x7fELF', (2, 17))):
+            self.assertEqual(packages.glibc_of(text), wanted)
+
+
+if __name__ == '__main__':
+    unittest.main()
