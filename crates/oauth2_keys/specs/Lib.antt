@@ -1,5 +1,6 @@
 pub mod Algorithm
 pub mod Choice
+pub mod ErrorTexts
 pub mod Key
 pub mod KeySet
 pub mod Members

@@ -1,10 +1,13 @@
 //! Why a key cannot be used.
 
 ghost use Rattle.std.specs.Prelude.{◌≡◌, Some};
+ghost use Rattle.oauth2_keys.specs.ErrorTexts.{key_error_text};
 ghost use Rattle.oauth2_keys.specs.Members.{member_name};
 
 use ecdsa_signatures::P256KeyError;
+use oauth2_types::display::write_display;
 use rsa_signatures::RsaKeyError;
+use std::fmt;
 
 /// A member of a JSON Web Key (RFC 7517, 4; RFC 7518, 6.2.1 and 6.3.1).
 #[derive(Clone, Copy, Debug, PartialEq, Eq, Drop)]
@@ -73,3 +76,47 @@ impl KeyMember {
         }
     }
 }
+
+impl fmt::Display for KeyMember {
+    ghost output = { λ member. Some (member_name member) };
+
+    ghost styled_output = { λ member _. Some (member_name member) };
+
+    fn fmt<W: fmt::Write>(&self, f: &mut fmt::Formatter<W>) -> fmt::Result {
+        f.write_str(self.name())
+    }
+}
+
+impl fmt::Display for KeyError {
+    ghost output = { λ error. Some (key_error_text error) };
+
+    ghost styled_output = { λ error _. Some (key_error_text error) };
+
+    fn fmt<W: fmt::Write>(&self, f: &mut fmt::Formatter<W>) -> fmt::Result {
+        match self {
+            KeyError::Private => f.write_str("the key is a private key or a secret"),
+            KeyError::Missing(member) => write_display(
+                f,
+                format_args!("the key has no member {member}"),
+            ),
+            KeyError::WrongType(member) => write_display(
+                f,
+                format_args!("the member {member} has another type"),
+            ),
+            KeyError::NotBase64(member) => write_display(
+                f,
+                format_args!("the member {member} is not base64url"),
+            ),
+            KeyError::UnknownType => f.write_str("the key type is not RSA or EC"),
+            KeyError::UnknownCurve => f.write_str("the curve is not P-256"),
+            KeyError::WrongSize(member) => write_display(
+                f,
+                format_args!("the member {member} is not 32 octets long"),
+            ),
+            KeyError::Rsa(error) => write_display(f, error),
+            KeyError::P256(error) => write_display(f, error),
+        }
+    }
+}
+
+impl std::error::Error for KeyError {}

@@ -1,8 +1,19 @@
 //! The members of a key, read where they stand in its object.
 
-ghost use Rattle.std.specs.Prelude.{◌≡◌, ◌∷◌, [], codes, IfOk, map, option_map, string_bytes};
+ghost use Rattle.std.specs.Prelude.{
+  ◌≡◌,
+  ◌∷◌,
+  [],
+  codes,
+  IfOk,
+  Some,
+  map,
+  option_map,
+  string_bytes,
+};
 ghost use Rattle.serde_json.specs.View.{view, items_view};
 ghost use Rattle.oauth2_openid.specs.Token.{bytes_of};
+ghost use Rattle.oauth2_keys.specs.ErrorTexts.{key_read_error_text};
 ghost use Rattle.oauth2_keys.specs.Members.{
   FindsAs,
   KeyReadsAs,
@@ -18,8 +29,10 @@ ghost use Rattle.oauth2_keys.specs.Members.{
 use crate::key_error::{KeyError, KeyMember};
 use base64::DecodeAllocError;
 use base64::engine::general_purpose::URL_SAFE_NO_PAD;
+use oauth2_types::display::write_display;
 use serde_json::Value;
 use std::alloc::{AllocError, AllocFailed, Global};
+use std::fmt;
 
 /// Why nothing was read of a key.
 #[derive(Debug, PartialEq, Eq, Drop)]
@@ -29,6 +42,21 @@ pub enum KeyReadError {
     /// Memory ran out.
     Memory,
 }
+
+impl fmt::Display for KeyReadError {
+    ghost output = { λ error. Some (key_read_error_text error) };
+
+    ghost styled_output = { λ error _. Some (key_read_error_text error) };
+
+    fn fmt<W: fmt::Write>(&self, f: &mut fmt::Formatter<W>) -> fmt::Result {
+        match self {
+            KeyReadError::Fault(error) => write_display(f, error),
+            KeyReadError::Memory => f.write_str("out of memory"),
+        }
+    }
+}
+
+impl std::error::Error for KeyReadError {}
 
 impl From<AllocError> for KeyReadError {
     ghost use Rattle.oauth2_keys.specs.declared.key_members.KeyReadError.TheVariants.{Memory};
