@@ -1,0 +1,17 @@
+-- How often a request is sent again, and how long is waited before.
+use Rattle.std.specs.Prelude.{ℕ}
+use Rattle.std.specs.Duration.{as_nanos}
+use Rattle.oauth2_retries.specs.declared.limits.RetryLimits.{RetryLimits}
+
+-- the limits, with times in nanoseconds
+pub record Limits : Type 0 where
+  pub most_repeats : ℕ
+  pub first_wait : ℕ
+  pub most_wait : ℕ
+
+abbrev pub limits_of : RetryLimits → Limits
+limits_of limits = record {
+  most_repeats = limits.most_repeats;
+  first_wait = as_nanos limits.first_wait;
+  most_wait = as_nanos limits.most_wait;
+}

@@ -1,0 +1,159 @@
+//! A client that sends a request again where that is safe.
+
+ghost use Rattle.std.specs.Prelude.{◌≡◌, false, MatchOption};
+ghost use Rattle.std.specs.Duration.{as_nanos};
+ghost use Rattle.oauth2_retries.specs.Limits.{limits_of};
+ghost use Rattle.oauth2_retries.specs.Repeats.{Repeats};
+ghost use Rattle.oauth2_retries.specs.private.Try.{Ends, SleepsAfter};
+
+use crate::answer::is_repeatable;
+use crate::limits::RetryLimits;
+use crate::pause::{pause_after, shorter};
+use crate::sleeping_client::SleepingClient;
+use crate::tells_unsent::TellsUnsent;
+use oauth2_wire::{AlwaysReady, HttpRequest, HttpResponse, SyncHttpClient, copy_request};
+use std::alloc::Global;
+use std::marker::Model;
+use std::time::Duration;
+
+/// A client that sends a request again where that is safe: a GET whose call failed, or that was
+/// answered by 429 or 503, and any request of which the error says that nothing was sent.
+///
+/// Contracts see it as a `Repeater`.
+#[derive(Drop)]
+pub struct Retrying<C> {
+    alloc: Global,
+    client: C,
+    limits: RetryLimits,
+    is_cut_short: bool,
+}
+
+impl<C> Model for Retrying<C> {
+    ghost use Rattle.oauth2_retries.specs.Limits.{limits_of};
+    ghost use Rattle.oauth2_retries.specs.Repeats.{Repeater};
+
+    ghost Value = { Repeater C };
+
+    ghost view = { λ r. record {
+      client = r.client;
+      limits = limits_of r.limits;
+      is_cut_short = r.is_cut_short;
+    } };
+}
+
+impl<C> Retrying<C> {
+    /// The client that calls and sleeps by this one, within these limits.
+    pub fn new(alloc: Global, client: C, limits: RetryLimits) -> Retrying<C>
+        ensures { result ≡ record {
+          client = client;
+          limits = limits_of limits;
+          is_cut_short = false;
+        } }
+    {
+        Retrying {
+            alloc,
+            client,
+            limits,
+            is_cut_short: false,
+        }
+    }
+
+    /// Whether the last call made no further try since memory for a copy of the request ran out.
+    pub fn is_cut_short(&self) -> bool
+        ensures { result ≡ self.now.is_cut_short }
+    {
+        self.is_cut_short
+    }
+
+    /// The client that is called.
+    pub fn into_inner(self) -> C
+        ensures { result ≡ self.client }
+    {
+        let Retrying { client, .. } = self;
+        client
+    }
+}
+
+impl<C> SyncHttpClient for Retrying<C>
+where
+    C: SleepingClient,
+    C::Error: TellsUnsent,
+{
+    ghost use Rattle.oauth2_retries.specs.Repeats.{CallsRepeating};
+
+    type Error = C::Error;
+
+    ghost is_ready = { λ r. C.is_ready r.client };
+
+    ghost step = { CallsRepeating C.step C.sleeps C.Error.unsent };
+
+    fn call(&mut self, request: HttpRequest) -> Result<HttpResponse, C::Error> {
+        let (answer, is_cut_short) = repeated(self.alloc, &mut self.client, self.limits, request);
+        self.is_cut_short = is_cut_short;
+        answer
+    }
+}
+
+impl<C> AlwaysReady for Retrying<C>
+where
+    C: SleepingClient + AlwaysReady,
+    C::Error: TellsUnsent,
+{
+    ghost always_ready = { λ r. C.always_ready r.client };
+}
+
+// The last answer to a request that is sent again, and whether there was no memory for a copy.
+fn repeated<C>(
+    alloc: Global,
+    client: &mut C,
+    limits: RetryLimits,
+    request: HttpRequest,
+) -> (Result<HttpResponse, C::Error>, bool)
+where
+    C: SleepingClient,
+    C::Error: TellsUnsent,
+    requires { C.is_ready client.old }
+    ensures calls { Repeats C.step C.sleeps C.Error.unsent (limits_of limits) client.old request
+        result.0 client.new result.1 }
+    ensures ready { C.is_ready client.new }
+{
+    let mut left = limits.most_repeats;
+    let mut wait = limits.first_wait;
+    'tries: while left > 0 {
+        let Ok(copy) = copy_request(alloc, &request) else {
+            return (client.call(request), true);
+        };
+        if let Some(answer) = last_answer(client, &request, copy, wait, limits.most_wait) {
+            return (answer, false);
+        }
+        left -= 1;
+        wait = shorter(limits.most_wait, wait.saturating_mul(2));
+    }
+    (client.call(request), false)
+}
+
+// The answer to a copy of a request, unless that is to be sent again: then it was waited for.
+fn last_answer<C>(
+    client: &mut C,
+    request: &HttpRequest,
+    copy: HttpRequest,
+    wait: Duration,
+    most: Duration,
+) -> Option<Result<HttpResponse, C::Error>>
+where
+    C: SleepingClient,
+    C::Error: TellsUnsent,
+    requires { C.is_ready client.old }
+    ensures answer { MatchOption result
+        (SleepsAfter C.step C.sleeps C.Error.unsent (as_nanos most) (as_nanos wait) request.now
+        copy client.old client.new)
+        (λ answer. Ends C.step C.Error.unsent request.now copy client.old answer client.new) }
+    ensures ready { C.is_ready client.new }
+{
+    let answer = client.call(copy);
+    if !is_repeatable(request.method().as_str(), &answer) {
+        return Some(answer);
+    }
+    client.sleep(pause_after(&answer, wait, most));
+    None
+}
