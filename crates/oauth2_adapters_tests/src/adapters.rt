@@ -1,0 +1,181 @@
+//! Replies through an adapter.
+
+use crate::replies::{add_field, reply_of, types_of};
+use http::Request;
+use http_header::{CONTENT_TYPE, HeaderMap};
+use oauth2_adapters::{
+    AdaptedClient, CommasInScopes, ErrorsAtStatus200, FormBodies, NumbersAsTexts, OtherMediaTypes,
+    ReplyAdapter,
+};
+use oauth2_wire::{AlwaysReady, HttpRequest, HttpResponse, SyncHttpClient};
+use std::alloc::Global;
+use std::io::{self, Write};
+
+// An HTTP client that hands out one reply.
+#[derive(Drop)]
+struct Canned {
+    reply: Option<HttpResponse>,
+}
+
+impl SyncHttpClient for Canned {
+    type Error = ();
+
+    fn call(&mut self, request: HttpRequest) -> Result<HttpResponse, ()> {
+        drop(request);
+        self.reply.take().ok_or(())
+    }
+}
+
+impl AlwaysReady for Canned {
+    ghost always_ready = { λ _. tt };
+}
+
+fn answered<C: AlwaysReady + Drop>(alloc: Global, mut client: C) -> Option<HttpResponse> {
+    client.call(Request::new(alloc, Vec::new(alloc))).ok()
+}
+
+fn adapted<A: ReplyAdapter + Drop>(
+    alloc: Global,
+    adapter: A,
+    reply: HttpResponse,
+) -> Option<HttpResponse> {
+    let canned = Canned { reply: Some(reply) };
+    answered(alloc, AdaptedClient::new(alloc, canned, adapter))
+}
+
+// A reply that two adapters adapt, one behind the other.
+fn adapted_twice(alloc: Global, types: &[&str], reply: HttpResponse) -> Option<HttpResponse> {
+    let canned = Canned { reply: Some(reply) };
+    let typed = AdaptedClient::new(alloc, canned, OtherMediaTypes::new(types));
+    answered(alloc, AdaptedClient::new(alloc, typed, ErrorsAtStatus200))
+}
+
+// The reply that an adapter of this name makes.
+fn adapted_by(
+    alloc: Global,
+    name: &str,
+    listed: &[&str],
+    reply: HttpResponse,
+) -> Option<HttpResponse> {
+    match name {
+        "errors_at_200" => adapted(alloc, ErrorsAtStatus200, reply),
+        "form_bodies" => adapted(alloc, FormBodies, reply),
+        "commas_in_scopes" => adapted(alloc, CommasInScopes, reply),
+        "numbers_as_texts" => adapted(alloc, NumbersAsTexts::new(listed), reply),
+        "other_media_types" => adapted(alloc, OtherMediaTypes::new(listed), reply),
+        "other_media_types_and_errors_at_200" => adapted_twice(alloc, listed, reply),
+        _ => None,
+    }
+}
+
+// The reply that the adapter of this line makes.
+fn adapted_line(
+    alloc: Global,
+    adapter: &str,
+    reply: HttpResponse,
+) -> io::Result<Option<HttpResponse>> {
+    let mut words = adapter.split(' ');
+    let name = words.next().unwrap_or("");
+    let mut listed = Vec::new(alloc);
+    for word in words {
+        listed.push(word)?;
+    }
+    Ok(adapted_by(alloc, name, listed.as_slice(), reply))
+}
+
+fn write_text_of<W: Write>(reply: &HttpResponse, writer: &mut W) -> io::Result<()> {
+    let media_type = match reply.headers().get(CONTENT_TYPE) {
+        Some(value) => value.to_str().unwrap_or("?"),
+        None => "-",
+    };
+    writeln!(
+        writer,
+        "{} {media_type}: {}",
+        reply.status().as_u16(),
+        std::str::from_utf8(reply.body().as_slice()).unwrap_or("?"),
+    )
+}
+
+// The Content-Types in hex, with commas between them.
+fn shown_types(alloc: Global, headers: &HeaderMap) -> io::Result<String> {
+    let mut shown = String::new(alloc);
+    let mut is_first = true;
+    for value in headers.get_all(CONTENT_TYPE) {
+        if !is_first {
+            shown.push(',')?;
+        }
+        is_first = false;
+        shown.push_str(hex::encode(alloc, value.as_bytes())?.as_str())?;
+    }
+    if is_first {
+        shown.push('-')?;
+    }
+    Ok(shown)
+}
+
+fn write_octets_of<W: Write>(
+    alloc: Global,
+    reply: &HttpResponse,
+    writer: &mut W,
+) -> io::Result<()> {
+    let types = shown_types(alloc, reply.headers())?;
+    let body = hex::encode(alloc, reply.body().as_slice())?;
+    writeln!(writer, "{} {types} {body}", reply.status().as_u16())
+}
+
+// A reply of a text.
+fn text_reply(alloc: Global, media_type: &str, words: &str) -> io::Result<Option<HttpResponse>> {
+    let (status, text) = words.split_once(' ').unwrap_or((words, ""));
+    let mut headers = HeaderMap::new(alloc);
+    if !add_field(alloc, &mut headers, CONTENT_TYPE, media_type.as_bytes()) {
+        return Ok(None);
+    }
+    Ok(reply_of(
+        alloc,
+        status,
+        headers,
+        Vec::from_slice(alloc, text.as_bytes())?,
+    ))
+}
+
+// A reply of octets.
+fn octets_reply(alloc: Global, words: &str) -> Option<HttpResponse> {
+    let (status, rest) = words.split_once(' ')?;
+    let (types, body) = rest.split_once(' ')?;
+    let headers = types_of(alloc, types)?;
+    match hex::decode(alloc, body) {
+        Ok(body) => reply_of(alloc, status, headers, body),
+        Err(_) => None,
+    }
+}
+
+pub(crate) fn write_text<W: Write>(
+    alloc: Global,
+    adapter: &str,
+    media_type: &str,
+    words: &str,
+    writer: &mut W,
+) -> io::Result<()> {
+    let Some(reply) = text_reply(alloc, media_type, words)? else {
+        return writeln!(writer, "?");
+    };
+    match adapted_line(alloc, adapter, reply)? {
+        Some(reply) => write_text_of(&reply, writer),
+        None => writeln!(writer, "?"),
+    }
+}
+
+pub(crate) fn write_octets<W: Write>(
+    alloc: Global,
+    adapter: &str,
+    words: &str,
+    writer: &mut W,
+) -> io::Result<()> {
+    let Some(reply) = octets_reply(alloc, words) else {
+        return writeln!(writer, "?");
+    };
+    match adapted_line(alloc, adapter, reply)? {
+        Some(reply) => write_octets_of(alloc, &reply, writer),
+        None => writeln!(writer, "?"),
+    }
+}
