@@ -1,0 +1,24 @@
+-- What `Display` writes of the faults.
+use Rattle.std.specs.Prelude.{ℕ, List, codes}
+use Rattle.oauth2_keys.specs.declared.signature_error.SignatureError.{SignatureError}
+use Rattle.oauth2_keys.specs.declared.signature_error.SignatureError.TheVariants as signature
+use Rattle.oauth2_jwt_access_tokens.specs.declared.fault.AccessTokenFault.{AccessTokenFault}
+use Rattle.oauth2_jwt_access_tokens.specs.declared.fault.AccessTokenFault.TheVariants as fault
+
+abbrev pub signature_error_text : SignatureError → List ℕ
+signature_error_text signature.OtherAlgorithm = codes "the algorithm is not the registered one"
+signature_error_text signature.NoKey = codes "no key is for the token"
+signature_error_text signature.AmbiguousKey = codes "several keys are for the token"
+signature_error_text (signature.UnusableKey error) = codes "the key that the token names is of no use"
+signature_error_text signature.ShortSecret = codes "the secret is too short"
+signature_error_text signature.WrongSignature = codes "the signature is not one by the key"
+
+abbrev pub access_token_fault_text : AccessTokenFault → List ℕ
+access_token_fault_text fault.OtherType = codes "the type is not that of an access token"
+access_token_fault_text fault.OtherAlgorithm = codes "the algorithm is not the registered one"
+access_token_fault_text fault.CriticalExtension = codes "the header has an extension that has to be understood"
+access_token_fault_text fault.OtherIssuer = codes "the issuer is another one"
+access_token_fault_text fault.OtherAudience = codes "the resource server is not in the audience"
+access_token_fault_text fault.Expired = codes "the token has expired"
+access_token_fault_text fault.NotYetValid = codes "the token is not valid yet"
+access_token_fault_text (fault.Signature error) = signature_error_text error

@@ -1,0 +1,5 @@
+pub mod AccessToken
+pub mod Seen
+pub mod Rules
+pub mod Introspected
+pub mod ErrorTexts

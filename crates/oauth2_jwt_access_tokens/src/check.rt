@@ -1,0 +1,220 @@
+//! The rules for a JWT access token at a resource server (RFC 9068, 4).
+
+ghost use Rattle.std.specs.Prelude.{
+  ◌≡◌,
+  ◌↔◌,
+  ◌+ℤ◌,
+  IfErr,
+  IsOk,
+  map,
+  option_copied,
+  pos,
+  string_bytes,
+};
+ghost use Rattle.std.specs.Duration.{as_nanos};
+ghost use Rattle.oauth2_keys.specs.Verified.{IsVerified};
+ghost use Rattle.oauth2_openid.specs.Rules.{is_among};
+ghost use Rattle.oauth2_jwt_access_tokens.specs.Rules.{
+  AccessTokenHolds,
+  IsFirstFault,
+  IsSignatureFault,
+  access_token_checked,
+  algorithm_rule,
+  audience_rule,
+  critical_rule,
+  expiry_rule,
+  issuer_rule,
+  names_access_token,
+  start_rule,
+  type_of,
+  type_rule,
+};
+ghost use Rattle.oauth2_jwt_access_tokens.specs.Seen.{access_token_of};
+
+use crate::access_token::JwtAccessToken;
+use crate::expected::ExpectedAccessToken;
+use crate::fault::AccessTokenFault;
+use jiff::Timestamp;
+use oauth2_keys::JsonWebKeySet;
+use serde_json::Value;
+use std::time::Duration;
+
+impl JwtAccessToken {
+    /// Whether the token is to be taken at this moment by a resource server that expects this and
+    /// knows these keys of the issuer; else the first rule that does not hold, in the order of
+    /// `AccessTokenFault`. Takes no memory.
+    pub fn check(
+        &self,
+        expected: &ExpectedAccessToken,
+        keys: &JsonWebKeySet,
+        now: Timestamp,
+    ) -> Result<(), AccessTokenFault>
+        ensures succeeds { IsOk result
+            ↔ AccessTokenHolds expected.now keys.now now.nanosecond (access_token_of self.now) }
+        ensures refused { IfErr result
+            (IsFirstFault expected.now keys.now now.nanosecond (access_token_of self.now)) }
+    {
+        match self.first_broken(expected, now) {
+            Ok(()) => self.check_signature(expected, keys),
+            Err(fault) => Err(fault),
+        }
+    }
+
+    // The first rule that does not hold, the signature's aside.
+    fn first_broken(
+        &self,
+        expected: &ExpectedAccessToken,
+        now: Timestamp,
+    ) -> Result<(), AccessTokenFault>
+        ensures { result
+            ≡ access_token_checked expected.now now.nanosecond (access_token_of self.now) }
+    {
+        self.check_type()?;
+        self.check_algorithm(expected)?;
+        self.check_critical()?;
+        self.check_issuer(expected)?;
+        self.check_audience(expected)?;
+        self.check_expiry(expected, now)?;
+        self.check_start(expected, now)
+    }
+
+    // What the header says that the token is.
+    fn token_type(&self) -> Option<&str>
+        ensures { option_copied result ≡ type_of (access_token_of self.now).token }
+    {
+        self.token
+            .other_header_members()
+            .get("typ")
+            .and_then(Value::as_str)
+    }
+
+    fn check_type(&self) -> Result<(), AccessTokenFault>
+        ensures { result ≡ type_rule (access_token_of self.now).token }
+    {
+        if names_access_token(self.token_type()) {
+            Ok(())
+        } else {
+            Err(AccessTokenFault::OtherType)
+        }
+    }
+
+    fn check_algorithm(&self, expected: &ExpectedAccessToken) -> Result<(), AccessTokenFault>
+        ensures { result ≡ algorithm_rule expected.now (access_token_of self.now).token }
+    {
+        if self.token.header().algorithm() == expected.algorithm.name() {
+            Ok(())
+        } else {
+            Err(AccessTokenFault::OtherAlgorithm)
+        }
+    }
+
+    fn check_critical(&self) -> Result<(), AccessTokenFault>
+        ensures { result ≡ critical_rule (access_token_of self.now).token }
+    {
+        if self.token.other_header_members().get("crit").is_none() {
+            Ok(())
+        } else {
+            Err(AccessTokenFault::CriticalExtension)
+        }
+    }
+
+    fn check_issuer(&self, expected: &ExpectedAccessToken) -> Result<(), AccessTokenFault>
+        ensures { result ≡ issuer_rule expected.now (access_token_of self.now).token }
+    {
+        if self.issuer() == expected.issuer.as_str() {
+            Ok(())
+        } else {
+            Err(AccessTokenFault::OtherIssuer)
+        }
+    }
+
+    fn check_audience(&self, expected: &ExpectedAccessToken) -> Result<(), AccessTokenFault>
+        ensures { result ≡ audience_rule expected.now (access_token_of self.now).token }
+    {
+        if is_among(self.audience(), expected.audience.as_str()) {
+            Ok(())
+        } else {
+            Err(AccessTokenFault::OtherAudience)
+        }
+    }
+
+    fn check_expiry(
+        &self,
+        expected: &ExpectedAccessToken,
+        now: Timestamp,
+    ) -> Result<(), AccessTokenFault>
+        ensures { result
+            ≡ expiry_rule expected.now now.nanosecond (access_token_of self.now).token }
+    {
+        if now.as_nanosecond() < nanosecond_after(self.expires_at(), expected.leeway) {
+            Ok(())
+        } else {
+            Err(AccessTokenFault::Expired)
+        }
+    }
+
+    fn check_start(
+        &self,
+        expected: &ExpectedAccessToken,
+        now: Timestamp,
+    ) -> Result<(), AccessTokenFault>
+        ensures { result ≡ start_rule expected.now now.nanosecond (access_token_of self.now) }
+    {
+        let Some(start) = self.own.not_before else {
+            return Ok(());
+        };
+        if start.as_nanosecond() <= nanosecond_after(now, expected.leeway) {
+            Ok(())
+        } else {
+            Err(AccessTokenFault::NotYetValid)
+        }
+    }
+
+    fn check_signature(
+        &self,
+        expected: &ExpectedAccessToken,
+        keys: &JsonWebKeySet,
+    ) -> Result<(), AccessTokenFault>
+        ensures verified { IsOk result
+            ↔ IsVerified keys.now expected.now.algorithm (access_token_of self.now).token }
+        ensures refused { IfErr result
+            (IsSignatureFault keys.now expected.now.algorithm (access_token_of self.now).token) }
+    {
+        match keys.verify(&self.token, expected.algorithm) {
+            Ok(()) => Ok(()),
+            Err(error) => Err(AccessTokenFault::Signature(error)),
+        }
+    }
+}
+
+// Whether a header's type is that of an access token.
+fn names_access_token(token_type: Option<&str>) -> bool
+    ensures { result ≡ names_access_token (option_copied token_type.entry) }
+{
+    match token_type {
+        Some(token_type) => {
+            token_type.eq_ignore_ascii_case("at+jwt")
+                || token_type.eq_ignore_ascii_case("application/at+jwt")
+        }
+        None => false,
+    }
+}
+
+fn is_among(texts: &[String], text: &str) -> bool
+    ensures { result ≡ is_among text.now (map string_bytes texts.now) }
+{
+    for each in texts {
+        if each.as_str() == text {
+            return true;
+        }
+    }
+    false
+}
+
+// So long after a moment, in nanoseconds since 1970. The sum is always there: a moment has less
+// than 2^69 nanoseconds, a duration less than 2^94.
+fn nanosecond_after(moment: Timestamp, duration: Duration) -> i128
+    ensures { result ≡ moment.nanosecond +ℤ pos (as_nanos duration) }
+{
+    moment.as_nanosecond() + duration.as_nanos() as i128
+}

@@ -1,0 +1,80 @@
+//! Why a JWT access token is refused.
+
+ghost use Rattle.std.specs.Prelude.{◌≡◌, Some};
+ghost use Rattle.oauth2_jwt_access_tokens.specs.ErrorTexts.{
+  access_token_fault_text,
+  signature_error_text,
+};
+
+use oauth2_keys::SignatureError;
+use std::fmt;
+
+/// The first rule for a JWT access token that does not hold. The rules are tried in the order of
+/// these variants; the signature comes last, because it costs most.
+#[derive(Clone, Copy, Debug, PartialEq, Eq, Drop)]
+pub enum AccessTokenFault {
+    /// The header's `typ` is neither `at+jwt` nor `application/at+jwt`, in any case of letters, or
+    /// it has none (RFC 9068, 4). An ID token is refused so.
+    OtherType,
+    /// The algorithm is not the one that the issuer signs with. A token with `none` is refused so
+    /// (RFC 9068, 4), and one with an HMAC.
+    OtherAlgorithm,
+    /// The header has the member `crit`: an extension that has to be understood, which none is here
+    /// (RFC 7515, 4.1.11).
+    CriticalExtension,
+    /// The issuer is another one (RFC 9068, 4).
+    OtherIssuer,
+    /// This resource server is not in the audience (RFC 9068, 4).
+    OtherAudience,
+    /// The token has expired (RFC 9068, 4).
+    Expired,
+    /// The token does not count yet, by its `nbf` (RFC 7519, 4.1.5).
+    NotYetValid,
+    /// The signature is not one by the issuer's keys (RFC 9068, 4). Of the variants of the error
+    /// `OtherAlgorithm` and `ShortSecret` do not occur here.
+    Signature(SignatureError),
+}
+
+fn signature_error_text(error: SignatureError) -> &'static str
+    ensures { result.now ≡ signature_error_text error }
+{
+    match error {
+        SignatureError::OtherAlgorithm => "the algorithm is not the registered one",
+        SignatureError::NoKey => "no key is for the token",
+        SignatureError::AmbiguousKey => "several keys are for the token",
+        SignatureError::UnusableKey(_) => "the key that the token names is of no use",
+        SignatureError::ShortSecret => "the secret is too short",
+        SignatureError::WrongSignature => "the signature is not one by the key",
+    }
+}
+
+impl AccessTokenFault {
+    fn text(self) -> &'static str
+        ensures { result.now ≡ access_token_fault_text self }
+    {
+        match self {
+            AccessTokenFault::OtherType => "the type is not that of an access token",
+            AccessTokenFault::OtherAlgorithm => "the algorithm is not the registered one",
+            AccessTokenFault::CriticalExtension => {
+                "the header has an extension that has to be understood"
+            }
+            AccessTokenFault::OtherIssuer => "the issuer is another one",
+            AccessTokenFault::OtherAudience => "the resource server is not in the audience",
+            AccessTokenFault::Expired => "the token has expired",
+            AccessTokenFault::NotYetValid => "the token is not valid yet",
+            AccessTokenFault::Signature(error) => signature_error_text(error),
+        }
+    }
+}
+
+impl fmt::Display for AccessTokenFault {
+    ghost output = { λ fault. Some (access_token_fault_text fault) };
+
+    ghost styled_output = { λ fault _. Some (access_token_fault_text fault) };
+
+    fn fmt<W: fmt::Write>(&self, f: &mut fmt::Formatter<W>) -> fmt::Result {
+        f.write_str(self.text())
+    }
+}
+
+impl std::error::Error for AccessTokenFault {}

@@ -1,0 +1,16 @@
+//! JWT access tokens (RFC 9068) at a resource server: what one says, and whether it is to be taken.
+
+#![tactic(auto)]
+
+mod access_token;
+mod check;
+mod expected;
+mod fault;
+mod introspection;
+mod own_claims;
+mod verified;
+
+pub use access_token::{JwtAccessToken, JwtAccessTokenReadError};
+pub use expected::ExpectedAccessToken;
+pub use fault::AccessTokenFault;
+pub use verified::{RefusedAccessToken, VerifiedAccessToken};

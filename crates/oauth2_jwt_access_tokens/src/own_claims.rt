@@ -1,0 +1,61 @@
+//! The claims of a JWT access token that an ID token has not (RFC 9068, 2.2 and 2.2.3).
+
+ghost use Rattle.std.specs.Prelude.{◌≡◌, IfOk, codes, option_map};
+ghost use Rattle.serde_json.specs.Find.{get};
+ghost use Rattle.serde_json.specs.View.{view};
+ghost use Rattle.oauth2_json.specs.Reading.{ReadsAs};
+ghost use Rattle.oauth2_jwt_access_tokens.specs.AccessToken.{own_claims_row};
+
+use jiff::Timestamp;
+use oauth2_introspection::optional_time;
+use oauth2_json::{ReadError, members};
+use oauth2_types::{ClientId, Scope};
+use serde_json::Value;
+use std::alloc::{AllocError, Global};
+use std::marker::Model;
+
+// The client, the token's own name, its scope, and from when on it counts.
+#[derive(Drop)]
+pub(crate) struct AccessTokenClaims {
+    pub(crate) client_id: ClientId,
+    pub(crate) token_id: String,
+    pub(crate) scopes: Option<Vec<Scope>>,
+    pub(crate) not_before: Option<Timestamp>,
+}
+
+impl Model for AccessTokenClaims {
+    ghost use Rattle.std.specs.Prelude.{option_map, string_bytes};
+    ghost use Rattle.oauth2_jwt_access_tokens.specs.AccessToken.{OwnClaims};
+
+    ghost Value = { OwnClaims };
+
+    ghost view = { λ c. record {
+      client_id = c.client_id;
+      token_id = string_bytes c.token_id;
+      scopes = option_map (λ list. list.items) c.scopes;
+      not_before = option_map (λ time. time.nanosecond) c.not_before;
+    } };
+}
+
+// A copy of what a claim holds.
+fn copy_of(claims: &Value, name: &str) -> Result<Option<Value>, AllocError>
+    ensures { IfOk result (λ copy. option_map view copy ≡ get name.now (view claims.now)) }
+{
+    match claims.get(name) {
+        Some(value) => Ok(Some(value.clone()?)),
+        None => Ok(None),
+    }
+}
+
+// What these claims hold of them.
+#[tactic(auto, unfolding(crate::specs::AccessToken::own_claims_row))]
+pub(crate) fn own_claims(alloc: Global, claims: &Value) -> Result<AccessTokenClaims, ReadError>
+    ensures { ReadsAs (λ c. c) result (own_claims_row (view claims.now)) }
+{
+    Ok(AccessTokenClaims {
+        client_id: members::needed(alloc, "client_id", copy_of(claims, "client_id")?)?,
+        token_id: members::needed(alloc, "jti", copy_of(claims, "jti")?)?,
+        scopes: members::optional_words(alloc, "scope", copy_of(claims, "scope")?)?,
+        not_before: optional_time(alloc, "nbf", copy_of(claims, "nbf")?)?,
+    })
+}
