@@ -1,0 +1,4 @@
+pub mod Signature
+pub mod Unverified
+pub mod End
+pub mod Provider

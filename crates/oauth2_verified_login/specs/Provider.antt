@@ -1,0 +1,18 @@
+-- What a client knows of a provider whose ID tokens it verifies.
+use Rattle.std.specs.Prelude.{Some}
+use Rattle.oauth2_openid_login.specs.Provider.{Provider}
+use Rattle.oauth2_verified_login.specs.Signature.{Check, registered_algorithm}
+
+-- what is expected of its redirects and of the claims of its ID tokens, and how their signature is
+-- checked
+pub record Verifying : Type 0 where
+  pub provider : Provider
+  pub check : Check
+
+-- OpenID Connect Core 1.0, 3.1.3.7, 7: of the claims the algorithm of the check is expected too
+abbrev pub verifying : Provider → Check → Verifying
+verifying provider check =
+    record {
+      provider = record provider { algorithm = Some (registered_algorithm check) };
+      check = check;
+    }

@@ -1,0 +1,14 @@
+//! A login with OpenID Connect whose ID token is verified: the login of `oauth2_openid_login`, and
+//! the check of the token's signature by `oauth2_keys` (Core 1.0, section 3.1.3.7).
+
+#![tactic(auto)]
+
+mod login_end;
+mod login_error;
+mod provider;
+mod signature_check;
+
+pub use login_end::{UnverifiedLogin, VerifiedLoginEnd};
+pub use login_error::VerifiedLoginError;
+pub use provider::VerifiedProvider;
+pub use signature_check::SignatureCheck;

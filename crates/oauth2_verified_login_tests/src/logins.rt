@@ -1,0 +1,195 @@
+//! Logins, and what is printed of their ends.
+
+use crate::canned::{NoReply, OneReply};
+use jiff::Timestamp;
+use oauth2::basic::BasicErrorResponse;
+use oauth2::url::Url;
+use oauth2::{ClientSecret, FromJson, TokenResponse, read_body};
+use oauth2_keys::{JsonWebKeySet, SecretAlgorithm, SignatureAlgorithm};
+use oauth2_openid_login::{OpenIdClient, OpenIdLogin, OpenIdProvider, OpenIdTokenResponse};
+use oauth2_verified_login::{
+    SignatureCheck, UnverifiedLogin, VerifiedLoginEnd, VerifiedLoginError, VerifiedProvider,
+};
+use std::alloc::Global;
+use std::io::{self, Write};
+use std::time::Duration;
+
+type Ended = Result<
+    VerifiedLoginEnd<OpenIdTokenResponse>,
+    VerifiedLoginError<OpenIdTokenResponse, NoReply, BasicErrorResponse>,
+>;
+
+// A login of the nonce of the standard's examples, and its redirect.
+const KEPT: &str = r#"{"nonce":"n-0S6_WzA2Mj","state":"af0ifjsldkj","verifier":"v"}"#;
+
+const REDIRECT: &str =
+    "https://client.example.org/cb?code=SplxlOBeZQQYbYS6WxSbIA&state=af0ifjsldkj";
+
+const FORM: &str = "code=SplxlOBeZQQYbYS6WxSbIA&state=af0ifjsldkj";
+
+// How a signature is checked by an algorithm of that name.
+fn check_of<'a>(
+    name: &str,
+    keys: &'a JsonWebKeySet,
+    secret: &'a ClientSecret,
+) -> Option<SignatureCheck<'a>> {
+    match SignatureAlgorithm::from_name(name) {
+        Some(algorithm) => Some(SignatureCheck::Keys(keys, algorithm)),
+        None => if name == "HS256" {
+            Some(SignatureCheck::Secret(secret, SecretAlgorithm::Hs256))
+        } else {
+            None
+        },
+    }
+}
+
+fn provider_of<'a>(issuer: &'a str, check: SignatureCheck<'a>) -> VerifiedProvider<'a> {
+    let provider = OpenIdProvider::new(issuer, Duration::from_secs(60));
+    VerifiedProvider::new(provider, check)
+}
+
+// The end of a login by a redirect.
+fn ended_by_redirect(
+    alloc: Global,
+    client: &OpenIdClient,
+    provider: &VerifiedProvider<'_>,
+    token: &str,
+) -> anyhow::Result<Ended> {
+    let now = Timestamp::from_second(1_311_281_000)?;
+    let login: OpenIdLogin = read_body(alloc, KEPT.as_bytes())?;
+    let redirect = Url::parse(alloc, REDIRECT)?;
+    let mut http_client = OneReply::new(alloc, token)?;
+    Ok(provider.finish(alloc, login, client, &mut http_client, &redirect, || now))
+}
+
+// The end of a login by a form.
+fn ended_by_form(
+    alloc: Global,
+    client: &OpenIdClient,
+    provider: &VerifiedProvider<'_>,
+    token: &str,
+) -> anyhow::Result<Ended> {
+    let now = Timestamp::from_second(1_311_281_000)?;
+    let login: OpenIdLogin = read_body(alloc, KEPT.as_bytes())?;
+    let mut http_client = OneReply::new(alloc, token)?;
+    Ok(provider.finish_query(alloc, login, client, &mut http_client, FORM, || now))
+}
+
+fn ended_again(
+    unverified: UnverifiedLogin<OpenIdTokenResponse>,
+    check: SignatureCheck<'_>,
+) -> Ended {
+    Ok(unverified.verify_again(check)?)
+}
+
+// Who the user is, by which access token, and what the hash says of it.
+fn write_user<W: Write>(
+    end: VerifiedLoginEnd<OpenIdTokenResponse>,
+    writer: &mut W,
+) -> io::Result<()> {
+    let subject = end.id_token().claims().subject();
+    let token = end.token_response().access_token();
+    let hash = end.access_token_hash();
+    writeln!(writer, "{subject} {} {hash:?} {end:?}", token.secret())?;
+    let end = end.into_end();
+    writeln!(writer, "of {}", end.id_token.claims().issuer())
+}
+
+// How the login of a line ends; `None` where the line is none.
+fn ended_of(
+    alloc: Global,
+    client: &OpenIdClient,
+    keys: &JsonWebKeySet,
+    secret: &ClientSecret,
+    line: &str,
+) -> anyhow::Result<Option<Ended>> {
+    let mut words = line.split(' ');
+    let command = words.next().unwrap_or("");
+    let Some(check) = check_of(words.next().unwrap_or(""), keys, secret) else {
+        return Ok(None);
+    };
+    let provider = provider_of(words.next().unwrap_or(""), check);
+    let token = words.next().unwrap_or("");
+    match command {
+        "login" => Ok(Some(ended_by_redirect(alloc, client, &provider, token)?)),
+        "form" => Ok(Some(ended_by_form(alloc, client, &provider, token)?)),
+        _ => Ok(None),
+    }
+}
+
+/// The logins of a run.
+#[derive(Drop)]
+pub struct Logins {
+    keys: JsonWebKeySet,
+    secret: ClientSecret,
+    // The last one whose signature was refused.
+    refused: Option<UnverifiedLogin<OpenIdTokenResponse>>,
+}
+
+impl Logins {
+    /// No login yet, no key and an empty secret.
+    pub fn new(alloc: Global) -> anyhow::Result<Logins> {
+        Ok(Logins {
+            keys: JsonWebKeySet::from_body(alloc, br#"{"keys":[]}"#)?,
+            secret: ClientSecret::from_str(alloc, "")?,
+            refused: None,
+        })
+    }
+
+    /// Does what a line says. For a line that says nothing it prints a question mark.
+    pub fn run_line<W: Write>(
+        &mut self,
+        alloc: Global,
+        client: &OpenIdClient,
+        line: &str,
+        writer: &mut W,
+    ) -> anyhow::Result<()> {
+        if let Some(text) = line.strip_prefix("keys ") {
+            self.keys = JsonWebKeySet::from_body(alloc, text.as_bytes())?;
+        } else if let Some(text) = line.strip_prefix("secret ") {
+            self.secret = ClientSecret::from_str(alloc, text)?;
+        } else if let Some(algorithm) = line.strip_prefix("again ") {
+            self.check_again(algorithm, writer)?;
+        } else if line == "give up" {
+            self.give_up(writer)?;
+        } else {
+            match ended_of(alloc, client, &self.keys, &self.secret, line)? {
+                Some(ended) => self.show(ended, writer)?,
+                None => writeln!(writer, "?")?,
+            }
+        }
+        Ok(())
+    }
+
+    fn check_again<W: Write>(&mut self, algorithm: &str, writer: &mut W) -> io::Result<()> {
+        let Some(unverified) = self.refused.take() else {
+            return writeln!(writer, "?");
+        };
+        let Some(check) = check_of(algorithm, &self.keys, &self.secret) else {
+            return writeln!(writer, "?");
+        };
+        let ended = ended_again(unverified, check);
+        self.show(ended, writer)
+    }
+
+    fn give_up<W: Write>(&mut self, writer: &mut W) -> io::Result<()> {
+        let Some(unverified) = self.refused.take() else {
+            return writeln!(writer, "?");
+        };
+        let end = unverified.into_unverified_end();
+        let token = end.token_response.access_token();
+        writeln!(writer, "given up: {}", token.secret())
+    }
+
+    fn show<W: Write>(&mut self, ended: Ended, writer: &mut W) -> io::Result<()> {
+        match ended {
+            Ok(end) => write_user(end, writer),
+            Err(VerifiedLoginError::Signature(unverified)) => {
+                writeln!(writer, "{unverified} {:?}", unverified.error())?;
+                self.refused = Some(unverified);
+                Ok(())
+            }
+            Err(error) => writeln!(writer, "{error}"),
+        }
+    }
+}
