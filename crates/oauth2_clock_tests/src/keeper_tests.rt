@@ -2,14 +2,14 @@
 
 use crate::callers::{TokenClient, bearer};
 use crate::support::{Scripted, assert_fault, assert_that, assert_token, client, duration, moment};
-use oauth2_keeper::{BasicTokenKeeper, TokenKeeper};
+use oauth2_keeper::{BasicTokenKeeper, RenewalTimes, TokenKeeper};
 use std::process::Abort;
 
 // A call: the second and the nanosecond of its moment, the body of its request, which is empty
 // where none is sent, and the token or the text of the fault.
 type Call<'a> = (i64, i32, &'a str, Result<&'a str, &'a str>);
 
-// A keeper without a refresh token, whose life is 0: its margin in seconds and nanoseconds, the
+// A keeper without a refresh token, whose default lifetime is 0: its margin in seconds and nanoseconds, the
 // replies to its requests, and its calls.
 #[derive(Clone, Copy)]
 struct Run<'a> {
@@ -189,12 +189,11 @@ fn assert_call(
 
 // The calls of a run do and answer this, one after another.
 fn assert_run(rt: &(impl Abort + AllocGlobal), client: &TokenClient, run: Run<'_>) {
-    let mut keeper: BasicTokenKeeper<'_> = TokenKeeper::new(
-        client,
-        None,
-        duration(run.margin),
-        duration((0, 0)),
-    );
+    let times = RenewalTimes {
+        margin: duration(run.margin),
+        default_lifetime: duration((0, 0)),
+    };
+    let mut keeper: BasicTokenKeeper<'_> = TokenKeeper::new(client, None, times);
     let mut http_client = Scripted::new(rt.alloc(), run.replies);
     for call in run.calls.iter() {
         assert_call(rt, &mut keeper, &mut http_client, *call);
@@ -203,8 +202,11 @@ fn assert_run(rt: &(impl Abort + AllocGlobal), client: &TokenClient, run: Run<'_
 
 // A caller reads the token twice, and asks once for it.
 fn assert_bearer(rt: &(impl Abort + AllocGlobal), client: &TokenClient) {
-    let life = duration((60, 0));
-    let mut keeper: BasicTokenKeeper<'_> = TokenKeeper::new(client, None, duration((0, 0)), life);
+    let times = RenewalTimes {
+        margin: duration((0, 0)),
+        default_lifetime: duration((60, 0)),
+    };
+    let mut keeper: BasicTokenKeeper<'_> = TokenKeeper::new(client, None, times);
     let mut http_client = Scripted::new(rt.alloc(), &[NEITHER]);
     assert_that(rt, keeper.get().is_none(), "no token at first");
     for second in [0, 60] {

@@ -4,8 +4,8 @@ use Rattle.std.specs.Prelude.{◌≢◌, IsSomeAnd, IsTrue, Bool, not, ◌&&◌,
 use Rattle.std.specs.Fmt.{signed_decimal}
 use Rattle.jiff_core.specs.Timestamp.{IsTimestampNanos}
 use Rattle.jiff.proofs.SpanFacts.{signed_arith}
-use Rattle.oauth2_introspection.specs.Instants.{is_instant}
-use Rattle.oauth2_introspection.proofs.Seconds.{within}
+use Rattle.oauth2_times.specs.Instants.{is_instant}
+use Rattle.oauth2_times.proofs.Seconds.{within}
 use Rattle.http_uri.specs.Uri.{SpellsNone, uri_text}
 use Rattle.std.proofs.lemmas.List.{map_more}
 use Rattle.jiff.specs.Types.{Timestamp}

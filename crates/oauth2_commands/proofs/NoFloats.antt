@@ -3,7 +3,7 @@ use Rattle.std.proofs.Common.{◌≡◌, List, [], ◌∷◌, ◌++◌, Bool, fa
 use Rattle.serde_json.specs.Data.{no_members, string, boolean}
 use Rattle.serde_json.specs.Written.{has_float}
 use Rattle.oauth2_json.specs.Puts.{Row}
-use Rattle.oauth2_introspection.specs.Instants.{second_of}
+use Rattle.oauth2_times.specs.Instants.{second_of}
 use Rattle.oauth2_metadata.specs.Metadata.{metadata_rows, endpoint_rows, supported_rows, auth_method_rows, signing_algorithm_rows, page_rows, service_rows}
 use Rattle.oauth2_metadata.specs.Metadata.{EndpointMembers, SupportedMembers, AuthMethodMembers, SigningAlgorithmMembers, PageMembers, ServiceMembers}
 use Rattle.oauth2_openid.specs.Claims.{Claims}

@@ -34,7 +34,7 @@ params_expectation client p = record {
   algorithm = p.algorithm;
   nonce = p.nonce;
   leeway = p.leeway;
-  max_age = p.max_age;
+  greatest_age = p.greatest_age;
 }
 
 -- ---- a token whose rules hold

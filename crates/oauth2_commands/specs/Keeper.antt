@@ -5,7 +5,7 @@ use Rattle.url.specs.Parts.{serialize}
 use Rattle.oauth2_codes.specs.ErrorCodes.{ErrorCode, error_code_text}
 use Rattle.oauth2_codes.specs.ErrorResponse.{ErrorParts}
 use Rattle.oauth2_form.specs.Params.{with_scopes}
-use Rattle.oauth2_introspection.specs.Instants.{is_instant}
+use Rattle.oauth2_times.specs.Instants.{is_instant}
 use Rattle.oauth2_urls.specs.Addressed.{Addressed}
 use Rattle.oauth2_wire.specs.declared.content_type.ReplyRule.{ReplyRule}
 use Rattle.oauth2_wire.specs.Once.{not_http_text}
@@ -26,7 +26,7 @@ use Rattle.oauth2_script.specs.Replies.{Reply}
 abbrev pub given_in : BasicToken → Given
 given_in token = record {
   access_token = token.access_token;
-  expires_in = option_map (λ seconds. seconds * 1_000_000_000) token.expires_in;
+  lifetime = option_map (λ seconds. seconds * 1_000_000_000) token.expires_in;
   refresh_token = token.refresh_token;
 }
 
@@ -136,7 +136,7 @@ abbrev pub new_keeper : Settings → KeeperParams → Keeper
 new_keeper client p = record {
   client = client;
   margin = p.margin;
-  life = p.life;
+  default_lifetime = p.life;
   scope = with_scopes None p.scopes;
   refresh_scope = None;
   extra_params = p.extra_params;

@@ -11,7 +11,7 @@ ghost use Rattle.oauth2_commands.specs.private.ClaimRows.{bindings_rows, sign_in
 ghost use Rattle.oauth2_commands.specs.private.ClaimRows.{names_rows, times_rows};
 
 use oauth2::{ToJson, WriteError};
-use oauth2_introspection::time_value;
+use oauth2_times::time_value;
 use oauth2_json::members;
 use oauth2_openid::{AccessTokenHash, IdTokenClaims, Nonce};
 use serde_json::{Map, Value};

@@ -14,7 +14,7 @@ use crate::script_keeper::{PlainKeeper, ScriptKeeper, show_call};
 use jiff::Timestamp;
 use oauth2::basic::BasicClient;
 use oauth2::{ConfigurationError, EndpointMaybeSet, EndpointSet, ParamText, TokenUrl, TryClone};
-use oauth2_keeper::TokenKeeper;
+use oauth2_keeper::{RenewalTimes, TokenKeeper};
 use oauth2_request_commands::{RunStatus, ScriptClient, show_configuration_error};
 use oauth2_script::KeeperParams;
 use oauth2_world::ScriptedClient;
@@ -115,7 +115,8 @@ fn show_new_keeper(
         extra_params,
         retry_after,
     } = params;
-    let mut keeper = TokenKeeper::new(client, refresh, margin, life);
+    let times = RenewalTimes { margin, default_lifetime: life };
+    let mut keeper = TokenKeeper::new(client, refresh, times);
     keeper.add_scopes(alloc, scopes)?;
     add_extra(alloc, &mut keeper, extra_params.as_slice())?;
     let mut keeper = ScriptKeeper::new(keeper, retry_after);

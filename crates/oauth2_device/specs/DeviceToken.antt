@@ -12,7 +12,7 @@ pub record DeviceToken : Type 0 where
   pub base : Base
   pub token_url : Addressed
   pub device_code : List ℕ
-  pub expires_in : ℕ
+  pub lifetime : ℕ
   pub interval : ℕ
   pub max_backoff_interval : ℕ
 
@@ -22,8 +22,8 @@ pub record Clocked (T : Type 0) : Type 0 where
   pub time_fn : T
 
 -- a number of seconds in nanoseconds
-abbrev pub seconds : ℕ → ℕ
-seconds n = n * 1_000_000_000
+abbrev pub nanos_of_seconds : ℕ → ℕ
+nanos_of_seconds n = n * 1_000_000_000
 
 -- the request for the token of a device that was told these codes (RFC 8628, section 3.2); the cap
 -- is ten seconds
@@ -32,9 +32,9 @@ new_device_token base token_url response = record {
   base = base;
   token_url = token_url;
   device_code = response.device_code;
-  expires_in = seconds response.expires_in;
-  interval = seconds response.interval;
-  max_backoff_interval = seconds 10;
+  lifetime = nanos_of_seconds response.expires_in;
+  interval = nanos_of_seconds response.interval;
+  max_backoff_interval = nanos_of_seconds 10;
 }
 
 -- the grant and the code

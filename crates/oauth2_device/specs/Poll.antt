@@ -73,7 +73,7 @@ IsDeviceRequest r request =
 
 -- how long the device polls: this long, or as long as its code is good
 abbrev pub timeout_of : DeviceToken → Option Duration → ℕ
-timeout_of r timeout = unwrap_or (option_map as_nanos timeout) r.expires_in
+timeout_of r timeout = unwrap_or (option_map as_nanos timeout) r.lifetime
 
 -- the poll that saw these events
 abbrev pub input_of : DeviceToken → ℕ → ℕ → List trace.TraceEvent → PollInput

@@ -35,7 +35,7 @@ pub struct DeviceAccessTokenRequest<'a, TR, EF, T = NoClock> {
 
 impl<'a, TR, EF, T> Model for DeviceAccessTokenRequest<'a, TR, EF, T> {
     ghost use Rattle.std.specs.Duration.{as_nanos};
-    ghost use Rattle.oauth2_device.specs.DeviceToken.{DeviceToken, Clocked, seconds};
+    ghost use Rattle.oauth2_device.specs.DeviceToken.{DeviceToken, Clocked, nanos_of_seconds};
 
     ghost Value = { Clocked T };
 
@@ -44,8 +44,8 @@ impl<'a, TR, EF, T> Model for DeviceAccessTokenRequest<'a, TR, EF, T> {
         base = r.base;
         token_url = r.token_url.now;
         device_code = r.response.now.device_code;
-        expires_in = seconds r.response.now.expires_in;
-        interval = seconds r.response.now.interval;
+        lifetime = nanos_of_seconds r.response.now.expires_in;
+        interval = nanos_of_seconds r.response.now.interval;
         max_backoff_interval = as_nanos r.max_backoff_interval;
       };
       time_fn = r.time_fn;

@@ -13,7 +13,7 @@ use crate::over_connection::settings::Settings;
 use crate::over_connection::{HttpClient, connected, ended};
 use jiff::Timestamp;
 use oauth2::{ParamText, compact, read_body};
-use oauth2_keeper::{BasicPatientKeeper, BasicTokenKeeper, PatientError, TokenKeeper};
+use oauth2_keeper::{BasicPatientKeeper, BasicTokenKeeper, PatientError, RenewalTimes, TokenKeeper};
 use oauth2_stored_token::{StoredToken, start_from_stored, to_stored};
 use serde_json::{Value, json};
 use std::alloc::{AllocError, Global};
@@ -61,9 +61,11 @@ fn keeper<'a>(
     client: &'a TokenClient,
     store: &str,
 ) -> Result<BasicPatientKeeper<'a>, Fault> {
-    let margin = Duration::from_secs(MARGIN_SECONDS);
-    let lifetime = Duration::from_secs(LIFETIME_SECONDS);
-    let mut keeper: BasicTokenKeeper<'a> = TokenKeeper::new(client, None, margin, lifetime);
+    let times = RenewalTimes {
+        margin: Duration::from_secs(MARGIN_SECONDS),
+        default_lifetime: Duration::from_secs(LIFETIME_SECONDS),
+    };
+    let mut keeper: BasicTokenKeeper<'a> = TokenKeeper::new(client, None, times);
     restore(rt, &mut keeper, store)?;
     keeper.add_scopes(rt.alloc(), settings.scopes()?)?;
     if let Some(audience) = settings.optional::<String>("audience")? {

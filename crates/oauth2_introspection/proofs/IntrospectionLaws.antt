@@ -10,13 +10,13 @@ use Rattle.oauth2_json.proofs.Puts.{rest}
 use Rattle.oauth2_json.proofs.Objects.{beside_taken, optional-text}
 use Rattle.oauth2_json.proofs.Lists.{optional-texts}
 use Rattle.oauth2_json.proofs.Optionals.{optional-words}
-use Rattle.oauth2_introspection.proofs.Seconds.{optional-instant}
+use Rattle.oauth2_times.proofs.Seconds.{optional-instant}
 use Rattle.oauth2_body_members.specs.Object.{Keeps}
 use Rattle.oauth2_body_members.specs.Table.{names_of}
 use Rattle.oauth2_body_members.specs.private.Groups.{turn_reading}
 use Rattle.oauth2_body_members.proofs.Tables.{in_three, kept_table, whole_table, read_back}
 use Rattle.oauth2_replies.specs.Kept.{IsTypeKept, AreScopesKept}
-use Rattle.oauth2_introspection.specs.Instants.{IsWholeSeconds}
+use Rattle.oauth2_times.specs.Instants.{IsWholeSeconds}
 use Rattle.oauth2_introspection.specs.Introspection.{Introspection, introspection, introspection_seen, introspection_written, introspection_table, introspection_names, introspection_rows, introspection_row, introspection_reading, introspection_writing, IsIntrospectionKept}
 use Rattle.oauth2_introspection.specs.private.IntrospectionRows.{grant_table, grant_reading, validity_table, validity_reading, subject_table, subject_reading, introspection_in_turn, AreInstants}
 

@@ -5,7 +5,7 @@ use Rattle.oauth2_json.specs.Reading.{Reading, read_then, ◌⊛◌}
 use Rattle.oauth2_json.specs.Writing.{Writing, write_then}
 use Rattle.oauth2_json.specs.Members.{members_of_object, needed_member, optional_member, present_member, others, beside, optional_writing}
 use Rattle.oauth2_json.specs.Values.{text, flag, lowercase_reading, words_reading, texts, text_items}
-use Rattle.oauth2_introspection.specs.Instants.{instant, second_data, IsWholeSeconds}
+use Rattle.oauth2_times.specs.Instants.{instant, second_data, IsWholeSeconds}
 use Rattle.oauth2_json.specs.Words.{joined_words}
 use Rattle.oauth2_json.specs.Puts.{Row, put_all}
 use Rattle.oauth2_body_members.specs.Table.{Table, column, ◌▸◌, end, names_of, table_reading, rows_of}

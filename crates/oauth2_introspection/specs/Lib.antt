@@ -1,3 +1,2 @@
-pub mod Instants
 pub mod Introspection
 pub mod private

@@ -29,13 +29,13 @@ ghost use Rattle.oauth2_introspection.specs.private.IntrospectionRows.{
   AreInstants,
 };
 
-use crate::instants::{take_optional_time, time_value};
 use crate::introspection::{Claims, Grant, StandardTokenIntrospectionResponse, Validity};
 use oauth2_body_members::Object;
 use oauth2_codes::TokenType;
 use oauth2_json::{FromJson, ReadError, ToJson, WriteError, members};
 use oauth2_replies::{ExtraTokenFields, scopes_value};
 use oauth2_types::ClientId;
+use oauth2_times::{take_optional_time, time_value};
 use serde_json::{Map, Value};
 use std::alloc::{AllocError, Global};
 use std::ops::Deref;

@@ -1,5 +1,5 @@
 //! The members of an object, by name: a reader for each kind but times, which
-//! `oauth2_introspection` has, and what the writer of an object needs.
+//! `oauth2_times` has, and what the writer of an object needs.
 
 pub use crate::lowered::{needed_lowered, present_lowered};
 pub use crate::member_readers::{either_name, needed, of_object, optional, present, take};

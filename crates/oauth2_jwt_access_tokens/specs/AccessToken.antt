@@ -5,7 +5,7 @@ use Rattle.serde_json.specs.Find.{get}
 use Rattle.oauth2_json.specs.Members.{needed_member, optional_member}
 use Rattle.oauth2_json.specs.Reading.{Reading, ◌⊛◌}
 use Rattle.oauth2_json.specs.Values.{text, words_reading}
-use Rattle.oauth2_introspection.specs.Instants.{instant}
+use Rattle.oauth2_times.specs.Instants.{instant}
 use Rattle.oauth2_openid.specs.declared.read_error.TokenPart.TheVariants as part
 use Rattle.oauth2_openid.specs.Token.{DecodedToken, TokenReading}
 use Rattle.oauth2_openid.specs.Reading.{compact_token_reading, of_part, token_then}

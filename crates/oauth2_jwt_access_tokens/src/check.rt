@@ -3,15 +3,12 @@
 ghost use Rattle.std.specs.Prelude.{
   ◌≡◌,
   ◌↔◌,
-  ◌+ℤ◌,
   IfErr,
   IsOk,
   map,
   option_copied,
-  pos,
   string_bytes,
 };
-ghost use Rattle.std.specs.Duration.{as_nanos};
 ghost use Rattle.oauth2_keys.specs.Verified.{IsVerified};
 ghost use Rattle.oauth2_openid.specs.Rules.{is_among};
 ghost use Rattle.oauth2_jwt_access_tokens.specs.Rules.{
@@ -36,6 +33,7 @@ use crate::expected::ExpectedAccessToken;
 use crate::fault::AccessTokenFault;
 use jiff::Timestamp;
 use oauth2_keys::JsonWebKeySet;
+use oauth2_times::nanosecond_after;
 use serde_json::Value;
 use std::time::Duration;
 
@@ -209,12 +207,4 @@ fn is_among(texts: &[String], text: &str) -> bool
         }
     }
     false
-}
-
-// So long after a moment, in nanoseconds since 1970. The sum is always there: a moment has less
-// than 2^69 nanoseconds, a duration less than 2^94.
-fn nanosecond_after(moment: Timestamp, duration: Duration) -> i128
-    ensures { result ≡ moment.nanosecond +ℤ pos (as_nanos duration) }
-{
-    moment.as_nanosecond() + duration.as_nanos() as i128
 }

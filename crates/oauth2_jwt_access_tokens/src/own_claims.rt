@@ -7,7 +7,7 @@ ghost use Rattle.oauth2_json.specs.Reading.{ReadsAs};
 ghost use Rattle.oauth2_jwt_access_tokens.specs.AccessToken.{own_claims_row};
 
 use jiff::Timestamp;
-use oauth2_introspection::optional_time;
+use oauth2_times::optional_time;
 use oauth2_json::{ReadError, members};
 use oauth2_types::{ClientId, Scope};
 use serde_json::Value;

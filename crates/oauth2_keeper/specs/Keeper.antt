@@ -41,7 +41,7 @@ pairs_of (Some params) = map param_pair params.items
 pub record Keeper : Type 0 where
   pub client : Settings
   pub margin : ℕ
-  pub life : ℕ
+  pub default_lifetime : ℕ
   pub scope : Option (List ℕ)
   pub refresh_scope : Option (List ℕ)
   pub extra_params : List Pair
@@ -68,19 +68,19 @@ starting_from keeper token refresh_token = record keeper { token = Some token; r
 -- them (RFC 6749, section 5.1)
 pub record Given : Type 0 where
   pub access_token : List ℕ
-  pub expires_in : Option ℕ
+  pub lifetime : Option ℕ
   pub refresh_token : Option (List ℕ)
 
 -- the token of a reply that was accepted at a moment, by the lifetime where it tells none
 abbrev pub accepted_token : ℕ → ℤ → Given → AcceptedToken
-accepted_token life now given =
-    record { access_token = given.access_token; accepted_at = now; lifetime = unwrap_or given.expires_in life }
+accepted_token default_lifetime now given =
+    record { access_token = given.access_token; accepted_at = now; lifetime = unwrap_or given.lifetime default_lifetime }
 
 -- what is kept of a reply that was accepted at a moment: its token; its refresh token takes the
 -- old one's place where there is one (RFC 6749, section 6)
 abbrev pub accept : Keeper → ℤ → Given → Keeper
 accept keeper now given = record keeper {
-  token = Some (accepted_token keeper.life now given);
+  token = Some (accepted_token keeper.default_lifetime now given);
   refresh_token = option_or given.refresh_token keeper.refresh_token;
 }
 
@@ -151,5 +151,5 @@ module _ {D T RE C : Type 0} (asks : ReplyRule → (List ℕ → RequestView →
 
 -- what a token response tells, by what its type says of it
 abbrev pub given_by : {D : Type 0} → (D → List ℕ) → (D → Option ℕ) → (D → Option (List ℕ)) → D → Given
-given_by access_token expires_in refresh_token reply =
-    record { access_token = access_token reply; expires_in = expires_in reply; refresh_token = refresh_token reply }
+given_by access_token lifetime refresh_token reply =
+    record { access_token = access_token reply; lifetime = lifetime reply; refresh_token = refresh_token reply }

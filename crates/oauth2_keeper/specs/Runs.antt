@@ -29,8 +29,8 @@ accepted_by failed = None
 
 -- the token of the last call that accepted a reply
 abbrev pub last_token : ℕ → List Call → Option AcceptedToken
-last_token life [] = None
-last_token life (call ∷ calls) = option_or (last_token life calls) (option_map (accepted_token life call.now) (accepted_by call.outcome))
+last_token default_lifetime [] = None
+last_token default_lifetime (call ∷ calls) = option_or (last_token default_lifetime calls) (option_map (accepted_token default_lifetime call.now) (accepted_by call.outcome))
 
 -- the refresh token of the last accepted reply that gave one
 abbrev pub given_refresh_token : Option Given → Option (List ℕ)
@@ -45,7 +45,7 @@ last_refresh_token (call ∷ calls) = option_or (last_refresh_token calls) (give
 -- one that gave one
 abbrev pub keeps_last : Keeper → List Call → Keeper
 keeps_last keeper calls = record keeper {
-  token = option_or (last_token keeper.life calls) keeper.token;
+  token = option_or (last_token keeper.default_lifetime calls) keeper.token;
   refresh_token = option_or (last_refresh_token calls) keeper.refresh_token;
 }
 

@@ -12,7 +12,7 @@ use std::time::Duration;
 #[derive(Drop)]
 pub(crate) struct Given {
     pub(crate) access_token: AccessToken,
-    pub(crate) expires_in: Option<Duration>,
+    pub(crate) lifetime: Option<Duration>,
     pub(crate) refresh_token: Option<RefreshToken>,
 }
 
@@ -25,7 +25,7 @@ impl Model for Given {
 
     ghost view = { λ g. record {
       access_token = g.access_token;
-      expires_in = option_map as_nanos g.expires_in;
+      lifetime = option_map as_nanos g.lifetime;
       refresh_token = g.refresh_token;
     } };
 }
@@ -34,7 +34,7 @@ impl Given {
     // What a reply tells.
     pub(crate) fn copied<TR: TokenResponse>(alloc: Global, reply: &TR) -> Result<Given, AllocError>
         ensures { IfOk result (λ given. given
-            ≡ given_by TR.access_token TR.expires_in TR.refresh_token reply.now) }
+            ≡ given_by TR.access_token TR.lifetime TR.refresh_token reply.now) }
     {
         let access_token = reply.access_token().try_clone(alloc)?;
         let refresh_token = match reply.refresh_token() {
@@ -43,7 +43,7 @@ impl Given {
         };
         Ok(Given {
             access_token,
-            expires_in: reply.expires_in(),
+            lifetime: reply.expires_in(),
             refresh_token,
         })
     }

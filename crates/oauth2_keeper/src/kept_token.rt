@@ -1,11 +1,12 @@
 //! A token that was accepted, and how long it is good.
 
-ghost use Rattle.std.specs.Prelude.{◌≡◌, ◌↔◌, ◌+ℤ◌, pos, IsSome, IfSome};
+ghost use Rattle.std.specs.Prelude.{◌≡◌, ◌↔◌, IsSome, IfSome};
 ghost use Rattle.std.specs.Duration.{as_nanos};
 ghost use Rattle.jiff_core.specs.Timestamp.{IsTimestampNanos};
 ghost use Rattle.oauth2_keeper.specs.Keeper.{is_good_at, good_until_of};
 
 use jiff::Timestamp;
+use oauth2_times::nanosecond_after;
 use oauth2_types::AccessToken;
 use std::marker::Model;
 use std::time::Duration;
@@ -56,12 +57,4 @@ impl KeptToken {
         let end = nanosecond_after(self.accepted_at, self.lifetime) - margin.as_nanos() as i128;
         Timestamp::from_nanosecond(end).ok()
     }
-}
-
-// So long after a moment, in nanoseconds since 1970. The sum is always there: a moment has less
-// than 2^69 nanoseconds, a duration less than 2^94.
-pub(crate) fn nanosecond_after(moment: Timestamp, duration: Duration) -> i128
-    ensures { result ≡ moment.nanosecond +ℤ pos (as_nanos duration) }
-{
-    moment.as_nanosecond() + duration.as_nanos() as i128
 }

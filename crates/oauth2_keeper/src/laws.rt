@@ -21,7 +21,7 @@ use oauth2::{ErrorResponse, SyncHttpClient, TokenResponse};
 pub fn each_run_keeps_the_last<C: SyncHttpClient, TE: ErrorResponse, TR: TokenResponse>()
     ensures { EachRunKeepsTheLast
         (λ rule. AsksOnce TR.meaning TE.meaning C.step (answer_of rule TR.reading TE.reading))
-        (given_by TR.access_token TR.expires_in TR.refresh_token) }
+        (given_by TR.access_token TR.lifetime TR.refresh_token) }
 {}
 
 /// Which of any calls ask, and so what is kept after each, is a function of their moments and of
@@ -30,7 +30,7 @@ pub fn each_run_keeps_the_last<C: SyncHttpClient, TE: ErrorResponse, TR: TokenRe
 pub fn each_run_follows_from_its_replies<C: SyncHttpClient, TE: ErrorResponse, TR: TokenResponse>()
     ensures { EachRunFollowsFromItsReplies
         (λ rule. AsksOnce TR.meaning TE.meaning C.step (answer_of rule TR.reading TE.reading))
-        (given_by TR.access_token TR.expires_in TR.refresh_token) }
+        (given_by TR.access_token TR.lifetime TR.refresh_token) }
 {}
 
 /// The calls of a patient keeper that are not held back are calls of its keeper at the same
@@ -39,7 +39,7 @@ pub fn each_run_follows_from_its_replies<C: SyncHttpClient, TE: ErrorResponse, T
 pub fn each_patient_run_is_a_run<C: SyncHttpClient, TE: ErrorResponse, TR: TokenResponse>()
     ensures { EachPatientRunIsARun
         (λ rule. AsksOnce TR.meaning TE.meaning C.step (answer_of rule TR.reading TE.reading))
-        (given_by TR.access_token TR.expires_in TR.refresh_token) }
+        (given_by TR.access_token TR.lifetime TR.refresh_token) }
 {}
 
 /// After a request of a patient keeper that failed, no call sends one before the wait has passed:
@@ -47,10 +47,10 @@ pub fn each_patient_run_is_a_run<C: SyncHttpClient, TE: ErrorResponse, TR: Token
 pub fn each_failure_is_waited_for<C: SyncHttpClient, TE: ErrorResponse, TR: TokenResponse>()
     ensures waits { EachFailureIsWaitedFor
         (λ rule. AsksOnce TR.meaning TE.meaning C.step (answer_of rule TR.reading TE.reading))
-        (given_by TR.access_token TR.expires_in TR.refresh_token) }
+        (given_by TR.access_token TR.lifetime TR.refresh_token) }
     ensures set_back { EachSetBackIsWaitedFor
         (λ rule. AsksOnce TR.meaning TE.meaning C.step (answer_of rule TR.reading TE.reading))
-        (given_by TR.access_token TR.expires_in TR.refresh_token) }
+        (given_by TR.access_token TR.lifetime TR.refresh_token) }
 {}
 
 /// However the clock is set, a patient keeper is never held back for longer than one wait from the
@@ -58,10 +58,10 @@ pub fn each_failure_is_waited_for<C: SyncHttpClient, TE: ErrorResponse, TR: Toke
 pub fn each_wait_ends<C: SyncHttpClient, TE: ErrorResponse, TR: TokenResponse>()
     ensures told { EachEndIsWithinTheWait
         (λ rule. AsksOnce TR.meaning TE.meaning C.step (answer_of rule TR.reading TE.reading))
-        (given_by TR.access_token TR.expires_in TR.refresh_token) }
+        (given_by TR.access_token TR.lifetime TR.refresh_token) }
     ensures ends { EachWaitEnds
         (λ rule. AsksOnce TR.meaning TE.meaning C.step (answer_of rule TR.reading TE.reading))
-        (given_by TR.access_token TR.expires_in TR.refresh_token) }
+        (given_by TR.access_token TR.lifetime TR.refresh_token) }
 {}
 
 /// A fault begins a wait exactly if its request reached the client.

@@ -8,6 +8,7 @@ mod kept_token;
 mod laws;
 mod params;
 mod patient_keeper;
+mod renewal_times;
 mod scopes;
 mod token_keeper;
 
@@ -16,4 +17,5 @@ pub use laws::{
     each_run_keeps_the_last, each_sent_fault_counts, each_wait_ends,
 };
 pub use patient_keeper::{BasicPatientKeeper, PatientError, PatientKeeper};
+pub use renewal_times::RenewalTimes;
 pub use token_keeper::{BasicTokenKeeper, TokenKeeper};

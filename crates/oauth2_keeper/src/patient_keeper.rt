@@ -32,7 +32,6 @@ ghost use Rattle.oauth2_keeper.specs.Patience.{
   PatientAnswers,
 };
 
-use crate::kept_token::nanosecond_after;
 use crate::token_keeper::TokenKeeper;
 use jiff::Timestamp;
 use oauth2::basic::{
@@ -43,6 +42,7 @@ use oauth2::{
     AccessToken, EndpointNotSet, EndpointState, ErrorResponse, RequestTokenError,
     StandardRevocableToken, SyncHttpClient, TokenResponse,
 };
+use oauth2_times::nanosecond_after;
 use oauth2_types::display::write_display;
 use std::alloc::Global;
 use std::fmt;
@@ -337,7 +337,7 @@ where
         requires { C.is_ready http_client.old }
         ensures call { PatientCalls
             (λ rule. AsksOnce TR.meaning TE.meaning C.step (answer_of rule TR.reading TE.reading))
-            (given_by TR.access_token TR.expires_in TR.refresh_token)
+            (given_by TR.access_token TR.lifetime TR.refresh_token)
             self.old now.nanosecond http_client.old result http_client.new self.new }
         ensures token { OnOk result (IsSome self.new.keeper.token) }
         ensures fault { OnErr result (self.new.keeper ≡ self.old.keeper) }
@@ -379,7 +379,7 @@ where
         ensures call { (kept : Patient)
             × PatientAnswers
             (λ rule. AsksOnce TR.meaning TE.meaning C.step (answer_of rule TR.reading TE.reading))
-            (given_by TR.access_token TR.expires_in TR.refresh_token)
+            (given_by TR.access_token TR.lifetime TR.refresh_token)
             (λ text token. token.now ≡ text)
             self.old now.nanosecond http_client.old result http_client.new kept }
         ensures ready { C.is_ready http_client.new }
@@ -404,7 +404,7 @@ where
         requires read { F.IsAlwaysCallable read }
         ensures call { PatientAnswers
             (λ rule. AsksOnce TR.meaning TE.meaning C.step (answer_of rule TR.reading TE.reading))
-            (given_by TR.access_token TR.expires_in TR.refresh_token)
+            (given_by TR.access_token TR.lifetime TR.refresh_token)
             (λ text value. FnOnceReturnsAt F.FnOnce read text value)
             self.old now.nanosecond http_client.old result http_client.new self.new }
         ensures ready { C.is_ready http_client.new }

@@ -42,6 +42,7 @@ ghost use Rattle.oauth2_keeper.specs.Keeper.{
 ghost use Rattle.oauth2_keeper.specs.private.Settled.{Settles, RenewsAndSettles};
 
 use crate::given::Given;
+use crate::renewal_times::RenewalTimes;
 use crate::kept_token::KeptToken;
 use crate::params::{Params, with_client_params, with_refresh_params};
 use crate::scopes::{joined_scope, joined_scopes};
@@ -71,8 +72,7 @@ where
     R: EndpointState,
 {
     client: &'a Client<TE, TR, TIR, RT, TRE, A, D, I, R, EndpointSet>,
-    margin: Duration,
-    life: Duration,
+    times: RenewalTimes,
     scope: Option<Scope>,
     refresh_scope: Option<Scope>,
     extra_params: Params<'a>,
@@ -92,8 +92,7 @@ where
     fn drop(self) {
         let TokenKeeper {
             client: _,
-            margin: _,
-            life: _,
+            times: _,
             scope: _,
             refresh_scope: _,
             extra_params: _,
@@ -139,8 +138,8 @@ where
 
     ghost view = { λ k. record {
       client = k.client.now;
-      margin = as_nanos k.margin;
-      life = as_nanos k.life;
+      margin = as_nanos k.times.margin;
+      default_lifetime = as_nanos k.times.default_lifetime;
       scope = k.scope;
       refresh_scope = k.refresh_scope;
       extra_params = k.extra_params;
@@ -156,18 +155,17 @@ where
     I: EndpointState,
     R: EndpointState,
 {
-    /// A keeper without a token. One that it gets is good until `margin` before its lifetime ends,
-    /// which is `life` where the reply tells none.
+    /// A keeper without a token. One that it gets is good until `times.margin` before its lifetime
+    /// ends, which is `times.default_lifetime` if the reply has no `expires_in`.
     pub fn new(
         client: &'a Client<TE, TR, TIR, RT, TRE, A, D, I, R, EndpointSet>,
         refresh_token: Option<RefreshToken>,
-        margin: Duration,
-        life: Duration,
+        times: RenewalTimes,
     ) -> Self
         ensures { result ≡ record {
           client = client.now;
-          margin = as_nanos margin;
-          life = as_nanos life;
+          margin = as_nanos times.margin;
+          default_lifetime = as_nanos times.default_lifetime;
           scope = None;
           refresh_scope = None;
           extra_params = [];
@@ -177,8 +175,7 @@ where
     {
         TokenKeeper {
             client,
-            margin,
-            life,
+            times,
             scope: None,
             refresh_scope: None,
             extra_params: Params::new(),
@@ -356,7 +353,7 @@ where
             (λ token. IsTimestampNanos (good_until_of self.now.margin token) → ⊥)) }
     {
         match &self.token {
-            Some(token) => token.good_until(self.margin),
+            Some(token) => token.good_until(self.times.margin),
             None => None,
         }
     }
@@ -376,7 +373,7 @@ where
         ensures { result ≡ is_good self.now now.nanosecond }
     {
         match &self.token {
-            Some(token) => token.is_good(self.margin, now),
+            Some(token) => token.is_good(self.times.margin, now),
             None => false,
         }
     }
@@ -397,13 +394,13 @@ where
     {
         let Given {
             access_token,
-            expires_in,
+            lifetime,
             refresh_token,
         } = given;
         self.token = Some(KeptToken {
             access_token,
             accepted_at: now,
-            lifetime: expires_in.unwrap_or(self.life),
+            lifetime: lifetime.unwrap_or(self.times.default_lifetime),
         });
         if let Some(refresh_token) = refresh_token {
             self.refresh_token = Some(refresh_token);
@@ -433,7 +430,7 @@ where
         requires { C.is_ready http_client.old }
         ensures call { KeeperCalls
             (λ rule. AsksOnce TR.meaning TE.meaning C.step (answer_of rule TR.reading TE.reading))
-            (given_by TR.access_token TR.expires_in TR.refresh_token)
+            (given_by TR.access_token TR.lifetime TR.refresh_token)
             self.old now.nanosecond http_client.old result http_client.new self.new }
         ensures token { OnOk result (IsSome self.new.token) }
         ensures fault { OnErr result (self.new ≡ self.old) }
@@ -458,7 +455,7 @@ where
         ensures call { (kept : Keeper)
             × Answers
             (λ rule. AsksOnce TR.meaning TE.meaning C.step (answer_of rule TR.reading TE.reading))
-            (given_by TR.access_token TR.expires_in TR.refresh_token)
+            (given_by TR.access_token TR.lifetime TR.refresh_token)
             (λ text token. token.now ≡ text)
             self.old now.nanosecond http_client.old result http_client.new kept }
         ensures ready { C.is_ready http_client.new }
@@ -483,7 +480,7 @@ where
         requires read { F.IsAlwaysCallable read }
         ensures call { Answers
             (λ rule. AsksOnce TR.meaning TE.meaning C.step (answer_of rule TR.reading TE.reading))
-            (given_by TR.access_token TR.expires_in TR.refresh_token)
+            (given_by TR.access_token TR.lifetime TR.refresh_token)
             (λ text value. FnOnceReturnsAt F.FnOnce read text value)
             self.old now.nanosecond http_client.old result http_client.new self.new }
         ensures ready { C.is_ready http_client.new }
@@ -504,7 +501,7 @@ where
         requires { C.is_ready http_client.old }
         ensures settles { RenewsAndSettles
             (λ rule. AsksOnce TR.meaning TE.meaning C.step (answer_of rule TR.reading TE.reading))
-            (given_by TR.access_token TR.expires_in TR.refresh_token)
+            (given_by TR.access_token TR.lifetime TR.refresh_token)
             self.old now.nanosecond http_client.old result http_client.new self.new }
         ensures ready { C.is_ready http_client.new }
     {
@@ -580,7 +577,7 @@ where
         now: Timestamp,
         answer: Result<TR, RequestTokenError<RE, TE>>,
     ) -> Result<(), RequestTokenError<RE, TE>>
-        ensures { Settles (given_by TR.access_token TR.expires_in TR.refresh_token)
+        ensures { Settles (given_by TR.access_token TR.lifetime TR.refresh_token)
             self.old now.nanosecond answer result self.new }
     {
         match answer {

@@ -3,7 +3,7 @@
 use crate::client::TokenClient;
 use crate::values::{Moment, Span, duration, moment};
 use oauth2::{AccessToken, ReadError, RefreshToken, compact, read_body};
-use oauth2_keeper::{BasicTokenKeeper, TokenKeeper};
+use oauth2_keeper::{BasicTokenKeeper, RenewalTimes, TokenKeeper};
 use oauth2_refused_memory_values_tests::{Ended, show_fault, text};
 use oauth2_stored_token::{StoredToken, start_from_stored, to_stored};
 use std::alloc::Global;
@@ -29,7 +29,8 @@ fn refresh_token(alloc: Global, token: Option<&str>) -> Result<Option<RefreshTok
 }
 
 fn empty(client: &TokenClient, margin: Duration) -> BasicTokenKeeper<'_> {
-    TokenKeeper::new(client, None, margin, Duration::from_secs(60))
+    let default_lifetime = Duration::from_secs(60);
+    TokenKeeper::new(client, None, RenewalTimes { margin, default_lifetime })
 }
 
 /// A keeper with what it starts from. The lifetime of a token is a minute if the reply has none.

@@ -146,7 +146,7 @@ claims_held w n d c h0 =
       not_expired = record { lt = tested (int_lt n (c.expires_at +ℤ pos w.leeway)) (rule_held (int_lt n (c.expires_at +ℤ pos w.leeway)) errors.Expired e.0) };
       issued = record { le = tested (int_le c.issued_at (n +ℤ pos w.leeway)) (rule_held (int_le c.issued_at (n +ℤ pos w.leeway)) errors.IssuedLater t.0) };
       nonce = nonce_held w.nonce c.nonce o.0;
-      age = age_held w.leeway n w.max_age c.auth_time o.1;
+      age = age_held w.leeway n w.greatest_age c.auth_time o.1;
     }
 
 pub held_claims : (w : Expectation) (n : ℤ) (d : Option (List ℕ)) (c : Claims) → ClaimsHold w n d c → claims_checked w n d c ≡ Ok tt
@@ -159,5 +159,5 @@ held_claims w n d c h =
       untested (int_lt n (c.expires_at +ℤ pos w.leeway)) h.not_expired.lt,
       untested (int_le c.issued_at (n +ℤ pos w.leeway)) h.issued.le,
       held_nonce w.nonce c.nonce h.nonce,
-      held_age w.leeway n w.max_age c.auth_time h.age,
+      held_age w.leeway n w.greatest_age c.auth_time h.age,
     ) refl

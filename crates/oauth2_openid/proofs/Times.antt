@@ -9,7 +9,7 @@ use Rattle.std.specs.Result.{result_ok}
 use Rattle.std.specs.Duration.{FitsDurationSecs, nanos_of_secs}
 use Rattle.std.specs.Float.{Float, nan, inf, fin, NotNan, float_with_sign, is_sign_negative, float_zero, two_to, ◌≤ᶠ◌}
 use Rattle.jiff.proofs.SpanFacts.{signed_arith}
-use Rattle.oauth2_introspection.specs.Instants.{is_instant}
+use Rattle.oauth2_times.specs.Instants.{is_instant}
 use Rattle.oauth2_openid.specs.Times.{moment, signed, float_time}
 
 -- a size that fits a duration is a number's

@@ -48,4 +48,4 @@ pub record Expectation : Type 0 where
   pub algorithm : Option (List ℕ)
   pub nonce : Option (List ℕ)
   pub leeway : ℕ
-  pub max_age : Option ℕ
+  pub greatest_age : Option ℕ

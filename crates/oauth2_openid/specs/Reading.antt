@@ -8,7 +8,7 @@ use Rattle.oauth2_json.specs.Puts.{Row}
 use Rattle.oauth2_json.specs.Reading.{Reading, read_then, ◌⊛◌}
 use Rattle.oauth2_json.specs.Values.{text, texts, text_list, text_items}
 use Rattle.oauth2_body_members.specs.Table.{Table, column, ◌▸◌, end, Builder, names_of, table_reading, rows_of}
-use Rattle.oauth2_introspection.specs.Instants.{second_data}
+use Rattle.oauth2_times.specs.Instants.{second_data}
 use Rattle.oauth2_openid.specs.declared.read_error.TokenPart.{TokenPart}
 use Rattle.oauth2_openid.specs.declared.read_error.TokenPart.TheVariants as part
 use Rattle.oauth2_openid.specs.Claims.{Claims, claims}

@@ -82,12 +82,12 @@ nonce_rule expected claims = nonce_of expected.nonce claims.nonce
 -- and this moment is not later than that age and the leeway after it
 abbrev pub age_of : ℕ → ℤ → Option ℕ → Option ℤ → Verdict
 age_of leeway now None auth_time = Ok tt
-age_of leeway now (Some max_age) None = Err errors.NoAuthTime
-age_of leeway now (Some max_age) (Some auth_time) =
-    rule (int_le now (auth_time +ℤ pos max_age +ℤ pos leeway)) errors.AuthTooOld
+age_of leeway now (Some greatest_age) None = Err errors.NoAuthTime
+age_of leeway now (Some greatest_age) (Some auth_time) =
+    rule (int_le now (auth_time +ℤ pos greatest_age +ℤ pos leeway)) errors.AuthTooOld
 
 abbrev pub age_rule : Expectation → ℤ → Claims → Verdict
-age_rule expected now claims = age_of expected.leeway now expected.max_age claims.auth_time
+age_rule expected now claims = age_of expected.leeway now expected.greatest_age claims.auth_time
 
 -- each rule holds, or the first that does not is named
 abbrev pub claims_checked : Expectation → ℤ → Option (List ℕ) → Claims → Verdict
@@ -121,4 +121,4 @@ pub record ClaimsHold (expected : Expectation) (now : ℤ) (tenant : Option (Lis
   pub not_expired : now <ℤ (claims.expires_at +ℤ pos expected.leeway)
   pub issued : claims.issued_at ≤ℤ (now +ℤ pos expected.leeway)
   pub nonce : option_map sha256 claims.nonce ≡ option_map sha256 expected.nonce
-  pub age : IfSome expected.max_age (λ age. IsSomeAnd claims.auth_time (λ time. now ≤ℤ (time +ℤ pos age +ℤ pos expected.leeway)))
+  pub age : IfSome expected.greatest_age (λ age. IsSomeAnd claims.auth_time (λ time. now ≤ℤ (time +ℤ pos age +ℤ pos expected.leeway)))

@@ -4,7 +4,7 @@ use Rattle.std.specs.Prelude.{ℕ, ℤ, pos, neg_ℤ, ◌*ℤ◌, Bool, if◌the
 use Rattle.std.specs.Duration.{nanos_of_secs}
 use Rattle.std.specs.Float.Ieee.{Float, nan, inf, fin}
 use Rattle.serde_json.specs.Data.{Num, unsigned, negative, float, Data, null, boolean, number, string, array, object}
-use Rattle.oauth2_introspection.specs.Instants.{is_instant}
+use Rattle.oauth2_times.specs.Instants.{is_instant}
 use Rattle.oauth2_json.specs.Reading.{Reading, whole}
 use Rattle.oauth2_json.specs.Values.{wrong_type}
 use Rattle.oauth2_json.specs.declared.read.ParseCause.TheVariants as cause

@@ -19,6 +19,7 @@ use crate::expected::Expected;
 use crate::issuer_rule::{are_known, is_among, is_known};
 use crate::nonce::Nonce;
 use jiff::Timestamp;
+use oauth2_times::nanosecond_after;
 use std::marker::Model;
 use std::ops::Deref;
 use std::time::Duration;
@@ -265,16 +266,8 @@ impl IdTokenClaims {
     }
 }
 
-// So long after a moment, in nanoseconds since 1970. The sum is always there: a moment has less
-// than 2^69 nanoseconds, a duration less than 2^94.
-fn nanosecond_after(moment: Timestamp, duration: Duration) -> i128
-    ensures { result ≡ moment.nanosecond +ℤ pos (as_nanos duration) }
-{
-    moment.as_nanosecond() + duration.as_nanos() as i128
-}
-
-// The last nanosecond since 1970 at which a login is not too old. The sum is always there, as
-// above.
+// The last nanosecond since 1970 at which a login is not too old. The sum always fits: a moment has
+// less than 2^69 nanoseconds, a duration less than 2^94.
 fn latest_use(auth_time: Timestamp, max_age: Duration, leeway: Duration) -> i128
     ensures { result ≡ auth_time.nanosecond +ℤ pos (as_nanos max_age) +ℤ pos (as_nanos leeway) }
 {

@@ -48,6 +48,6 @@ impl Model for Expected {
       algorithm = option_map string_bytes e.algorithm;
       nonce = e.nonce;
       leeway = as_nanos e.leeway;
-      max_age = option_map as_nanos e.max_age;
+      greatest_age = option_map as_nanos e.max_age;
     } };
 }

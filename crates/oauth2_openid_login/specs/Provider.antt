@@ -52,7 +52,7 @@ login_expectation provider client sent seconds =
       algorithm = provider.algorithm;
       nonce = Some sent;
       leeway = provider.leeway;
-      max_age = option_map (λ n. n * 1_000_000_000) seconds;
+      greatest_age = option_map (λ n. n * 1_000_000_000) seconds;
     }
 
 -- OpenID Connect Core 1.0, 3.1.3.7: what is expected of the ID token of a login: this client, and the

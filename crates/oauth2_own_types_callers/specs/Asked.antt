@@ -92,4 +92,4 @@ module _ {RE C : Type 0} (step : C → HttpRequest → Result HttpResponse RE �
 -- the poll of a device for a token, as long as its code is good
 abbrev pub PollsForToken : {RE : Type 0} → DeviceToken → ℕ → List (Event RE) → Result ColorfulToken (PollError RE) → Type 0
 PollsForToken request max_polls e result =
-    Polls colorful_token_seen colorful_token_reading request request.expires_in max_polls e result
+    Polls colorful_token_seen colorful_token_reading request request.lifetime max_polls e result

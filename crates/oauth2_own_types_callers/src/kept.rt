@@ -4,7 +4,7 @@ ghost use Rattle.std.specs.Prelude.{◌≡◌, Ok, IfOk, IfErr, IfSome, string_b
 ghost use Rattle.serde_json.specs.View.{view};
 ghost use Rattle.oauth2_json.specs.Body.{body_reading};
 ghost use Rattle.oauth2_json.specs.Reading.{ReadsAs};
-ghost use Rattle.oauth2_introspection.specs.Instants.{IsWholeSeconds};
+ghost use Rattle.oauth2_times.specs.Instants.{IsWholeSeconds};
 ghost use Rattle.oauth2_json.specs.declared.write.WriteError.TheVariants.{Memory};
 ghost use Rattle.oauth2_replies.specs.Device.{device_reading, device_seen};
 ghost use Rattle.oauth2_replies.specs.Kept.{AreFieldsKept, AreScopesKept};

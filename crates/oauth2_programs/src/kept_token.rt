@@ -5,7 +5,7 @@ use jiff::Timestamp;
 use oauth2::basic::{BasicClient, BasicTokenClient};
 use oauth2::url::ParseError;
 use oauth2::{ClientId, ClientSecret, TokenUrl};
-use oauth2_keeper::TokenKeeper;
+use oauth2_keeper::{RenewalTimes, TokenKeeper};
 use std::alloc::Global;
 use std::time::Duration;
 
@@ -29,8 +29,11 @@ fn run(rt: &HostRuntime, client: &BasicTokenClient) -> anyhow::Result<()> {
     let alloc = rt.alloc();
     let replies = [(200, FIRST), (200, SECOND)];
     let mut http_client = CannedClient::new(alloc, &replies);
-    let (margin, lifetime) = (Duration::from_secs(30), Duration::from_secs(60));
-    let mut keeper = TokenKeeper::new(client, None, margin, lifetime);
+    let times = RenewalTimes {
+        margin: Duration::from_secs(30),
+        default_lifetime: Duration::from_secs(60),
+    };
+    let mut keeper = TokenKeeper::new(client, None, times);
     for second in [0, 100, 269, 271, 500] {
         let now = Timestamp::from_second(second)?;
         let token = keeper.token(alloc, now, &mut http_client)?;

@@ -10,7 +10,7 @@ use crate::show::show_bytes;
 use jiff::Timestamp;
 use oauth2::basic::BasicRequestTokenError;
 use oauth2::{EndpointMaybeSet, EndpointSet, RequestTokenError};
-use oauth2_keeper::{BasicTokenKeeper, TokenKeeper};
+use oauth2_keeper::{BasicTokenKeeper, RenewalTimes, TokenKeeper};
 use oauth2_refused_memory_values_tests::{Ended, Want};
 use std::alloc::Global;
 use std::io::Write;
@@ -61,12 +61,11 @@ const LATER_CALL: Call<'static> = Call {
 };
 
 fn new_keeper(client: &RowClient) -> RowKeeper<'_> {
-    TokenKeeper::new(
-        client,
-        None,
-        Duration::from_secs(10),
-        Duration::from_secs(60),
-    )
+    let times = RenewalTimes {
+        margin: Duration::from_secs(10),
+        default_lifetime: Duration::from_secs(60),
+    };
+    TokenKeeper::new(client, None, times)
 }
 
 /// A call at a moment, by a client that was not called before.

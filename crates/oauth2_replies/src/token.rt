@@ -38,7 +38,7 @@ pub trait TokenResponse: FromJson + ToJson + fmt::Debug {
     ghost token_type: { Self → Self.TokenType };
 
     /// In nanoseconds.
-    ghost expires_in: { Self → Option ℕ };
+    ghost lifetime: { Self → Option ℕ };
 
     ghost refresh_token: { Self → Option (List ℕ) };
 
@@ -54,7 +54,7 @@ pub trait TokenResponse: FromJson + ToJson + fmt::Debug {
 
     /// The lifetime of the access token, where the server tells one.
     fn expires_in(&self) -> Option<Duration>
-        ensures { option_map as_nanos result ≡ expires_in self.now };
+        ensures { option_map as_nanos result ≡ lifetime self.now };
 
     /// The token to get new access tokens with.
     fn refresh_token(&self) -> Option<&RefreshToken>
@@ -176,7 +176,7 @@ impl<EF: ExtraTokenFields + Drop, TT: TokenType + Drop> TokenResponse
 
     ghost token_type = { λ r. r.token_type };
 
-    ghost expires_in = { λ r. option_map (λ seconds. seconds * 1_000_000_000) r.expires_in };
+    ghost lifetime = { λ r. option_map (λ seconds. seconds * 1_000_000_000) r.expires_in };
 
     ghost refresh_token = { λ r. r.refresh_token };
 

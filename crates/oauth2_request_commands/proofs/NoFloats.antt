@@ -11,7 +11,7 @@ use Rattle.oauth2_codes.specs.Codes.{token_code_text}
 use Rattle.oauth2_json.specs.Members.{put_some}
 use Rattle.oauth2_json.specs.Puts.{Row, put_all}
 use Rattle.oauth2_json.specs.Values.{text_items}
-use Rattle.oauth2_introspection.specs.Instants.{second_data, second_of}
+use Rattle.oauth2_times.specs.Instants.{second_data, second_of}
 use Rattle.oauth2_json.specs.Words.{joined_words}
 use Rattle.oauth2_replies.specs.Device.{device_rows}
 use Rattle.oauth2_introspection.specs.Introspection.{introspection_rows}

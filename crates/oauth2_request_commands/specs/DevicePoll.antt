@@ -16,7 +16,7 @@ use Rattle.oauth2_poll.specs.declared.device_poll.PollAnswer.{PollAnswer}
 use Rattle.oauth2_poll.specs.declared.device_poll.PollAnswer.TheVariants.{Failed}
 use Rattle.oauth2_poll.specs.Laws.{IsTraceOf}
 use Rattle.oauth2_poll.specs.Trace.{TraceEvent, Reading, Asked, Answered, Slept, Ending, TooLong, OutOfRange, Late, Decided, Limited, IsLate, readings_in, answers_in}
-use Rattle.oauth2_device.specs.DeviceToken.{DeviceToken, seconds, device_token_configuration}
+use Rattle.oauth2_device.specs.DeviceToken.{DeviceToken, nanos_of_seconds, device_token_configuration}
 use Rattle.oauth2_device.specs.Poll.{class_of_answer, input_of}
 use Rattle.oauth2.specs.NewRequest.{base_of}
 use Rattle.oauth2.specs.Settings.{Settings}
@@ -35,14 +35,14 @@ device_token client p url = record {
   base = record (base_of client) { extra_params = p.extra_params };
   token_url = url;
   device_code = p.device.device_code;
-  expires_in = seconds p.device.expires_in;
-  interval = seconds p.device.interval;
-  max_backoff_interval = unwrap_or p.cap (seconds 10);
+  lifetime = nanos_of_seconds p.device.expires_in;
+  interval = nanos_of_seconds p.device.interval;
+  max_backoff_interval = unwrap_or p.cap (nanos_of_seconds 10);
 }
 
 -- for how long the device polls: as long as its code is good, where nothing else is given
 abbrev pub timeout : DevicePollParams → ℕ
-timeout p = unwrap_or p.timeout (seconds p.device.expires_in)
+timeout p = unwrap_or p.timeout (nanos_of_seconds p.device.expires_in)
 
 -- ---- the calls of the client
 

@@ -36,7 +36,7 @@ pub record IdTokenParams : Type 0 where
   pub algorithm : Option (List ℕ)
   pub nonce : Option (List ℕ)
   pub leeway : ℕ
-  pub max_age : Option ℕ
+  pub greatest_age : Option ℕ
   pub other_audiences : List (List ℕ)
   pub authorized_parties : List (List ℕ)
 
@@ -58,7 +58,7 @@ id_token_params d = do
     algorithm = algorithm;
     nonce = nonce;
     leeway = unwrap_or leeway 0;
-    max_age = max_age;
+    greatest_age = max_age;
     other_audiences = other_audiences;
     authorized_parties = authorized_parties;
   })

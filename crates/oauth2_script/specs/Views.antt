@@ -157,7 +157,7 @@ id_token_view p = record {
   algorithm = option_map string_bytes p.algorithm;
   nonce = option_map string_bytes p.nonce;
   leeway = as_nanos p.leeway;
-  max_age = option_map as_nanos p.max_age;
+  greatest_age = option_map as_nanos p.max_age;
   other_audiences = map string_bytes p.other_audiences.items;
   authorized_parties = map string_bytes p.authorized_parties.items;
 }

@@ -11,8 +11,8 @@ use Rattle.oauth2_json.proofs.Objects.{optional-text}
 use Rattle.oauth2_json.specs.Reading.{Reading, ErrsAs, ◌⊛◌}
 use Rattle.oauth2_json.specs.declared.read.ReadError.{ReadError}
 use Rattle.oauth2_json.specs.declared.read.ReadError.TheVariants as errors
-use Rattle.oauth2_introspection.specs.Instants.{second_of, second_data}
-use Rattle.oauth2_introspection.proofs.Seconds.{integer, within}
+use Rattle.oauth2_times.specs.Instants.{second_of, second_data}
+use Rattle.oauth2_times.proofs.Seconds.{integer, within}
 use Rattle.oauth2_stored_token.specs.Stored.{Stored, moment_reading, lifetime_reading, stored_row, stored_rows, stored_reading, stored_writing, nanoseconds_of, whole_data}
 
 pub sum : (n : ℤ) → second_of n *ℤ pos 1_000_000_000 +ℤ pos (nanoseconds_of n) ≡ n

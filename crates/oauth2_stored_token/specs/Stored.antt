@@ -10,7 +10,7 @@ use Rattle.oauth2_json.specs.Members.{members_of_object, needed_member, optional
 use Rattle.oauth2_json.specs.Puts.{Row, put_all}
 use Rattle.oauth2_json.specs.Values.{text, whole_number}
 use Rattle.oauth2_json.specs.declared.read.ParseCause.TheVariants as cause
-use Rattle.oauth2_introspection.specs.Instants.{instant, is_instant, second_data}
+use Rattle.oauth2_times.specs.Instants.{instant, is_instant, second_data}
 use Rattle.oauth2_keeper.specs.Keeper.{AcceptedToken, Keeper}
 
 -- a token, the refresh token that is kept with it, and the client's identifier and the URL of the

@@ -4,7 +4,7 @@ ghost use Rattle.std.specs.Prelude.{◌≡◌, ◌/◌, Ok, IfOk, codes, option_
 ghost use Rattle.std.specs.Duration.{as_nanos, FitsDuration};
 ghost use Rattle.serde_json.specs.Data.{no_members, string};
 ghost use Rattle.serde_json.specs.View.{view, members_view};
-ghost use Rattle.oauth2_introspection.specs.Instants.{instant};
+ghost use Rattle.oauth2_times.specs.Instants.{instant};
 ghost use Rattle.oauth2_json.specs.Members.{needed_member, put_some};
 ghost use Rattle.oauth2_json.specs.Reading.{ReadsAs};
 ghost use Rattle.oauth2_json.specs.Puts.{put_all};
@@ -20,7 +20,7 @@ ghost use Rattle.oauth2_stored_token.specs.Stored.{
 
 use crate::stored_token::StoredToken;
 use jiff::Timestamp;
-use oauth2_introspection::{optional_time, time_value};
+use oauth2_times::{optional_time, time_value};
 use oauth2_json::{FromJson, ParseCause, ReadError, ToJson, WriteError, members};
 use oauth2_types::{ClientId, RefreshToken};
 use serde_json::{Map, Value};

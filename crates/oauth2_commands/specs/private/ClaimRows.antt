@@ -1,7 +1,7 @@
 -- The rows of an ID token's claims, in the groups in which they are put.
 use Rattle.std.specs.Prelude.{List, [], ◌∷◌, Some, option_map, codes}
 use Rattle.serde_json.specs.Data.{string, array}
-use Rattle.oauth2_introspection.specs.Instants.{second_data}
+use Rattle.oauth2_times.specs.Instants.{second_data}
 use Rattle.oauth2_json.specs.Puts.{Row}
 use Rattle.oauth2_json.specs.Values.{text_items}
 use Rattle.oauth2_openid.specs.Claims.{Claims}

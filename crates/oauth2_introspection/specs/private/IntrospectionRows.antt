@@ -4,7 +4,7 @@ use Rattle.std.specs.Prelude.{◌≡◌, ℤ, true, Option, IfSome, Ok}
 use Rattle.serde_json.specs.Data.{Data, Members, object}
 use Rattle.oauth2_json.specs.Reading.{Reading, ◌⊛◌}
 use Rattle.oauth2_json.specs.Members.{others}
-use Rattle.oauth2_introspection.specs.Instants.{is_instant}
+use Rattle.oauth2_times.specs.Instants.{is_instant}
 use Rattle.oauth2_body_members.specs.Table.{Table, names_of}
 use Rattle.oauth2_body_members.specs.private.Groups.{Meanings, front, back, group_reading, of_three}
 use Rattle.oauth2_introspection.specs.Introspection.{Introspection, introspection, introspection_table}

@@ -5,7 +5,7 @@ use Rattle.jiff.specs.Words.{IsTimestampNanos}
 use Rattle.jiff.proofs.SpanFacts.{signed_arith}
 use Rattle.jiff_core.specs.declared.timestamp.Timestamp.{Timestamp}
 use Rattle.oauth2_json.specs.Members.{optional_member}
-use Rattle.oauth2_introspection.specs.Instants.{instant, instant_at, instant_of, is_instant, second_of, second_data, IsWholeSeconds}
+use Rattle.oauth2_times.specs.Instants.{instant, instant_at, instant_of, is_instant, second_of, second_data, IsWholeSeconds}
 
 pub whole_seconds_stay : (z : ℤ) → second_of (z *ℤ pos 1_000_000_000) ≡ z
 whole_seconds_stay (pos n) = omega (arith, signed_arith)

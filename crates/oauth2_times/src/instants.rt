@@ -6,7 +6,7 @@ ghost use Rattle.serde_json.specs.View.{view};
 ghost use Rattle.oauth2_json.specs.Reading.{ReadsAs};
 ghost use Rattle.oauth2_json.specs.Members.{without, needed_member, optional_member};
 ghost use Rattle.oauth2_body_members.specs.Object.{object_members};
-ghost use Rattle.oauth2_introspection.specs.Instants.{
+ghost use Rattle.oauth2_times.specs.Instants.{
   instant,
   instant_at,
   second_of,
