@@ -9,8 +9,8 @@ use Rattle.oauth2_json.specs.Reading.{Reading, ErrsAs}
 use Rattle.oauth2_json.specs.declared.read.ReadError.{ReadError}
 use Rattle.oauth2_body_members.specs.declared.member.Member.{Member}
 use Rattle.oauth2_body_members.specs.declared.object.Object.{Object}
-use Rattle.oauth2_body_members.specs.declared.object.Source.{Source}
-use Rattle.oauth2_body_members.specs.declared.object.Source.TheVariants.{Map, List as Listed}
+use Rattle.oauth2_body_members.specs.declared.object.BodySource.{BodySource}
+use Rattle.oauth2_body_members.specs.declared.object.BodySource.TheVariants.{Map, List as Listed}
 
 -- The members go in one after another, so the last value of a name stays; one that was taken is none.
 abbrev pub put_each : List (List ℕ × Option Data) → Members → Members
@@ -23,7 +23,7 @@ entry_of m = (m.name.now, option_map view m.value)
 abbrev pub list_members : List Member → Members
 list_members list = put_each (map entry_of list) no_members
 
-abbrev pub source_members : Source → Members
+abbrev pub source_members : BodySource → Members
 source_members (Map m) = members_view m.entries
 source_members (Listed list) = list_members list.items
 

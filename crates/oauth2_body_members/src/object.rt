@@ -20,7 +20,7 @@ use serde_json::{Map, Value};
 use std::alloc::{AllocError, Global};
 
 #[derive(Drop)]
-pub(crate) enum Source<'a> {
+pub(crate) enum BodySource<'a> {
     Map(Map<String, Value>),
     List(Vec<Member<'a>>),
 }
@@ -28,7 +28,7 @@ pub(crate) enum Source<'a> {
 /// The members of an object, out of which they are taken by name.
 #[derive(Drop)]
 pub struct Object<'a> {
-    source: Source<'a>,
+    source: BodySource<'a>,
 }
 
 impl<'a> Object<'a> {
@@ -39,7 +39,7 @@ impl<'a> Object<'a> {
     {
         let map = members::of_object(alloc, value)?;
         Ok(Object {
-            source: Source::Map(map),
+            source: BodySource::Map(map),
         })
     }
 
@@ -67,8 +67,8 @@ impl<'a> Object<'a> {
         ensures rest { object_members self.new ≡ without name.now (object_members self.old) }
     {
         match &mut self.source {
-            Source::Map(map) => members::take(map, name),
-            Source::List(list) => member::take(list, name),
+            BodySource::Map(map) => members::take(map, name),
+            BodySource::List(list) => member::take(list, name),
         }
     }
 
@@ -78,8 +78,8 @@ impl<'a> Object<'a> {
         ensures { IfOk result (λ v. view v ≡ object (object_members self.entry)) }
     {
         match self.source {
-            Source::Map(map) => Ok(Value::Object(map)),
-            Source::List(list) => Ok(Value::Object(member::map_of(alloc, list)?)),
+            BodySource::Map(map) => Ok(Value::Object(map)),
+            BodySource::List(list) => Ok(Value::Object(member::map_of(alloc, list)?)),
         }
     }
 }
@@ -95,7 +95,7 @@ fn of_text<'a>(
 {
     match found_in(alloc, text, names, keeps_others)? {
         Some(list) => Ok(Object {
-            source: Source::List(member::with_texts(alloc, list)?),
+            source: BodySource::List(member::with_texts(alloc, list)?),
         }),
         None => through_value(alloc, text),
     }

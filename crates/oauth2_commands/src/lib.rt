@@ -13,7 +13,7 @@ mod run;
 mod script_keeper;
 mod status;
 
-pub use input::{MOST_READS, ScriptReader, Source};
+pub use input::{MOST_READS, ScriptReader, ScriptSource};
 pub use oauth2_request_commands::RunStatus;
 pub use run::run_script;
 pub use status::RunFault;

@@ -8,7 +8,7 @@ use Rattle.std.specs.Io.{ReadsAtMost}
 use Rattle.std.proofs.KnownBytes.{Consumes-nil, Consumes-trans, Consumes-kept}
 use Rattle.oauth2_http1.specs.Bounds.{most_bytes}
 use Rattle.oauth2_http1.specs.declared.bounds.Bounds.{Bounds}
-use Rattle.oauth2_http1.specs.declared.source.Source.{Source}
+use Rattle.oauth2_http1.specs.declared.source.ReplySource.{ReplySource}
 use Rattle.oauth2_http1.specs.declared.fault.ReplyFault.{ReplyFault}
 use Rattle.oauth2_http1.specs.declared.fault.ReplyFault.TheVariants as Fault
 use Rattle.oauth2_http1.specs.Calls.{given, successes, GoesOn, Made, Goes, Fails, TakesNone, ReadsOf, ReadsWithin, ReadFails}
@@ -81,14 +81,14 @@ module _ {S : Type 0} (does : S → Result ℕ Error → S → Type 0) where
   part_fails Fault.Memory a b part went = went
 
 module _ {R : Type 0} (remaining : R → Option (List ℕ)) (reads : R → Result ℕ Error → R → Type 0) where
-  pub Took-refl : (r : R) (s : Source) → Took remaining reads r r s s
+  pub Took-refl : (r : R) (s : ReplySource) → Took remaining reads r r s s
   Took-refl r s = record {
     all = record { returned = []; made = refl; bytes = []; taken = Consumes-nil (remaining r); counted = refl };
     bytes = zero-add s.bytes_left;
     times = zero-add s.reads_left;
   }
 
-  pub Took-trans : (a b c : R) (s t u : Source) → Took remaining reads a b s t → Took remaining reads b c t u → Took remaining reads a c s u
+  pub Took-trans : (a b c : R) (s t u : ReplySource) → Took remaining reads a b s t → Took remaining reads b c t u → Took remaining reads a c s u
   Took-trans a b c s t u p q = record {
     all = record {
       returned = q.all.returned ++ p.all.returned;
@@ -102,7 +102,7 @@ module _ {R : Type 0} (remaining : R → Option (List ℕ)) (reads : R → Resul
   }
 
   -- what is used of the bytes that were read takes nothing
-  pub Took-same : (a b : R) (s t u : Source) → Took remaining reads a b s t → u.bytes_left ≡ t.bytes_left → u.reads_left ≡ t.reads_left → Took remaining reads a b s u
+  pub Took-same : (a b : R) (s t u : ReplySource) → Took remaining reads a b s t → u.bytes_left ≡ t.bytes_left → u.reads_left ≡ t.reads_left → Took remaining reads a b s u
   Took-same a b s t u p bytes times = record {
     all = p.all;
     bytes = ap (λ n. given p.all.returned + n) bytes ∙ p.bytes;
@@ -110,12 +110,12 @@ module _ {R : Type 0} (remaining : R → Option (List ℕ)) (reads : R → Resul
   }
 
   -- where that much was left, no more was taken
-  pub Took-within : (bounds : Bounds) (a b : R) (s t : Source) → Took remaining reads a b s t → s.bytes_left ≡ most_bytes bounds → s.reads_left ≡ bounds.max_reads
+  pub Took-within : (bounds : Bounds) (a b : R) (s t : ReplySource) → Took remaining reads a b s t → s.bytes_left ≡ most_bytes bounds → s.reads_left ≡ bounds.max_reads
       → ReadsWithin remaining reads bounds a b
   Took-within bounds a b s t p bytes times = (p.all, omega (arith, p.bytes, bytes), omega (arith, p.times, times))
 
   -- one read that succeeded
-  pub Took-read : (a b : R) (s t : Source) (n : ℕ) (chunk : List ℕ) → Tried reads (Ok n) a b → ReadsAtMost {E = Error} (Ok n) chunk
+  pub Took-read : (a b : R) (s t : ReplySource) (n : ℕ) (chunk : List ℕ) → Tried reads (Ok n) a b → ReadsAtMost {E = Error} (Ok n) chunk
       → ReadConsumes {E = Error} (remaining a) (remaining b) (Ok n) chunk → n + t.bytes_left ≡ s.bytes_left → 1 + t.reads_left ≡ s.reads_left → Took remaining reads a b s t
   Took-read a b s t n chunk tried within consumes bytes times = record {
     all = record {
@@ -130,7 +130,7 @@ module _ {R : Type 0} (remaining : R → Option (List ℕ)) (reads : R → Resul
   }
 
   -- one that failed
-  pub Took-none : (a b : R) (s : Source) (e : Error) → Tried reads (Err e) a b → Keeps (remaining a) (remaining b) → Took remaining reads a b s s
+  pub Took-none : (a b : R) (s : ReplySource) (e : Error) → Tried reads (Err e) a b → Keeps (remaining a) (remaining b) → Took remaining reads a b s s
   Took-none a b s e tried keeps = record {
     all = record {
       returned = Err e ∷ tried.before;

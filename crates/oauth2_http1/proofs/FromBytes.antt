@@ -20,8 +20,8 @@ use Rattle.oauth2_wire.specs.Request.{HttpRequest, IsRequestOf, view_of}
 use Rattle.oauth2_http1.specs.declared.client.Http1Client.{Http1Client}
 use Rattle.oauth2_http1.specs.declared.error.Http1Error.{Http1Error}
 use Rattle.oauth2_http1.specs.declared.error.Http1Error.TheVariants as http
-use Rattle.oauth2_http1.specs.declared.fault.RequestFault as Fault
-use Rattle.oauth2_http1.specs.declared.fault.RequestFault.TheVariants as why
+use Rattle.oauth2_http1.specs.declared.fault.MessageFault as Fault
+use Rattle.oauth2_http1.specs.declared.fault.MessageFault.TheVariants as why
 use Rattle.oauth2_http1.specs.Origin.{Place}
 use Rattle.oauth2_http1.specs.Message.{sent_fields}
 use Rattle.oauth2_http1.specs.Reply.{Terms, IsResponseOf, GivesReply}
@@ -67,7 +67,7 @@ begins t reply (Some stream) (m, rest, reads, is) = record {
   is = reply_view m reply is;
 }
 
-cannot_post : (c : Configuration) (text : List ℕ) (request : HttpRequest) (f : Fault.RequestFault) → IsRequestOf c text (view_of request)
+cannot_post : (c : Configuration) (text : List ℕ) (request : HttpRequest) (f : Fault.MessageFault) → IsRequestOf c text (view_of request)
     → CannotSend f request → CannotPost f request
 cannot_post c text request why.NoOrigin is cannot = cannot
 cannot_post c text request why.NoHost is cannot = cannot

@@ -10,8 +10,8 @@ use Rattle.http1.specs.declared.error.ReadError.{ReadError}
 use Rattle.http1.specs.declared.error.ReadError.TheVariants as Read
 use Rattle.oauth2_http1.specs.declared.error.Http1Error.{Http1Error}
 use Rattle.oauth2_http1.specs.declared.error.Http1Error.TheVariants as error
-use Rattle.oauth2_http1.specs.declared.fault.RequestFault.{RequestFault}
-use Rattle.oauth2_http1.specs.declared.fault.RequestFault.TheVariants as request
+use Rattle.oauth2_http1.specs.declared.fault.MessageFault.{MessageFault}
+use Rattle.oauth2_http1.specs.declared.fault.MessageFault.TheVariants as request
 use Rattle.oauth2_http1.specs.declared.fault.ReplyFault.{ReplyFault}
 use Rattle.oauth2_http1.specs.declared.fault.ReplyFault.TheVariants as reply
 use Rattle.oauth2_http1.specs.declared.over.NoConnection.{NoConnection}
@@ -24,7 +24,7 @@ http1_write_error_text Write.Host = codes "it has a Host field of its own"
 http1_write_error_text e = codes "its fields do not fit its body"
 
 -- the text of why a request is not sent
-abbrev pub http1_request_fault_text : RequestFault → Option (List ℕ)
+abbrev pub http1_request_fault_text : MessageFault → Option (List ℕ)
 http1_request_fault_text request.NoOrigin = Some (codes "request has no http or https target")
 http1_request_fault_text request.NoHost = Some (codes "request has a target without a host")
 http1_request_fault_text request.BadPort = Some (codes "request has a target whose port is no number")

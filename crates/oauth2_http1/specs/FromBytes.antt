@@ -17,8 +17,8 @@ use Rattle.oauth2_wire.specs.declared.error.RequestTokenError.TheVariants as tok
 use Rattle.oauth2_http1.specs.declared.client.Http1Client.{Http1Client}
 use Rattle.oauth2_http1.specs.declared.error.Http1Error.{Http1Error}
 use Rattle.oauth2_http1.specs.declared.error.Http1Error.TheVariants as http
-use Rattle.oauth2_http1.specs.declared.fault.RequestFault.{RequestFault}
-use Rattle.oauth2_http1.specs.declared.fault.RequestFault.TheVariants as Fault
+use Rattle.oauth2_http1.specs.declared.fault.MessageFault.{MessageFault}
+use Rattle.oauth2_http1.specs.declared.fault.MessageFault.TheVariants as Fault
 use Rattle.oauth2_http1.specs.Origin.{Place}
 use Rattle.oauth2_http1.specs.Law.{AreReadAs}
 use Rattle.oauth2_http1.specs.Reply.{Terms, ReadsReply, entries_of}
@@ -42,7 +42,7 @@ pub record BeginsWith (t : Terms) (view : ReplyView) (stream : List ℕ) : Type 
   pub is : view ≡ view_of_reply reply
 
 -- why a configuration's request cannot be sent: it is a POST that leaves its framing to the client, so two reasons are none
-abbrev pub CannotPost : RequestFault → HttpRequest → Type 0
+abbrev pub CannotPost : MessageFault → HttpRequest → Type 0
 CannotPost Fault.OwnFraming request = ⊥
 CannotPost Fault.Connect request = ⊥
 CannotPost fault request = CannotSend fault request

@@ -9,13 +9,13 @@ use Rattle.http1.specs.Framing.{method_kind}
 use Rattle.http1.specs.Head.{is_request_line}
 use Rattle.http1.specs.Conn.{is_connect, states_framing, plan_refusal}
 use Rattle.http1.specs.Client.{plan_fields}
-use Rattle.oauth2_http1.specs.declared.fault.RequestFault.{RequestFault}
-use Rattle.oauth2_http1.specs.declared.fault.RequestFault.TheVariants as Fault
+use Rattle.oauth2_http1.specs.declared.fault.MessageFault.{MessageFault}
+use Rattle.oauth2_http1.specs.declared.fault.MessageFault.TheVariants as Fault
 use Rattle.oauth2_http1.specs.Origin.{Place, origin_form}
 use Rattle.oauth2_http1.specs.Message.{body_size, sent_fields}
 
 -- a refusal of the kit's client as a fault
-abbrev pub fault_of_write_error : WriteError → RequestFault
+abbrev pub fault_of_write_error : WriteError → MessageFault
 fault_of_write_error OutOfMemory = Fault.Memory
 fault_of_write_error e = Fault.Refused e
 
@@ -25,7 +25,7 @@ write_error method target fields body =
     plan_refusal (plan_fields (method_kind method) (body_size method body) fields) (is_request_line method target 1) fields
 
 -- why no bytes were made of a request with these parts
-abbrev pub Unsent : RequestFault → List ℕ → List ℕ → List Header → List ℕ → Type 0
+abbrev pub Unsent : MessageFault → List ℕ → List ℕ → List Header → List ℕ → Type 0
 Unsent Fault.NoOrigin method target fields body = ⊥
 Unsent Fault.NoHost method target fields body = ⊥
 Unsent Fault.BadPort method target fields body = ⊥
@@ -35,6 +35,6 @@ Unsent (Fault.Refused e) method target fields body = write_error method target f
 Unsent Fault.Memory method target fields body = ⊤
 
 -- why no bytes were made of a request to a place
-abbrev pub UnsentTo : {Z : Type 0} → Place → Request (Vec ℕ Z) → RequestFault → Type 0
+abbrev pub UnsentTo : {Z : Type 0} → Place → Request (Vec ℕ Z) → MessageFault → Type 0
 UnsentTo place r e =
     Unsent e (head_of r).method (origin_form (head_of r).uri) (sent_fields place (head_of r).headers) (body_of r).items

@@ -1,6 +1,6 @@
 //! Why a call gave no reply.
 
-use crate::fault::{ReplyFault, RequestFault, write_text};
+use crate::fault::{ReplyFault, MessageFault, write_text};
 use oauth2_types::display::write_display;
 use std::{fmt, io};
 
@@ -8,7 +8,7 @@ use std::{fmt, io};
 #[derive(Debug, Drop)]
 pub enum Http1Error<E> {
     /// The request cannot be sent. No connection was opened.
-    Request(RequestFault),
+    Request(MessageFault),
     /// No connection was opened.
     Connect(E),
     /// A write failed. How much was written is not known, and it is not written again.

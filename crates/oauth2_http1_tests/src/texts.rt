@@ -4,40 +4,40 @@ use crate::support::assert_displayed_as;
 use http1::chunked::ChunkError;
 use http1::framing::FramingError;
 use http1::{ReadError, WriteError};
-use oauth2_http1::{Http1Error, NoConnection, ReplyFault, RequestFault};
+use oauth2_http1::{Http1Error, NoConnection, ReplyFault, MessageFault};
 use std::io::{self, ErrorKind};
 
 type Error = Http1Error<NoConnection>;
 
-const REQUEST_FAULTS: &[(RequestFault, &str)] = &[
+const REQUEST_FAULTS: &[(MessageFault, &str)] = &[
     (
-        RequestFault::NoOrigin,
+        MessageFault::NoOrigin,
         "request has no http or https target",
     ),
-    (RequestFault::NoHost, "request has a target without a host"),
+    (MessageFault::NoHost, "request has a target without a host"),
     (
-        RequestFault::BadPort,
+        MessageFault::BadPort,
         "request has a target whose port is no number",
     ),
-    (RequestFault::OwnFraming, "request frames its body itself"),
-    (RequestFault::Connect, "request asks for a tunnel"),
+    (MessageFault::OwnFraming, "request frames its body itself"),
+    (MessageFault::Connect, "request asks for a tunnel"),
     (
-        RequestFault::Refused(WriteError::InvalidStartLine),
+        MessageFault::Refused(WriteError::InvalidStartLine),
         "request cannot be sent: no request line has this method and this target",
     ),
     (
-        RequestFault::Refused(WriteError::InvalidHeader),
+        MessageFault::Refused(WriteError::InvalidHeader),
         "request cannot be sent: no field has this name and this value",
     ),
     (
-        RequestFault::Refused(WriteError::Host),
+        MessageFault::Refused(WriteError::Host),
         "request cannot be sent: it has a Host field of its own",
     ),
     (
-        RequestFault::Refused(WriteError::BodySize),
+        MessageFault::Refused(WriteError::BodySize),
         "request cannot be sent: its fields do not fit its body",
     ),
-    (RequestFault::Memory, "Out of memory"),
+    (MessageFault::Memory, "Out of memory"),
 ];
 
 const READ_ERRORS: &[(ReadError, &str)] = &[

@@ -9,7 +9,7 @@ ghost use Rattle.oauth2_metadata.specs.declared.endpoint_error.EndpointError.The
 
 use crate::endpoint_error::EndpointError;
 use crate::endpoint_fault::Endpoint;
-use crate::groups::Endpoints;
+use crate::groups::MetadataEndpoints;
 use crate::metadata::ServerMetadata;
 use oauth2::{Client, EndpointMaybeSet, EndpointSet, EndpointState};
 use oauth2_types::TryClone;
@@ -182,7 +182,7 @@ struct EndpointCopies {
     token_url: Option<TokenUrl>,
 }
 
-impl Endpoints {
+impl MetadataEndpoints {
     // The endpoints of a login by a code.
     fn of_login(&self) -> Result<(&AuthUrl, &TokenUrl), EndpointError>
         ensures { MatchResult result

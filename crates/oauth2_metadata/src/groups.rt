@@ -12,7 +12,7 @@ use url::Url;
 
 // The endpoints that this client calls.
 #[derive(Debug)]
-pub(crate) struct Endpoints {
+pub(crate) struct MetadataEndpoints {
     pub(crate) authorization_endpoint: Option<AuthUrl>,
     pub(crate) token_endpoint: Option<TokenUrl>,
     pub(crate) device_authorization_endpoint: Option<DeviceAuthorizationUrl>,
@@ -20,9 +20,9 @@ pub(crate) struct Endpoints {
     pub(crate) revocation_endpoint: Option<RevocationUrl>,
 }
 
-impl Drop for Endpoints {
+impl Drop for MetadataEndpoints {
     fn drop(self) {
-        let Endpoints {
+        let MetadataEndpoints {
             authorization_endpoint: _,
             token_endpoint: _,
             device_authorization_endpoint: _,
@@ -32,7 +32,7 @@ impl Drop for Endpoints {
     }
 }
 
-impl Model for Endpoints {
+impl Model for MetadataEndpoints {
     ghost use Rattle.std.specs.Option.{ForSome};
     ghost use Rattle.oauth2_replies.specs.private.Address.{IsAddress};
     ghost use Rattle.oauth2_metadata.specs.Metadata.{EndpointMembers};
@@ -54,7 +54,7 @@ impl Model for Endpoints {
         × ForSome m.revocation_endpoint IsAddress };
 }
 
-impl Endpoints {
+impl MetadataEndpoints {
     // The first that a client may not call.
     pub(crate) fn fault(&self) -> Option<EndpointFault>
         ensures { result ≡ endpoint_fault self.now }

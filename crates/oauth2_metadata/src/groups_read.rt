@@ -18,14 +18,14 @@ ghost use Rattle.oauth2_metadata.specs.private.Turn.{
   services_in_turn,
 };
 
-use crate::groups::{AuthMethods, Endpoints, Pages, Services, SigningAlgorithms, Supported};
+use crate::groups::{AuthMethods, MetadataEndpoints, Pages, Services, SigningAlgorithms, Supported};
 use crate::kinds::take_flag;
 use oauth2_body_members::Object;
 use oauth2_json::ReadError;
 use std::alloc::Global;
 
 #[tactic(auto, unfolding(crate::specs::private::Turn::endpoints_in_turn, crate::specs::private::Turn::without_endpoints))]
-pub(crate) fn take_endpoints(alloc: Global, object: &mut Object<'_>) -> Result<Endpoints, ReadError>
+pub(crate) fn take_endpoints(alloc: Global, object: &mut Object<'_>) -> Result<MetadataEndpoints, ReadError>
     ensures read { ReadsAs (λ m. m) result (endpoints_in_turn (object_members object.old)) }
     ensures rest { IfOk result (λ _. object_members object.new
         ≡ without_endpoints (object_members object.old)) }
@@ -35,7 +35,7 @@ pub(crate) fn take_endpoints(alloc: Global, object: &mut Object<'_>) -> Result<E
     let device_authorization_endpoint = object.optional(alloc, "device_authorization_endpoint")?;
     let introspection_endpoint = object.optional(alloc, "introspection_endpoint")?;
     let revocation_endpoint = object.optional(alloc, "revocation_endpoint")?;
-    Ok(Endpoints {
+    Ok(MetadataEndpoints {
         authorization_endpoint,
         token_endpoint,
         device_authorization_endpoint,

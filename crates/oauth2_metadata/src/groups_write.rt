@@ -9,12 +9,12 @@ ghost use Rattle.oauth2_metadata.specs.Metadata.{endpoint_rows, supported_rows, 
 ghost use Rattle.oauth2_metadata.specs.Metadata.{page_rows, service_rows};
 ghost use Rattle.oauth2_metadata.specs.private.Kept.{AreAddresses};
 
-use crate::groups::{AuthMethods, Endpoints, Pages, Services, SigningAlgorithms, Supported};
+use crate::groups::{AuthMethods, MetadataEndpoints, Pages, Services, SigningAlgorithms, Supported};
 use oauth2_json::{ToJson, members};
 use serde_json::{Map, Value};
 use std::alloc::{AllocError, Global};
 
-impl Endpoints {
+impl MetadataEndpoints {
     #[tactic(auto, using(crate::proofs::Addresses::address_written), unfolding(crate::specs::Metadata::endpoint_rows))]
     pub(crate) fn put(
         &self,

@@ -13,7 +13,7 @@ ghost use Rattle.oauth2_metadata.specs.EndpointFault.{endpoint_fault};
 ghost use Rattle.oauth2_metadata.specs.Metadata.{Metadata};
 
 use crate::endpoint_fault::EndpointFault;
-use crate::groups::{AuthMethods, Endpoints, Pages, Services, SigningAlgorithms, Supported};
+use crate::groups::{AuthMethods, MetadataEndpoints, Pages, Services, SigningAlgorithms, Supported};
 use oauth2_replies::ExtraFields;
 use oauth2_urls::{AuthUrl, DeviceAuthorizationUrl, IntrospectionUrl, RevocationUrl, TokenUrl};
 use std::marker::Model;
@@ -26,7 +26,7 @@ use std::marker::Model;
 #[derive(Debug, Drop)]
 pub struct ServerMetadata<EF = ExtraFields> {
     pub(crate) issuer: String,
-    pub(crate) endpoints: Endpoints,
+    pub(crate) endpoints: MetadataEndpoints,
     pub(crate) supported: Supported,
     pub(crate) auth_methods: AuthMethods,
     pub(crate) signing_algorithms: SigningAlgorithms,

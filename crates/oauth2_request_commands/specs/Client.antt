@@ -1,32 +1,16 @@
 -- The client of a script.
 use Rattle.std.specs.Prelude.{◌≡◌, ℕ, List, ◌++◌, Option, Some, None, codes}
 use Rattle.oauth2_urls.specs.Addressed.{Addressed}
-use Rattle.oauth2_wire.specs.declared.content_type.ReplyRule.{ReplyRule}
-use Rattle.oauth2_wire.specs.declared.content_type.ReplyRule.TheVariants as wire
-use Rattle.oauth2_wire.specs.declared.request.AuthType.{AuthType}
-use Rattle.oauth2_wire.specs.declared.request.AuthType.TheVariants.{BasicAuth, RequestBody}
 use Rattle.oauth2.specs.Settings.{Settings}
 use Rattle.oauth2_script.specs.Client.{Client}
-use Rattle.oauth2_script.specs.declared.client_part.Auth.{Auth}
-use Rattle.oauth2_script.specs.declared.client_part.Auth.TheVariants.{Basic, Body}
-use Rattle.oauth2_script.specs.declared.client_part.Rule.{Rule}
-use Rattle.oauth2_script.specs.declared.client_part.Rule.TheVariants.{Prefix, MediaType}
 use Rattle.oauth2_request_commands.specs.Out.{Output, failure_output}
-
-abbrev pub auth_type_of : Auth → AuthType
-auth_type_of Basic = BasicAuth
-auth_type_of Body = RequestBody
-
-abbrev pub reply_rule_of : Rule → ReplyRule
-reply_rule_of Prefix = wire.Prefix
-reply_rule_of MediaType = wire.MediaType
 
 abbrev pub settings_of : Client → Settings
 settings_of c = record {
   client_id = c.id;
   client_secret = c.secret;
-  auth_type = auth_type_of c.auth;
-  reply_rule = reply_rule_of c.reply_rule;
+  auth_type = c.auth_type;
+  reply_rule = c.reply_rule;
   redirect_url = c.redirect;
   auth_url = c.endpoints.auth;
   device_authorization_url = c.endpoints.device;

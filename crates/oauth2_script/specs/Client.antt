@@ -4,13 +4,13 @@ use Rattle.std.specs.Str.{bytes_eq}
 use Rattle.serde_json.specs.Data.{Data}
 use Rattle.serde_json.specs.Find.{as_str}
 use Rattle.oauth2_urls.specs.Addressed.{Addressed}
-use Rattle.oauth2_script.specs.declared.client_part.Auth.{Auth}
-use Rattle.oauth2_script.specs.declared.client_part.Auth.TheVariants.{Basic, Body}
-use Rattle.oauth2_script.specs.declared.client_part.Rule.{Rule}
-use Rattle.oauth2_script.specs.declared.client_part.Rule.TheVariants.{Prefix, MediaType}
+use Rattle.oauth2_wire.specs.declared.request.AuthType.{AuthType}
+use Rattle.oauth2_wire.specs.declared.request.AuthType.TheVariants.{BasicAuth, RequestBody}
+use Rattle.oauth2_wire.specs.declared.content_type.ReplyRule.{ReplyRule}
+use Rattle.oauth2_wire.specs.declared.content_type.ReplyRule.TheVariants.{Prefix, MediaType}
 use Rattle.oauth2_script.specs.Part.{◌>>=◌, needed_part, present_part, address}
 
-pub record Endpoints : Type 0 where
+pub record ClientEndpoints : Type 0 where
   pub auth : Option Addressed
   pub token : Option Addressed
   pub device : Option Addressed
@@ -20,28 +20,28 @@ pub record Endpoints : Type 0 where
 pub record Client : Type 0 where
   pub id : List ℕ
   pub secret : Option (List ℕ)
-  pub auth : Auth
-  pub reply_rule : Rule
+  pub auth_type : AuthType
+  pub reply_rule : ReplyRule
   pub redirect : Option Addressed
-  pub endpoints : Endpoints
+  pub endpoints : ClientEndpoints
 
-unfoldable pub auth_of : List ℕ → Option Auth
-auth_of text =
-    if bytes_eq text (codes "basic") then Some Basic
-    else (if bytes_eq text (codes "body") then Some Body else None)
+unfoldable pub auth_type_of : List ℕ → Option AuthType
+auth_type_of text =
+    if bytes_eq text (codes "basic") then Some BasicAuth
+    else (if bytes_eq text (codes "body") then Some RequestBody else None)
 
-abbrev pub auth : Data → Option Auth
-auth d = as_str d >>= auth_of
+abbrev pub auth_type_part : Data → Option AuthType
+auth_type_part d = as_str d >>= auth_type_of
 
-unfoldable pub rule_of : List ℕ → Option Rule
-rule_of text =
+unfoldable pub reply_rule_of : List ℕ → Option ReplyRule
+reply_rule_of text =
     if bytes_eq text (codes "prefix") then Some Prefix
     else (if bytes_eq text (codes "media_type") then Some MediaType else None)
 
-abbrev pub rule_part : Data → Option Rule
-rule_part d = as_str d >>= rule_of
+abbrev pub reply_rule_part : Data → Option ReplyRule
+reply_rule_part d = as_str d >>= reply_rule_of
 
-unfoldable pub endpoints : Data → Option Endpoints
+unfoldable pub endpoints : Data → Option ClientEndpoints
 endpoints d = do
   auth ← present_part address (codes "auth_url") d
   token ← present_part address (codes "token_url") d
@@ -54,14 +54,14 @@ unfoldable pub client : Data → Option Client
 client d = do
   id ← needed_part as_str (codes "id") d
   secret ← present_part as_str (codes "secret") d
-  auth ← present_part auth (codes "auth") d
-  reply_rule ← present_part rule_part (codes "reply_rule") d
+  auth_type ← present_part auth_type_part (codes "auth") d
+  reply_rule ← present_part reply_rule_part (codes "reply_rule") d
   redirect ← present_part address (codes "redirect") d
   endpoints ← endpoints d
   Some (record {
     id = id;
     secret = secret;
-    auth = unwrap_or auth Basic;
+    auth_type = unwrap_or auth_type BasicAuth;
     reply_rule = unwrap_or reply_rule Prefix;
     redirect = redirect;
     endpoints = endpoints;

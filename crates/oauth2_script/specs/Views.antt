@@ -38,7 +38,7 @@ use Rattle.oauth2_script.specs.declared.id_token_params.IdTokenParams.{IdTokenPa
 use Rattle.oauth2_script.specs.declared.id_token_params.IssuerParam.{IssuerParam}
 use Rattle.oauth2_script.specs.declared.id_token_params.IssuerParam.TheVariants.{Is, OneOf, PerTenant}
 use Rattle.oauth2_script.specs.declared.client_part.ClientPart.{ClientPart}
-use Rattle.oauth2_script.specs.declared.client_part.Endpoints.{Endpoints}
+use Rattle.oauth2_script.specs.declared.client_part.ClientEndpoints.{ClientEndpoints}
 use Rattle.oauth2_script.specs.declared.command.Command.{Command}
 use Rattle.oauth2_script.specs.declared.command.Command.TheVariants.{Code, Refresh, Password, ClientCredentials, Introspect, Revoke, DeviceAuthorization, DevicePoll, Authorize, Redirect, Keeper, Metadata, IdToken}
 use Rattle.oauth2_script.specs.declared.reply.HttpReply.{HttpReply}
@@ -162,14 +162,14 @@ id_token_view p = record {
   authorized_parties = map string_bytes p.authorized_parties.items;
 }
 
-abbrev pub endpoints_view : Endpoints → client_spec.Endpoints
+abbrev pub endpoints_view : ClientEndpoints → client_spec.ClientEndpoints
 endpoints_view e = record { auth = e.auth; token = e.token; device = e.device; introspection = e.introspection; revocation = e.revocation }
 
 abbrev pub client_view : ClientPart → client_spec.Client
 client_view c = record {
   id = c.id;
   secret = c.secret;
-  auth = c.auth;
+  auth_type = c.auth_type;
   reply_rule = c.reply_rule;
   redirect = c.redirect;
   endpoints = endpoints_view c.endpoints;

@@ -8,41 +8,24 @@ use oauth2_types::{ClientId, ClientSecret};
 use oauth2_urls::{
     AuthUrl, DeviceAuthorizationUrl, IntrospectionUrl, RedirectUrl, RevocationUrl, TokenUrl,
 };
+use oauth2_wire::{AuthType, ReplyRule};
 use serde_json::Value;
 use std::alloc::Global;
-
-/// How the client shows its identifier and its secret (RFC 6749, section 2.3.1).
-#[derive(Clone, Copy, Debug, PartialEq, Eq)]
-pub enum Auth {
-    /// By HTTP Basic authentication.
-    Basic,
-    /// As pairs of the body.
-    Body,
-}
-
-/// Which Content-Type values of a success are those of a JSON text.
-#[derive(Clone, Copy, Debug, PartialEq, Eq)]
-pub enum Rule {
-    /// Those that begin with `application/json`.
-    Prefix,
-    /// Those whose media type is `application/json`.
-    MediaType,
-}
 
 /// The client, with those of its endpoints that are set.
 #[derive(Drop)]
 pub struct ClientPart {
     pub id: ClientId,
     pub secret: Option<ClientSecret>,
-    pub auth: Auth,
-    pub reply_rule: Rule,
+    pub auth_type: AuthType,
+    pub reply_rule: ReplyRule,
     pub redirect: Option<RedirectUrl>,
-    pub endpoints: Endpoints,
+    pub endpoints: ClientEndpoints,
 }
 
 /// The endpoints of a client that a script sets.
 #[derive(Drop)]
-pub struct Endpoints {
+pub struct ClientEndpoints {
     pub auth: Option<AuthUrl>,
     pub token: Option<TokenUrl>,
     pub device: Option<DeviceAuthorizationUrl>,
@@ -50,67 +33,67 @@ pub struct Endpoints {
     pub revocation: Option<RevocationUrl>,
 }
 
-impl Part for Auth {
+impl Part for AuthType {
     ghost use Rattle.std.specs.Prelude.{false};
-    ghost use Rattle.oauth2_script.specs.declared.client_part.Auth.{Auth};
+    ghost use Rattle.oauth2_wire.specs.declared.request.AuthType.{AuthType};
 
-    ghost Meaning = { Auth };
+    ghost Meaning = { AuthType };
 
-    ghost meaning = { λ auth. auth };
+    ghost meaning = { λ auth_type. auth_type };
 
-    ghost reading = { spec.auth };
+    ghost reading = { spec.auth_type_part };
 
     ghost allocates = { false };
 
-    #[tactic(auto, unfolding(crate::specs::Client::auth_of))]
-    fn from_value(_alloc: Global, value: &Value) -> Result<Auth, ScriptError> {
+    #[tactic(auto, unfolding(crate::specs::Client::auth_type_of))]
+    fn from_value(_alloc: Global, value: &Value) -> Result<AuthType, ScriptError> {
         match value.as_str() {
-            Some("basic") => Ok(Auth::Basic),
-            Some("body") => Ok(Auth::Body),
+            Some("basic") => Ok(AuthType::BasicAuth),
+            Some("body") => Ok(AuthType::RequestBody),
             _ => Err(ScriptError::Bad),
         }
     }
 }
 
-impl Part for Rule {
+impl Part for ReplyRule {
     ghost use Rattle.std.specs.Prelude.{false};
-    ghost use Rattle.oauth2_script.specs.declared.client_part.Rule.{Rule};
+    ghost use Rattle.oauth2_wire.specs.declared.content_type.ReplyRule.{ReplyRule};
 
-    ghost Meaning = { Rule };
+    ghost Meaning = { ReplyRule };
 
     ghost meaning = { λ rule. rule };
 
-    ghost reading = { spec.rule_part };
+    ghost reading = { spec.reply_rule_part };
 
     ghost allocates = { false };
 
-    #[tactic(auto, unfolding(crate::specs::Client::rule_of))]
-    fn from_value(_alloc: Global, value: &Value) -> Result<Rule, ScriptError> {
+    #[tactic(auto, unfolding(crate::specs::Client::reply_rule_of))]
+    fn from_value(_alloc: Global, value: &Value) -> Result<ReplyRule, ScriptError> {
         match value.as_str() {
-            Some("prefix") => Ok(Rule::Prefix),
-            Some("media_type") => Ok(Rule::MediaType),
+            Some("prefix") => Ok(ReplyRule::Prefix),
+            Some("media_type") => Ok(ReplyRule::MediaType),
             _ => Err(ScriptError::Bad),
         }
     }
 }
 
-impl Part for Endpoints {
+impl Part for ClientEndpoints {
     ghost use Rattle.oauth2_script.specs.Views.{endpoints_view};
 
-    ghost Meaning = { spec.Endpoints };
+    ghost Meaning = { spec.ClientEndpoints };
 
     ghost meaning = { endpoints_view };
 
     ghost reading = { spec.endpoints };
 
     #[tactic(auto, using(crate::proofs::Parts::kept), unfolding(crate::specs::Client::endpoints))]
-    fn from_value(alloc: Global, value: &Value) -> Result<Endpoints, ScriptError> {
+    fn from_value(alloc: Global, value: &Value) -> Result<ClientEndpoints, ScriptError> {
         let auth = optional(alloc, value, "auth_url")?;
         let token = optional(alloc, value, "token_url")?;
         let device = optional(alloc, value, "device_url")?;
         let introspection = optional(alloc, value, "introspection_url")?;
         let revocation = optional(alloc, value, "revocation_url")?;
-        Ok(Endpoints {
+        Ok(ClientEndpoints {
             auth,
             token,
             device,
@@ -133,15 +116,15 @@ impl Part for ClientPart {
     fn from_value(alloc: Global, value: &Value) -> Result<ClientPart, ScriptError> {
         let id = needed(alloc, value, "id")?;
         let secret = optional(alloc, value, "secret")?;
-        let auth = optional(alloc, value, "auth")?;
+        let auth_type = optional(alloc, value, "auth")?;
         let reply_rule = optional(alloc, value, "reply_rule")?;
         let redirect = optional(alloc, value, "redirect")?;
-        let endpoints = Endpoints::from_value(alloc, value)?;
+        let endpoints = ClientEndpoints::from_value(alloc, value)?;
         Ok(ClientPart {
             id,
             secret,
-            auth: auth.unwrap_or(Auth::Basic),
-            reply_rule: reply_rule.unwrap_or(Rule::Prefix),
+            auth_type: auth_type.unwrap_or(AuthType::BasicAuth),
+            reply_rule: reply_rule.unwrap_or(ReplyRule::Prefix),
             redirect,
             endpoints,
         })

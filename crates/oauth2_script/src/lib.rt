@@ -27,7 +27,7 @@ mod urls;
 
 pub use authorize_params::AuthorizeParams;
 pub use client_credentials_params::ClientCredentialsParams;
-pub use client_part::{Auth, ClientPart, Endpoints, Rule};
+pub use client_part::{ClientPart, ClientEndpoints};
 pub use code_params::CodeParams;
 pub use command::Command;
 pub use device_authorization_params::DeviceAuthorizationParams;

@@ -9,12 +9,12 @@
 #[cfg(test)]
 mod streams;
 
-use oauth2_commands::{Source, run_script};
+use oauth2_commands::{ScriptSource, run_script};
 use std::alloc::Global;
 use std::io::{self, BufRead, BufReader, Write};
 
 fn show_run<W: Write>(alloc: Global, script: &str, writer: &mut W) -> io::Result<()> {
-    let mut input = Source::new(script.as_bytes());
+    let mut input = ScriptSource::new(script.as_bytes());
     let ended = run_script(alloc, &mut input, &mut *writer);
     writeln!(writer, "{ended:?}")
 }

@@ -1,6 +1,6 @@
 //! Bytes that are no text, readers and writers that fail, and a reader without an end.
 
-use oauth2_commands::{RunFault, RunStatus, Source, run_script};
+use oauth2_commands::{RunFault, RunStatus, ScriptSource, run_script};
 use std::io;
 use std::io::{Error, ErrorKind, Read, Write};
 use std::process::Abort;
@@ -106,7 +106,7 @@ fn reads_fail(rt: HostRuntime) -> Result<(), Fail> {
             fails_at: at,
         };
         let mut written = Vec::new(rt.alloc());
-        let result = run_script(rt.alloc(), &mut Source::new(&mut reader), &mut written);
+        let result = run_script(rt.alloc(), &mut ScriptSource::new(&mut reader), &mut written);
         if reader.reads < at {
             assert_ended(&rt, result, Ok(RunStatus::Answered));
             return Ok(());
@@ -124,7 +124,7 @@ fn reads_fail(rt: HostRuntime) -> Result<(), Fail> {
 fn writes_fail(rt: HostRuntime) -> Result<(), Fail> {
     let whole = LINES.len();
     for at in 1..=whole {
-        let mut input = Source::new(SCRIPT.as_bytes());
+        let mut input = ScriptSource::new(SCRIPT.as_bytes());
         let mut writer = FailingWriter {
             taken: Vec::new(rt.alloc()),
             writes: 0,
@@ -141,7 +141,7 @@ fn writes_fail(rt: HostRuntime) -> Result<(), Fail> {
 #[test]
 fn writes_end(rt: HostRuntime) -> Result<(), Fail> {
     let whole = LINES.len();
-    let mut input = Source::new(SCRIPT.as_bytes());
+    let mut input = ScriptSource::new(SCRIPT.as_bytes());
     let mut writer = FailingWriter {
         taken: Vec::new(rt.alloc()),
         writes: 0,
@@ -170,7 +170,7 @@ impl Write for FullWriter {
 #[test]
 fn nothing_is_taken(rt: HostRuntime) -> Result<(), Fail> {
     for input in [SCRIPT, "{}"] {
-        let mut input = Source::new(input.as_bytes());
+        let mut input = ScriptSource::new(input.as_bytes());
         let result = run_script(rt.alloc(), &mut input, &mut FullWriter);
         assert_ended(&rt, result, Err(RunFault::Write));
     }
@@ -196,7 +196,7 @@ impl Write for UnflushedWriter {
 
 #[test]
 fn flush_fails(rt: HostRuntime) -> Result<(), Fail> {
-    let mut input = Source::new(SCRIPT.as_bytes());
+    let mut input = ScriptSource::new(SCRIPT.as_bytes());
     let mut writer = UnflushedWriter {
         taken: Vec::new(rt.alloc()),
     };
@@ -210,7 +210,7 @@ fn flush_fails(rt: HostRuntime) -> Result<(), Fail> {
 fn endless_input(rt: HostRuntime) -> Result<(), Fail> {
     let mut reader = EndlessReader { reads: 0 };
     let mut written = Vec::new(rt.alloc());
-    let result = run_script(rt.alloc(), &mut Source::new(&mut reader), &mut written);
+    let result = run_script(rt.alloc(), &mut ScriptSource::new(&mut reader), &mut written);
     assert_ended(&rt, result, Err(RunFault::Read));
     assert!(rt; reader.reads == 1_048_576);
     assert!(rt; written.is_empty());
@@ -230,7 +230,7 @@ fn inputs_that_are_no_script(rt: HostRuntime) -> Result<(), Fail> {
     ];
     for bytes in cases {
         let mut written = Vec::new(rt.alloc());
-        let mut input = Source::new(bytes);
+        let mut input = ScriptSource::new(bytes);
         let result = run_script(rt.alloc(), &mut input, &mut written);
         assert_ended(&rt, result, Ok(RunStatus::BadScript));
         assert!(rt; written.as_slice() == b"bad script\n".as_slice());

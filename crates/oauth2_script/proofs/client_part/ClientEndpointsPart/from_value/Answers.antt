@@ -3,7 +3,7 @@ use Rattle.serde_json.specs.View.{view}
 use Rattle.oauth2_script.specs.Client.{endpoints}
 use Rattle.oauth2_script.specs.Gives.{TellsScriptError}
 use Rattle.oauth2_script.proofs.Refusals.{Refuses-then, Gives-refused}
-use Rattle.oauth2_script.proofs.client_part.EndpointsPart.from_value.Goals as goal
+use Rattle.oauth2_script.proofs.client_part.ClientEndpointsPart.from_value.Goals as goal
 
 pub returns-in_err-revocation-clause-read : goal.returns-in_err-revocation-clause-read
 unfolding endpoints

@@ -1,7 +1,7 @@
 use Rattle.std.proofs.Common.{rules, ◌≡◌, Ok, ◌∷◌, ◌+◌, ◌-◌, ◌≤◌, arith}
 use Rattle.std.proofs.lemmas.Result.{err_from_is_err_and}
 use Rattle.oauth2_http1.proofs.CallLemmas.{Goes-refl, Took-refl, Took-none, Took-read}
-use Rattle.oauth2_http1.proofs.source.Source.fill.Goals as goal
+use Rattle.oauth2_http1.proofs.source.ReplySource.fill.Goals as goal
 
 pub returns-then-self-eq0-clause-took : goal.returns-then-self-eq0-clause-took
 returns-then-self-eq0-clause-took g c = Took-refl g.R.Receive.remaining g.R.Receive.reads c.args.reader.now c.args.self.now
