@@ -9,11 +9,11 @@ use Rattle.ecdsa_signatures.specs.Curve.{order, inverse, Point, Infinity, Affine
 abbrev pub r_of : List ℕ → ℕ
 r_of signature = number (take 32 signature)
 
--- s, the others
+-- s, the octets after the first 32
 abbrev pub s_of : List ℕ → ℕ
 s_of signature = number (drop 32 signature)
 
--- e (steps 2 and 3): all bits of the hash, as n has as many
+-- e (steps 2 and 3): the whole hash as a number, since n has 256 bits too
 abbrev pub e_of : List ℕ → ℕ
 e_of message = number (sha256 message)
 
@@ -25,12 +25,12 @@ factor x s = (x * inverse order s) % order
 abbrev pub found_point : ℕ → ℕ → ℕ → Point → Point
 found_point e r s q = sum (multiple (factor e s) generator) (multiple (factor r s) q)
 
--- the point is not that at infinity, and its x modulo n is r (steps 5 to 8)
+-- the point is not the point at infinity, and its coordinate x modulo n is r (steps 5 to 8)
 abbrev pub HasX : Point → ℕ → Type 0
 HasX Infinity r = ⊥
 HasX (Affine x y) r = x % order ≡ r
 
--- octets are a signature of a message by the key with the coordinates x and y
+-- the octets are a signature of the message by the key with the coordinates x and y
 pub record IsSignature (x y : ℕ) (message signature : List ℕ) : Type 0 where
   -- RFC 7518, 3.4: 32 octets for each of r and s
   pub has_size : length signature ≡ 64

@@ -30,7 +30,7 @@ const SQUARE: [u64; 4] = [
     0x0000_0004_ffff_fffd,
 ];
 
-// What p is multiplied by to be -1 modulo 2 ^ 64.
+// The negated inverse of p: the two multiplied are -1 modulo 2 ^ 64.
 const INVERSE: u64 = 1;
 
 pub(crate) fn is_below_prime(a: &[u64; 4]) -> bool

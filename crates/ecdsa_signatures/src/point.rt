@@ -17,7 +17,7 @@ pub(crate) struct AffinePoint {
     pub(crate) y: [u64; 4],
 }
 
-// b of the equation.
+// The coefficient b of the curve's equation, the lowest limb first.
 const COEFFICIENT: [u64; 4] = [
     0x3bce_3c3e_27d2_604b,
     0x651d_06b0_cc53_b0f6,
@@ -25,7 +25,7 @@ const COEFFICIENT: [u64; 4] = [
     0x5ac6_35d8_aa3a_93e7,
 ];
 
-// G.
+// The base point G.
 pub(crate) fn base_point() -> AffinePoint
     ensures reduced { IsReduced (Some result) }
     ensures value { point_of (Some result) ≡ generator }
@@ -92,7 +92,7 @@ fn third(slope: &[u64; 4], p: &AffinePoint, q: &AffinePoint) -> Option<AffinePoi
     Some(AffinePoint { x, y })
 }
 
-// The sum of two points, neither of which is that at infinity.
+// The sum of two points, neither of which is the point at infinity.
 fn affine_sum(p: &AffinePoint, q: &AffinePoint) -> Option<AffinePoint>
     requires p { IsReduced (Some p.now) }
     requires q { IsReduced (Some q.now) }
@@ -108,7 +108,7 @@ fn affine_sum(p: &AffinePoint, q: &AffinePoint) -> Option<AffinePoint>
     third(&tangent(p), p, q)
 }
 
-// p + q.
+// The sum p + q, where `None` is the point at infinity.
 pub(crate) fn sum(p: &Option<AffinePoint>, q: &Option<AffinePoint>) -> Option<AffinePoint>
     requires p { IsReduced p.now }
     requires q { IsReduced q.now }
@@ -140,7 +140,7 @@ pub(crate) fn multiple(k: &[u64; 4], p: &Option<AffinePoint>) -> Option<AffinePo
     total
 }
 
-// Whether the point is not that at infinity, and its x modulo n is r.
+// Whether the point is not the point at infinity, and its coordinate x modulo n is r.
 pub(crate) fn has_x(p: &Option<AffinePoint>, r: &[u64; 4]) -> bool
     requires { IsReduced p.now }
     ensures { IsTrue result ↔ HasX (point_of p.now) (value r.now) }

@@ -1,4 +1,4 @@
-//! A public key, and the check of a signature by it.
+//! A public key, and the check of a signature with it.
 
 ghost use Rattle.std.specs.Prelude.{⊤, ◌≡◌, ◌+◌, ◌*◌, ◌%◌, ◌<◌, ◌↔◌, IsTrue, Some};
 ghost use Rattle.modular_arithmetic.specs.Octets.{number};
@@ -17,7 +17,7 @@ use std::alloc::AllocError;
 use std::fmt;
 use std::marker::Model;
 
-/// A public key (SEC 1, 3.2) of the curve P-256. It takes no memory but its own.
+/// A public key (SEC 1, 3.2) on the curve P-256. It allocates nothing.
 #[derive(Drop)]
 pub struct P256PublicKey {
     point: AffinePoint,
@@ -58,7 +58,7 @@ impl fmt::Debug for P256PublicKey {
     }
 }
 
-// Whether r and s, in range, are a signature of a message with the hash e.
+// Whether r and s, which are in range, are a signature of a message with the hash e.
 fn is_match(e: &[u64; 4], r: &[u64; 4], s: &[u64; 4], key: &AffinePoint) -> bool
     requires { IsReduced (Some key.now) }
     ensures { IsTrue result ↔ HasX
@@ -74,8 +74,8 @@ fn is_match(e: &[u64; 4], r: &[u64; 4], s: &[u64; 4], key: &AffinePoint) -> bool
 }
 
 impl P256PublicKey {
-    /// The key with these coordinates, or its first fault. Both are octets, the highest first (SEC
-    /// 1, 2.3.5), as `x` and `y` of a JWK (RFC 7518, 6.2.1) hold them in base64url.
+    /// The key with these coordinates, or its first fault. Both are octets, the highest first
+    /// (SEC 1, 2.3.5), as `x` and `y` of a JWK (RFC 7518, 6.2.1) hold them in base64url.
     pub fn new(x: &[u8; 32], y: &[u8; 32]) -> Result<P256PublicKey, P256KeyError>
         ensures { result ≡ key_of (number x.now) (number y.now) }
     {

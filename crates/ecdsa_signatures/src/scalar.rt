@@ -30,7 +30,7 @@ const SQUARE: [u64; 4] = [
     0x66e1_2d94_f3d9_5620,
 ];
 
-// What n is multiplied by to be -1 modulo 2 ^ 64.
+// The negated inverse of n: the two multiplied are -1 modulo 2 ^ 64.
 const INVERSE: u64 = 0xccd1_c8aa_ee00_bc4f;
 
 // Whether the number is from 1 to n - 1.
@@ -40,7 +40,7 @@ pub(crate) fn is_in_range(a: &[u64; 4]) -> bool
     !is_equal(a, &[0; 4], 4) && is_less(a, &ORDER, 4)
 }
 
-// Whether a coordinate is r modulo n.
+// Whether the coordinate x modulo n is r.
 pub(crate) fn is_residue(x: &[u64; 4], r: &[u64; 4]) -> bool
     requires { value x.now < prime }
     ensures { IsTrue result ↔ (value x.now % order ≡ value r.now) }

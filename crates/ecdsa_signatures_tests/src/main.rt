@@ -1,4 +1,4 @@
-//! Checks the signatures that standard input lists, and prints what comes of each line.
+//! Checks the signatures that standard input lists, and prints the result of each line.
 //!
 //! A line `key X Y` takes a key, and a line `ES256 MESSAGE SIGNATURE` checks a signature by it.
 //! Octets are written in hex, and no octets as `-`. A line that begins with `#` is a heading, and
@@ -11,7 +11,7 @@ use ecdsa_signatures::P256PublicKey;
 use std::alloc::Global;
 use std::io::{self, BufRead, BufReader, Write};
 
-// The octets of a word; none where it is no hex.
+// The octets that a word is the hex of; none if it is not hex.
 fn octets_of(alloc: Global, word: Option<&str>) -> Vec<u8> {
     match hex::decode(alloc, word.unwrap_or("-")) {
         Ok(octets) => octets,
@@ -19,7 +19,7 @@ fn octets_of(alloc: Global, word: Option<&str>) -> Vec<u8> {
     }
 }
 
-// A coordinate, if it has its 32 octets.
+// A coordinate of a key; `None` if it has not exactly 32 octets.
 fn coordinate_of(octets: &[u8]) -> Option<[u8; 32]> {
     if octets.len() != 32 {
         return None;

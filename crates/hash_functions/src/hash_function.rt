@@ -8,13 +8,16 @@ use sha2::{Digest, Sha256, Sha384, Sha512};
 /// A hash function of FIPS 180-4 that RFC 8017, B.1, recommends, and that RFC 7518, 3.1, uses.
 #[derive(Clone, Copy, Debug, PartialEq, Eq, Drop)]
 pub enum HashFunction {
+    /// SHA-256: a digest of 32 octets, and blocks of 64.
     Sha256,
+    /// SHA-384: a digest of 48 octets, and blocks of 128.
     Sha384,
+    /// SHA-512: a digest of 64 octets, and blocks of 128.
     Sha512,
 }
 
-// The octets, and zeros.
-fn filled(octets: &[u8]) -> [u8; 64]
+// The octets, followed by zeros.
+fn with_zeros(octets: &[u8]) -> [u8; 64]
     requires { length octets.now ≤ 64 }
     ensures { take (length octets.now) result ≡ octets.now }
 {
@@ -24,7 +27,7 @@ fn filled(octets: &[u8]) -> [u8; 64]
 }
 
 impl HashFunction {
-    /// The octets of a digest.
+    /// The size of a digest in octets.
     pub fn size(self) -> usize
         ensures value { result ≡ hash_size self }
         ensures least { 32 ≤ result }
@@ -37,7 +40,7 @@ impl HashFunction {
         }
     }
 
-    /// The octets of a block, of which one is hashed at a time.
+    /// The size in octets of the blocks that a message is hashed in.
     pub fn block_size(self) -> usize
         ensures value { result ≡ block_size self }
         ensures least { 64 ≤ result }
@@ -49,7 +52,8 @@ impl HashFunction {
         }
     }
 
-    /// The digest of a message in three parts: the first octets of the result, as many as `size`.
+    /// The digest of a message that is given in three parts. It is the first `size` octets of the
+    /// result; the others mean nothing.
     pub fn digest(self, first: &[u8], second: &[u8], third: &[u8]) -> [u8; 64]
         ensures { take (hash_size self) result
             ≡ hashed self (first.now ++ second.now ++ third.now) }
@@ -57,15 +61,15 @@ impl HashFunction {
         match self {
             HashFunction::Sha256 => {
                 let hasher = Sha256::new_with_prefix(first);
-                filled(&hasher.chain_update(second).chain_update(third).finalize())
+                with_zeros(&hasher.chain_update(second).chain_update(third).finalize())
             }
             HashFunction::Sha384 => {
                 let hasher = Sha384::new_with_prefix(first);
-                filled(&hasher.chain_update(second).chain_update(third).finalize())
+                with_zeros(&hasher.chain_update(second).chain_update(third).finalize())
             }
             HashFunction::Sha512 => {
                 let hasher = Sha512::new_with_prefix(first);
-                filled(&hasher.chain_update(second).chain_update(third).finalize())
+                with_zeros(&hasher.chain_update(second).chain_update(third).finalize())
             }
         }
     }

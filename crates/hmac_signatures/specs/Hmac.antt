@@ -3,7 +3,7 @@ use Rattle.std.specs.Prelude.{ℕ, ◌-◌, List, ◌++◌, length, map, replica
 use Rattle.hash_functions.specs.declared.hash_function.HashFunction.{HashFunction}
 use Rattle.hash_functions.specs.HashFunction.{hashed, block_size}
 
--- zeros appended to a key to make a string of B octets (step 1)
+-- the key, with zeros appended to make a string of B octets (step 1)
 abbrev pub zero_filled : HashFunction → List ℕ → List ℕ
 zero_filled hash key = key ++ replicate (block_size hash - length key) 0x00
 

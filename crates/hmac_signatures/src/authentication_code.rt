@@ -23,7 +23,7 @@ impl Model for AuthenticationCode {
 }
 
 impl AuthenticationCode {
-    // The code of the first octets.
+    // The code that the first `size` octets hold.
     pub(crate) fn new(octets: [u8; 64], size: usize) -> AuthenticationCode
         requires { size ≤ 64 }
         ensures { result ≡ take size octets }

@@ -20,8 +20,8 @@ use hash_functions::HashFunction;
 
 const LARGEST_BLOCK: usize = 128;
 
-// The key, filled with zeros to the largest block, with an octet added to each bit by bit.
-fn padded(key: &[u8], with: u8) -> [u8; LARGEST_BLOCK]
+// The key, filled with zeros to the largest block, with `with` exclusive-ored to each octet.
+fn padded_key(key: &[u8], with: u8) -> [u8; LARGEST_BLOCK]
     requires { length key.now ≤ LARGEST_BLOCK }
     ensures { result ≡ map (λ octet. bit_xor octet with)
         (key.now ++ replicate (LARGEST_BLOCK - length key.now) 0) }
@@ -33,17 +33,17 @@ fn padded(key: &[u8], with: u8) -> [u8; LARGEST_BLOCK]
     block
 }
 
-// The digest of a padded key and a text, as the first octets.
+// The digest of the padded key followed by the text: the first octets of the result.
 fn digest_after_key(hash: HashFunction, key: &[u8], with: u8, text: &[u8]) -> [u8; 64]
     requires { length key.now ≤ block_size hash }
     ensures { take (hash_size hash) result ≡ hashed hash
         (map (λ octet. bit_xor octet with) (zero_filled hash key.now) ++ text.now) }
 {
-    let padded = padded(key, with);
+    let padded = padded_key(key, with);
     hash.digest(&padded[..hash.block_size()], text, &[])
 }
 
-// The HMAC by a key of at most a block, as the first octets.
+// The HMAC by a key of at most one block: the first octets of the result.
 fn hmac_of_block(hash: HashFunction, key: &[u8], text: &[u8]) -> [u8; 64]
     requires { length key.now ≤ block_size hash }
     ensures { take (hash_size hash) result
@@ -53,7 +53,7 @@ fn hmac_of_block(hash: HashFunction, key: &[u8], text: &[u8]) -> [u8; 64]
     digest_after_key(hash, key, 0x5c, &inner[..hash.size()])
 }
 
-// The HMAC of a text, as the first octets.
+// The HMAC of a text: the first octets of the result.
 pub(crate) fn hmac(hash: HashFunction, key: &[u8], text: &[u8]) -> [u8; 64]
     ensures { take (hash_size hash) result ≡ hmac hash key.now text.now }
 {
@@ -65,7 +65,7 @@ pub(crate) fn hmac(hash: HashFunction, key: &[u8], text: &[u8]) -> [u8; 64]
     }
 }
 
-// Looks at all octets, wherever they differ.
+// Whether both are the same. It looks at every octet, even after a difference.
 pub(crate) fn is_same(a: &[u8], b: &[u8]) -> bool
     requires { length a.now ≡ length b.now }
     ensures { IsTrue result ↔ (a.now ≡ b.now) }

@@ -31,7 +31,8 @@ impl<'a> Model for HmacKey<'a> {
 }
 
 impl<'a> HmacKey<'a> {
-    /// The key of these octets for this hash function, if there are as many as in a digest.
+    /// The key of these octets for this hash function. They have to be as long as a digest or
+    /// longer.
     pub fn new(hash: HashFunction, octets: &'a [u8]) -> Result<HmacKey<'a>, HmacKeyError>
         ensures { result ≡ key_of hash octets.now }
     {
@@ -55,8 +56,9 @@ impl<'a> HmacKey<'a> {
         AuthenticationCode::new(hmac(self.hash, self.octets, message), self.hash.size())
     }
 
-    /// Whether these octets are the code of the message, and all of it. Octets as many as the code
-    /// are all looked at, wherever they differ, so that the time tells nothing of where.
+    /// Whether these octets are the whole code of the message. If the lengths agree, every octet
+    /// is compared, even after a difference, so that the time should not show where they differ.
+    /// The contract says nothing about time.
     pub fn verify(&self, message: &[u8], signature: &[u8]) -> bool
         ensures { IsTrue result
             ↔ (signature.now ≡ hmac self.now.hash self.now.octets message.now) }

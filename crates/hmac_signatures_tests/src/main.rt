@@ -1,10 +1,10 @@
-//! Makes and checks the codes that standard input lists, and prints what comes of each line.
+//! Makes and checks the codes that standard input lists, and prints the result of each line.
 //!
 //! A line `key ALGORITHM OCTETS` takes a key, where ALGORITHM is a name of RFC 7518, 3.1, such as
-//! `HS256`. A line `sign MESSAGE` prints the code of a message by it, and a line
-//! `verify MESSAGE SIGNATURE` checks one. Octets are written in hex, and no octets as `-`. A line that
-//! begins with `#` is a heading, and is printed as it is. The file `stdout` has what has to be printed
-//! for the file `stdin`.
+//! `HS256`. A line `sign MESSAGE` prints the code of a message with this key, and a line
+//! `verify MESSAGE SIGNATURE` checks one. Octets are written in hex, and no octets as `-`. A line
+//! that begins with `#` is a heading, and is printed as it is. The file `stdout` has the expected
+//! output for the file `stdin`.
 
 #![tactic(auto)]
 
@@ -21,7 +21,7 @@ fn hash_of(algorithm: &str) -> Option<HashFunction> {
     }
 }
 
-// The octets of a word; none where it is no hex.
+// The octets that a word is the hex of; none if it is not hex.
 fn octets_of(alloc: Global, word: Option<&str>) -> Vec<u8> {
     match hex::decode(alloc, word.unwrap_or("-")) {
         Ok(octets) => octets,
@@ -29,7 +29,7 @@ fn octets_of(alloc: Global, word: Option<&str>) -> Vec<u8> {
     }
 }
 
-// What a key makes of the words after it.
+// Prints the result of a line `sign`, `verify` or `show` with the key.
 fn write_answer<W: Write>(
     key: &HmacKey<'_>,
     name: &str,

@@ -1,5 +1,5 @@
 //! Natural numbers as limbs of 64 bits, and arithmetic modulo an odd number by Montgomery's method.
-//! It takes no memory. How long a call takes depends on its arguments.
+//! No function allocates. How long a call takes depends on its arguments.
 
 #![tactic(auto)]
 

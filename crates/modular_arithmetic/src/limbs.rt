@@ -3,7 +3,7 @@
 ghost use Rattle.std.specs.Prelude.{◌≡◌, ℕ, ◌+◌, ◌*◌, ◌/◌, ◌%◌, ◌^◌, ◌<◌, ◌≤◌, ◌↔◌, IsTrue, length, slice_index};
 ghost use Rattle.modular_arithmetic.specs.Limbs.{AreLimbs, limb_weight, value_below};
 
-// Multiplies and adds, and returns the carry.
+// Multiplies the number by `by`, adds `add`, and returns the carry: the part above the limbs.
 pub(crate) fn mul_add(limbs: &mut [u64], len: usize, by: u64, add: u64) -> u64
     requires { len ≤ length limbs.old }
     ensures limbs { AreLimbs limbs.new len }
@@ -19,7 +19,7 @@ pub(crate) fn mul_add(limbs: &mut [u64], len: usize, by: u64, add: u64) -> u64
     carry
 }
 
-/// Adds a multiple of `a`, and returns the carry.
+/// Adds `by` times `a` to the number, and returns the carry: the part above the limbs.
 pub fn add_mul(limbs: &mut [u64], len: usize, a: &[u64], by: u64) -> u64
     requires len { len ≤ length limbs.old }
     requires a_len { len ≤ length a.now }
@@ -36,7 +36,8 @@ pub fn add_mul(limbs: &mut [u64], len: usize, a: &[u64], by: u64) -> u64
     carry
 }
 
-/// Subtracts, and returns the borrow.
+/// Subtracts `a` from the number modulo 2 ^ (64 * `len`). Returns the borrow: 1 if `a` was greater,
+/// else 0.
 pub fn subtract(limbs: &mut [u64], len: usize, a: &[u64]) -> u64
     requires len { len ≤ length limbs.old }
     requires a_len { len ≤ length a.now }
@@ -54,8 +55,8 @@ pub fn subtract(limbs: &mut [u64], len: usize, a: &[u64]) -> u64
     borrow
 }
 
-// Adds a multiple of `a` that makes the lowest limb 0, and divides by 2 ^ 64: `top` is above the
-// limbs before, and what is returned is above them behind.
+// Adds `by` times `a`, which makes the lowest limb 0, and divides by 2 ^ 64. `top` is the part of
+// the number above its limbs before the call. Returns the part above them after it.
 pub(crate) fn add_mul_down(limbs: &mut [u64], len: usize, a: &[u64], by: u64, top: u128) -> u64
     requires low { 1 ≤ len }
     requires high { len ≤ length limbs.old }
@@ -76,7 +77,7 @@ pub(crate) fn add_mul_down(limbs: &mut [u64], len: usize, a: &[u64], by: u64, to
     (high >> 64) as u64
 }
 
-/// Whether `a` is less than `b`.
+/// Whether the number in the first `len` limbs of `a` is less than that of `b`.
 pub fn is_less(a: &[u64], b: &[u64], len: usize) -> bool
     requires a_len { len ≤ length a.now }
     requires b_len { len ≤ length b.now }
@@ -95,7 +96,7 @@ pub fn is_less(a: &[u64], b: &[u64], len: usize) -> bool
     false
 }
 
-/// Whether `a` is `b`.
+/// Whether the number in the first `len` limbs of `a` equals that of `b`.
 pub fn is_equal(a: &[u64], b: &[u64], len: usize) -> bool
     requires a_len { len ≤ length a.now }
     requires b_len { len ≤ length b.now }
@@ -104,7 +105,7 @@ pub fn is_equal(a: &[u64], b: &[u64], len: usize) -> bool
     !is_less(a, b, len) && !is_less(b, a, len)
 }
 
-/// Whether the bit that counts 2 ^ i is set.
+/// Whether bit `i` is set: the one with the weight 2 ^ `i`.
 pub fn is_bit_set(limbs: &[u64], len: usize, i: usize) -> bool
     requires len { len ≤ length limbs.now }
     requires bit { i < 64 * len }
@@ -113,7 +114,7 @@ pub fn is_bit_set(limbs: &[u64], len: usize, i: usize) -> bool
     limbs[i / 64] >> (i % 64) & 1 == 1
 }
 
-/// The number of one limb.
+/// The limbs of the number `x`: the lowest is `x`, and the others are 0.
 pub fn limb<const LIMBS: usize>(x: u64) -> [u64; LIMBS]
     requires { 1 ≤ LIMBS }
     ensures { (len : ℕ) → 1 ≤ len → value_below result len ≡ x }

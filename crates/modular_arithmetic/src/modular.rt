@@ -5,7 +5,8 @@ ghost use Rattle.modular_arithmetic.specs.Limbs.{limb_weight, value_below};
 
 use crate::limbs::{add_mul, add_mul_down, is_bit_set, is_less, limb, mul_add, subtract};
 
-/// Subtracts n once, if the number, with `top` above its limbs, is not below n.
+/// Reduces a number below 2 n modulo n: subtracts n once if the number is not below n. `top` is the
+/// part of the number above its limbs.
 pub fn reduce(x: &mut [u64], top: u64, n: &[u64], len: usize)
     requires len { len ≤ length x.old }
     requires n_len { len ≤ length n.now }
@@ -18,7 +19,7 @@ pub fn reduce(x: &mut [u64], top: u64, n: &[u64], len: usize)
     }
 }
 
-// Twice the number modulo n.
+// Doubles the number modulo n.
 pub(crate) fn double(x: &mut [u64], n: &[u64], len: usize)
     requires len { len ≤ length x.old }
     requires n_len { len ≤ length n.now }
@@ -29,7 +30,8 @@ pub(crate) fn double(x: &mut [u64], n: &[u64], len: usize)
     reduce(x, top, n, len);
 }
 
-/// What an odd number is multiplied by to be -1 modulo 2 ^ 64, found bit by bit.
+/// The negated inverse of an odd number: the two multiplied are -1 modulo 2 ^ 64. It is found bit
+/// by bit.
 pub fn negated_inverse(odd: u64) -> u64
     requires { odd % 2 ≡ 1 }
     ensures { (odd * result + 1) % 2 ^ 64 ≡ 0 }
@@ -46,8 +48,9 @@ pub fn negated_inverse(odd: u64) -> u64
     inverse
 }
 
-// One limb's turn of Montgomery's product: adds `digit` times b, and divides by 2 ^ 64 modulo n.
-// The sum is `top` above the limbs of `sum`, and so is the new one, with what is returned.
+// One step of Montgomery's product, for one limb of a: adds `digit` times b to the sum, and divides
+// by 2 ^ 64 modulo n. `top` is the part of the sum above its limbs before the step. Returns the
+// part above them after it.
 fn montgomery_step(
     sum: &mut [u64],
     top: u64,
@@ -75,7 +78,7 @@ fn montgomery_step(
     add_mul_down(sum, len, n, factor, top as u128 + carry as u128)
 }
 
-// Montgomery's product: a times b, divided by 2 ^ 64 modulo n as often as there are limbs.
+// Montgomery's product: a times b, divided by 2 ^ (64 * `len`) modulo n.
 pub(crate) fn montgomery<const LIMBS: usize>(
     a: &[u64; LIMBS],
     b: &[u64; LIMBS],
@@ -100,7 +103,7 @@ pub(crate) fn montgomery<const LIMBS: usize>(
     sum
 }
 
-/// What takes a number to Montgomery's form: the square of the weight above the limbs, modulo n.
+/// The factor that takes a number to Montgomery's form: 2 ^ (128 * `len`) modulo n.
 pub fn weight_square<const LIMBS: usize>(n: &[u64; LIMBS], len: usize) -> [u64; LIMBS]
     requires low { 1 ≤ len }
     requires high { len ≤ LIMBS }
@@ -116,8 +119,8 @@ pub fn weight_square<const LIMBS: usize>(n: &[u64; LIMBS], len: usize) -> [u64; 
     x
 }
 
-/// The base raised to the exponent modulo n; the exponent has so many bits. `square` is that of
-/// `weight_square`, and `inverse` that of `negated_inverse`.
+/// `base` to the power of `exponent` modulo n. The exponent has at most `bits` bits. `square` is
+/// `weight_square` of n, and `inverse` is `negated_inverse` of the lowest limb of n.
 pub fn power<const LIMBS: usize>(
     base: &[u64; LIMBS],
     exponent: &[u64; LIMBS],
@@ -153,8 +156,8 @@ pub fn power<const LIMBS: usize>(
     montgomery(&one, &product, n, inverse, len)
 }
 
-/// a times b modulo n. `square` is that of `weight_square`, and `inverse` that of
-/// `negated_inverse`.
+/// a times b modulo n. `square` is `weight_square` of n, and `inverse` is `negated_inverse` of the
+/// lowest limb of n.
 pub fn product<const LIMBS: usize>(
     a: &[u64; LIMBS],
     b: &[u64; LIMBS],

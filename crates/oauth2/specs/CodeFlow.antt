@@ -1,5 +1,5 @@
--- A login by a code with its verifier: the URL that leads the user away, and the request that
--- follows when the user is back (RFC 6749, section 4.1; RFC 7636).
+-- A login by an authorization code with PKCE: the URL to which the user is sent, and the token
+-- request after the user comes back (RFC 6749, section 4.1; RFC 7636).
 use Rattle.std.specs.Prelude.{◌≡◌, ℕ, List, codes, Option, Some}
 use Rattle.http_uri.specs.Uri.{SpellsNone}
 use Rattle.url.specs.declared.error.ParseError.{ParseError}
@@ -18,20 +18,20 @@ use Rattle.oauth2.specs.declared.flow.CodeFlowError.TheVariants.{Url, NotHttp, M
 use Rattle.oauth2.specs.NewRequest.{new_authorization, new_code_request}
 use Rattle.oauth2.specs.Settings.{Settings}
 
--- the request for the authorization URL: with the verifier's challenge, and nothing else set
--- (RFC 7636, section 4.3)
+-- the authorization request of the login: with the challenge of the verifier, and nothing else set
+-- (RFC 7636, 4.3)
 abbrev pub flow_authorization : Settings → Addressed → List ℕ → List ℕ → Authorization
 flow_authorization client url state verifier =
     record (new_authorization client url state) { pkce_challenge = Some (sha256_challenge verifier) }
 
--- the exchange of the code: with the verifier, and nothing else set (RFC 7636, section 4.5)
+-- the token request of the login: with the code and the verifier, and nothing else set (RFC 7636,
+-- 4.5)
 abbrev pub flow_exchange : Settings → Addressed → List ℕ → List ℕ → CodeRequest
 flow_exchange client url verifier code =
     record (new_code_request client url code) { pkce_verifier = Some verifier }
 
--- a server that reads these pairs of the URL's query and then these pairs of the request by their
--- names finds a challenge, its method and the verifier, each once, and the verifier passes its
--- check by the method `S256` (RFC 7636, section 4.6)
+-- a server that looks up the challenge and its method in the query, and the verifier in the body,
+-- finds each exactly once, and the verifier passes the check of the method `S256` (RFC 7636, 4.6)
 abbrev pub PassesCheck : List ℕ → List Pair → List Pair → Type 0
 PassesCheck verifier query body =
     (challenge : List ℕ)
@@ -40,8 +40,9 @@ PassesCheck verifier query body =
     × (read_by_name (codes "code_verifier") body ≡ Some verifier)
     × Accepts (record { text = challenge; method = codes "S256" }) verifier
 
--- the cause of an error, in a login with this state and this verifier: the authorization URL is too
--- long, or the token endpoint's is no HTTP target; that memory ran out, no contract can name
+-- the cause of an error in a login with this state and this verifier: the authorization URL is too
+-- long, or the URL of the token endpoint is not an HTTP target; no contract says when memory runs
+-- out
 abbrev pub IsCauseOf : Settings → List ℕ → List ℕ → CodeFlowError → Type 0
 IsCauseOf client state verifier (Url error) =
     (error ≡ Overflow) × ((endpoint : Addressed) × (client.auth_url ≡ Some endpoint)
@@ -50,17 +51,17 @@ IsCauseOf client state verifier NotHttp =
     (endpoint : Addressed) × (client.token_url ≡ Some endpoint) × SpellsNone (serialize endpoint.url)
 IsCauseOf client state verifier Memory = Unit
 
--- why the URL could not be built, as an error of the whole
+-- the error of a URL that could not be built, as an error of the login
 abbrev pub flow_error_of_url : ParseError → CodeFlowError
 flow_error_of_url OutOfMemory = Memory
 flow_error_of_url error = Url error
 
--- why the request could not be built, as an error of the whole
+-- the error of a request that could not be built, as an error of the login
 abbrev pub flow_error_of : RequestFault → CodeFlowError
 flow_error_of fault.NotHttp = NotHttp
 flow_error_of fault.Memory = Memory
 
--- the text of an error
+-- the text of an error of a login
 abbrev pub flow_error_text : CodeFlowError → Option (List ℕ)
 flow_error_text (Url _) = Some (codes "authorization URL is too long")
 flow_error_text NotHttp = Some (codes "endpoint URL is not an HTTP target")

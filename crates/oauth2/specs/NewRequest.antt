@@ -1,4 +1,4 @@
--- The requests that a client starts, as they are before anything is added.
+-- The requests that a client starts, before anything is added to them.
 use Rattle.std.specs.Prelude.{◌≡◌, ℕ, List, [], codes, Option, None}
 use Rattle.oauth2_urls.specs.Addressed.{Addressed}
 use Rattle.oauth2_device.specs.DeviceToken.{DeviceToken, new_device_token}
@@ -14,7 +14,7 @@ use Rattle.oauth2_requests.specs.TokenIntrospection.{TokenIntrospection}
 use Rattle.oauth2_requests.specs.TokenRevocation.{TokenRevocation}
 use Rattle.oauth2.specs.Settings.{Settings}
 
--- a request of this client that asks for no scope yet
+-- the `Base` of every request of this client, with no scope and no extra parameter yet
 abbrev pub base_of : Settings → Base
 base_of client = record {
   auth_type = client.auth_type;
@@ -25,7 +25,7 @@ base_of client = record {
   reply_rule = client.reply_rule;
 }
 
--- an authorization request at this endpoint with this state (RFC 6749, section 4.1.1)
+-- an authorization request to this endpoint with this state (RFC 6749, 4.1.1)
 abbrev pub new_authorization : Settings → Addressed → List ℕ → Authorization
 new_authorization client url state = record {
   auth_url = url;
@@ -38,11 +38,11 @@ new_authorization client url state = record {
   extra_params = [];
 }
 
--- such a request, whose state is one that the function may answer
+-- such a request, whose state is one that the function may return
 abbrev pub IsAuthorization : (List ℕ → Type 0) → Settings → Addressed → Authorization → Type 0
 IsAuthorization IsState client url r = IsState r.state × (r ≡ new_authorization client url r.state)
 
--- the exchange of a code (RFC 6749, section 4.1.3)
+-- a request for a token by this authorization code (RFC 6749, 4.1.3)
 abbrev pub new_code_request : Settings → Addressed → List ℕ → CodeRequest
 new_code_request client url code = record {
   base = base_of client;
@@ -52,7 +52,7 @@ new_code_request client url code = record {
   redirect_url = client.redirect_url;
 }
 
--- the exchange of a refresh token (RFC 6749, section 6)
+-- a request for a token by this refresh token (RFC 6749, 6)
 abbrev pub new_refresh_request : Settings → Addressed → List ℕ → RefreshRequest
 new_refresh_request client url refresh_token = record {
   base = base_of client;
@@ -60,7 +60,7 @@ new_refresh_request client url refresh_token = record {
   refresh_token = refresh_token;
 }
 
--- the exchange of a resource owner's name and password (RFC 6749, section 4.3.2)
+-- a request for a token by the name and the password of a resource owner (RFC 6749, 4.3.2)
 abbrev pub new_password_request : Settings → Addressed → List ℕ → List ℕ → PasswordRequest
 new_password_request client url username password = record {
   base = base_of client;
@@ -69,25 +69,25 @@ new_password_request client url username password = record {
   password = password;
 }
 
--- the client's own token (RFC 6749, section 4.4.2)
+-- a request for a token by the credentials of the client (RFC 6749, 4.4.2)
 abbrev pub new_client_credentials_request : Settings → Addressed → ClientCredentialsRequest
 new_client_credentials_request client url = record {
   base = base_of client;
   token_url = url;
 }
 
--- the request of a device for its codes (RFC 8628, section 3.1)
+-- a device authorization request (RFC 8628, 3.1)
 abbrev pub new_device_request : Settings → Addressed → DeviceRequest
 new_device_request client url = record {
   base = base_of client;
   device_authorization_url = url;
 }
 
--- the request for the token of the device that got this response (RFC 8628, section 3.4)
+-- the token request of the device that received this response (RFC 8628, 3.4)
 abbrev pub new_device_token_request : {EF : Type 0} → Settings → Addressed → DeviceAuthorization EF → DeviceToken
 new_device_token_request client url response = new_device_token (base_of client) url response
 
--- the introspection of a token (RFC 7662, section 2.1)
+-- an introspection request for this token (RFC 7662, 2.1)
 abbrev pub new_introspection_request : Settings → Addressed → List ℕ → TokenIntrospection
 new_introspection_request client url token = record {
   base = base_of client;
@@ -96,12 +96,12 @@ new_introspection_request client url token = record {
   token_type_hint = None;
 }
 
--- the endpoint is an `https` URL: the scheme that its text parses to, which the parser writes in
--- lower case (RFC 7009, section 2)
+-- the URL of the endpoint is an `https` URL: that is the scheme of the parsed URL, which the parser
+-- writes in lower case (RFC 7009, 2)
 abbrev pub IsHttps : Addressed → Type 0
 IsHttps endpoint = endpoint.url.scheme ≡ codes "https"
 
--- the revocation of a token with this text and this hint (RFC 7009, section 2.1)
+-- a revocation request for the token with this text and this hint (RFC 7009, 2.1)
 abbrev pub new_revocation_request : Settings → Addressed → List ℕ → Option (List ℕ) → TokenRevocation
 new_revocation_request client url token token_type_hint = record {
   base = base_of client;

@@ -4,9 +4,9 @@ use Rattle.oauth2_urls.specs.Addressed.{Addressed}
 use Rattle.oauth2_wire.specs.declared.content_type.ReplyRule.{ReplyRule}
 use Rattle.oauth2_wire.specs.declared.request.AuthType.{AuthType}
 
--- the client's identifier and secret, how it shows them (RFC 6749, section 2.3.1), the rule for the
--- Content-Type of its replies, its redirect (section 3.1.2) and its endpoints (section 3; RFC 8628,
--- 7662 and 7009)
+-- the identifier and the secret of the client, how it sends them (RFC 6749, 2.3.1), the rule for
+-- the Content-Type of its replies, its redirect URL (RFC 6749, 3.1.2) and its endpoints (RFC 6749,
+-- 3; RFC 8628; RFC 7662; RFC 7009)
 pub record Settings : Type 0 where
   pub client_id : List ℕ
   pub client_secret : Option (List ℕ)

@@ -1,4 +1,4 @@
-//! The authorization URLs that a client leads its users to (RFC 6749, section 3.1).
+//! The authorization URLs to which a client sends its users (RFC 6749, section 3.1).
 
 ghost use Rattle.std.specs.Prelude.{◌≡◌, Some, IfSome, IfNone, IsErrAnd, IsOkAnd, OnSome, codes};
 ghost use Rattle.oauth2_wire.specs.ConfigurationError.{IsMissingUrl};
@@ -46,7 +46,7 @@ where
     R: EndpointState,
     T: EndpointState,
 {
-    /// Starts a request for an authorization URL, whose state `state_fn` answers.
+    /// Starts a request for an authorization URL, with the state that `state_fn` returns.
     pub fn authorize_url<S: FnOnce() -> CsrfToken>(
         &self,
         alloc: Global,
@@ -67,8 +67,8 @@ where
     R: EndpointState,
     T: EndpointState,
 {
-    /// Starts a request for an authorization URL, whose state `state_fn` answers. Where there is
-    /// no endpoint, it is an error, and `state_fn` is not called.
+    /// Starts a request for an authorization URL, with the state that `state_fn` returns. The error
+    /// is `MissingUrl` if there is no authorization endpoint; `state_fn` is not called then.
     pub fn authorize_url<S: FnOnce() -> CsrfToken + Drop>(
         &self,
         alloc: Global,

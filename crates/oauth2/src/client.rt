@@ -22,13 +22,13 @@ use std::fmt;
 use std::fmt::Debug;
 use std::marker::{Model, PhantomData};
 
-/// The configuration of a client, whose type says which endpoints have a URL.
+/// The configuration of a client. Its type says which endpoints have a URL.
 ///
-/// The first five parameters name an error response, a token response, an introspection response,
-/// a revocable token and the error response of a revocation; a client holds no value of them. The
-/// other five are the states of the endpoints, which `impl` blocks call `A` (authorization), `D`
-/// (device authorization), `I` (introspection), `R` (revocation) and `T` (token).
-/// Contracts see a client of any type as its `Settings`.
+/// The first five type parameters are the error response, the token response, the introspection
+/// response, the revocable token and the error response of a revocation; a client holds no value of
+/// these types. The other five are the states of the endpoints, which `impl` blocks call `A`
+/// (authorization), `D` (device authorization), `I` (introspection), `R` (revocation) and `T`
+/// (token). Contracts see a client of any type as its `Settings`.
 pub struct Client<
     TE,
     TR,
@@ -106,7 +106,7 @@ where
     }
 }
 
-// What a client of any type holds beside its endpoints.
+// The settings of a client other than its endpoints.
 #[derive(Drop)]
 pub(crate) struct Parts {
     pub(crate) client_id: ClientId,
@@ -116,7 +116,7 @@ pub(crate) struct Parts {
     pub(crate) redirect_url: Option<RedirectUrl>,
 }
 
-// Where a client of any type sends its requests.
+// The endpoints of a client.
 #[derive(Drop)]
 pub(crate) struct Endpoints {
     pub(crate) auth_url: Option<AuthUrl>,
@@ -157,7 +157,7 @@ impl Endpoints {
         })
     }
 
-    // Copies of the two endpoints of the authorization code grant.
+    // Copies the two endpoints of the authorization code grant.
     #[tactic(auto, using(std::proofs::lemmas::Iterator::Adapters::option_map_id))]
     fn copied_of_code(
         &self,
@@ -172,7 +172,7 @@ impl Endpoints {
         ))
     }
 
-    // Copies of the two endpoints that are asked about a token.
+    // Copies the introspection endpoint and the revocation endpoint.
     #[tactic(auto, using(std::proofs::lemmas::Iterator::Adapters::option_map_id))]
     fn copied_of_tokens(
         &self,
@@ -247,8 +247,8 @@ where
 }
 
 impl<TE, TR, TIR, RT, TRE> Client<TE, TR, TIR, RT, TRE> {
-    /// A client with no secret, no redirect and no endpoint, which shows its credentials by
-    /// HTTP Basic and reads its replies by the rule `Prefix`.
+    /// A client with no secret, no redirect URL and no endpoint. It sends its credentials by HTTP
+    /// Basic, and reads its replies by the rule `Prefix`.
     pub fn new(client_id: ClientId) -> Self
         ensures { result ≡ record {
           client_id = client_id;
@@ -291,7 +291,7 @@ where
     R: EndpointState,
     T: EndpointState,
 {
-    /// Sets how the client shows its identifier and secret.
+    /// Sets how the client sends its identifier and its secret.
     pub fn set_auth_type(mut self, auth_type: AuthType) -> Self
         ensures { result ≡ record self { auth_type = auth_type } }
     {
@@ -299,7 +299,8 @@ where
         self
     }
 
-    /// Sets the rule for the Content-Type of the replies; a revocation reads none.
+    /// Sets the rule for the Content-Type of the replies. The reply to a revocation is read without
+    /// it.
     pub fn set_reply_rule(mut self, reply_rule: ReplyRule) -> Self
         ensures { result ≡ record self { reply_rule = reply_rule } }
     {
@@ -307,7 +308,7 @@ where
         self
     }
 
-    /// Sets the secret.
+    /// Sets the client secret.
     pub fn set_client_secret(mut self, client_secret: ClientSecret) -> Self
         ensures { result ≡ record self { client_secret = Some client_secret } }
     {
@@ -315,7 +316,7 @@ where
         self
     }
 
-    /// Sets the redirect, which requests that set none of their own send.
+    /// Sets the redirect URL. Requests send it unless they set their own.
     pub fn set_redirect_uri(mut self, redirect_url: RedirectUrl) -> Self
         ensures { result ≡ record self { redirect_url = Some redirect_url } }
     {
@@ -323,21 +324,21 @@ where
         self
     }
 
-    /// The identifier.
+    /// The client identifier.
     pub fn client_id(&self) -> &ClientId
         ensures { result.now ≡ self.now.client_id }
     {
         &self.parts.client_id
     }
 
-    // The secret.
+    // The client secret.
     pub(crate) fn client_secret(&self) -> Option<&ClientSecret>
         ensures { option_copied result ≡ self.now.client_secret }
     {
         self.parts.client_secret.as_ref()
     }
 
-    /// How the client shows its identifier and secret.
+    /// How the client sends its identifier and its secret.
     pub fn auth_type(&self) -> &AuthType
         ensures { result.now ≡ self.now.auth_type }
     {
@@ -351,7 +352,7 @@ where
         self.parts.reply_rule
     }
 
-    /// The redirect.
+    /// The redirect URL.
     pub fn redirect_uri(&self) -> Option<&RedirectUrl>
         ensures { option_copied result ≡ self.now.redirect_url }
     {
@@ -610,8 +611,9 @@ where
         self.endpoints.auth_url.as_ref()
     }
 
-    /// This client, as one that has the URL of the authorization endpoint; an error where it has
-    /// none. `auth_uri` tells before, since the error does not give the client back.
+    /// This client, with a type that says that it has the URL of the authorization endpoint. The
+    /// error is `MissingUrl` if it has none; the client is dropped then. Call `auth_uri` first to
+    /// find out.
     pub fn require_auth_uri(
         self,
     ) -> Result<Client<TE, TR, TIR, RT, TRE, EndpointSet, D, I, R, T>, ConfigurationError>
@@ -664,8 +666,9 @@ where
         self.endpoints.device_authorization_url.as_ref()
     }
 
-    /// This client, as one that has the URL of the device authorization endpoint; an error where it has
-    /// none. `device_authorization_url` tells before, since the error does not give the client back.
+    /// This client, with a type that says that it has the URL of the device authorization endpoint.
+    /// The error is `MissingUrl` if it has none; the client is dropped then. Call
+    /// `device_authorization_url` first to find out.
     pub fn require_device_authorization_url(
         self,
     ) -> Result<Client<TE, TR, TIR, RT, TRE, A, EndpointSet, I, R, T>, ConfigurationError>
@@ -718,8 +721,9 @@ where
         self.endpoints.introspection_url.as_ref()
     }
 
-    /// This client, as one that has the URL of the introspection endpoint; an error where it has
-    /// none. `introspection_url` tells before, since the error does not give the client back.
+    /// This client, with a type that says that it has the URL of the introspection endpoint. The
+    /// error is `MissingUrl` if it has none; the client is dropped then. Call `introspection_url`
+    /// first to find out.
     pub fn require_introspection_url(
         self,
     ) -> Result<Client<TE, TR, TIR, RT, TRE, A, D, EndpointSet, R, T>, ConfigurationError>
@@ -772,8 +776,9 @@ where
         self.endpoints.revocation_url.as_ref()
     }
 
-    /// This client, as one that has the URL of the revocation endpoint; an error where it has
-    /// none. `revocation_url` tells before, since the error does not give the client back.
+    /// This client, with a type that says that it has the URL of the revocation endpoint. The error
+    /// is `MissingUrl` if it has none; the client is dropped then. Call `revocation_url` first to
+    /// find out.
     pub fn require_revocation_url(
         self,
     ) -> Result<Client<TE, TR, TIR, RT, TRE, A, D, I, EndpointSet, T>, ConfigurationError>
@@ -826,8 +831,8 @@ where
         self.endpoints.token_url.as_ref()
     }
 
-    /// This client, as one that has the URL of the token endpoint; an error where it has
-    /// none. `token_uri` tells before, since the error does not give the client back.
+    /// This client, with a type that says that it has the URL of the token endpoint. The error is
+    /// `MissingUrl` if it has none; the client is dropped then. Call `token_uri` first to find out.
     pub fn require_token_uri(
         self,
     ) -> Result<Client<TE, TR, TIR, RT, TRE, A, D, I, R, EndpointSet>, ConfigurationError>
@@ -893,7 +898,7 @@ where
     fn fmt<W: fmt::Write>(&self, f: &mut fmt::Formatter<W>) -> fmt::Result
         ensures writes { DisplaysOnOk W.write_str_gives f.old result
             (client_debug_text false self.now) f.new }
-        // Whatever options the formatter has, as under `{:#?}`.
+        // With any options of the formatter, such as those of `{:#?}`.
         ensures styled { DisplaysStyledOnOk W.write_str_gives f.old result
             (client_debug_text (spec_alternate (formatter_spec f.old)) self.now) f.new }
     {
@@ -909,7 +914,7 @@ where
     }
 }
 
-/// A client of a server that uses no extension.
+/// A client of a server that uses no extensions.
 pub type BasicClient<
     HasAuthUrl = EndpointNotSet,
     HasDeviceAuthUrl = EndpointNotSet,

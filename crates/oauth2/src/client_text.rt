@@ -1,4 +1,4 @@
-//! What `{:?}` and `{:#?}` show of a client.
+//! The texts of `{:?}` and `{:#?}` of a client.
 
 ghost use Rattle.std.specs.Prelude.{◌≡◌, ℕ, List, Some, codes};
 ghost use Rattle.std.specs.Fmt.{debug_str};
@@ -20,7 +20,7 @@ use oauth2_urls::{
 use oauth2_wire::{AuthType, ReplyRule};
 use std::fmt;
 
-// A URL type, which is shown by the text that was given.
+// A URL type, which is shown as the text that it was parsed from.
 trait GivenText {
     ghost given_text: { Self → List ℕ };
 
@@ -76,7 +76,8 @@ impl GivenText for DeviceAuthorizationUrl {
     }
 }
 
-// A name, and a value in parentheses: whether in lines, the indent, the name and the value.
+// A name, and a value in parentheses. The fields: whether on several lines, the indent, the name
+// and the value.
 #[derive(Drop)]
 struct Named<'a, T>(bool, &'a str, &'a str, T);
 
@@ -94,7 +95,7 @@ impl<T: fmt::Debug> fmt::Debug for Named<'_, T> {
     }
 }
 
-// A field that is a word: whether in lines, the field's name and the word.
+// A field whose value is a word. The fields: whether on several lines, the name and the word.
 #[derive(Drop)]
 struct WordField<'a>(bool, &'a str, &'a str);
 
@@ -112,7 +113,7 @@ impl fmt::Display for WordField<'_> {
     }
 }
 
-// A field that need not be set: whether in lines, the field's name and what is set.
+// A field with an optional value. The fields: whether on several lines, the name and the value.
 #[derive(Drop)]
 struct OptionField<'a, T>(bool, &'a str, Option<T>);
 
@@ -138,7 +139,8 @@ impl<T: fmt::Debug> fmt::Display for OptionField<'_, T> {
     }
 }
 
-// A field that is a URL: whether in lines, the field's name, the type's and the URL.
+// A field whose value is a URL. The fields: whether on several lines, the name, the name of its
+// type and the URL.
 #[derive(Drop)]
 struct UrlField<'a, U>(bool, &'a str, &'a str, &'a Option<U>);
 
@@ -196,7 +198,8 @@ fn closing(in_lines: bool) -> &'static str
     if in_lines { ",\n}" } else { " }" }
 }
 
-// The text of a client: the settings in the order of the Rust crate, then the rule for replies.
+// The text of a client: the settings in the order of the Rust crate oauth2, then the rule for
+// replies.
 #[derive(Drop)]
 pub(crate) struct ClientText<'a> {
     pub(crate) in_lines: bool,

@@ -33,8 +33,8 @@ where
     R: EndpointState,
     T: EndpointState,
 {
-    /// Starts the request for a device code and a user code; an error where there is no device
-    /// authorization endpoint.
+    /// Starts the request for a device code and a user code. The error is `MissingUrl` if there is
+    /// no device authorization endpoint.
     pub fn exchange_device_code(
         &self,
         alloc: Global,

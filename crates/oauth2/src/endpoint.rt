@@ -1,4 +1,4 @@
-//! Whether an endpoint has a URL, as a client's type says it.
+//! Whether an endpoint has a URL, as the type of a client says it.
 
 ghost use Rattle.std.specs.Prelude.{Bool};
 
@@ -16,10 +16,10 @@ mod private {
     impl EndpointStateSealed for super::EndpointMaybeSet {}
 }
 
-/// What a client's type says of an endpoint.
+/// What the type of a client says about an endpoint.
 pub trait EndpointState: private::EndpointStateSealed {
-    // Whether an endpoint in this state may have a URL, and whether it may lack one: `allows true`
-    // and `allows false`.
+    // Whether an endpoint in this state may have a URL (`allows true`), and whether it may have
+    // none (`allows false`).
     ghost allows: { Bool → Bool };
 }
 
@@ -65,7 +65,7 @@ impl TryClone for EndpointSet {
     }
 }
 
-/// The endpoint has a URL or has none, which is known at run time alone.
+/// The endpoint may have a URL; only at run time it is known whether it has one.
 #[derive(Clone, Copy, Debug)]
 pub struct EndpointMaybeSet;
 

@@ -1,4 +1,4 @@
-//! The types of clients with the endpoints that are used most.
+//! Types of clients for the usual sets of endpoints.
 
 use crate::client::BasicClient;
 use crate::endpoint::{EndpointNotSet, EndpointSet};
@@ -13,8 +13,8 @@ pub type BasicLoginClient = BasicClient<
     EndpointSet,
 >;
 
-/// A client that only asks for tokens: by its own credentials, by a user's password or by a refresh
-/// token (RFC 6749, sections 4.3, 4.4 and 6).
+/// A client that only requests tokens: by its own credentials, by the password of a user or by a
+/// refresh token (RFC 6749, sections 4.3, 4.4 and 6).
 pub type BasicTokenClient = BasicClient<
     EndpointNotSet,
     EndpointNotSet,
@@ -23,7 +23,8 @@ pub type BasicTokenClient = BasicClient<
     EndpointSet,
 >;
 
-/// A client on a device: it has the device authorization endpoint and the token endpoint (RFC 8628).
+/// A client on a device: it has the device authorization endpoint and the token endpoint (RFC 8628,
+/// section 3).
 pub type BasicDeviceClient = BasicClient<
     EndpointNotSet,
     EndpointSet,
@@ -32,7 +33,7 @@ pub type BasicDeviceClient = BasicClient<
     EndpointSet,
 >;
 
-/// A client that only asks what a token is worth, as a resource server does (RFC 7662).
+/// A client that only introspects tokens, as a resource server does (RFC 7662).
 pub type BasicIntrospectionClient = BasicClient<
     EndpointNotSet,
     EndpointNotSet,

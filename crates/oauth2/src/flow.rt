@@ -1,4 +1,4 @@
-//! A login by a code with its verifier (RFC 6749, section 4.1; RFC 7636).
+//! A login by an authorization code with PKCE (RFC 6749, section 4.1; RFC 7636).
 
 ghost use Rattle.std.specs.Prelude.{◌≡◌, Some, Err, IfOk, IfErr, IsTrue};
 ghost use Rattle.http_uri.specs.Uri.{SpellsNone};
@@ -22,27 +22,27 @@ use std::alloc::{AllocError, Global};
 use std::fmt;
 use url::{ParseError, Url};
 
-/// A login from its URL to the exchange of its code.
+/// A login: its URL and its token request.
 ///
-/// It has no `Debug`: the URL and the request hold secrets as they are sent.
+/// It has no `Debug`, because the URL and the request contain secrets in plain text.
 #[derive(Drop)]
 pub struct CodeFlow {
     /// The URL to send the user to.
     pub url: Url,
-    /// The state that the user has to come back with.
+    /// The state that the redirect must have.
     pub state: CsrfToken,
-    /// The request to send to the token endpoint then.
+    /// The request to send to the token endpoint after the redirect.
     pub request: HttpRequest,
 }
 
-/// Why a login could not be made.
+/// Why a login could not be prepared.
 #[derive(Clone, Copy, Debug, PartialEq, Eq)]
 pub enum CodeFlowError {
     /// The authorization URL would be too long: the error is `Overflow`.
     Url(ParseError),
     /// The token endpoint's URL is not an HTTP target.
     NotHttp,
-    /// Memory ran out, at any step.
+    /// Memory ran out.
     Memory,
 }
 
@@ -103,11 +103,12 @@ impl From<RequestFault> for CodeFlowError {
     }
 }
 
-/// The URL and the request of one login, whose challenge is made of the verifier by `S256`.
+/// Prepares the URL and the token request of one login. The challenge is that of the verifier by
+/// the method `S256`.
 ///
-/// Use it where the code is known already when the URL is made, as in a test. An application sends
-/// its user to the URL first: it keeps the state and the verifier, and makes the request when the
-/// user comes back with the code.
+/// Use it if the code is already known when the URL is made, as in a test. An application sends its
+/// user to the URL first: it keeps the state and the verifier, and makes the request when the user
+/// comes back with the code.
 pub fn code_flow<TE, TR, TIR, RT, TRE, D, I, R>(
     alloc: Global,
     client: &Client<TE, TR, TIR, RT, TRE, EndpointSet, D, I, R, EndpointSet>,
@@ -146,7 +147,7 @@ where
     })
 }
 
-// The URL of a login, and its state.
+// The authorization URL of a login, and its state.
 fn login_url<TE, TR, TIR, RT, TRE, D, I, R, T>(
     alloc: Global,
     client: &Client<TE, TR, TIR, RT, TRE, EndpointSet, D, I, R, T>,
@@ -174,7 +175,7 @@ where
     Ok(login)
 }
 
-// The request for the code of a login.
+// The token request of a login.
 fn exchange<TE, TR, TIR, RT, TRE, A, D, I, R>(
     alloc: Global,
     client: &Client<TE, TR, TIR, RT, TRE, A, D, I, R, EndpointSet>,

@@ -39,7 +39,8 @@ where
     R: EndpointState,
     T: EndpointState,
 {
-    /// Starts the introspection of a token; an error where there is no introspection endpoint.
+    /// Starts the introspection of a token. The error is `MissingUrl` if there is no introspection
+    /// endpoint.
     pub fn introspect<'a>(
         &'a self,
         alloc: Global,

@@ -1,8 +1,9 @@
 //! An OAuth 2.0 client (RFC 6749): its configuration, its requests and what replies say, proved.
 //!
-//! The crates below are passed on: the names that a user calls stand here, those that begin with
-//! `Basic` in `basic` and the functions for JSON members in `helpers`. What the crates share among
-//! themselves (`BaseRequest` of the requests, the encoder of forms) stays there.
+//! This crate re-exports the crates below it: the names that users need are here, those that begin
+//! with `Basic` are in `basic`, the functions for members of JSON objects are in `members`, and
+//! those for single JSON values are in `helpers`. Items that the crates share among themselves
+//! (such as `BaseRequest` of the requests and the encoder of forms) are not re-exported.
 
 #![tactic(auto)]
 
@@ -126,7 +127,7 @@ pub use oauth2_wire::send_once;
 pub use oauth2_wire::send_once_status_only;
 pub use oauth2_wire::server_view;
 
-// The poll as a machine over values.
+// The device poll as a state machine.
 pub use oauth2_poll::{
     DevicePoll, PollAnswer, PollEnd, PollEvent, PollReady, PollRun, PollSettings, PollStep,
     ending_is_the_only_one, requests_are_bounded, sleeps_are_paced,

@@ -48,8 +48,8 @@ where
     I: EndpointState,
     T: EndpointState,
 {
-    /// Starts the revocation of a token; an error where the endpoint's URL is not an `https` URL
-    /// (RFC 7009, section 2). The token is not given back then.
+    /// Starts the revocation of a token. The error is `InsecureUrl` if the URL of the endpoint is
+    /// not an `https` URL (RFC 7009, section 2); the token is dropped then.
     pub fn revoke_token(
         &self,
         alloc: Global,
@@ -74,8 +74,9 @@ where
     I: EndpointState,
     T: EndpointState,
 {
-    /// Starts the revocation of a token; an error where there is no revocation endpoint, or where
-    /// its URL is not an `https` URL (RFC 7009, section 2). The token is not given back then.
+    /// Starts the revocation of a token. The error is `MissingUrl` if there is no revocation
+    /// endpoint, or `InsecureUrl` if its URL is not an `https` URL (RFC 7009, section 2); the token
+    /// is dropped then.
     pub fn revoke_token(
         &self,
         alloc: Global,

@@ -32,7 +32,7 @@ where
     R: EndpointState,
     T: EndpointState,
 {
-    // The part of a request that names this client.
+    // The part of each request that comes from the client.
     pub(crate) fn base_request(&self, alloc: Global) -> BaseRequest<'_>
         ensures { result ≡ base_of self.now }
     {
@@ -53,7 +53,7 @@ where
     I: EndpointState,
     R: EndpointState,
 {
-    /// Starts the exchange of a code.
+    /// Starts the exchange of an authorization code for a token.
     pub fn exchange_code(
         &self,
         alloc: Global,
@@ -70,7 +70,7 @@ where
         )
     }
 
-    /// Starts the exchange of a refresh token.
+    /// Starts the exchange of a refresh token for a token.
     pub fn exchange_refresh_token<'a>(
         &'a self,
         alloc: Global,
@@ -82,7 +82,7 @@ where
         RefreshTokenRequest::new(self.base_request(alloc), self.token_uri(), refresh_token)
     }
 
-    /// Starts the exchange of a resource owner's name and password.
+    /// Starts the exchange of a resource owner's name and password for a token.
     pub fn exchange_password<'a>(
         &'a self,
         alloc: Global,
@@ -101,7 +101,7 @@ where
         )
     }
 
-    /// Starts the exchange of the client's own credentials.
+    /// Starts the exchange of the credentials of the client for a token.
     pub fn exchange_client_credentials(
         &self,
         alloc: Global,
@@ -112,7 +112,7 @@ where
         ClientCredentialsTokenRequest::new(self.base_request(alloc), self.token_uri())
     }
 
-    /// Starts the poll for the token of the device that got this response.
+    /// Starts the poll for the token of the device that received this response.
     pub fn exchange_device_access_token<'a, EF>(
         &'a self,
         alloc: Global,
@@ -133,7 +133,8 @@ where
     I: EndpointState,
     R: EndpointState,
 {
-    /// Starts the exchange of a code; an error where there is no token endpoint.
+    /// Starts the exchange of an authorization code for a token. The error is `MissingUrl` if there
+    /// is no token endpoint.
     pub fn exchange_code(
         &self,
         alloc: Global,
@@ -153,7 +154,8 @@ where
         ))
     }
 
-    /// Starts the exchange of a refresh token; an error where there is no token endpoint.
+    /// Starts the exchange of a refresh token for a token. The error is `MissingUrl` if there is no
+    /// token endpoint.
     pub fn exchange_refresh_token<'a>(
         &'a self,
         alloc: Global,
@@ -168,8 +170,8 @@ where
         Ok(RefreshTokenRequest::new(self.base_request(alloc), token_url, refresh_token))
     }
 
-    /// Starts the exchange of a resource owner's name and password; an error where there is no
-    /// token endpoint.
+    /// Starts the exchange of a resource owner's name and password for a token. The error is
+    /// `MissingUrl` if there is no token endpoint.
     pub fn exchange_password<'a>(
         &'a self,
         alloc: Global,
@@ -185,8 +187,8 @@ where
         Ok(PasswordTokenRequest::new(self.base_request(alloc), token_url, username, password))
     }
 
-    /// Starts the exchange of the client's own credentials; an error where there is no token
-    /// endpoint.
+    /// Starts the exchange of the credentials of the client for a token. The error is `MissingUrl`
+    /// if there is no token endpoint.
     pub fn exchange_client_credentials(
         &self,
         alloc: Global,
@@ -200,8 +202,8 @@ where
         Ok(ClientCredentialsTokenRequest::new(self.base_request(alloc), token_url))
     }
 
-    /// Starts the poll for the token of the device that got this response; an error where there is
-    /// no token endpoint.
+    /// Starts the poll for the token of the device that received this response. The error is
+    /// `MissingUrl` if there is no token endpoint.
     pub fn exchange_device_access_token<'a, EF>(
         &'a self,
         alloc: Global,

@@ -7,15 +7,15 @@ use Rattle.oauth2_adapters.specs.declared.error.AdapterError.{AdapterError}
 use Rattle.oauth2_adapters.specs.declared.error.AdapterError.TheVariants as error
 
 module _ {E : Type 0} (adapted : Reply → Reply) (needs_memory : Reply → Bool) where
-  -- the answer is what is made of the inner client's reply, or the inner client's error; want of
-  -- memory is told only of a reply that needs memory
+  -- the result is the adapted reply of the inner client, or the error of the inner client; the
+  -- error is `Memory` only if adapting that reply needs memory
   abbrev pub IsAdapted : Result HttpResponse E → Result HttpResponse (AdapterError E) → Type 0
   IsAdapted (Ok reply) (Ok new) = seen new ≡ adapted (seen reply)
   IsAdapted (Ok reply) (Err error.Memory) = IsTrue (needs_memory (seen reply))
   IsAdapted (Ok reply) (Err (error.Client fault)) = ⊥
   IsAdapted (Err fault) result = result ≡ Err (error.Client fault)
 
--- one call of the inner client with this request, and then the adapter's function of its reply
+-- the adapter calls the inner client once with this request, and adapts its reply
 abbrev pub CallsAndAdapts : {C A E : Type 0} → (C → HttpRequest → Result HttpResponse E → C → Type 0)
     → (A → Reply → Reply) → (A → Reply → Bool)
     → C × A → HttpRequest → Result HttpResponse (AdapterError E) → C × A → Type 0

@@ -1,34 +1,35 @@
--- Errors that a server sends with the status 200.
+-- Error responses that a server sends with status 200.
 use Rattle.std.specs.Prelude.{ℕ, List, Bool, false, ◌&&◌, ◌||◌, ◌==◌, not, bytes_eq, codes, Option, Some, None, nat_lt, length, if◌then◌else◌}
 use Rattle.json.specs.Json.{Json, Members}
 use Rattle.oauth2_adapters.specs.Objects.{object_of, any_member, is_text}
 use Rattle.oauth2_adapters.specs.Reply.{Reply}
 
--- the member is an error in the words of RFC 6749, section 5.2
+-- the member is an `error` whose value is a string, as in an error response (RFC 6749, 5.2)
 abbrev pub is_error : List ℕ → Json → Bool
 is_error name value = bytes_eq name (codes "error") && is_text value
 
--- the member is one of a success (RFC 6749, section 5.1; RFC 8628, section 3.2; RFC 7662, section
--- 2.2), or an `error` that is no text
+-- the member belongs to a success (RFC 6749, 5.1; RFC 8628, 3.2; RFC 7662, 2.2), or is an `error`
+-- whose value is not a string
 abbrev pub is_no_error : List ℕ → Json → Bool
 is_no_error name value =
     bytes_eq name (codes "access_token") || bytes_eq name (codes "device_code")
     || bytes_eq name (codes "active") || (bytes_eq name (codes "error") && not (is_text value))
 
--- the members tell an error and no success
+-- the members are those of an error response: one has an error, and none belongs to a success
 abbrev pub tell_error : Members → Bool
 tell_error ms = any_member is_error ms && not (any_member is_no_error ms)
 
--- the body is one JSON object that does so
+-- the body is a JSON object with such members
 abbrev pub tells_error : Option Members → Bool
 tells_error None = false
 tells_error (Some ms) = tell_error ms
 
--- a 200 with such a body gets the status 400, as RFC 6749, section 5.2 asks of an error
+-- the reply with status 400 (RFC 6749, 5.2) if it has status 200 and such a body; any other reply
+-- is unchanged
 abbrev pub error_at_400 : Reply → Reply
 error_at_400 reply =
     if reply.status == 200 && tells_error (object_of reply.body) then record reply { status = 400 } else reply
 
--- a 200 with a body is read, which takes memory
+-- the reply has status 200 and a body, so its body is read, which needs memory
 abbrev pub is_read : Reply → Bool
 is_read reply = reply.status == 200 && nat_lt 0 (length reply.body)

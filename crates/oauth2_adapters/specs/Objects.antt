@@ -1,9 +1,9 @@
--- A body that is one JSON object, and its members in the order of the body (RFC 8259, section 4).
+-- A body that is one JSON object, and its members in the order of the body (RFC 8259, 4).
 use Rattle.std.specs.Prelude.{ℕ, List, Bool, true, false, ◌||◌, Option, Some, None, option_and_then, if◌then◌else◌}
 use Rattle.std.specs.Str.{is_utf8}
 use Rattle.json.specs.Json.{Json, null, boolean, number, string, array, object, Members, no_members, member, document}
 
--- the members of a value that is an object
+-- the members of a JSON value, if it is an object
 abbrev pub members_of : Json → Option Members
 members_of null = None
 members_of (boolean b) = None
@@ -12,20 +12,20 @@ members_of (string s) = None
 members_of (array js) = None
 members_of (object ms) = Some ms
 
--- the members of a text that is one JSON object, nested to at most 128
+-- the members of a text, if it is one JSON object that nests at most 128 deep
 abbrev pub object_in : List ℕ → Option Members
 object_in text = option_and_then members_of (document text)
 
--- the members of a body that is such a text in UTF-8
+-- the members of a body, if it is UTF-8 and such an object
 abbrev pub object_of : List ℕ → Option Members
 object_of body = if is_utf8 body then object_in body else None
 
--- some member passes a test of its name and its value
+-- at least one member passes a test of its name and its value
 abbrev pub any_member : (List ℕ → Json → Bool) → Members → Bool
 any_member passes no_members = false
 any_member passes (member name value ms) = passes name value || any_member passes ms
 
--- the value is a text
+-- the JSON value is a string
 abbrev pub is_text : Json → Bool
 is_text null = false
 is_text (boolean b) = false

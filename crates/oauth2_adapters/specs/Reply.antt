@@ -1,4 +1,4 @@
--- A reply as values: all that a caller can see of it.
+-- Replies as values.
 use Rattle.std.specs.Prelude.{ℕ, List}
 use Rattle.http.specs.declared.version.Version.{Version}
 use Rattle.http.specs.Response.{head_of, body_of}
@@ -6,13 +6,14 @@ use Rattle.http_header.specs.FieldValue.{FieldValue}
 use Rattle.http_header.specs.HeaderMap.{Entries}
 use Rattle.oauth2_wire.specs.Reply.{HttpResponse}
 
+-- a reply as values: all that a caller can see of it
 pub record Reply : Type 0 where
   pub status : ℕ
   pub version : Version
   pub headers : Entries FieldValue
   pub body : List ℕ
 
--- a reply of a client, as values
+-- the values of a reply
 abbrev pub seen : HttpResponse → Reply
 seen r = record {
   status = (head_of r).status;

@@ -1,4 +1,4 @@
--- What only private clauses cite.
+-- Definitions cited only by private functions.
 pub mod First
 pub mod ErrorMembers
 pub mod Tokens

@@ -24,7 +24,7 @@ impl<C, A> Model for AdaptedClient<C, A> {
 }
 
 impl<C, A> AdaptedClient<C, A> {
-    /// The client that calls this one, and adapts its reply.
+    /// Wraps a client: each call is passed to it, and its reply is adapted.
     pub fn new(alloc: Global, client: C, adapter: A) -> AdaptedClient<C, A>
         ensures { result ≡ (client, adapter) }
     {
@@ -63,7 +63,7 @@ impl<C: SyncHttpClient, A: ReplyAdapter> SyncHttpClient for AdaptedClient<C, A> 
     }
 }
 
-// What is made of the answer of the inner client.
+// The adapted reply, or the error of the inner client.
 fn adapted_answer<A: ReplyAdapter, E: Drop>(
     alloc: Global,
     adapter: &A,

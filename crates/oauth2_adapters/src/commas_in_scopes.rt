@@ -1,4 +1,4 @@
-//! Scopes with commas between them.
+//! Scopes that are separated by commas instead of spaces.
 
 ghost use Rattle.std.specs.Prelude.{◌≡◌, ◌∷◌, ◌++◌, ◌<◌, [], None, Some, map, string_bytes};
 ghost use Rattle.std.specs.Prelude.{IfOk, OnOk, MatchOption};
@@ -11,12 +11,12 @@ ghost use Rattle.oauth2_adapters.specs.CommasInScopes.{has_commas, is_ascii, is_
 ghost use Rattle.oauth2_adapters.specs.CommasInScopes.{spaced_byte, spaced_scope};
 
 use crate::reply_adapter::ReplyAdapter;
-use crate::rewriting::{MemberChange, adapted};
+use crate::rewriting::{MemberChange, adapt_reply};
 use json::Writer;
 use oauth2_wire::HttpResponse;
 use std::alloc::{AllocError, Global};
 
-/// Puts a space in place of each comma in a `scope`, as GitHub's replies need it.
+/// Replaces each comma in the member `scope` by a space, as the replies of GitHub need.
 #[derive(Clone, Copy, Debug, PartialEq, Eq)]
 pub struct CommasInScopes;
 
@@ -29,7 +29,7 @@ impl ReplyAdapter for CommasInScopes {
     ghost needs_memory = { λ _. has_body };
 
     fn adapt(&self, alloc: Global, reply: HttpResponse) -> Result<HttpResponse, AllocError> {
-        adapted(alloc, self, reply)
+        adapt_reply(alloc, self, reply)
     }
 }
 
@@ -47,7 +47,7 @@ impl MemberChange for CommasInScopes {
     ) -> Result<bool, AllocError> {
         match scope_with_commas(name, value) {
             Some(text) => {
-                let spaced = spaced(alloc, text)?;
+                let spaced = spaces_for_commas(alloc, text)?;
                 writer.string(&spaced)?;
                 Ok(true)
             }
@@ -59,7 +59,7 @@ impl MemberChange for CommasInScopes {
     }
 }
 
-// The text that changes, if the member is a scope with commas.
+// The text to change, if the member is a scope with commas.
 fn scope_with_commas<'a>(name: &str, value: &json::Value<'a>) -> Option<&'a str>
     ensures value { let becomes = spaced_scope name.now (value_view value.now) in
         MatchOption result (becomes ≡ None)
@@ -97,7 +97,7 @@ fn has_comma(text: &str) -> bool
     text.as_bytes().iter().any(|&b| b == b',')
 }
 
-fn spaced(alloc: Global, text: &str) -> Result<String, AllocError>
+fn spaces_for_commas(alloc: Global, text: &str) -> Result<String, AllocError>
     requires { IsAscii text.now }
     ensures { IfOk result (λ s. string_bytes s ≡ map spaced_byte text.now) }
 {

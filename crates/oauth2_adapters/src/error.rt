@@ -1,14 +1,14 @@
-//! Why a call gave no reply.
+//! The errors of a call through an adapter.
 
 use oauth2_types::display::write_display;
 use std::fmt;
 
-/// Why a call through an adapter gave no reply.
+/// Why a call through an adapter returned no reply.
 #[derive(Debug, Drop)]
 pub enum AdapterError<E> {
-    /// The inner client gave no reply.
+    /// The inner client returned this error.
     Client(E),
-    /// There is a reply, and memory ran out while it was adapted.
+    /// The inner client returned a reply, but memory ran out while it was adapted.
     Memory,
 }
 

@@ -1,4 +1,4 @@
-//! Whether a body tells an error.
+//! Whether a body is an error response.
 
 ghost use Rattle.std.specs.Prelude.{◌≡◌, ◌<◌, Some, true, false, length, IfOk, OnErr};
 ghost use Rattle.std.specs.Bool.{MatchBool};
@@ -13,10 +13,10 @@ use crate::first::{opens_object, pass_text};
 use json::{Reader, Scratch};
 use std::alloc::{AllocError, Global};
 
-// How deep a member may nest: the whole body nests to 128.
+// How deep the value of a member may nest: the whole body may nest 128 deep.
 const DEPTH: usize = 127;
 
-// Whether a body tells an error. The reader's buffer is as long as the body.
+// Whether a body is an error response. The buffer of the reader is as long as the body.
 pub(crate) fn tells_error(alloc: Global, body: &[u8]) -> Result<bool, AllocError>
     ensures value { IfOk result (λ told. told ≡ tells_error (object_of body.now)) }
     ensures memory { OnErr result (0 < length body.now) }
@@ -36,7 +36,7 @@ fn text_tells_error(alloc: Global, text: &str) -> Result<bool, AllocError>
     Ok(object_tells_error(&mut reader))
 }
 
-// Whether the tokens that come are one object that tells an error.
+// Whether the next tokens are exactly one object that is an error response.
 fn object_tells_error(reader: &mut Reader<'_>) -> bool
     ensures { result ≡ tells_error (object_at reader.old) }
 {
@@ -49,7 +49,8 @@ fn object_tells_error(reader: &mut Reader<'_>) -> bool
     reader.next().is_none()
 }
 
-// Whether the members that come tell an error; then the reader stands behind their brace.
+// Whether the next members are those of an error response. If so, the reader is then after their
+// closing brace.
 fn members_tell_error(reader: &mut Reader<'_>) -> bool
     ensures { let told = told_in false (members (value 127) (length reader.old) reader.old) in
         MatchBool result (told ≡ Some (true, reader.new)) (is_told told ≡ false) }
@@ -67,7 +68,7 @@ fn members_tell_error(reader: &mut Reader<'_>) -> bool
     false
 }
 
-// Passes the value of a member of that name, if it may stand in an error.
+// Skips the value of a member with that name. Returns whether it can be in an error response.
 fn pass_value(name: &str, reader: &mut Reader<'_>) -> bool
     ensures { MatchBool result (MayStandInError name.now reader.old reader.new)
         (StandsInNone name.now reader.old) }

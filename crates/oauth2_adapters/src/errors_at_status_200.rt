@@ -1,4 +1,4 @@
-//! Errors that a server sends with the status 200.
+//! Error responses that a server sends with status 200.
 
 ghost use Rattle.std.specs.Prelude.{◌≡◌, ◌==◌};
 ghost use Rattle.oauth2_adapters.specs.Reply.{seen};
@@ -9,7 +9,8 @@ use http::{Response, StatusCode};
 use oauth2_wire::HttpResponse;
 use std::alloc::{AllocError, Global};
 
-/// Gives an error that came with the status 200 the status 400, as GitHub needs it.
+/// Sets the status of an error response to 400 if it came with status 200, as the replies of GitHub
+/// need.
 #[derive(Clone, Copy, Debug, PartialEq, Eq)]
 pub struct ErrorsAtStatus200;
 

@@ -1,4 +1,4 @@
-//! The token that comes first.
+//! The next JSON token.
 
 ghost use Rattle.std.specs.Prelude.{◌≡◌, ◌∷◌, ℕ, List};
 ghost use Rattle.std.specs.Bool.{OnTrue};
@@ -7,7 +7,7 @@ ghost use Rattle.oauth2_adapters.specs.private.First.{begins_with_brace, begins_
 
 use json::{Reader, Token};
 
-// Takes the next token; whether it opens an object.
+// Takes the next token, and returns whether it opens an object.
 pub(crate) fn opens_object(reader: &mut Reader<'_>) -> bool
     ensures found { result ≡ begins_with_brace reader.old }
     ensures rest { OnTrue result (reader.old ≡ begin_object ∷ reader.new) }
@@ -18,7 +18,7 @@ pub(crate) fn opens_object(reader: &mut Reader<'_>) -> bool
     }
 }
 
-// Takes the next token; whether it is a text.
+// Takes the next token, and returns whether it is a string.
 pub(crate) fn pass_text(reader: &mut Reader<'_>) -> bool
     ensures found { result ≡ begins_with_text reader.old }
     ensures rest { OnTrue result ((s : List ℕ) × (reader.old ≡ string s ∷ reader.new)) }

@@ -1,4 +1,4 @@
-//! Forms in place of JSON.
+//! Bodies that are forms instead of JSON.
 
 ghost use Rattle.std.specs.Prelude.{◌≡◌, ◌∷◌, ◌++◌, [], map, option_map, codes, string_bytes};
 ghost use Rattle.std.specs.Prelude.{IfOk, OnOk};
@@ -24,7 +24,8 @@ use json::Writer;
 use oauth2_wire::HttpResponse;
 use std::alloc::{AllocError, Global};
 
-/// Makes a JSON object of a form, as GitHub's token endpoint replies with if no `Accept` is sent.
+/// Turns a form into a JSON object. The token endpoint of GitHub replies with a form if no `Accept`
+/// is sent.
 #[derive(Clone, Copy, Debug, PartialEq, Eq)]
 pub struct FormBodies;
 
@@ -55,7 +56,7 @@ fn is_form(reply: &HttpResponse) -> bool
     has_type_of(&["application/x-www-form-urlencoded"], reply)
 }
 
-// The text of the object that a form stands for, unless a name stands twice.
+// The text of the JSON object for a form, unless two of its pairs have the same name.
 fn form_object(alloc: Global, body: &[u8]) -> Result<Option<Vec<u8>>, AllocError>
     ensures { IfOk result (λ new. option_map (λ v. v.items) new
         ≡ form_object (pairs_of body.now)) }
@@ -67,25 +68,25 @@ fn form_object(alloc: Global, body: &[u8]) -> Result<Option<Vec<u8>>, AllocError
     Ok(Some(object_of(alloc, body.len(), &pairs)?))
 }
 
-// The decoded text of a name or a value.
-fn shown(alloc: Global, encoded: &[u8]) -> Result<String, AllocError>
+// The decoded text of a name or a value, with U+FFFD in place of what is not UTF-8.
+fn decode_text(alloc: Global, encoded: &[u8]) -> Result<String, AllocError>
     ensures { IfOk result (λ text. string_bytes text ≡ utf8_lossy (decoded encoded.now)) }
 {
     decode(alloc, encoded)?.into_owned(alloc)
 }
 
-// The pairs of a body.
+// The decoded pairs of a body.
 fn read_form(alloc: Global, body: &[u8]) -> Result<Vec<(String, String)>, AllocError>
     ensures { IfOk result (λ pairs. map pair_texts pairs.items ≡ map shown_pair (form body.now)) }
 {
     let mut pairs = Vec::new(alloc);
     for (name, value) in raw_pairs(body) {
-        pairs.push((shown(alloc, name)?, shown(alloc, value)?))?;
+        pairs.push((decode_text(alloc, name)?, decode_text(alloc, value)?))?;
     }
     Ok(pairs)
 }
 
-// Whether some name stands twice.
+// Whether two pairs have the same name.
 fn repeats(pairs: &[(String, String)]) -> bool
     ensures { result ≡ repeats (map pair_texts pairs.now) }
 {

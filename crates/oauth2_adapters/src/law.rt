@@ -1,4 +1,4 @@
-//! What holds of adapters together.
+//! Laws of adapters and of their order.
 
 ghost use Rattle.std.specs.Prelude.{ℕ, List, Bool};
 ghost use Rattle.oauth2_adapters.specs.CommasInScopes.{spaced_scope};
@@ -11,7 +11,7 @@ ghost use Rattle.oauth2_adapters.specs.OtherMediaTypes.{as_json};
 ghost use Rattle.oauth2_adapters.specs.Reply.{Reply};
 ghost use Rattle.oauth2_adapters.specs.Rewriting.{Change, with_changes};
 
-/// Each adapter leaves every reply as it came that it is not for.
+/// An adapter does not change a reply that it is not for.
 pub fn each_leaves_other_replies_alone()
     ensures errors { LeavesAlone error_at_400 is_error_at_200 }
     ensures scopes { LeavesAlone (with_changes spaced_scope) (has_changes spaced_scope) }
@@ -22,8 +22,8 @@ pub fn each_leaves_other_replies_alone()
     ensures forms { LeavesAlone form_as_json is_form }
 {}
 
-/// The order of two adapters does not count for a reply that only one of them is for. That of
-/// `OtherMediaTypes` and one of the adapters of JSON never counts.
+/// The order of two adapters does not matter for a reply that only one of them is for. The order of
+/// `OtherMediaTypes` and an adapter that changes JSON members or the status never matters.
 pub fn adapters_commute()
     ensures one { (first second : Reply → Reply) (is_for : Reply → Bool) →
         LeavesAlone second is_for → CommuteIfOneIsFor first second is_for }

@@ -1,4 +1,4 @@
-//! Wrappers of an HTTP client for servers that answer otherwise than the standards say.
+//! Wrappers of an HTTP client, for servers whose replies differ from what the standards say.
 
 #![tactic(auto)]
 

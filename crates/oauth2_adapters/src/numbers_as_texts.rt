@@ -1,4 +1,4 @@
-//! Numbers that a server sends as texts.
+//! Numbers that a server sends as JSON strings.
 
 ghost use Rattle.std.specs.Prelude.{◌≡◌, None, Some, bytes_eq, map, MatchOption};
 ghost use Rattle.std.specs.Bool.{OnTrue};
@@ -9,14 +9,14 @@ ghost use Rattle.json.specs.Value.{value_view};
 ghost use Rattle.oauth2_adapters.specs.NumbersAsTexts.{is_digit, is_digits, number_under};
 
 use crate::reply_adapter::ReplyAdapter;
-use crate::rewriting::{MemberChange, adapted};
+use crate::rewriting::{MemberChange, adapt_reply};
 use json::Writer;
 use oauth2_wire::HttpResponse;
 use std::alloc::{AllocError, Global};
 use std::marker::Model;
 
-/// Makes numbers of the members of these names that are texts of decimal digits, such as
-/// `"expires_in": "3599"`. Contracts see the names.
+/// Turns the members with these names from strings of decimal digits into numbers: `"expires_in":
+/// "3599"` becomes `"expires_in": 3599`. Contracts see the names.
 #[derive(Debug, Drop)]
 pub struct NumbersAsTexts<'a> {
     names: &'a [&'a str],
@@ -31,7 +31,7 @@ impl<'a> Model for NumbersAsTexts<'a> {
 }
 
 impl<'a> NumbersAsTexts<'a> {
-    /// The adapter for members of these names.
+    /// The adapter for members with these names.
     pub fn new(names: &'a [&'a str]) -> NumbersAsTexts<'a>
         ensures { result ≡ map (λ n. n.now) names.now }
     {
@@ -48,7 +48,7 @@ impl ReplyAdapter for NumbersAsTexts<'_> {
     ghost needs_memory = { λ _. has_body };
 
     fn adapt(&self, alloc: Global, reply: HttpResponse) -> Result<HttpResponse, AllocError> {
-        adapted(alloc, self, reply)
+        adapt_reply(alloc, self, reply)
     }
 }
 
@@ -77,7 +77,7 @@ impl MemberChange for NumbersAsTexts<'_> {
     }
 }
 
-// The digits that become a number, if the member is one of these names.
+// The digits that become a number, if the member has one of these names.
 fn digits_under<'a>(names: &[&str], name: &str, value: &json::Value<'a>) -> Option<&'a str>
     ensures { let becomes = number_under (map (λ n. n.now) names.now) name.now
         (value_view value.now) in

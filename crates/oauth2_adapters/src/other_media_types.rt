@@ -1,4 +1,4 @@
-//! Media types that are taken for JSON.
+//! Media types that are treated as JSON.
 
 ghost use Rattle.std.specs.Prelude.{◌≡◌, codes, map};
 ghost use Rattle.std.specs.Bool.{OnTrue};
@@ -15,8 +15,8 @@ use oauth2_wire::HttpResponse;
 use std::alloc::{AllocError, Global};
 use std::marker::Model;
 
-/// Takes these media types for `application/json`, such as `text/javascript`. Contracts see the
-/// media types.
+/// Treats replies with these media types, such as `text/javascript`, as `application/json`.
+/// Contracts see the media types.
 #[derive(Debug, Drop)]
 pub struct OtherMediaTypes<'a> {
     types: &'a [&'a str],
@@ -31,7 +31,7 @@ impl<'a> Model for OtherMediaTypes<'a> {
 }
 
 impl<'a> OtherMediaTypes<'a> {
-    /// The adapter for replies of these media types.
+    /// The adapter for replies with these media types.
     pub fn new(types: &'a [&'a str]) -> OtherMediaTypes<'a>
         ensures { result ≡ map (λ t. t.now) types.now }
     {

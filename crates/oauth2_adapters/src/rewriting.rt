@@ -1,4 +1,4 @@
-//! An object that is written anew, with other values for some members.
+//! A JSON object that is written again, with new values for some members.
 
 ghost use Rattle.std.specs.Prelude.{◌≡◌, ◌<◌, ◌∷◌, ◌++◌, [], Some, false, length, option_map};
 ghost use Rattle.std.specs.Prelude.{IfOk, OnErr, OnOk, OnSome, IsTrue};
@@ -19,16 +19,16 @@ use json::{Error, Reader, Scratch, Writer};
 use oauth2_wire::HttpResponse;
 use std::alloc::{AllocError, Global};
 
-// How deep a member may nest: the whole body nests to 128.
+// How deep the value of a member may nest: the whole body may nest 128 deep.
 const DEPTH: usize = 127;
 
-// What becomes of a member.
+// A change to the members of an object.
 pub(crate) trait MemberChange {
     ghost use Rattle.oauth2_adapters.specs.Rewriting.{Change};
 
     ghost change: { Self → Change };
 
-    // Writes the value, or what it becomes under that name; whether it changes.
+    // Writes the value, or what it becomes under that name. Returns whether it changed.
     fn write(
         &self,
         alloc: Global,
@@ -43,7 +43,7 @@ pub(crate) trait MemberChange {
 }
 
 // The reply with the members of its object changed.
-pub(crate) fn adapted<M: MemberChange>(
+pub(crate) fn adapt_reply<M: MemberChange>(
     alloc: Global,
     change: &M,
     reply: HttpResponse,
@@ -67,8 +67,9 @@ pub(crate) fn with_body(reply: HttpResponse, body: Vec<u8>) -> HttpResponse
     Response::from_parts(head, body)
 }
 
-// The new body, if the body is one object and some member of it changes. Beside the body it holds
-// the reader's buffer and the new body, each as long as the body, and the member that it is at.
+// The new body, if the body is one object and at least one of its members changes. In memory are
+// the body, the buffer of the reader and the new body, each as long as the body, and the current
+// member.
 pub(crate) fn new_body<M: MemberChange>(
     alloc: Global,
     change: &M,
@@ -95,10 +96,10 @@ fn new_text<M: MemberChange>(
 {
     let mut scratch = Scratch::new(alloc);
     let mut reader = Reader::new(text, &mut scratch)?;
-    rewritten(alloc, change, text.len(), &mut reader)
+    rewrite_members(alloc, change, text.len(), &mut reader)
 }
 
-fn rewritten<M: MemberChange>(
+fn rewrite_members<M: MemberChange>(
     alloc: Global,
     change: &M,
     room: usize,
@@ -119,7 +120,7 @@ fn rewritten<M: MemberChange>(
     }
 }
 
-// A writer that has written the brace of an object.
+// A writer that has written the opening brace of an object.
 pub(crate) fn opened_writer(alloc: Global, room: usize) -> Result<Writer, AllocError>
     ensures { IfOk result (λ w. (w.before ≡ []) × (w.tokens ≡ begin_object ∷ [])) }
 {
@@ -128,7 +129,7 @@ pub(crate) fn opened_writer(alloc: Global, room: usize) -> Result<Writer, AllocE
     Ok(writer)
 }
 
-// What was written, if some member changed and no token follows.
+// The written text, if a member changed and no token follows.
 fn text_if_changed(changed: bool, reader: &mut Reader<'_>, writer: Writer) -> Option<Vec<u8>>
     requires { writer.before ≡ [] }
     ensures { option_map (λ v. v.items) result
@@ -143,8 +144,8 @@ fn text_if_changed(changed: bool, reader: &mut Reader<'_>, writer: Writer) -> Op
     }
 }
 
-// Writes the members that come, and the brace behind them; whether some member changes. None where
-// they are no members.
+// Writes the next members and their closing brace. Returns whether a member changed, or `None` if
+// what follows is not a list of members.
 fn write_members<M: MemberChange>(
     alloc: Global,
     change: &M,
@@ -173,7 +174,7 @@ fn write_members<M: MemberChange>(
     Ok(None)
 }
 
-// Writes the brace behind the members.
+// Writes the closing brace of an object.
 pub(crate) fn close(writer: &mut Writer) -> Result<(), AllocError>
     ensures tokens { OnOk result
         (writer.new.tokens ≡ writer.old.tokens ++ end_object ∷ []) }
@@ -182,7 +183,8 @@ pub(crate) fn close(writer: &mut Writer) -> Result<(), AllocError>
     writer.end_object()
 }
 
-// Writes the member of that name whose value comes; whether it changes. None where none comes.
+// Writes the member with that name and the next value. Returns whether the value changed, or `None`
+// if no value follows.
 fn write_member<M: MemberChange>(
     alloc: Global,
     change: &M,

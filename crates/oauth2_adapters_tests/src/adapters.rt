@@ -1,4 +1,4 @@
-//! Replies through an adapter.
+//! Tests of replies that an adapter changes.
 
 use crate::replies::{add_field, reply_of, types_of};
 use http::Request;
@@ -11,7 +11,7 @@ use oauth2_wire::{AlwaysReady, HttpRequest, HttpResponse, SyncHttpClient};
 use std::alloc::Global;
 use std::io::{self, Write};
 
-// An HTTP client that hands out one reply.
+// An HTTP client that returns one reply.
 #[derive(Drop)]
 struct Canned {
     reply: Option<HttpResponse>,
@@ -43,14 +43,14 @@ fn adapted<A: ReplyAdapter + Drop>(
     answered(alloc, AdaptedClient::new(alloc, canned, adapter))
 }
 
-// A reply that two adapters adapt, one behind the other.
+// The reply after two adapters, one after the other, have changed it.
 fn adapted_twice(alloc: Global, types: &[&str], reply: HttpResponse) -> Option<HttpResponse> {
     let canned = Canned { reply: Some(reply) };
     let typed = AdaptedClient::new(alloc, canned, OtherMediaTypes::new(types));
     answered(alloc, AdaptedClient::new(alloc, typed, ErrorsAtStatus200))
 }
 
-// The reply that an adapter of this name makes.
+// The reply after the adapter with this name has changed it.
 fn adapted_by(
     alloc: Global,
     name: &str,
@@ -68,7 +68,7 @@ fn adapted_by(
     }
 }
 
-// The reply that the adapter of this line makes.
+// The reply after the adapter of this line has changed it.
 fn adapted_line(
     alloc: Global,
     adapter: &str,
@@ -96,7 +96,7 @@ fn write_text_of<W: Write>(reply: &HttpResponse, writer: &mut W) -> io::Result<(
     )
 }
 
-// The Content-Types in hex, with commas between them.
+// The values of Content-Type in hex, with commas between them.
 fn shown_types(alloc: Global, headers: &HeaderMap) -> io::Result<String> {
     let mut shown = String::new(alloc);
     let mut is_first = true;
@@ -123,7 +123,7 @@ fn write_octets_of<W: Write>(
     writeln!(writer, "{} {types} {body}", reply.status().as_u16())
 }
 
-// A reply of a text.
+// The reply of a line `text`, before an adapter changes it; `None` if the line has none.
 fn text_reply(alloc: Global, media_type: &str, words: &str) -> io::Result<Option<HttpResponse>> {
     let (status, text) = words.split_once(' ').unwrap_or((words, ""));
     let mut headers = HeaderMap::new(alloc);
@@ -138,7 +138,7 @@ fn text_reply(alloc: Global, media_type: &str, words: &str) -> io::Result<Option
     ))
 }
 
-// A reply of octets.
+// The reply of a line `octets`, before an adapter changes it; `None` if the line has none.
 fn octets_reply(alloc: Global, words: &str) -> Option<HttpResponse> {
     let (status, rest) = words.split_once(' ')?;
     let (types, body) = rest.split_once(' ')?;

@@ -1,14 +1,14 @@
-//! Adapts the replies and repeats the requests that standard input lists, and prints what comes of
+//! Adapts the replies and repeats the requests that standard input lists, and prints the result of
 //! each line.
 //!
-//! A line `adapter NAME WORD..` takes an adapter with its words, and `type TEXT` a Content-Type. A line
-//! `text STATUS BODY` adapts a reply with that Content-Type, and prints the one that comes of it. A line
-//! `octets STATUS TYPES BODY` does so for any octets: they are written in hex, with commas between the
-//! Content-Types, which are `-` if there is none. A line `retry METHOD MOST FIRST MOST-WAIT ANSWERS`
-//! sends a request again, at most MOST times after the first, with waits in milliseconds; the answers,
-//! with `|` between them, are `lost`, `unsent`, or a status, with a Retry-After behind it or none. A line
-//! that begins with `#` is a heading, and is printed as it is. The file `stdout` has what has to be
-//! printed for the file `stdin`.
+//! A line `adapter NAME WORD..` sets the adapter and its arguments, and a line `type TEXT` sets a
+//! Content-Type. A line `text STATUS BODY` adapts a reply with that Content-Type, and prints the
+//! adapted reply. A line `octets STATUS TYPES BODY` does so for any octets. They are written in
+//! hex, with commas between the Content-Types, which are `-` if there is none. A line
+//! `retry METHOD MOST FIRST MOST-WAIT ANSWERS` sends a request again, at most MOST times after the
+//! first, with waits in milliseconds. The answers, with `|` between them, are `lost`, `unsent`, or
+//! a status with or without a Retry-After. A line that begins with `#` is a heading, and is printed
+//! as it is. The file `stdout` has the expected output for the file `stdin`.
 
 #![tactic(auto)]
 

@@ -1,11 +1,11 @@
-//! Replies and requests of their parts.
+//! Makes replies and requests from their parts.
 
 use http::{Method, Request, Response, StatusCode};
 use http_header::{CONTENT_TYPE, HeaderMap, HeaderName, HeaderValue};
 use oauth2_wire::{HttpRequest, HttpResponse};
 use std::alloc::Global;
 
-// A reply; none if it is no status.
+// A reply; `None` if the number is no status.
 pub(crate) fn reply_of(
     alloc: Global,
     status: &str,
@@ -23,7 +23,7 @@ fn status_of(word: &str) -> Option<StatusCode> {
     StatusCode::from_u16(word.parse::<u16>().ok()?).ok()
 }
 
-// A field with this value as well; whether it is one.
+// Adds a header field with this value. Returns whether it is a valid one.
 pub(crate) fn add_field(
     alloc: Global,
     headers: &mut HeaderMap,
@@ -36,7 +36,7 @@ pub(crate) fn add_field(
     }
 }
 
-// The Content-Types in hex, with commas between them.
+// Reads values of Content-Type from hex with commas between them.
 pub(crate) fn types_of(alloc: Global, words: &str) -> Option<HeaderMap> {
     let mut headers = HeaderMap::new(alloc);
     if words == "-" {
@@ -53,7 +53,7 @@ pub(crate) fn types_of(alloc: Global, words: &str) -> Option<HeaderMap> {
     Some(headers)
 }
 
-// A request with this method and no body; none if it is no method.
+// A request with this method and no body; `None` if the text is no method.
 pub(crate) fn request_of(alloc: Global, method: &str) -> Option<HttpRequest> {
     let Ok(method) = Method::from_bytes(alloc, method.as_bytes()) else {
         return None;

@@ -1,4 +1,4 @@
-//! Requests that are sent again.
+//! Tests of requests that are sent again.
 
 use crate::replies::{add_field, reply_of, request_of};
 use http_header::{HeaderMap, RETRY_AFTER};
@@ -8,7 +8,7 @@ use std::alloc::Global;
 use std::io::{self, Write};
 use std::time::Duration;
 
-// An error of the client.
+// An error of the HTTP client.
 #[derive(Clone, Copy)]
 struct Fault {
     is_unsent: bool,
@@ -22,7 +22,7 @@ impl TellsUnsent for Fault {
     }
 }
 
-// An HTTP client whose answers are listed, with `|` between them, and the number of its calls.
+// An HTTP client that returns the answers of a list, with `|` between them, and counts its calls.
 #[derive(Drop)]
 struct Listed<'a> {
     alloc: Global,
@@ -61,7 +61,7 @@ fn millis_of(word: &str) -> Duration {
     Duration::from_millis(word.parse::<u64>().unwrap_or(0))
 }
 
-// The limits of a line, and its answers.
+// The limits of a line, and the text of its answers.
 fn limits_of(words: &str) -> Option<(RetryLimits, &str)> {
     let (most, rest) = words.split_once(' ')?;
     let (first, rest) = rest.split_once(' ')?;

@@ -1,14 +1,14 @@
-//! What the program is asked for.
+//! The arguments of the program.
 
 use crate::fault::Fault;
 use std::env;
 
-/// What the program is asked for.
+/// What the program runs.
 #[derive(Drop)]
 pub enum Mode {
-    /// Every operation a few times.
+    /// Every operation, a few times each.
     Plain,
-    /// One operation by the clock.
+    /// One operation, timed over this many runs.
     Time { name: String, iterations: u64 },
 }
 
@@ -25,7 +25,7 @@ pub fn asked_mode(rt: &HostRuntime) -> Result<Mode, Fault> {
     if option.as_str() != "--time" {
         return Err(Fault::Arguments);
     }
-    // The name is held while the operation runs, and was read into more room than it needs.
+    // The name is in memory while the operation runs, so it takes no more room than it needs.
     name.shrink_to_fit();
     match number.as_str().parse::<u64>() {
         Ok(iterations) => Ok(Mode::Time { name, iterations }),

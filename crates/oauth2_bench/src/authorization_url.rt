@@ -7,7 +7,7 @@ use oauth2::url::{ParseError, Url};
 use oauth2::{CsrfToken, PkceCodeChallenge, Scope, TryClone};
 use std::alloc::{AllocError, Global};
 
-/// A URL with a challenge, three scopes and a redirect.
+/// Makes an authorization URL with a code challenge, three scopes and a redirect URI.
 #[derive(Drop)]
 pub struct AuthorizationUrl {
     client: BenchClient,
@@ -15,6 +15,7 @@ pub struct AuthorizationUrl {
 }
 
 impl AuthorizationUrl {
+    /// The operation with this code challenge.
     pub fn new(alloc: Global, challenge: PkceCodeChallenge) -> Result<AuthorizationUrl, Fault> {
         Ok(AuthorizationUrl {
             client: redirecting_client(alloc)?,

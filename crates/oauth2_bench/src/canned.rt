@@ -1,4 +1,4 @@
-//! A client that hands back one reply, whatever it is asked.
+//! An HTTP client that returns the same reply to every request.
 
 use oauth2::http::Response;
 use oauth2::{HttpRequest, HttpResponse, SyncHttpClient};
@@ -9,7 +9,7 @@ use std::alloc::{AllocError, Global};
 pub struct CannedClient {
     pub alloc: Global,
     pub body: String,
-    /// The length of the last request's body.
+    /// The length of the last request's body, in bytes.
     pub sent: usize,
 }
 

@@ -1,4 +1,4 @@
-//! The challenge of a code verifier.
+//! The SHA-256 challenge of a code verifier (RFC 7636, section 4.2).
 
 ghost use Rattle.std.specs.Prelude.{◌≡◌, ◌≤◌, length, IfOk};
 ghost use Rattle.oauth2_types.specs.Pkce.{sha256_challenge};
@@ -8,7 +8,7 @@ use crate::operation::{Done, Operation};
 use oauth2::{PkceCodeChallenge, PkceCodeVerifier};
 use std::alloc::Global;
 
-/// A verifier whose challenge is computed.
+/// Computes the challenge of this verifier.
 #[derive(Drop)]
 pub struct Challenge {
     verifier: PkceCodeVerifier,
@@ -17,13 +17,14 @@ pub struct Challenge {
 }
 
 impl Challenge {
-    /// The verifier of RFC 7636, appendix B.
+    /// The operation with the verifier of RFC 7636, appendix B.
     pub fn new(alloc: Global) -> Result<Challenge, Fault> {
         let text = "dBjftJeZ4CVP-mB92K27uhbUJU1p1r_wW1gFWFOEjXk";
         let verifier = PkceCodeVerifier::new(String::from_str(alloc, text)?);
         Ok(Challenge { verifier })
     }
 
+    /// The challenge of the verifier.
     pub fn challenge(&self, alloc: Global) -> Result<PkceCodeChallenge, Fault>
         ensures { IfOk result (λ challenge. challenge ≡ sha256_challenge self.now.verifier) }
     {

@@ -22,7 +22,7 @@ type CredentialsRequest<'a> = ClientCredentialsTokenRequest<
     BasicTokenResponse,
 >;
 
-/// A request with these scopes and extra parameters.
+/// Requests a token with these scopes and extra parameters.
 #[derive(Drop)]
 pub struct ClientCredentials {
     client: BenchClient,
@@ -32,7 +32,7 @@ pub struct ClientCredentials {
 }
 
 impl ClientCredentials {
-    /// The request that this body answers.
+    /// The operation whose request gets a reply with this body.
     pub fn new(
         alloc: Global,
         body: String,
@@ -90,7 +90,7 @@ fn with_all_params<'a>(
     Ok(request)
 }
 
-// The token is what the canned body says.
+// Sends the request. The token is the one in the client's body.
 fn ask(
     alloc: Global,
     request: CredentialsRequest<'_>,

@@ -1,4 +1,4 @@
-//! The client whose calls are timed.
+//! The clients whose calls are timed.
 
 use crate::fault::Fault;
 use oauth2::basic::BasicClient;
@@ -29,7 +29,7 @@ pub fn client(alloc: Global) -> Result<BenchClient, Fault> {
     )
 }
 
-/// The client `aaa` with the secret `bbb` and a redirect.
+/// The client `aaa` with the secret `bbb` and a redirect URI.
 pub fn redirecting_client(alloc: Global) -> Result<BenchClient, Fault> {
     let text = String::from_str(alloc, "https://localhost/redirect")?;
     let redirect = RedirectUrl::new(alloc, text)?;

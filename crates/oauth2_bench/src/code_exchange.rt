@@ -12,7 +12,7 @@ use oauth2::basic::{BasicErrorResponse, BasicTokenResponse};
 use oauth2::{AuthorizationCode, FromJson, RequestTokenError, TokenResponse};
 use std::alloc::{AllocError, Global};
 
-/// The exchange of the code `ccc`.
+/// Exchanges the code `ccc`.
 #[derive(Drop)]
 pub struct CodeExchange {
     client: BenchClient,
@@ -20,7 +20,7 @@ pub struct CodeExchange {
 }
 
 impl CodeExchange {
-    /// The exchange that this body answers.
+    /// The operation whose request gets a reply with this body.
     pub fn new(alloc: Global, body: String) -> Result<CodeExchange, Fault> {
         Ok(CodeExchange {
             client: client(alloc)?,
@@ -33,7 +33,7 @@ impl CodeExchange {
     }
 }
 
-// The token is what the canned body says.
+// Sends the request. The token is the one in the client's body.
 fn exchange(
     alloc: Global,
     client: &BenchClient,

@@ -19,15 +19,15 @@ const DEVICE: &str = "{\"device_code\":\"12345\",\"user_code\":\"abcde\",\
 
 const PENDING: &str = "{\"error\":\"authorization_pending\"}";
 
-// A world whose clock always shows the same time, and whose user decides late.
+// A world whose clock always shows the same time, and whose user grants the token after some polls.
 #[derive(Drop)]
 struct LateWorld {
     alloc: Global,
-    /// The reply once the user has decided.
+    /// The body of the reply with the token.
     token: String,
-    /// How many replies still come before that.
+    /// How many `authorization_pending` replies come before it.
     pending: u32,
-    /// The length of the last request's body.
+    /// The length of the last request's body, in bytes.
     sent: usize,
 }
 
@@ -57,7 +57,7 @@ impl PollWorld for LateWorld {
     fn sleep(&mut self, _duration: Duration) {}
 }
 
-/// A poll that gets so many other replies before the token.
+/// A poll that gets `pending` replies `authorization_pending` before the token.
 #[derive(Drop)]
 pub struct PollOperation {
     client: BenchClient,
@@ -67,7 +67,7 @@ pub struct PollOperation {
 }
 
 impl PollOperation {
-    /// The poll that ends with this body, after so many replies that the user has not decided.
+    /// The operation that ends with this body, after `pending` replies `authorization_pending`.
     pub fn new(alloc: Global, token: String, pending: u32) -> Result<PollOperation, Fault> {
         Ok(PollOperation {
             client: client(alloc)?,

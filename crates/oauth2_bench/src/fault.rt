@@ -11,12 +11,12 @@ use std::io;
 /// Why a run ended early.
 #[derive(Clone, Copy, Debug, PartialEq, Eq)]
 pub enum Fault {
-    /// The arguments name no operation, or no number.
+    /// The arguments name no operation, or have no number.
     Arguments,
     /// The arguments, the clock or the output failed.
     Io,
     Memory,
-    /// An operation did not give what it is here to give.
+    /// A call that an operation makes returned an error.
     Refused,
 }
 

@@ -1,4 +1,4 @@
-//! What the operations work on.
+//! The inputs of the operations.
 
 use std::alloc::{AllocError, Global};
 
@@ -17,8 +17,8 @@ pub fn short_token(alloc: Global) -> Result<String, AllocError> {
     )
 }
 
-/// A token response whose token has this many bytes. The token is made apart and dropped, as on the
-/// Rust side.
+/// A token response whose access token has this many bytes. The token is made first and dropped, as
+/// in the Rust benchmark.
 pub fn long_token(alloc: Global, size: u32) -> Result<String, AllocError> {
     let mut token = String::new(alloc);
     for i in 0..size {
@@ -28,7 +28,7 @@ pub fn long_token(alloc: Global, size: u32) -> Result<String, AllocError> {
         "{{\"access_token\":\"{token}\",\"token_type\":\"bearer\",\"expires_in\":3600,\
          \"refresh_token\":\"r1\",\"scope\":\"read write\"}}"
     )?;
-    // The body is held while the operation runs, and grew into more room than it needs.
+    // The body is in memory while the operation runs, so it takes no more room than it needs.
     body.shrink_to_fit();
     Ok(body)
 }

@@ -1,4 +1,4 @@
-//! The introspection of a token, from the call to the answer.
+//! The introspection of a token, from the call to the response.
 
 ghost use Rattle.std.specs.Prelude.{◌≡◌, IfOk, string_bytes};
 ghost use Rattle.oauth2_wire.specs.Reply.{accepted, answer_of};
@@ -12,7 +12,7 @@ use oauth2::basic::{BasicErrorResponse, BasicTokenIntrospectionResponse};
 use oauth2::{AccessToken, FromJson, RequestTokenError, TokenIntrospectionResponse};
 use std::alloc::{AllocError, Global};
 
-/// The introspection of the token `access_token_123`.
+/// Introspects the token `access_token_123`.
 #[derive(Drop)]
 pub struct IntrospectionOperation {
     client: IntrospectionClient,
@@ -21,7 +21,7 @@ pub struct IntrospectionOperation {
 }
 
 impl IntrospectionOperation {
-    /// The introspection that this body answers.
+    /// The operation whose request gets a reply with this body.
     pub fn new(alloc: Global, body: String) -> Result<IntrospectionOperation, Fault> {
         let client = introspection_client(alloc)?;
         let token = AccessToken::new(String::from_str(alloc, "access_token_123")?);
@@ -38,7 +38,7 @@ impl IntrospectionOperation {
     }
 }
 
-// The answer is what the canned body says.
+// Sends the request. The response is the one in the client's body.
 fn introspect(
     alloc: Global,
     client: &IntrospectionClient,

@@ -1,9 +1,9 @@
-//! What the calls of the client cost: each operation a few times, or one of them so many times by
-//! the clock.
+//! Measures what the calls of the client cost: runs each operation a few times, or times many runs
+//! of one operation.
 //!
 //! Without arguments it runs every operation and prints its name, how many bytes its last
 //! request's body had and a length of what was read. With `--time NAME ITERATIONS` it prints the
-//! nanoseconds that so many runs of one operation took.
+//! nanoseconds that ITERATIONS runs of one operation took.
 
 #![tactic(auto)]
 
@@ -60,7 +60,7 @@ fn run(rt: &HostRuntime) -> Result<(), Fault> {
     }
 }
 
-// Exit status 2 stands for arguments that are not known.
+// Exit status 0: the program did what was asked; 1: it failed; 2: the arguments are wrong.
 fn main(rt: HostRuntime) -> ExitCode {
     match run(&rt) {
         Ok(()) => ExitCode::from(0),

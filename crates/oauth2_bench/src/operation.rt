@@ -1,26 +1,26 @@
-//! What is timed, and the loop that times it.
+//! An operation that is timed, and the loop that times it.
 
 use crate::fault::Fault;
 use std::alloc::Global;
 use std::rt::Clock;
 use std::time::Instant;
 
-/// Shows that a run did its work: how many bytes the body of its request had, if it sent one, and
-/// a length of its result.
+/// Shows that a run did its work: `sent` is the length of its request's body in bytes, or 0 if it
+/// sent none, and `read` is a length of its result.
 #[derive(Clone, Copy, Debug, PartialEq, Eq)]
 pub struct Done {
     pub sent: usize,
     pub read: usize,
 }
 
-/// Some runs of an operation, and what the last of them did.
+/// How many nanoseconds some runs of an operation took, and what the last of them did.
 #[derive(Clone, Copy, Debug)]
 pub struct Run {
     pub nanoseconds: u128,
     pub done: Done,
 }
 
-/// What is timed.
+/// An operation that can be timed.
 pub trait Operation {
     fn run(&mut self, alloc: Global) -> Result<Done, Fault>;
 }
@@ -33,7 +33,7 @@ fn repeat<O: Operation>(alloc: Global, operation: &mut O, iterations: u64) -> Re
     Ok(done)
 }
 
-/// Runs an operation by the clock.
+/// Runs an operation `iterations` times, and measures how long that takes.
 pub fn timed<O: Operation + Drop>(
     clock: &impl Clock,
     alloc: Global,

@@ -1,4 +1,4 @@
-//! Bodies of replies that are read without a request.
+//! Operations that read the body of a reply, without a request.
 
 use crate::fault::Fault;
 use crate::operation::{Done, Operation};

@@ -1,4 +1,4 @@
-//! The operations by their names.
+//! Finds and runs the operation of a name.
 
 use crate::authorization_url::AuthorizationUrl;
 use crate::challenge::Challenge;
@@ -13,7 +13,8 @@ use crate::reading::{IntrospectionReading, TokenReading};
 use std::alloc::Global;
 use std::rt::Clock;
 
-/// The operations that run without arguments. The others are the same at greater sizes.
+/// The operations that run if the program has no arguments. The other operations are these at
+/// larger sizes.
 pub const NAMES: [&str; 17] = [
     "a_code_exchange",
     "b_client_credentials_20_extra_5_scopes",
@@ -38,7 +39,7 @@ const KILOBYTE: u32 = 1024;
 
 const MEGABYTE: u32 = 1024 * KILOBYTE;
 
-/// By which clock an operation runs, and how often.
+/// The clock and the allocator of the operations, and how often each runs.
 #[derive(Clone, Copy)]
 pub struct Bench<'a, C> {
     pub clock: &'a C,
@@ -47,7 +48,7 @@ pub struct Bench<'a, C> {
 }
 
 impl<C: Clock> Bench<'_, C> {
-    /// Runs the operation of this name.
+    /// Runs the operation with this name, or returns `Fault::Arguments` if there is none.
     pub fn measure(&self, name: &str) -> Result<Run, Fault> {
         match name {
             "a_code_exchange" => self.exchange(short_token(self.alloc)?),

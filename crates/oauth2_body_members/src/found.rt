@@ -1,4 +1,4 @@
-//! Members as they are found in a body, whose texts are copied once all are read.
+//! The members found in a body. Their texts are copied once all members are read.
 
 ghost use Rattle.std.specs.Prelude.{◌≡◌, IfOk, IfSome};
 ghost use Rattle.json.specs.Value.{value_view};
@@ -12,7 +12,7 @@ use crate::nested;
 use oauth2_json::ReadError;
 use std::alloc::Global;
 
-// The same text in the body, where it follows a quote at that place.
+// The slice of the body after the quote at byte `quote`, if it is equal to `text`.
 pub(crate) fn in_body<'a>(body: &'a str, quote: usize, text: &str) -> Option<&'a str>
     ensures { IfSome result (λ found. found.now ≡ text.now) }
 {
@@ -21,7 +21,8 @@ pub(crate) fn in_body<'a>(body: &'a str, quote: usize, text: &str) -> Option<&'a
     if found == text { Some(found) } else { None }
 }
 
-// The member of that name with that value, which stands at that place in the body.
+// The member of that name with that value. A string without escapes is not copied: the member then
+// has the slice of the body after the quote at byte `place`.
 pub(crate) fn member_at<'a>(
     alloc: Global,
     body: &'a str,
@@ -44,6 +45,6 @@ pub(crate) fn member_at<'a>(
     Ok(Member {
         name,
         text: "",
-        value: Some(nested::owned(alloc, value)?),
+        value: Some(nested::owned_value(alloc, value)?),
     })
 }

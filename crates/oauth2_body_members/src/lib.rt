@@ -1,4 +1,4 @@
-//! The members of a JSON object: out of a value, or read from a text without one.
+//! The members of a JSON object, from a `Value` or read from a body without one.
 
 #![tactic(auto)]
 

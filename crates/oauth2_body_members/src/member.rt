@@ -13,17 +13,17 @@ ghost use Rattle.oauth2_body_members.specs.private.Taken.{blank_at};
 use serde_json::{Map, Value};
 use std::alloc::{AllocError, Global};
 
-// A member, whose name stands in the body.
+// A member. Its name is a slice of the body.
 #[derive(Drop)]
 pub(crate) struct Member<'a> {
     pub(crate) name: &'a str,
     // The text in the body that is its value, until it is copied.
     pub(crate) text: &'a str,
-    // None until its text is copied, and once it is taken.
+    // `None` until its text is copied, and after it is taken.
     pub(crate) value: Option<Value>,
 }
 
-// The members that were found, each with its value.
+// Copies the texts of the members that were found, so that each has its value.
 pub(crate) fn with_texts<'a>(
     alloc: Global,
     found: Vec<Member<'a>>,
@@ -37,7 +37,7 @@ pub(crate) fn with_texts<'a>(
     Ok(list)
 }
 
-// Copies a member's text, where it has no value.
+// Copies a member's text if it has no value.
 fn copy_text(alloc: Global, member: &mut Member<'_>) -> Result<(), AllocError>
     ensures { OnOk result (entry_of member.new ≡ found_entry member.old) }
 {
@@ -48,7 +48,7 @@ fn copy_text(alloc: Global, member: &mut Member<'_>) -> Result<(), AllocError>
     Ok(())
 }
 
-// Takes each member of that name; gives the last one.
+// Takes the values of all members with that name, and returns the last one.
 pub(crate) fn take(list: &mut Vec<Member<'_>>, name: &str) -> Option<Value>
     ensures found { option_map view result ≡ get_member name.now (list_members list.old.items) }
     ensures rest { list_members list.new.items ≡ without name.now (list_members list.old.items) }
@@ -60,7 +60,7 @@ pub(crate) fn take(list: &mut Vec<Member<'_>>, name: &str) -> Option<Value>
     found
 }
 
-// Takes the value of a member of that name in place of an earlier one.
+// Moves the member's value to `found`, in place of an earlier one, if the member has that name.
 fn take_value(member: &mut Member<'_>, name: &str, found: &mut Option<Value>)
     ensures found { option_map view found.new ≡ option_or
         (if bytes_eq member.old.name.now name.now
@@ -73,7 +73,7 @@ fn take_value(member: &mut Member<'_>, name: &str, found: &mut Option<Value>)
     }
 }
 
-// The members that are left, in a map.
+// Copies the names of the members that still have a value, and puts them in a map.
 pub(crate) fn map_of(alloc: Global, list: Vec<Member<'_>>) -> Result<Map<String, Value>, AllocError>
     ensures { IfOk result (λ m. members_view m.entries ≡ list_members list.entry.items) }
 {

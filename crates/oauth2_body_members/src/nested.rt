@@ -1,4 +1,4 @@
-//! Values that a text holds, as `serde_json` has them.
+//! Converts parsed JSON values to those of `serde_json`.
 
 ghost use Rattle.std.specs.Prelude.{◌≡◌, is_some};
 ghost use Rattle.json.specs.Value.{value_view, items_view as texts_view};
@@ -14,9 +14,9 @@ use oauth2_json::{ParseCause, ReadError};
 use serde_json::{Map, Value};
 use std::alloc::Global;
 
-// The value of that text; a number out of range is no JSON.
+// Converts a parsed value. A number out of range is `NotJson`.
 #[cycle(owned)]
-pub(crate) fn owned(alloc: Global, value: &json::Value<'_>) -> Result<Value, ReadError>
+pub(crate) fn owned_value(alloc: Global, value: &json::Value<'_>) -> Result<Value, ReadError>
     ensures { ReadsAs view result (or_not_json (of_json (value_view value.now))) }
 {
     match value {
@@ -39,7 +39,7 @@ fn owned_items(alloc: Global, items: &Vec<json::Value<'_>>) -> Result<Vec<Value>
 {
     let mut list = Vec::with_capacity(alloc, items.len())?;
     for item in items {
-        list.push(owned(alloc, item)?)?;
+        list.push(owned_value(alloc, item)?)?;
     }
     Ok(list)
 }
@@ -55,12 +55,12 @@ fn owned_members(
     let mut map = Map::new(alloc);
     for member in members {
         let name = String::from_str(alloc, member.0)?;
-        drop(map.insert(name, owned(alloc, &member.1)?)?);
+        drop(map.insert(name, owned_value(alloc, &member.1)?)?);
     }
     Ok(map)
 }
 
-// Whether that text is a value: whether each number in it is in range.
+// Whether a parsed value can be converted: each number in it has to be in range.
 #[cycle(is_value)]
 pub(crate) fn is_value(value: &json::Value<'_>) -> bool
     ensures { is_some (of_json (value_view value.now)) ≡ result }

@@ -8,7 +8,7 @@ ghost use Rattle.serde_json.specs.View.{number_view};
 use fast_float::Numeral;
 use serde_json::Number;
 
-// The number that a JSON text writes, where it is in range.
+// The number of a JSON text; `None` if it is out of range.
 pub(crate) fn number(text: &str) -> Option<Number>
     ensures { option_map number_view result ≡ number_of text.now }
 {

@@ -1,4 +1,4 @@
-//! The members of an object, that a value or a text holds.
+//! The members of an object, from a value or from a body.
 
 ghost use Rattle.std.specs.Prelude.{◌≡◌, IfOk, map, option_map};
 ghost use Rattle.serde_json.specs.Data.{object};
@@ -25,14 +25,14 @@ pub(crate) enum BodySource<'a> {
     List(Vec<Member<'a>>),
 }
 
-/// The members of an object, out of which they are taken by name.
+/// The members of an object. Each is looked up by its name and taken out.
 #[derive(Drop)]
 pub struct Object<'a> {
     source: BodySource<'a>,
 }
 
 impl<'a> Object<'a> {
-    /// The members of a value that is an object.
+    /// The members of a value, which has to be an object.
     #[tactic(auto, unfolding(crate::specs::Object::object_members))]
     pub fn of_value(alloc: Global, value: Value) -> Result<Object<'a>, ReadError>
         ensures { ReadsAs object_members result (members_of_object (view value)) }
@@ -43,8 +43,9 @@ impl<'a> Object<'a> {
         })
     }
 
-    /// The members of the object that a whole body is: those of these names, and the others where
-    /// they are kept too; else nothing is said of the others. Their names stay in the body.
+    /// Reads the members of a body, which has to be one JSON object. It keeps the members with
+    /// these names, and the other members if `keeps_others`; if not, the contract doesn't cover the
+    /// others. Names without escapes are not copied.
     pub fn of_body(
         alloc: Global,
         bytes: &'a [u8],
@@ -60,7 +61,7 @@ impl<'a> Object<'a> {
         }
     }
 
-    /// Takes the member out.
+    /// Removes the member of that name and returns its value; `None` if there is none.
     #[tactic(auto, unfolding(crate::specs::Object::object_members))]
     pub fn take(&mut self, name: &str) -> Option<Value>
         ensures found { option_map view result ≡ get_member name.now (object_members self.old) }
@@ -72,7 +73,7 @@ impl<'a> Object<'a> {
         }
     }
 
-    /// The members that are left, as a value.
+    /// The members that are left, as a JSON object.
     #[tactic(auto, unfolding(crate::specs::Object::object_members))]
     pub fn into_value(self, alloc: Global) -> Result<Value, AllocError>
         ensures { IfOk result (λ v. view v ≡ object (object_members self.entry)) }
@@ -101,8 +102,8 @@ fn of_text<'a>(
     }
 }
 
-// The members of a text that is an object. The reader's buffer, as long as the text, is let go
-// before a text that stands in the body is copied.
+// The members of a text that is an object; `None` if it has to be read through a `Value`. The
+// reader's buffer, as long as the text, is dropped before the members' texts are copied.
 fn found_in<'a>(
     alloc: Global,
     text: &'a str,

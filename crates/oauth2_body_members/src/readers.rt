@@ -1,4 +1,4 @@
-//! A reader for each kind of member: it takes the member out and reads it. A fault names it.
+//! A reader for each kind of member. It takes the member out and reads it; a fault has its name.
 
 ghost use Rattle.std.specs.Prelude.{◌≡◌, map, option_map, string_bytes};
 ghost use Rattle.serde_json.specs.Find.{get_member};
@@ -26,7 +26,7 @@ use oauth2_json::{FromJson, ReadError, members};
 use std::alloc::Global;
 
 impl Object<'_> {
-    /// A member that has to be there.
+    /// Reads a required member: absent is `Missing`, null is `WrongType`.
     pub fn needed<T: FromJson>(&mut self, alloc: Global, name: &str) -> Result<T, ReadError>
         ensures read { ReadsAs T.meaning result
             (needed_member T.reading name.now (get_member name.now (object_members self.old))) }
@@ -36,7 +36,7 @@ impl Object<'_> {
         members::needed(alloc, name, found)
     }
 
-    /// A member that may be absent or null.
+    /// Reads a member that may be absent or null; both read as `None`.
     pub fn optional<T: FromJson>(
         &mut self,
         alloc: Global,
@@ -50,7 +50,7 @@ impl Object<'_> {
         members::optional(alloc, name, found)
     }
 
-    /// A member that has to be there, under its own name or another one, not under both.
+    /// Reads a required member that has one of two names. It is `BothNames` if both are present.
     pub fn either_name<T: FromJson>(
         &mut self,
         alloc: Global,
@@ -68,7 +68,7 @@ impl Object<'_> {
         members::either_name(alloc, name, found, other)
     }
 
-    /// A text that has to be there, read with its ASCII letters lowered.
+    /// Reads a required string after its ASCII letters are lowered.
     pub fn needed_lowered<T: FromJson>(&mut self, alloc: Global, name: &str) -> Result<T, ReadError>
         ensures read { ReadsAs T.meaning result
             (needed_member (lowercase_reading T.reading) name.now
@@ -79,7 +79,7 @@ impl Object<'_> {
         members::needed_lowered(alloc, name, found)
     }
 
-    /// A text that may be absent, but not null, read with its ASCII letters lowered.
+    /// Reads a string that may be absent, but not null, after its ASCII letters are lowered.
     pub fn present_lowered<T: FromJson>(
         &mut self,
         alloc: Global,
@@ -94,7 +94,7 @@ impl Object<'_> {
         members::present_lowered(alloc, name, found)
     }
 
-    /// A truth value that has to be there.
+    /// Reads a required member that is true or false.
     pub fn needed_flag(&mut self, alloc: Global, name: &str) -> Result<bool, ReadError>
         ensures read { ReadsAs (λ b. b) result
             (needed_member flag name.now (get_member name.now (object_members self.old))) }
@@ -104,7 +104,7 @@ impl Object<'_> {
         members::needed_flag(alloc, name, found)
     }
 
-    /// A number that has to be there.
+    /// Reads a required member that is a whole number and not negative.
     pub fn needed_number(&mut self, alloc: Global, name: &str) -> Result<u64, ReadError>
         ensures read { ReadsAs (λ n. n) result
             (needed_member whole_number name.now (get_member name.now (object_members self.old))) }
@@ -114,7 +114,7 @@ impl Object<'_> {
         members::needed_number(alloc, name, found)
     }
 
-    /// A number that may be absent or null.
+    /// Reads a whole number that is not negative. Absent and null read as `None`.
     pub fn optional_number(&mut self, alloc: Global, name: &str) -> Result<Option<u64>, ReadError>
         ensures read { ReadsAs (λ n. n) result
             (optional_member whole_number name.now
@@ -125,7 +125,7 @@ impl Object<'_> {
         members::optional_number(alloc, name, found)
     }
 
-    /// A number that is `default` where it is absent or null.
+    /// Reads a whole number that is not negative. Absent and null read as `default`.
     pub fn number_or(&mut self, alloc: Global, name: &str, default: u64) -> Result<u64, ReadError>
         ensures read { ReadsAs (λ n. n) result
             (member_or whole_number name.now default
@@ -136,7 +136,7 @@ impl Object<'_> {
         members::number_or(alloc, name, default, found)
     }
 
-    /// The list of a text that may be absent or null.
+    /// Reads a string as the list of its pieces between spaces. Absent and null read as `None`.
     pub fn optional_words<T: FromJson + Drop>(
         &mut self,
         alloc: Global,
@@ -151,7 +151,7 @@ impl Object<'_> {
         members::optional_words(alloc, name, found)
     }
 
-    /// A text or a list of texts that has to be there.
+    /// Reads a required member that is a string, read as a list of one, or an array of strings.
     pub fn needed_texts(&mut self, alloc: Global, name: &str) -> Result<Vec<String>, ReadError>
         ensures read { ReadsAs (λ v. map string_bytes v.items) result
             (needed_member texts name.now (get_member name.now (object_members self.old))) }
@@ -161,7 +161,7 @@ impl Object<'_> {
         members::needed_texts(alloc, name, found)
     }
 
-    /// A text or a list of texts that may be absent or null.
+    /// Reads a string, as a list of one, or an array of strings. Absent and null read as `None`.
     pub fn optional_texts(
         &mut self,
         alloc: Global,
@@ -175,7 +175,7 @@ impl Object<'_> {
         members::optional_texts(alloc, name, found)
     }
 
-    /// A list of texts that may be absent or null; a text alone is none.
+    /// Reads an array of strings. Absent and null read as `None`. A single string is `WrongType`.
     pub fn optional_text_list(
         &mut self,
         alloc: Global,

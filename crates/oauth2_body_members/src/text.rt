@@ -1,4 +1,4 @@
-//! The members of an object as a text tells them.
+//! Reads the members of an object from the tokens of a body.
 
 ghost use Rattle.std.specs.Prelude.{◌≡◌, ◌<◌, ◌||◌, length, map, option_map, IfOk, OnOk};
 ghost use Rattle.json.specs.Json.{read_key, value, members};
@@ -16,12 +16,11 @@ use json::{Error, Reader};
 use oauth2_json::{ParseCause, ReadError};
 use std::alloc::Global;
 
-// How deep a member of the object may nest: the whole text nests to 127.
+// How deep the value of a member may nest: the whole body nests at most 127 deep.
 const DEPTH: usize = 126;
 
-// The members of the object that the reader of this body stands in, where nothing follows it:
-// those of these names, and the others where they are kept too. None where such a name is written
-// by escapes.
+// Reads the members after the object's opening brace, to the end of the body. It keeps those with
+// these names, and the others if `keeps_others`. `None` if a kept name is written with escapes.
 pub(crate) fn to_end<'a>(
     alloc: Global,
     body: &'a str,
@@ -84,7 +83,7 @@ fn is_kept(name: &str, names: &[&str], keeps_others: bool) -> bool
     false
 }
 
-// The next name, and the place that the reader says it has.
+// The next name, and the reader's byte offset before it.
 fn next_name<'a>(
     alloc: Global,
     reader: &mut Reader<'a>,
@@ -100,7 +99,7 @@ fn next_name<'a>(
     }
 }
 
-// The member of that name, whose value is next.
+// Reads the next value, as that of the member with that name.
 fn next_member<'a>(
     alloc: Global,
     body: &'a str,
@@ -120,7 +119,7 @@ fn next_member<'a>(
     }
 }
 
-// Passes a value that nobody reads.
+// Skips a value that is not kept. It still has to be JSON, with each number in range.
 fn pass_value(alloc: Global, reader: &mut Reader<'_>) -> Result<(), ReadError>
     ensures read { ReadsAs (λ _. reader.new) result
         (or_not_json (option_map (λ p. p.1) (converted of_json (value 126 reader.old)))) }

@@ -15,7 +15,7 @@ use Rattle.oauth2_wire.specs.Request.{HttpRequest, RequestView, IsRequestOf, vie
 use Rattle.oauth2_wire.specs.declared.error.RequestTokenError.{RequestTokenError}
 use Rattle.oauth2_wire.specs.Expected.{Configuration}
 use Rattle.oauth2_redirect.specs.End.{ExchangesCode, login_exchange}
-use Rattle.oauth2_redirect.specs.Login.{Kept}
+use Rattle.oauth2_redirect.specs.Login.{LoginView}
 use Rattle.oauth2_callers.specs.Login.{IsAnsweredBy}
 
 module _ {D A T E RE C : Type 0} (meaning : D → A) (error_meaning : T → E) (step : C → HttpRequest → Result HttpResponse RE → C → Type 0) (says : ReplyView → Answer A E) (IsRequest : List ℕ → RequestView → Type 0) (url : List ℕ) (before after : C) where
@@ -37,7 +37,7 @@ pub rule-started : (client : Settings) (code : List ℕ) (url : Option Addressed
 rule-started client code (Some u) started there missing = ap (λ (r : CodeRequest). r.base.reply_rule) there
 rule-started client code None started there missing = absurd missing
 
-module _ {D A T E RE C : Type 0} {meaning : D → A} {error_meaning : T → E} (reading : Data → Reading A) (error_reading : Data → Reading E) (step : C → HttpRequest → Result HttpResponse RE → C → Type 0) (client : Settings) (login : Kept) (code : List ℕ) {before after : C} where
+module _ {D A T E RE C : Type 0} {meaning : D → A} {error_meaning : T → E} (reading : Data → Reading A) (error_reading : Data → Reading E) (step : C → HttpRequest → Result HttpResponse RE → C → Type 0) (client : Settings) (login : LoginView) (code : List ℕ) {before after : C} where
   -- the exchange of a login's code that gave a token was answered with it
   pub IsAnsweredBy-from_ExchangesCode : (result : Result D (RequestTokenError RE T))
       → ExchangesCode meaning error_meaning reading error_reading step client login code before result after

@@ -1,4 +1,4 @@
--- The pairs of a login, the request that its exchange sent, and the reply that answered it.
+-- What a login sends to the authorization endpoint, and what it means that its code was exchanged.
 use Rattle.std.specs.Prelude.{◌≡◌, ℕ, List, [], ◌∷◌, ◌++◌, codes, Some, Result, Ok, option_map}
 use Rattle.serde_json.specs.Data.{Data}
 use Rattle.url.specs.Parts.{serialize}
@@ -13,9 +13,9 @@ use Rattle.oauth2_wire.specs.Texts.{given_text}
 use Rattle.oauth2_requests.specs.Code.{code_configuration}
 use Rattle.oauth2.specs.Settings.{Settings}
 use Rattle.oauth2_redirect.specs.End.{login_exchange}
-use Rattle.oauth2_redirect.specs.Login.{Kept}
+use Rattle.oauth2_redirect.specs.Login.{LoginView}
 
--- what a login sends for a client and a state (RFC 6749, section 4.1.1)
+-- the parameters that a login adds to the authorization URL (RFC 6749, section 4.1.1)
 abbrev pub login_pairs : Settings → List ℕ → List Pair
 login_pairs client state =
     (codes "response_type", codes "code")
@@ -24,8 +24,8 @@ login_pairs client state =
     ∷ []
     ++ optional_pair (codes "redirect_uri") (option_map given_text client.redirect_url)
 
--- what a login with OpenID Connect sends for a client, a state, a verifier and a nonce (RFC 7636,
--- section 4.3; OpenID Connect Core 1.0, section 3.1.2.1)
+-- the parameters that a login with OpenID Connect adds to the authorization URL (RFC 7636, section
+-- 4.3; OpenID Connect Core 1.0, section 3.1.2.1)
 abbrev pub openid_pairs : Settings → List ℕ → List ℕ → List ℕ → List Pair
 openid_pairs client state verifier nonce =
     (codes "response_type", codes "code")
@@ -40,9 +40,9 @@ openid_pairs client state verifier nonce =
     ∷ []
 
 module _ {A E RE C : Type 0} where
-  -- the HTTP client made one step, with the request for the token of this login and this code, and
-  -- its reply reads to this response
-  abbrev pub IsAnsweredBy : (Data → Reading A) → (Data → Reading E) → (C → HttpRequest → Result HttpResponse RE → C → Type 0) → Settings → Kept → List ℕ → C → A → C → Type 0
+  -- the HTTP client went from `before` to `after` by one call, with the token request of this login
+  -- and this code, and `response` is what its reply is read as
+  abbrev pub IsAnsweredBy : (Data → Reading A) → (Data → Reading E) → (C → HttpRequest → Result HttpResponse RE → C → Type 0) → Settings → LoginView → List ℕ → C → A → C → Type 0
   IsAnsweredBy reading error_reading step client login code before response after =
       (request : HttpRequest)
       × ((endpoint : Addressed) × (client.token_url ≡ Some endpoint)

@@ -1,5 +1,5 @@
-//! An application of a server that tells who the user is: an HTTP client of its own, and the
-//! `id_token` beside the access token.
+//! An application that defines its own HTTP client, and reads the `id_token` that its server
+//! returns next to the access token.
 
 ghost use Rattle.std.specs.Prelude.{
   ◌≡◌,
@@ -34,7 +34,7 @@ use std::fmt;
 /// Why this application's HTTP client got no reply.
 #[derive(Debug, Drop)]
 pub enum CannedError {
-    /// The reply was handed out before.
+    /// The client was called before, and has no other reply.
     Spent,
 }
 
@@ -48,13 +48,14 @@ impl fmt::Display for CannedError {
 
 impl std::error::Error for CannedError {}
 
-/// An HTTP client that hands out one reply, made before.
+/// An HTTP client that returns one reply at its first call, and an error after that.
 #[derive(Drop)]
 pub struct CannedClient {
     reply: Option<HttpResponse>,
 }
 
 impl CannedClient {
+    /// A client that returns this reply at its first call.
     pub fn new(reply: HttpResponse) -> CannedClient {
         CannedClient { reply: Some(reply) }
     }
@@ -68,10 +69,10 @@ impl SyncHttpClient for CannedClient {
     }
 }
 
-/// A token response whose members beyond the standard's are kept.
+/// A token response that also keeps the members that the standard does not name.
 pub type IdentityTokenResponse = StandardTokenResponse<ExtraFields, BasicTokenType>;
 
-/// A client of a server that answers such responses.
+/// A client of a server with such token responses.
 pub type IdentityClient<HasTokenUrl = EndpointMaybeSet> = Client<
     BasicErrorResponse,
     IdentityTokenResponse,
@@ -85,7 +86,7 @@ pub type IdentityClient<HasTokenUrl = EndpointMaybeSet> = Client<
     HasTokenUrl,
 >;
 
-/// The client of a configuration that may name no token endpoint.
+/// Makes a client, with a token endpoint if `token_url` is `Some`.
 pub fn identity_client(
     alloc: Global,
     id: String,
@@ -98,7 +99,8 @@ pub fn identity_client(
     Ok(Client::new(ClientId::new(id)).set_token_uri_option(token_url))
 }
 
-/// The token of the application itself, for one scope and one audience.
+/// Requests a token for the application itself, with one scope and one audience (RFC 6749, section
+/// 4.4).
 pub fn own_token<'a>(
     alloc: Global,
     client: &'a IdentityClient<EndpointSet>,
@@ -118,7 +120,7 @@ pub fn own_token<'a>(
         .request(alloc, http_client)
 }
 
-/// The `id_token` of a response, where it has one.
+/// The member `id_token` of a response, if it is a text.
 pub fn id_token(token: &IdentityTokenResponse) -> Option<&str>
     ensures { option_copied result
         ≡ option_and_then as_str
@@ -127,8 +129,8 @@ pub fn id_token(token: &IdentityTokenResponse) -> Option<&str>
     token.extra_fields().text("id_token")
 }
 
-/// The token response to a request for a code. A response means that the client was called exactly
-/// once, with this request, and is what the reply reads to.
+/// Sends a token request with a code. If it returns a response, the HTTP client was called exactly
+/// once, with this request, and the response is what its reply is read as.
 pub fn token_response<C: SyncHttpClient>(
     alloc: Global,
     started: CodeTokenRequest<'_, BasicErrorResponse, IdentityTokenResponse>,
@@ -147,8 +149,7 @@ pub fn token_response<C: SyncHttpClient>(
     started.request(alloc, http_client)
 }
 
-/// The `id_token` for a code, where the reply tells one: the text of that member of what the reply
-/// reads to.
+/// Exchanges a code, and returns the text of the reply's member `id_token`, if it has one.
 pub fn id_token_for_code<C: SyncHttpClient>(
     alloc: Global,
     client: &IdentityClient,
@@ -183,13 +184,14 @@ fn owned(alloc: Global, text: Option<&str>) -> Result<Option<String>, AllocError
     }
 }
 
-// The client of this application, at this token endpoint.
+// The client `application` with this token endpoint.
 fn application_client(alloc: Global, token_url: String) -> anyhow::Result<IdentityClient> {
     let id = String::from_str(alloc, "application")?;
     Ok(identity_client(alloc, id, Some(token_url))?)
 }
 
-/// The `id_token` that a canned reply tells for a code, with every error on the way as text.
+/// Exchanges a code by a client that returns `reply`, and returns the `id_token`. Every error is
+/// turned into an `anyhow::Error`.
 pub fn canned_id_token(
     alloc: Global,
     token_url: String,

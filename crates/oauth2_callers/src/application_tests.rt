@@ -1,5 +1,5 @@
-//! An application with an HTTP client and an error of its own, which wants a member of the reply
-//! that the standard does not name.
+//! Tests of an application that defines its own HTTP client and error, and reads a member of the
+//! reply that the standard does not name.
 
 use crate::application::canned_id_token;
 use crate::support::{assert_equal, text};
@@ -14,7 +14,7 @@ fn reply(rt: &(impl Abort + AllocGlobal), body: &str) -> HttpResponse {
     )
 }
 
-// The application answers this `id_token` for a code and this reply.
+// Asserts that the application returns this `id_token` for a reply with this body.
 fn assert_id_token(rt: &(impl Abort + AllocGlobal), body: &str, wanted: Option<&str>) {
     let url = text(rt, "https://example.com/token");
     let answer = canned_id_token(rt.alloc(), url, text(rt, "ccc"), reply(rt, body));

@@ -34,8 +34,8 @@ use oauth2::{
 use std::alloc::Global;
 use url::{ParseError, Url};
 
-/// The URL for a login whose state was made before: the endpoint's own query, and then these
-/// pairs.
+/// The authorization URL of a login with this state: the query of the endpoint's URL, then the
+/// login's parameters.
 pub fn login_url(
     alloc: Global,
     client: &CodeClient,
@@ -49,7 +49,7 @@ pub fn login_url(
     client.authorize_url(alloc, move || state).url(alloc)
 }
 
-/// Whether a login can be started: exactly where there is an endpoint.
+/// Whether a login can be started: exactly if the client has an authorization endpoint.
 pub fn login_url_if_set(
     alloc: Global,
     client: &PlainClient<EndpointMaybeSet>,
@@ -60,8 +60,8 @@ pub fn login_url_if_set(
     client.authorize_url(alloc, move || state).is_ok()
 }
 
-/// A login with a code challenge in place of a redirect, and a parameter of the caller's: the
-/// pairs stand in the order of the standard's, and the caller's last.
+/// The authorization URL of a login without a redirect URI, with a code challenge and an extra
+/// parameter. The standard's parameters come first, the extra one last.
 pub fn challenged_login(
     alloc: Global,
     client: &PlainClient<EndpointSet>,
@@ -86,8 +86,9 @@ pub fn challenged_login(
     Ok(url)
 }
 
-/// Both ends of a login whose endpoint's URL has no query, so that none of its own can hide what
-/// is sent: a server that reads by name finds a verifier that passes its check.
+/// The URL and the token request of one login, at an endpoint whose URL has no query. A server that
+/// looks up parameters by their name finds a verifier that passes its check (RFC 7636, section
+/// 4.6).
 pub fn checked_login(
     alloc: Global,
     client: &CodeClient,

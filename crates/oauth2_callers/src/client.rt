@@ -1,4 +1,4 @@
-//! Clients that are made, read and copied.
+//! Functions that make, read and copy clients.
 
 ghost use Rattle.std.specs.Prelude.{◌≡◌, Some, None, IfOk};
 ghost use Rattle.oauth2_wire.specs.declared.content_type.ReplyRule.TheVariants.{Prefix};
@@ -11,7 +11,7 @@ use oauth2::{
 };
 use std::alloc::{AllocError, Global};
 
-/// A client of a server without extensions, which neither introspects nor revokes.
+/// A client with neither a device, an introspection nor a revocation endpoint.
 pub type PlainClient<HasAuthUrl = EndpointNotSet, HasTokenUrl = EndpointNotSet> = BasicClient<
     HasAuthUrl,
     EndpointNotSet,
@@ -23,10 +23,10 @@ pub type PlainClient<HasAuthUrl = EndpointNotSet, HasTokenUrl = EndpointNotSet> 
 /// A client for the code flow.
 pub type CodeClient = PlainClient<EndpointSet, EndpointSet>;
 
-/// A client whose token endpoint is known at run time alone.
+/// A client that may have a token endpoint, which is known only at run time.
 pub type TokenClient = PlainClient<EndpointNotSet, EndpointMaybeSet>;
 
-/// A client for the code flow, which shows its credentials in the body.
+/// A client for the code flow, which sends its credentials in the body (RFC 6749, section 2.3.1).
 pub fn code_client(
     id: ClientId,
     secret: ClientSecret,
@@ -55,7 +55,7 @@ pub fn code_client(
         .set_redirect_uri(redirect)
 }
 
-/// A client that shows its credentials by HTTP Basic, at a token endpoint if there is one.
+/// A client without a secret, with a token endpoint if `token` is `Some`.
 pub fn token_client(id: ClientId, token: Option<TokenUrl>) -> TokenClient
     ensures id { result.client_id ≡ id }
     ensures secret { result.client_secret ≡ None }
@@ -65,7 +65,7 @@ pub fn token_client(id: ClientId, token: Option<TokenUrl>) -> TokenClient
     Client::new(id).set_token_uri_option(token)
 }
 
-/// A client with every endpoint, and its URLs in the order in which they were given.
+/// A client with every endpoint, except that `revocation` may be `None`.
 pub fn every_endpoint(
     client: PlainClient,
     auth: AuthUrl,
@@ -97,7 +97,7 @@ pub fn token_url(client: &CodeClient) -> &TokenUrl
     client.token_uri()
 }
 
-/// An equal client.
+/// A copy that is equal to the client.
 pub fn copy_of(alloc: Global, client: &TokenClient) -> Result<TokenClient, AllocError>
     ensures { IfOk result (λ copy. copy ≡ client.now) }
 {

@@ -1,4 +1,4 @@
-//! The sign-in of a device.
+//! The sign-in of a user on a device (RFC 8628).
 
 ghost use Rattle.std.specs.Prelude.{◌≡◌, Some, None, List};
 ghost use Rattle.url.specs.Parts.{serialize};
@@ -21,7 +21,7 @@ use oauth2::{
 use std::alloc::Global;
 use std::time::Duration;
 
-/// A client of devices.
+/// A client with a device authorization endpoint and a token endpoint.
 pub type DeviceClient = BasicClient<
     EndpointNotSet,
     EndpointSet,
@@ -30,8 +30,8 @@ pub type DeviceClient = BasicClient<
     EndpointSet,
 >;
 
-/// The codes for a device and its user: the client is called once, with this request, and the
-/// answer is what its reply says; or it is not called at all.
+/// Requests the codes for a device and its user. Either the HTTP client is called once, with this
+/// request, and the result is what its reply says; or it is not called.
 pub fn device_codes<C: SyncHttpClient>(
     alloc: Global,
     client: &DeviceClient,
@@ -53,8 +53,8 @@ pub fn device_codes<C: SyncHttpClient>(
         .request(alloc, http_client)
 }
 
-/// The token of a device that got such codes, by a clock and a sleep function of the caller's,
-/// with a hundred requests at most.
+/// Polls for the token of a device with these codes, with the caller's clock and sleep function,
+/// and at most 100 requests.
 pub fn polled_token<C: SyncHttpClient, F: FnMut() -> Timestamp + Drop, S: FnMut(Duration)>(
     alloc: Global,
     client: &DeviceClient,

@@ -1,4 +1,4 @@
-//! A client with a token endpoint alone, and the exchange of a code.
+//! A client whose only endpoint is the token endpoint, and the exchange of a code.
 
 ghost use Rattle.std.specs.Prelude.{◌≡◌, Some, None, Ok, Err, IfOk, IfErr, string_bytes};
 ghost use Rattle.url.specs.Parts.{serialize};
@@ -17,7 +17,7 @@ use oauth2::{
 };
 use std::alloc::Global;
 
-/// A client with a token endpoint alone.
+/// A client whose only endpoint is the token endpoint.
 pub type TokenOnlyClient = BasicClient<
     EndpointNotSet,
     EndpointNotSet,
@@ -26,7 +26,7 @@ pub type TokenOnlyClient = BasicClient<
     EndpointSet,
 >;
 
-/// A client for the exchange of codes; the error is that of a URL that does not parse.
+/// A client for the exchange of codes. The error says why the URL does not parse.
 pub fn new_client(
     alloc: Global,
     id: String,
@@ -47,8 +47,8 @@ pub fn new_client(
     )
 }
 
-/// The token for a code. A token means that the client was called exactly once, with the request
-/// for this code, and is what the reply reads to.
+/// Exchanges a code for a token. If it returns a token, the HTTP client was called exactly once,
+/// with the request for this code, and the token is what its reply is read as.
 pub fn token_for_code<C: SyncHttpClient>(
     alloc: Global,
     client: &TokenOnlyClient,

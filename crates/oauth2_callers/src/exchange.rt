@@ -35,7 +35,7 @@ use oauth2::{
 };
 use std::alloc::{AllocError, Global};
 
-/// Whether a client has no token endpoint, as the fault of a call that needs one tells it.
+/// Whether a client has no token endpoint: a call that needs one then returns an error.
 pub fn lacks_token_url(alloc: Global, client: &TokenClient) -> bool
     ensures { IsTrue result ↔ (client.now.token_url ≡ None) }
 {
@@ -86,7 +86,7 @@ pub fn refresh_request(
         .prepare_request(alloc)
 }
 
-/// A request with every scope of a list.
+/// The request with all scopes of a list added.
 pub fn with_all_scopes<'a>(
     request: ClientCredentialsTokenRequest<'a, BasicErrorResponse, BasicTokenResponse>,
     scopes: Vec<Scope>,
@@ -97,8 +97,9 @@ pub fn with_all_scopes<'a>(
     request.add_scopes(scopes)
 }
 
-/// The token for a name and a password, by a client that calls a closure. A token means that the
-/// closure was called exactly once, and what its reply reads to.
+/// Requests a token for a user's name and password (RFC 6749, section 4.3), by an HTTP client that
+/// calls a closure. If it returns a token, the closure was called exactly once, and the token is
+/// what its reply is read as.
 pub fn password_token<F: FnMut(HttpRequest) -> Result<HttpResponse, ()>>(
     alloc: Global,
     client: &CodeClient,

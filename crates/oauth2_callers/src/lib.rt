@@ -1,6 +1,6 @@
-//! Callers of the client's calls at concrete types, with contracts of their own, and tests that
-//! call them. All is compiled with the tests alone: a library would pass on all that its public
-//! names mention.
+//! Functions that call the client with concrete types and have their own contracts, and tests that
+//! call them. Everything here is compiled only with the tests: a library would also have to export
+//! all that its public names mention.
 
 #![tactic(auto)]
 

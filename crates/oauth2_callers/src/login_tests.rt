@@ -1,5 +1,5 @@
-//! A login from its URL to the exchange of its code, at once and in the two steps of an
-//! application.
+//! Tests of a login from its URL to the exchange of its code: in one call, and in the two steps of
+//! an application.
 
 ghost use Rattle.oauth2_types.specs.Pkce.{HasValidLength};
 
@@ -50,7 +50,7 @@ fn verifier(rt: &(impl Abort + AllocGlobal)) -> PkceCodeVerifier
     verifier
 }
 
-// The login of this client.
+// The URL and the token request of a login with this client.
 fn login_of(
     rt: &(impl Abort + AllocGlobal),
     client: &CodeClient,
@@ -64,7 +64,7 @@ fn login_of(
     )
 }
 
-// The login at these endpoints.
+// The URL and the token request of a login with these endpoints.
 fn login(
     rt: &(impl Abort + AllocGlobal),
     auth: &str,
@@ -73,7 +73,7 @@ fn login(
     login_of(rt, &client(rt, auth, token))
 }
 
-// The login at this endpoint has this URL.
+// Asserts that a login with this authorization endpoint has this URL.
 fn assert_login_url(rt: &(impl Abort + AllocGlobal), auth: &str, url: &str) {
     let flow = login(rt, auth, TOKEN).expect(rt, "a login");
     assert_text(rt, flow.url.as_str(), url);
@@ -93,7 +93,8 @@ fn joined_login(rt: HostRuntime) {
     );
 }
 
-// A challenge of the endpoint's own stays, so the query has two, and no server reads the name.
+// A challenge in the endpoint's URL stays, so the query has two, and a server that looks up
+// parameters by their name finds none.
 #[test]
 fn joined_login_beside_another_challenge(rt: HostRuntime) {
     assert_login_url(
@@ -130,7 +131,7 @@ fn reply(rt: &(impl Abort + AllocGlobal), body: &str) -> HttpResponse {
     )
 }
 
-// A login of this client, which sends its user to this URL.
+// Starts a login of this client, and asserts its URL.
 fn started(rt: &(impl Abort + AllocGlobal), client: &OpenIdClient) -> OpenIdLogin {
     let mut rng = Repeated(0);
     let (url, login) = start_login(rt.alloc(), client, &mut rng).expect(rt, "a login");
@@ -144,7 +145,7 @@ fn started(rt: &(impl Abort + AllocGlobal), client: &OpenIdClient) -> OpenIdLogi
     login
 }
 
-// What a login ends with whose user comes back with this state and whose reply is this.
+// The result of a login whose redirect has this state, and whose token reply has this body.
 fn ends(
     rt: &(impl Abort + AllocGlobal),
     state: &str,
@@ -202,7 +203,7 @@ fn open_id_login_without_id_token(rt: HostRuntime) {
     assert!(rt; matches!(ends(&rt, STATE, "{}"), Err(OpenIdLoginError::Token(_))));
 }
 
-// A login that is kept as a text between its two steps.
+// A login that is stored as a text between its two steps.
 #[test]
 fn web_login(rt: HostRuntime) {
     let client = client(&rt, AUTH, TOKEN);

@@ -1,5 +1,5 @@
-//! A login with OpenID Connect (Core 1.0, section 3.1), as an application has it in a crate of its
-//! own: the URL that leads the user to the provider, and who the user is.
+//! A login with OpenID Connect (Core 1.0, section 3.1), as an application calls it from its own
+//! crate: the URL to send the user to, and who the user is.
 
 ghost use Rattle.std.specs.Prelude.{
   ◌≡◌,
@@ -24,7 +24,7 @@ ghost use Rattle.oauth2_urls.specs.Addressed.{Addressed};
 ghost use Rattle.oauth2_form.specs.Query.{ExtendsQuery, query_form};
 ghost use Rattle.oauth2_redirect.specs.End.{ExchangesCode};
 ghost use Rattle.oauth2_redirect.specs.Query.{sole_text};
-ghost use Rattle.oauth2_redirect.specs.Redirect.{MayWantMemory, TellsRefusal, answer, is_state};
+ghost use Rattle.oauth2_redirect.specs.Redirect.{MayWantMemory, ShowsRedirectError, answer, is_state};
 ghost use Rattle.oauth2_openid.specs.Seen.{token_of};
 ghost use Rattle.oauth2_openid.specs.Token.{DecodedToken, TokenFault};
 ghost use Rattle.oauth2_openid.specs.TokenRules.{Holds, token_checked};
@@ -46,8 +46,8 @@ use rand_core::Rng;
 use std::alloc::Global;
 use std::time::Duration;
 
-/// What the application knows of a provider that tells its issuer in each redirect too, and with
-/// which it registered `RS256`.
+/// The settings for a provider that adds its issuer to each redirect (RFC 9207), and whose ID
+/// tokens are signed with `RS256`.
 pub fn provider(issuer: &str) -> OpenIdProvider<'_>
     ensures { result.issuer ≡ issuer.now }
 {
@@ -78,9 +78,9 @@ pub fn start_login<R: Rng>(
     Ok(OpenIdLogin::start(alloc, client, rng)?.url(alloc)?)
 }
 
-/// Who the user is and the tokens, if the redirect has the login's state and may come from the
-/// provider, and the ID token meets each rule at the moment that the clock tells. All is what one
-/// request with the code and the login's verifier was answered.
+/// Returns who the user is and the tokens. The redirect then has the login's state and may come
+/// from the provider, and the ID token meets each rule at the time that the clock shows. The tokens
+/// are what the reply to one request, with the code and the login's verifier, is read as.
 pub fn finish_login<C: SyncHttpClient, K: FnOnce() -> Timestamp + Drop>(
     alloc: Global,
     client: &OpenIdClient,
@@ -145,7 +145,7 @@ pub fn finish_login<C: SyncHttpClient, K: FnOnce() -> Timestamp + Drop>(
         → result ≡ Err (OpenIdLoginError.Redirect error kept)
         → (kept ≡ login) × (http_client.new ≡ http_client.old) }
     ensures redirect { (error : _) (kept : OpenIdKept)
-        → result ≡ Err (OpenIdLoginError.Redirect error kept) → TellsRefusal error
+        → result ≡ Err (OpenIdLoginError.Redirect error kept) → ShowsRedirectError error
         (answer login.login.state (redirect_issuer provider.now) (query_form redirect.now)) }
     ensures redirect_memory { result ≡ Err (OpenIdLoginError.Redirect RedirectError.Memory login)
         → MayWantMemory login.login.state (redirect_issuer provider.now) (query_form redirect.now) }

@@ -1,10 +1,11 @@
-//! Extra fields of one's own: two members of a token response that the standard does not name.
+//! Extra fields that an application defines: two members of a token response that the standard does
+//! not name.
 
 ghost use Rattle.std.specs.Prelude.{codes};
 
 use oauth2::{EmptyExtraTokenFields, NamedMember, WithMember};
 
-/// The identity of the user.
+/// The member `id_token`: who the user is.
 pub struct IdToken;
 
 impl NamedMember for IdToken {
@@ -17,7 +18,7 @@ impl NamedMember for IdToken {
     }
 }
 
-/// For how many seconds the token may be used in an outage of the server.
+/// The member `ext_expires_in`: how many seconds the token may be used while the server is down.
 pub struct ExtExpiresIn;
 
 impl NamedMember for ExtExpiresIn {
@@ -30,4 +31,5 @@ impl NamedMember for ExtExpiresIn {
     }
 }
 
+/// Both members, each of which may be absent.
 pub type IdentityFields = WithMember<IdToken, WithMember<ExtExpiresIn, EmptyExtraTokenFields>>;

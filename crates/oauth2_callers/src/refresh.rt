@@ -1,4 +1,4 @@
-//! A refresh that is sent.
+//! A refresh request that is sent (RFC 6749, section 6).
 
 ghost use Rattle.std.specs.Prelude.{◌≡◌, Some};
 ghost use Rattle.url.specs.Parts.{serialize};
@@ -14,8 +14,8 @@ use oauth2::basic::{BasicErrorResponse, BasicRequestTokenError, BasicTokenRespon
 use oauth2::{FromJson, RefreshToken, SyncHttpClient};
 use std::alloc::Global;
 
-/// A new token for a refresh token: the client is called once, with the request for this refresh
-/// token, and the answer is what its reply says; or it is not called at all.
+/// Requests a new token with a refresh token. Either the HTTP client is called once, with this
+/// request, and the result is what its reply says; or it is not called.
 pub fn refreshed_token<C: SyncHttpClient>(
     alloc: Global,
     client: &CodeClient,

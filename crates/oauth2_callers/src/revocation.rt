@@ -1,4 +1,4 @@
-//! A revocation that is sent.
+//! A revocation request that is sent (RFC 7009).
 
 ghost use Rattle.std.specs.Prelude.{◌≡◌, Some, Ok, OnOk, IfSome, codes};
 ghost use Rattle.url.specs.Parts.{serialize};
@@ -13,7 +13,7 @@ use oauth2::{EndpointNotSet, EndpointSet, RefreshToken, StandardRevocableToken, 
 use std::alloc::Global;
 use std::fmt;
 
-/// A client with a revocation endpoint alone.
+/// A client whose only endpoint is the revocation endpoint.
 pub type RevocationClient = BasicClient<
     EndpointNotSet,
     EndpointNotSet,

@@ -1,4 +1,4 @@
-//! A transport of one's own, in place of a client.
+//! A function that sends requests, in place of an HTTP client.
 
 ghost use Rattle.std.specs.Prelude.{◌≡◌, ◌⊎◌, Some, Err};
 ghost use Rattle.http_uri.specs.Uri.{SpellsNone};
@@ -17,8 +17,8 @@ use oauth2::{
 };
 use std::alloc::Global;
 
-/// The token for a code, over a transport that has a reply to each request: the answer is what the
-/// reply to this request says, or why there was no request to send.
+/// Exchanges a code for a token, by a function that returns a reply to each request. The result is
+/// what the reply to this request says, or why no request could be made.
 pub fn token_over<F: FnOnce(HttpRequest) -> HttpResponse>(
     alloc: Global,
     client: &CodeClient,

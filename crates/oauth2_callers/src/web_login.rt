@@ -1,9 +1,9 @@
-//! A web login: the URL that leads the user away, and the token when the user is back.
+//! A login in a web application: the URL to send the user to, and the token when the user is back.
 
 ghost use Rattle.std.specs.Prelude.{◌≡◌, ℕ, List, Ok, IfOk};
 ghost use Rattle.oauth2_json.specs.Body.{body_reading};
 ghost use Rattle.oauth2_form.specs.Query.{query_form};
-ghost use Rattle.oauth2_redirect.specs.Login.{Kept, login_reading};
+ghost use Rattle.oauth2_redirect.specs.Login.{LoginView, login_reading};
 ghost use Rattle.oauth2_redirect.specs.Redirect.{answer, issuer_expectation};
 
 use oauth2::basic::{BasicClient, BasicErrorResponse, BasicTokenResponse};
@@ -13,7 +13,7 @@ use oauth2_redirect::{ExpectedIssuer, Login, LoginError};
 use rand_core::Rng;
 use std::alloc::Global;
 
-/// A client for logins.
+/// A client with an authorization endpoint and a token endpoint.
 pub type LoginClient = BasicClient<
     EndpointSet,
     EndpointNotSet,
@@ -22,16 +22,16 @@ pub type LoginClient = BasicClient<
     EndpointSet,
 >;
 
-/// Why a login gave no token.
+/// Why a login returned no token.
 #[derive(Debug, Drop)]
 pub enum WebLoginError<E> {
-    /// What the session holds is no login.
+    /// The text in the session is no login.
     Session(ReadError),
-    /// The redirect or the token endpoint gave no token.
+    /// The redirect or the token request failed.
     Login(LoginError<E, BasicErrorResponse>),
 }
 
-/// The URL to send the user to, and the text to keep with the session meanwhile.
+/// Starts a login: returns the URL to send the user to, and the text to keep with the session.
 pub fn begin<R: Rng>(
     alloc: Global,
     client: &LoginClient,
@@ -46,7 +46,7 @@ pub fn begin<R: Rng>(
     }
 }
 
-/// The token, when the user comes back by this redirect to a session that holds this text.
+/// Finishes a login: returns the token for the session's text and the redirect of the user.
 pub fn end<C: SyncHttpClient>(
     alloc: Global,
     client: &LoginClient,
@@ -56,7 +56,7 @@ pub fn end<C: SyncHttpClient>(
     issuer: ExpectedIssuer<'_>,
 ) -> Result<BasicTokenResponse, WebLoginError<C::Error>>
     requires { C.is_ready http_client.old }
-    ensures { IfOk result (λ _. (login : Kept) × (code : List ℕ)
+    ensures { IfOk result (λ _. (login : LoginView) × (code : List ℕ)
         × (body_reading login_reading session.now ≡ Ok login)
         × (answer login.state (issuer_expectation issuer.entry) (query_form redirect.now)
         ≡ Ok code)) }

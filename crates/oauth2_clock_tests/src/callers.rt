@@ -1,4 +1,4 @@
-//! Callers with contracts of their own.
+//! Functions that call the client and have their own contracts.
 
 ghost use Rattle.std.specs.Prelude.{
   ◌≡◌,

@@ -1,16 +1,17 @@
-//! Runs of a keeper, worked out by hand from what a good token is.
+//! Runs of a keeper. The expected results were worked out by hand from the rule for when a token is
+//! used.
 
 use crate::callers::{TokenClient, bearer};
 use crate::support::{Scripted, assert_fault, assert_that, assert_token, client, duration, moment};
 use oauth2_keeper::{BasicTokenKeeper, RenewalTimes, TokenKeeper};
 use std::process::Abort;
 
-// A call: the second and the nanosecond of its moment, the body of its request, which is empty
-// where none is sent, and the token or the text of the fault.
+// A call: its time in seconds and nanoseconds, the body of its request, which is empty if none is
+// sent, and the token or the text of the error.
 type Call<'a> = (i64, i32, &'a str, Result<&'a str, &'a str>);
 
-// A keeper without a refresh token, whose default lifetime is 0: its margin in seconds and nanoseconds, the
-// replies to its requests, and its calls.
+// A keeper without a refresh token, which uses a lifetime of 0 for replies without one: its margin
+// in seconds and nanoseconds, the replies to its requests, and its calls.
 #[derive(Clone, Copy)]
 struct Run<'a> {
     margin: (u64, u64),
@@ -60,7 +61,7 @@ const SECOND_REFRESH_TOKEN: (u16, &str) = (
 
 const UNREAD: (u16, &str) = (200, r#"{"access_token":"u6"}"#);
 
-// A status that is none: the client fails.
+// A number that is no status, so the client fails.
 const CLIENT_FAILS: (u16, &str) = (0, "");
 
 const RUNS: [Run<'static>; 9] = [
@@ -76,7 +77,7 @@ const RUNS: [Run<'static>; 9] = [
             (12, 0, ASKED, Err("Request failed")),
         ],
     },
-    // So does the keeper's own of 0.
+    // So does the keeper's lifetime of 0, for a reply without one.
     Run {
         margin: (0, 0),
         replies: &[NEITHER, NEITHER],
@@ -96,7 +97,7 @@ const RUNS: [Run<'static>; 9] = [
             (1, 0, ASKED, Ok("u1")),
         ],
     },
-    // A margin of the whole lifetime, and past it: the token is answered and asked for anew.
+    // A margin of the whole lifetime or more: each call returns a token and requests a new one.
     Run {
         margin: (10, 0),
         replies: &[TEN_SECONDS, TEN_SECONDS, NO_TIME, NO_TIME],
@@ -108,7 +109,7 @@ const RUNS: [Run<'static>; 9] = [
             (1, 0, ASKED, Ok("u3")),
         ],
     },
-    // The greatest margin passes the greatest lifetime by less than a second.
+    // The greatest margin is greater than the greatest lifetime by less than a second.
     Run {
         margin: (18_446_744_073_709_551_615, 999_999_999),
         replies: &[FOREVER, FOREVER],
@@ -123,7 +124,7 @@ const RUNS: [Run<'static>; 9] = [
             (0, 1, ASKED, Ok("u4")),
         ],
     },
-    // A reply that does not read, and an error of the client, change nothing that is kept.
+    // A reply that cannot be read, and an error of the client, change nothing that is kept.
     Run {
         margin: (0, 0),
         replies: &[HUNDRED_SECONDS, UNREAD],
@@ -134,7 +135,7 @@ const RUNS: [Run<'static>; 9] = [
             (100, 0, KEPT, Ok("t1")),
         ],
     },
-    // After an answered call the refresh token is that of the last reply that gave one.
+    // After a successful call the refresh token is that of the last reply that had one.
     Run {
         margin: (0, 0),
         replies: &[HUNDRED_SECONDS, NEITHER, SECOND_REFRESH_TOKEN, NEITHER],
@@ -147,8 +148,8 @@ const RUNS: [Run<'static>; 9] = [
             (101, 4, REFRESHED_BY_THE_SECOND, Err("Request failed")),
         ],
     },
-    // After a failed client all is as before: the token, its moment, its lifetime, the margin, the
-    // refresh token, and the lifetime where a reply tells none.
+    // After an error of the client the keeper is unchanged: the token, its time, its lifetime, the
+    // margin, the refresh token, and the lifetime for replies without one.
     Run {
         margin: (10, 0),
         replies: &[
@@ -170,7 +171,7 @@ const RUNS: [Run<'static>; 9] = [
     },
 ];
 
-// One call, and the request that it sends.
+// Checks one call, and the request that it sends.
 fn assert_call(
     rt: &(impl Abort + AllocGlobal),
     keeper: &mut BasicTokenKeeper<'_>,
@@ -187,7 +188,7 @@ fn assert_call(
     assert_that(rt, http_client.body.as_slice() == body.as_bytes(), body);
 }
 
-// The calls of a run do and answer this, one after another.
+// Checks the requests and the results of the calls of a run, in order.
 fn assert_run(rt: &(impl Abort + AllocGlobal), client: &TokenClient, run: Run<'_>) {
     let times = RenewalTimes {
         margin: duration(run.margin),
@@ -200,7 +201,7 @@ fn assert_run(rt: &(impl Abort + AllocGlobal), client: &TokenClient, run: Run<'_
     }
 }
 
-// A caller reads the token twice, and asks once for it.
+// Checks that a caller gets the token twice, and that one request is sent for it.
 fn assert_bearer(rt: &(impl Abort + AllocGlobal), client: &TokenClient) {
     let times = RenewalTimes {
         margin: duration((0, 0)),

@@ -1,5 +1,5 @@
-//! What depends on a clock, for its users: the poll of a device and the keeper of a token, by
-//! callers with contracts of their own and by worked runs.
+//! Tests of what depends on a clock: the poll of a device and the keeper of a token. They are
+//! callers with their own contracts, and runs that were worked out by hand.
 
 #![tactic(auto)]
 

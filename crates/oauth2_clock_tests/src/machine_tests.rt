@@ -1,4 +1,4 @@
-//! Polls over lists of readings and answers, and the sleeps that answers bring about.
+//! Tests of polls over lists of clock readings and answers, and of the sleeps after answers.
 
 use crate::support::{Seen, assert_that, duration, moment, moments, slept};
 use oauth2_poll::{DevicePoll, PollAnswer, PollEnd, PollEvent, PollReady, PollSettings, PollStep};
@@ -15,8 +15,8 @@ const PENDING: PollAnswer = PollAnswer::Pending;
 
 const SLOW_DOWN: PollAnswer = PollAnswer::SlowDown;
 
-// A run of a poll with interval 1, cap 10 and three requests at most: its timeout in seconds, the
-// clock and the answers; what it does, and how it ends.
+// A run of a poll with an interval of 1 second, a cap of 10 seconds and at most three requests: its
+// timeout in seconds, the clock, the answers, the expected events, and how it ends.
 #[derive(Clone, Copy)]
 struct Run<'a> {
     timeout: u64,
@@ -143,7 +143,7 @@ fn assert_trace(rt: &impl Abort, trace: &[PollEvent], wanted: &[Seen]) {
     }
 }
 
-// The run does this and ends so.
+// Checks the events and the end of a run.
 fn assert_run(rt: &(impl Abort + AllocGlobal), run: Run<'_>) {
     let readings = moments(rt, run.readings);
     let settings = PollSettings {
@@ -171,7 +171,7 @@ fn a_poll_runs(rt: HostRuntime) {
     }
 }
 
-// How long a poll sleeps after each of some answers: its interval, its cap, and each sleep, in
+// How long a poll sleeps after each of some answers: its interval, its cap and the sleeps, each in
 // seconds and nanoseconds.
 #[derive(Clone, Copy)]
 struct Pace<'a> {
@@ -222,7 +222,7 @@ const PACES: [Pace<'static>; 5] = [
     },
 ];
 
-// A poll with these settings, of two seconds from 0 on.
+// A poll with these settings, which starts at second 0 and has a timeout of two seconds.
 fn started(rt: &impl Abort, settings: PollSettings) -> DevicePoll {
     let timeout = Duration::from_secs(2);
     DevicePoll::new(moment(rt, 0, 0), timeout, settings).expect(rt, "a deadline")

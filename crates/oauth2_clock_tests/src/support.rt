@@ -1,4 +1,4 @@
-//! What the tests of several subjects share.
+//! Functions that several test files share.
 
 use crate::callers::TokenClient;
 use jiff::Timestamp;
@@ -19,9 +19,9 @@ use std::time::Duration;
 pub enum ScriptedError {
     /// All replies were returned before.
     Spent,
-    /// The number is no status.
+    /// The number is not an HTTP status.
     BadStatus,
-    /// There was no memory for the body.
+    /// Memory ran out for the body.
     Memory,
 }
 
@@ -36,6 +36,7 @@ pub struct Scripted<'a> {
 }
 
 impl<'a> Scripted<'a> {
+    /// A client with these replies.
     pub fn new(alloc: Global, replies: &'a [(u16, &'a str)]) -> Scripted<'a> {
         Scripted {
             alloc,
@@ -71,6 +72,7 @@ fn text(rt: &(impl Abort + AllocGlobal), text: &str) -> String {
     String::from_str(rt.alloc(), text).expect(rt, "a text")
 }
 
+/// A client for the tests, whose only endpoint is the token endpoint.
 pub fn client(rt: &(impl Abort + AllocGlobal)) -> TokenClient {
     let token_url = TokenUrl::new(rt.alloc(), text(rt, "https://example.com/token"));
     BasicClient::new(ClientId::new(text(rt, "aaa")))
@@ -78,6 +80,7 @@ pub fn client(rt: &(impl Abort + AllocGlobal)) -> TokenClient {
         .set_token_uri(token_url.expect(rt, "a URL"))
 }
 
+/// A time of so many seconds and nanoseconds since 1970.
 pub fn moment(rt: &impl Abort, second: i64, nanosecond: i32) -> Timestamp {
     Timestamp::new(second, nanosecond).expect(rt, "a timestamp")
 }
@@ -87,6 +90,7 @@ pub fn duration((seconds, nanoseconds): (u64, u64)) -> Duration {
     Duration::from_secs(seconds).saturating_add(Duration::from_nanos(nanoseconds))
 }
 
+/// Times of so many seconds since 1970.
 pub fn moments(rt: &(impl Abort + AllocGlobal), seconds: &[i64]) -> Vec<Timestamp> {
     let mut moments = Vec::new(rt.alloc());
     for second in seconds.iter() {
@@ -105,6 +109,7 @@ pub enum Seen {
     Sleep(u64, u32),
 }
 
+/// A sleep as an event.
 pub fn slept(duration: Duration) -> Seen {
     Seen::Sleep(duration.as_secs(), duration.subsec_nanos())
 }
@@ -119,7 +124,7 @@ pub fn assert_token(rt: &impl Abort, token: &AccessToken, answer: Result<&str, &
     assert_that(rt, answer == Ok(token.secret().as_str()), "a token");
 }
 
-/// Checks that the text of the fault is the expected answer.
+/// Checks that the text of the error is the expected one.
 pub fn assert_fault<E: Display>(
     rt: &(impl Abort + AllocGlobal),
     error: &E,

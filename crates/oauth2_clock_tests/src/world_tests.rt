@@ -1,4 +1,5 @@
-//! Polls over a world that keeps what it saw, in one list, and by a clock of the caller's.
+//! Tests of polls in a world that records their events in one list, and of polls with the caller's
+//! clock.
 
 use crate::callers::{TokenClient, device_token};
 use crate::support::{
@@ -20,7 +21,7 @@ type TokenResult = Result<
     RequestTokenError<ScriptedError, DeviceCodeErrorResponse>,
 >;
 
-// The response to a device, whose code is good for two seconds; its interval is one second.
+// A device authorization response whose code expires in two seconds, with an interval of one.
 const TWO_SECONDS: &str = "{\"device_code\":\"12345\",\"user_code\":\"abcde\",\
     \"verification_uri\":\"https://verify/here\",\"expires_in\":2,\"interval\":1}";
 
@@ -34,7 +35,7 @@ const TOKEN: (u16, &str) = (
 const EXPIRED: &str =
     "Server returned error response: expired_token: This device code has expired.";
 
-// A world with a client. Its clock shows these readings one after the other, and then stops.
+// A world with a client. Its clock shows these times in order, and then stays at the last one.
 #[derive(Drop)]
 struct Recorder<'a> {
     readings: &'a [Timestamp],
@@ -74,8 +75,8 @@ impl PollWorld for Recorder<'_> {
     }
 }
 
-// A poll: for how long, with which cap in seconds and nanoseconds, how often at most, by which
-// clock and replies; what its world sees, and the token or the text of the fault.
+// A poll: its timeout, its cap in seconds and nanoseconds, the most requests that it makes, its
+// clock and its replies; then the expected events, and the token or the text of the error.
 #[derive(Clone, Copy)]
 struct Poll<'a> {
     timeout: Option<u64>,
@@ -148,7 +149,7 @@ const POLLS: [Poll<'static>; 5] = [
     },
 ];
 
-// The poll's result in this world.
+// Polls in this world.
 fn polled_in(
     rt: &(impl Abort + AllocGlobal),
     client: &TokenClient,
@@ -176,7 +177,7 @@ fn assert_polled(rt: &(impl Abort + AllocGlobal), polled: TokenResult, answer: R
     }
 }
 
-// The world of the poll sees this, and the poll ends so.
+// Checks the events and the result of a poll.
 fn assert_poll(
     rt: &(impl Abort + AllocGlobal),
     client: &TokenClient,
@@ -200,7 +201,7 @@ fn assert_poll(
     assert_that(rt, world.seen.as_slice() == poll.seen, "what is seen");
 }
 
-// A poll by a clock that counts its readings, which are also what it shows.
+// Checks a poll with a clock that shows how often it was read.
 fn assert_poll_by_clock(
     rt: &(impl Abort + AllocGlobal),
     client: &TokenClient,

@@ -31,16 +31,16 @@ pub enum AuthorizationErrorResponseType {
     ServerError,
     /// The server is overloaded or under maintenance.
     TemporarilyUnavailable,
-    /// This client may not ask for a code.
+    /// This client may not request an authorization code by this method.
     UnauthorizedClient,
-    /// The server gives no code by this method.
+    /// The server does not issue an authorization code by this method.
     UnsupportedResponseType,
-    /// Every other text.
+    /// Any other code, with its text.
     Extension(String),
 }
 
 impl AuthorizationErrorResponseType {
-    /// The variant of a text.
+    /// The variant that the text names. Case matters; any other text becomes an `Extension`.
     pub fn from_text(text: String) -> AuthorizationErrorResponseType
         ensures { authorization_error_code result
             ≡ authorization_error_code_of (string_bytes text) }
@@ -146,7 +146,7 @@ impl fmt::Debug for AuthorizationErrorResponseType {
     fn fmt<W: fmt::Write>(&self, f: &mut fmt::Formatter<W>) -> fmt::Result
         ensures writes { DisplaysOnOk W.write_str_gives f.old result
             (Some (authorization_error_code_text (authorization_error_code self.now))) f.new }
-        // Whatever options the formatter has, as under `{:#?}`.
+        // The formatter's options, such as those of `{:#?}`, change nothing.
         ensures styled { WritesStyledOnOk W.write_str_gives f.old result
             (authorization_error_code_text (authorization_error_code self.now)) f.new }
     {
@@ -156,8 +156,8 @@ impl fmt::Debug for AuthorizationErrorResponseType {
 
 impl ErrorResponseType for AuthorizationErrorResponseType {}
 
-/// Writing what was read from a text gives that text, and what a variant is written as reads back
-/// as its canonical form, which reads back as itself.
+/// Writing what was read from a text returns that text (`text`). What is written of a variant reads
+/// back as the variant that its text names (`back`), which reads back as itself (`once`).
 pub fn authorization_error_laws()
     ensures text { (s : List ℕ)
         → authorization_error_code_text (authorization_error_code_of s) ≡ s }

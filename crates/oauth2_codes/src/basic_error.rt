@@ -30,12 +30,12 @@ pub enum BasicErrorResponseType {
     UnauthorizedClient,
     /// The server does not know this grant.
     UnsupportedGrantType,
-    /// Every other text.
+    /// Any other code, with its text.
     Extension(String),
 }
 
 impl BasicErrorResponseType {
-    // The variant of a text.
+    // The variant that the text names. Case matters.
     pub(crate) fn from_text(text: String) -> BasicErrorResponseType
         ensures { error_code result ≡ error_code_of (string_bytes text) }
     {
@@ -127,7 +127,7 @@ impl fmt::Debug for BasicErrorResponseType {
     fn fmt<W: fmt::Write>(&self, f: &mut fmt::Formatter<W>) -> fmt::Result
         ensures writes { DisplaysOnOk W.write_str_gives f.old result
             (Some (error_code_text (error_code self.now))) f.new }
-        // Whatever options the formatter has, as under `{:#?}`.
+        // The formatter's options, such as those of `{:#?}`, change nothing.
         ensures styled { WritesStyledOnOk W.write_str_gives f.old result
             (error_code_text (error_code self.now)) f.new }
     {
@@ -137,8 +137,8 @@ impl fmt::Debug for BasicErrorResponseType {
 
 impl ErrorResponseType for BasicErrorResponseType {}
 
-/// Writing what was read from a text gives that text, and what a variant is written as reads back
-/// as its canonical form, which reads back as itself.
+/// Writing what was read from a text returns that text (`text`). What is written of a variant reads
+/// back as the variant that its text names (`back`), which reads back as itself (`once`).
 pub fn basic_error_laws()
     ensures text { (s : List ℕ) → error_code_text (error_code_of s) ≡ s }
     ensures back { (c : ErrorCode)

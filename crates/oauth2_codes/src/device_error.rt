@@ -19,21 +19,21 @@ use std::fmt;
 /// The code of an error while a device polls, written as its text.
 #[derive(PartialEq, Eq, Drop)]
 pub enum DeviceCodeErrorResponseType {
-    /// The user has not decided yet; a poll goes on.
+    /// The user has not decided yet; the poll goes on.
     AuthorizationPending,
-    /// The user has not decided yet; a poll goes on, and waits five seconds longer between two
-    /// requests from now on.
+    /// The user has not decided yet; the poll goes on, and from now on waits five seconds longer
+    /// between two requests.
     SlowDown,
     /// The user refused.
     AccessDenied,
     /// The device code has expired.
     ExpiredToken,
-    /// A code of the basic table.
+    /// A code of RFC 6749, section 5.2, or any other text.
     Basic(BasicErrorResponseType),
 }
 
 impl DeviceCodeErrorResponseType {
-    // The variant of a text.
+    // The variant that the text names. Case matters.
     fn from_text(text: String) -> DeviceCodeErrorResponseType
         ensures { device_error_code result ≡ device_error_code_of (string_bytes text) }
     {
@@ -121,7 +121,7 @@ impl fmt::Debug for DeviceCodeErrorResponseType {
     fn fmt<W: fmt::Write>(&self, f: &mut fmt::Formatter<W>) -> fmt::Result
         ensures writes { DisplaysOnOk W.write_str_gives f.old result
             (Some (device_error_code_text (device_error_code self.now))) f.new }
-        // Whatever options the formatter has, as under `{:#?}`.
+        // The formatter's options, such as those of `{:#?}`, change nothing.
         ensures styled { WritesStyledOnOk W.write_str_gives f.old result
             (device_error_code_text (device_error_code self.now)) f.new }
     {
@@ -131,8 +131,8 @@ impl fmt::Debug for DeviceCodeErrorResponseType {
 
 impl ErrorResponseType for DeviceCodeErrorResponseType {}
 
-/// Writing what was read from a text gives that text, and what a variant is written as reads back
-/// as its canonical form, which reads back as itself.
+/// Writing what was read from a text returns that text (`text`). What is written of a variant reads
+/// back as the variant that its text names (`back`), which reads back as itself (`once`).
 pub fn device_code_error_laws()
     ensures text { (s : List ℕ) → device_error_code_text (device_error_code_of s) ≡ s }
     ensures back { (c : DeviceErrorCode)

@@ -18,7 +18,8 @@ use serde_json::{Map, Value};
 use std::alloc::{AllocError, Global};
 use std::fmt;
 
-/// An error response: a code, and a description and a page about it for people.
+/// An error response (RFC 6749, section 5.2): a code and, if the server sent them, a description
+/// and the URI of a page about the error.
 #[derive(Debug, PartialEq, Eq)]
 pub struct StandardErrorResponse<T> {
     error: T,
@@ -40,7 +41,8 @@ impl<T> StandardErrorResponse<T> {
     ghost use Rattle.std.specs.Prelude.{◌≡◌, option_map, option_copied, string_bytes};
     ghost use Rattle.oauth2_codes.specs.ErrorResponse.{parts_of_error, parts_of};
 
-    /// An error response of these parts.
+    /// An error response of these parts. The characters of the description and of the URI are not
+    /// checked.
     pub fn new(
         error: T,
         error_description: Option<String>,
@@ -57,14 +59,14 @@ impl<T> StandardErrorResponse<T> {
         }
     }
 
-    /// The code.
+    /// The error code.
     pub fn error(&self) -> &T
         ensures { result.now ≡ (parts_of (λ t. t) self.now).error }
     {
         &self.error
     }
 
-    /// What went wrong, for the developer of the client.
+    /// What went wrong, for the developer of the client; `None` if the server sent no description.
     pub fn error_description(&self) -> Option<&String>
         ensures { option_map string_bytes (option_copied result)
             ≡ (parts_of (λ t. t) self.now).description }
@@ -72,7 +74,7 @@ impl<T> StandardErrorResponse<T> {
         self.error_description.as_ref()
     }
 
-    /// A page about it, for the same reader.
+    /// The URI of a page about the error, for the developer of the client. It is not parsed.
     pub fn error_uri(&self) -> Option<&String>
         ensures { option_map string_bytes (option_copied result)
             ≡ (parts_of (λ t. t) self.now).uri }
@@ -122,7 +124,7 @@ impl<T: FromJson + ToJson> StandardErrorResponse<T> {
     ghost use Rattle.oauth2_json.specs.Writing.{WritesAs};
     ghost use Rattle.oauth2_codes.specs.ErrorResponse.{parts_of, error_writing};
 
-    fn written(&self, alloc: Global) -> Result<Value, WriteError>
+    fn to_value(&self, alloc: Global) -> Result<Value, WriteError>
         ensures { WritesAs result (error_writing T.writing (parts_of (λ t. t) self.now)) }
     {
         let error = self.error.to_json(alloc)?;
@@ -147,12 +149,12 @@ impl<T: FromJson + ToJson> ToJson for StandardErrorResponse<T> {
 
     fn to_json(&self, alloc: Global) -> Result<Value, WriteError>
         ensures written { WritesAs result (error_writing T.writing (parts_of (λ t. t) self.now)) }
-        // A response whose code reads back as itself reads back as itself.
+        // If the code reads back as itself, the whole response does.
         ensures reads_back { IfOk result (λ v.
             IsReadBack T.reading T.meaning T.writing (parts_of (λ t. t) self.now).error
             → error_reading T.reading (view v) ≡ Ok (parts_of T.meaning self.now)) }
     {
-        self.written(alloc)
+        self.to_value(alloc)
     }
 }
 

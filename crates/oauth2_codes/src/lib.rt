@@ -1,4 +1,4 @@
-//! The codes of OAuth 2.0: token types, error codes, and the error response that tells one.
+//! The codes of OAuth 2.0: token types, error codes, and the error response that carries one.
 
 #![tactic(auto)]
 

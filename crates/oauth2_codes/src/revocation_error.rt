@@ -23,12 +23,12 @@ use std::fmt;
 pub enum RevocationErrorResponseType {
     /// The server does not revoke tokens of this type.
     UnsupportedTokenType,
-    /// A code of the basic table.
+    /// A code of RFC 6749, section 5.2, or any other text.
     Basic(BasicErrorResponseType),
 }
 
 impl RevocationErrorResponseType {
-    // The variant of a text.
+    // The variant that the text names. Case matters.
     fn from_text(text: String) -> RevocationErrorResponseType
         ensures { revocation_error_code result ≡ revocation_error_code_of (string_bytes text) }
     {
@@ -103,7 +103,7 @@ impl fmt::Debug for RevocationErrorResponseType {
     fn fmt<W: fmt::Write>(&self, f: &mut fmt::Formatter<W>) -> fmt::Result
         ensures writes { DisplaysOnOk W.write_str_gives f.old result
             (Some (revocation_error_code_text (revocation_error_code self.now))) f.new }
-        // Whatever options the formatter has, as under `{:#?}`.
+        // The formatter's options, such as those of `{:#?}`, change nothing.
         ensures styled { WritesStyledOnOk W.write_str_gives f.old result
             (revocation_error_code_text (revocation_error_code self.now)) f.new }
     {
@@ -113,8 +113,8 @@ impl fmt::Debug for RevocationErrorResponseType {
 
 impl ErrorResponseType for RevocationErrorResponseType {}
 
-/// Writing what was read from a text gives that text, and what a variant is written as reads back
-/// as its canonical form, which reads back as itself.
+/// Writing what was read from a text returns that text (`text`). What is written of a variant reads
+/// back as the variant that its text names (`back`), which reads back as itself (`once`).
 pub fn revocation_error_laws()
     ensures text { (s : List ℕ) → revocation_error_code_text (revocation_error_code_of s) ≡ s }
     ensures back { (c : RevocationErrorCode)

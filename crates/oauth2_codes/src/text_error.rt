@@ -1,4 +1,4 @@
-//! Codes of error responses that are any text, for servers with codes of their own.
+//! Error codes that can be any text, for servers that define further codes.
 
 ghost use Rattle.std.specs.Prelude.{◌≡◌, ℕ, List, Ok, Some, string_bytes};
 ghost use Rattle.std.specs.Fmt.{DisplaysOnOk, WritesStyledOnOk};
@@ -13,7 +13,7 @@ use std::alloc::{AllocError, Global};
 use std::convert::AsStr;
 use std::fmt;
 
-/// The code of an error response (RFC 6749, section 8.5), as the server wrote it.
+/// An error code as the server wrote it; servers may define further codes (RFC 6749, section 8.5).
 #[derive(PartialEq, Eq, Drop)]
 pub struct TextErrorResponseType(pub String);
 
@@ -71,7 +71,7 @@ impl fmt::Debug for TextErrorResponseType {
     fn fmt<W: fmt::Write>(&self, f: &mut fmt::Formatter<W>) -> fmt::Result
         ensures writes { DisplaysOnOk W.write_str_gives f.old result
             (Some (string_bytes self.now.0)) f.new }
-        // Whatever options the formatter has, as under `{:#?}`.
+        // The formatter's options, such as those of `{:#?}`, change nothing.
         ensures styled { WritesStyledOnOk W.write_str_gives f.old result
             (string_bytes self.now.0) f.new }
     {
@@ -81,7 +81,7 @@ impl fmt::Debug for TextErrorResponseType {
 
 impl ErrorResponseType for TextErrorResponseType {}
 
-/// What a code is written as reads back as the code.
+/// A code that is written as a JSON string reads back as the same code.
 pub fn text_error_laws()
     ensures back { (s : List ℕ) → text (string s) ≡ Ok s }
 {}

@@ -12,20 +12,20 @@ use std::alloc::{AllocError, Global};
 use std::convert::AsStr;
 use std::fmt;
 
-/// A token type, told apart by its exact text: `BEARER` is not `Bearer` but an `Extension`. The
-/// responses lower the ASCII letters before they read it.
+/// A token type (RFC 6749, section 7.1). Case matters: `BEARER` is read as an `Extension`. The
+/// token response and the introspection response lower its ASCII letters before they read it.
 #[derive(Debug, PartialEq, Eq, Drop)]
 pub enum BasicTokenType {
     /// `bearer` (RFC 6750).
     Bearer,
     /// `mac`.
     Mac,
-    /// Every other text.
+    /// Any other token type, with its text.
     Extension(String),
 }
 
 impl BasicTokenType {
-    // The variant of a text.
+    // The variant that the text names. Case matters.
     fn from_text(text: String) -> BasicTokenType
         ensures { token_code result ≡ token_code_of (string_bytes text) }
     {
@@ -85,8 +85,8 @@ impl TryClone for BasicTokenType {
     }
 }
 
-/// The type of a token. A copy (`TryClone`) means the same to contracts, and is written as the
-/// same JSON, as the original.
+/// The type of a token. A copy (`TryClone`) has the meaning of the original in contracts, and is
+/// written as the same JSON.
 pub trait TokenType: FromJson + ToJson + fmt::Debug + PartialEq + TryClone {
     ghost use Rattle.std.specs.Prelude.{◌≡◌};
 
@@ -105,8 +105,8 @@ impl TokenType for BasicTokenType {
     ghost copies_are_written_alike = { λ a b h. ap (λ c. Ok (string (token_code_text c))) h };
 }
 
-/// Writing what was read from a text gives that text, and what a variant is written as reads back
-/// as its canonical form, which reads back as itself.
+/// Writing what was read from a text returns that text (`text`). What is written of a variant reads
+/// back as the variant that its text names (`back`), which reads back as itself (`once`).
 pub fn token_type_laws()
     ensures text { (s : List ℕ) → token_code_text (token_code_of s) ≡ s }
     ensures back { (c : TokenCode) → token_code_reading (string (token_code_text c))

@@ -1,4 +1,5 @@
--- The command `id_token`: an ID token is read, and its claims are checked (OpenID Connect Core 1.0, 3.1.3.7).
+-- The command `id_token`: an ID token is read, and its claims are checked (OpenID Connect Core 1.0,
+-- 3.1.3.7).
 use Rattle.std.specs.Prelude.{◌≡◌, ℕ, ℤ, List, [], ◌∷◌, ◌++◌, Some, Result, Ok, Err, codes}
 use Rattle.serde_json.specs.Data.{Data, string, object, no_members}
 use Rattle.serde_json.specs.Written.{compact_text}
@@ -19,12 +20,13 @@ use Rattle.oauth2_request_commands.specs.Out.{Output, success_output, failure_ou
 use Rattle.oauth2_script.specs.IdTokenParams.{IdTokenParams, IssuerPart}
 use Rattle.oauth2_script.specs.IdTokenParams as part
 
+-- the issuers that a script expects, as the library takes them
 abbrev pub issuers_of : IssuerPart → NamedIssuers
 issuers_of (part.is issuer) = named.is issuer
 issuers_of (part.one_of issuers) = named.one_of issuers
 issuers_of (part.per_tenant before after) = named.per_tenant before after
 
--- what the client of a script expects of an ID token
+-- what the client of a script expects of an ID token; `leeway` and `max_age` in nanoseconds
 abbrev pub params_expectation : Settings → IdTokenParams → Expectation
 params_expectation client p = record {
   issuer = issuers_of p.issuer;
@@ -37,50 +39,53 @@ params_expectation client p = record {
   greatest_age = p.greatest_age;
 }
 
--- ---- a token whose rules hold
+-- ---- a token that passes the checks
 
--- the claims, by their names of section 2; none is shown that is not there
+-- the claims as a JSON object (OpenID Connect Core 1.0, 2); absent claims are left out
 unfoldable pub claims_data : Claims → Data
 claims_data c = object (put_all (id_token_rows c) no_members)
 
--- 3.1.3.8: what the token's hash says of the access token
+-- whether `at_hash` is the hash of the access token (OpenID Connect Core 1.0, 3.1.3.8), as a text
 abbrev pub hash_name : AccessTokenHash → List ℕ
 hash_name Absent = codes "absent"
 hash_name Matches = codes "matches"
 hash_name NotChecked = codes "not_checked"
 
+-- the result of the check of the access token hash, and the claims, as a JSON object
 unfoldable pub checked_data : AccessTokenHash → Claims → Data
 checked_data hash c =
     object (put_all ((codes "access_token_hash", Some (string (hash_name hash))) ∷ (codes "claims", Some (claims_data c)) ∷ []) no_members)
 
--- the hash and the claims as compact JSON
+-- the result of the check of the access token hash, and the claims, as compact JSON
 unfoldable pub checked_json : AccessTokenHash → Claims → List ℕ
 checked_json hash c = compact_text (checked_data hash c)
 
--- ---- each case
+-- ---- the output of each case
 
--- each rule of 3.1.3.7 holds, or the first that does not is named
+-- the output of the checks (OpenID Connect Core 1.0, 3.1.3.7): the claims, or the first rule that
+-- is broken
 abbrev pub verdict_output : Claims → Result AccessTokenHash ClaimsError → Output
 verdict_output c (Ok hash) = success_output (checked_json hash c)
 verdict_output c (Err broken) = failure_output (claims_error_text broken)
 
--- why a text is no ID token (RFC 7515, 7.1; section 2)
+-- why a text is not an ID token (RFC 7515, 7.1; OpenID Connect Core 1.0, 2)
 abbrev pub token_fault_text : TokenFault → List ℕ
 token_fault_text not_three_parts = codes "not three parts"
 token_fault_text (not_base64 part) = part_text part ++ codes ": not base64url"
 token_fault_text (at_fault part fault) = part_text part ++ codes ": " ++ parse_fault_text fault
 
--- what a text reads to is shown so, or why it is no ID token
+-- what is shown of a text: `shown` of its token, or why the text is not an ID token
 abbrev pub reading_output : (DecodedToken → Output) → TokenReading DecodedToken → Output
 reading_output shown (Ok token) = shown token
 reading_output shown (Err fault) = failure_output (token_fault_text fault)
 
--- the rules for a token that came with this access token, at this moment
+-- the output of the checks of a token that came with this access token, at the moment `now` in
+-- nanoseconds since 1970
 unfoldable pub token_output : Expectation → List ℕ → ℤ → DecodedToken → Output
 token_output expected access_token now token =
     verdict_output token.claims.own (token_checked expected access_token now token)
 
--- the moment is what the clock shows when it is read once
+-- the output of `id_token`; the clock is read once for the moment of the checks
 abbrev pub IsIdTokenOutput : Settings → IdTokenParams → Clock → Output → Type 0
 IsIdTokenOutput client p clock o =
     o ≡ reading_output (token_output (params_expectation client p) p.access_token (reading_of clock)) (compact_token_reading p.id_token)

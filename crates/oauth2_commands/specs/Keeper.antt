@@ -1,4 +1,4 @@
--- The command `keeper`: a keeper of the client's token, called at each reading in turn.
+-- The command `keeper`: a keeper of the client's token, called once at each reading.
 use Rattle.std.specs.Prelude.{◌≡◌, ◌⊎◌, ℕ, ℤ, pos, ◌+ℤ◌, int_lt, int_div, ◌*◌, ◌++◌, Bool, false, IsTrue, IsSomeAnd, List, [], ◌∷◌, Option, Some, None, option_map, codes, if◌then◌else◌}
 use Rattle.std.specs.Fmt.{signed_decimal}
 use Rattle.url.specs.Parts.{serialize}
@@ -22,7 +22,7 @@ use Rattle.oauth2_request_commands.specs.declared.status.RunStatus.TheVariants a
 use Rattle.oauth2_script.specs.KeeperParams.{KeeperParams}
 use Rattle.oauth2_script.specs.Replies.{Reply}
 
--- what a token response tells a keeper; its lifetime is in whole seconds
+-- what a keeper takes from a token response; the lifetime is in nanoseconds (RFC 6749, 5.1)
 abbrev pub given_in : BasicToken → Given
 given_in token = record {
   access_token = token.access_token;
@@ -30,8 +30,8 @@ given_in token = record {
   refresh_token = token.refresh_token;
 }
 
--- what is kept, the moment before which no request is made, where there is one, and the replies
--- to come
+-- the state between two calls: the keeper; the moment before which it makes no request, in
+-- nanoseconds since 1970, or `None` if it does not wait; and the replies that are left
 pub record Standing : Type 0 where
   pub keeper : Keeper
   pub waits_until : Option ℤ
@@ -39,53 +39,57 @@ pub record Standing : Type 0 where
 
 -- ---- a wait
 
--- a moment comes before the end of a wait
+-- whether the moment `now` is before the end of a wait
 abbrev pub is_early : ℤ → Option ℤ → Bool
 is_early now None = false
 is_early now (Some until) = int_lt now until
 
--- where a wait ends at a call, which is one wait after that call at the latest: the clock may have been
--- set back
+-- when a wait ends, in nanoseconds since 1970: at most one wait after this call, even if the clock
+-- was set back
 abbrev pub end_at : ℤ → Option ℤ → Option ℕ → Option ℤ
 end_at now None retry_after = None
 end_at now (Some until) None = Some until
 end_at now (Some until) (Some wait) = Some (if int_lt (now +ℤ pos wait) until then now +ℤ pos wait else until)
 
--- the first second at which a request may be made again; no reading comes later than `jiff` counts
+-- the end of a wait in whole seconds since 1970, or `null` if it is outside the range of `jiff`
 abbrev pub end_text : ℤ → List ℕ
 end_text until = if is_instant until then signed_decimal (int_div until (pos 1_000_000_000)) else codes "null"
 
+-- the line `answer waits T`
 unfoldable pub wait_line : List ℕ → List ℕ
 wait_line end = line (codes "answer waits " ++ end)
 
+-- the output of a call that waits until this moment, in nanoseconds since 1970
 abbrev pub waiting : ℤ → Output
 waiting until = record { lines = wait_line (end_text until); status = status.Fault }
 
 -- ---- a request
 
--- what the next reply says; of a token its text is shown
+-- the last line of a request: its token as a JSON string, or its fault
 abbrev pub renewal_output : ReplyRule → List Reply → Output
 renewal_output rule replies =
     reply_output (λ token. success_output (quotation token.access_token)) (error_display error_code_text) (token_answer rule) (next_reply replies)
 
--- with `retry_after`, a request that failed is followed by a wait
+-- `retry_after` is how long the keeper waits after a request that failed, in nanoseconds
 module _ (retry_after : Option ℕ) where
+  -- the state after a request that failed at `now`: the keeper waits, if there is a `retry_after`
   abbrev pub after_failure : Standing → ℤ → Standing
   after_failure before now = record before { waits_until = option_map (λ wait. now +ℤ pos wait) retry_after }
 
-  -- what is kept after a reply: a token, which ends the wait; one that gives no token is a failure
+  -- the state after a reply: a token is kept and ends the wait; any other reply is a failure
   abbrev pub kept_by : Standing → ℤ → Answer BasicToken (ErrorParts ErrorCode) → Standing
   kept_by before now (accepted token) = record before { keeper = accept before.keeper now (given_in token); waits_until = None }
   kept_by before now (refused error) = after_failure before now
   kept_by before now (unread fault body) = after_failure before now
   kept_by before now (other text) = after_failure before now
 
+  -- the state after a call of the client: a call that failed is a failure too
   abbrev pub kept_after_reply : Standing → ℤ → Option ReplyView → Standing
   kept_after_reply before now None = after_failure before now
   kept_after_reply before now (Some reply) = kept_by before now (token_answer before.keeper.client.reply_rule reply)
 
-  -- of a request to this target: its lines, and what the reply says or that memory ran out behind
-  -- the request, when nothing of the reply is kept; none is made where the URL has no target
+  -- one request to this target: its lines, and then what the reply says, or that memory ran out, so
+  -- that nothing of the reply is kept; `None`: the URL has no HTTP target, and no request is made
   abbrev pub IsSentAt : Standing → ℤ → Option (List ℕ) → Output → Standing → Type 0
   IsSentAt before now None o kept = (o ≡ failure_output (other_text not_http_text)) × (kept ≡ before)
   IsSentAt before now (Some target) o kept =
@@ -94,14 +98,14 @@ module _ (retry_after : Option ℕ) where
       ⊎ ((o ≡ after (expected_lines (renewal before.keeper) target) no_memory_output)
       × (kept ≡ record (after_failure before now) { replies = later_replies before.replies }))
 
-  -- another token is asked for, unless memory ran out before the request was made
+  -- the keeper asks for another token, unless memory runs out before the request is made
   abbrev pub IsRenewal : Standing → ℤ → Output → Standing → Type 0
   IsRenewal before now o kept =
       ((o ≡ no_memory_output) × (kept ≡ before))
       ⊎ ((endpoint : Addressed) × (before.keeper.client.token_url ≡ Some endpoint)
       × ((target : Option (List ℕ)) × IsTarget (serialize endpoint.url) target × IsSentAt before now target o kept))
 
-  -- one call: the kept token is good and is shown, or it waits, or another token is asked for
+  -- one call: the keeper shows its token if it is still good, or waits, or asks for another token
   abbrev pub IsCall : Standing → ℤ → Output → Standing → Type 0
   IsCall before now o kept =
       (IsTrue (is_good before.keeper now)
@@ -110,28 +114,31 @@ module _ (retry_after : Option ℕ) where
       × IsSomeAnd kept.waits_until (λ until. o ≡ waiting until) × (kept ≡ record before { waits_until = end_at now before.waits_until retry_after }))
       ⊎ ((is_good before.keeper now ≡ false) × (is_early now (end_at now before.waits_until retry_after) ≡ false) × IsRenewal before now o kept)
 
--- ---- calls
+-- ---- all calls
 
--- the first fault is one of all
+-- the status of two calls: `later` if the first call has an answer, else the status of the first
 abbrev pub both : RunStatus → RunStatus → RunStatus
 both status.Answered later = later
 both status.Fault later = status.Fault
 both status.BadScript later = status.BadScript
 
+-- the output of no calls
 abbrev pub nothing : Output
 nothing = record { lines = []; status = status.Answered }
 
+-- the output of the first call, and then that of the other calls
 abbrev pub both_outputs : Output → Output → Output
 both_outputs first rest = record { lines = first.lines ++ rest.lines; status = both first.status rest.status }
 
--- a call at each of these moments, in turn
+-- one call at each of these moments, in order
 abbrev pub AreCalls : Option ℕ → Standing → List ℤ → Output → Standing → Type 0
 AreCalls retry_after before [] o kept = (o ≡ nothing) × (kept ≡ before)
 AreCalls retry_after before (now ∷ moments) o kept =
     (first : Output) × (middle : Standing) × (rest : Output)
     × IsCall retry_after before now first middle × AreCalls retry_after middle moments rest kept × (o ≡ both_outputs first rest)
 
--- the scopes are those of the client's own credentials; a refresh token is sent with none
+-- the keeper at the start; the scopes go with the client's own credentials (RFC 6749, 4.4.2), and
+-- none with a refresh token
 abbrev pub new_keeper : Settings → KeeperParams → Keeper
 new_keeper client p = record {
   client = client;
@@ -144,9 +151,11 @@ new_keeper client p = record {
   refresh_token = p.refresh;
 }
 
+-- the state before the first call: it does not wait, and all replies are left
 abbrev pub new_standing : Settings → KeeperParams → List Reply → Standing
 new_standing client p replies = record { keeper = new_keeper client p; waits_until = None; replies = replies }
 
+-- the output of `keeper`: that of its calls, or that no token endpoint is set
 abbrev pub IsKeeperOutput : Settings → KeeperParams → List ℤ → List Reply → Output → Type 0
 IsKeeperOutput client p moments replies o =
     WithToken (λ url o. (kept : Standing) × AreCalls p.retry_after (new_standing client p replies) moments o kept) client.token_url o

@@ -1,4 +1,5 @@
--- The command `metadata`: an issuer's metadata is asked for (RFC 8414, 3; OpenID Connect Discovery 1.0, 4).
+-- The command `metadata`: the client gets an issuer's metadata (RFC 8414, 3; OpenID Connect
+-- Discovery 1.0, 4).
 use Rattle.std.specs.Prelude.{◌≡◌, ℕ, List, [], ◌++◌, bytes_eq, if◌then◌else◌, Option, None, Some, Ok, Err, codes, unwrap_or}
 use Rattle.serde_json.specs.Data.{Data, object, no_members}
 use Rattle.serde_json.specs.Written.{compact_text}
@@ -27,18 +28,20 @@ use Rattle.oauth2_script.specs.Replies.{Reply}
 use Rattle.oauth2_script.specs.declared.metadata_params.WellKnown.{WellKnown}
 use Rattle.oauth2_script.specs.declared.metadata_params.WellKnown.TheVariants.{OauthAuthorizationServer, OpenidConfiguration}
 
--- where the metadata of an issuer is, by the name of the well-known URI
+-- the URL of the metadata of an issuer, by the name of the well-known URI
 abbrev pub place : WellKnown → Parts → Parts
 place OauthAuthorizationServer = metadata_place
 place OpenidConfiguration = openid_place
 
--- a GET without credentials and without a body
+-- the lines of a GET request without credentials and without a body
 abbrev pub get_lines : List ℕ → List ℕ
 get_lines target = request_line (codes "GET") target ++ authorization_line None ++ body_line [] ++ basic_line None
 
+-- metadata of an issuer without extension members (RFC 8414, 2)
 abbrev pub BasicMetadata : Type 0
 BasicMetadata = Metadata (Unit {0})
 
+-- metadata as a JSON object; absent members are left out
 unfoldable pub metadata_data : BasicMetadata → Data
 metadata_data m = object (put_all (metadata_rows m) no_members)
 
@@ -46,35 +49,40 @@ metadata_data m = object (put_all (metadata_rows m) no_members)
 unfoldable pub metadata_json : BasicMetadata → List ℕ
 metadata_json m = compact_text (metadata_data m)
 
--- it counts where a client may call its endpoints and it names the issuer, byte for byte (RFC 8414, 3.3)
+-- the output for metadata: a client has to be allowed to call each endpoint, and the metadata has
+-- to name the issuer, byte for byte (RFC 8414, 3.3)
 abbrev pub document_output : List ℕ → BasicMetadata → Option EndpointFault → Output
 document_output issuer m (Some fault) = failure_output (fault_text fault)
 document_output issuer m None =
     if bytes_eq m.issuer issuer then success_output (metadata_json m) else failure_output (other_issuer_text m.issuer)
 
+-- the output for a reply: its metadata, or a status that is not 200
 abbrev pub metadata_output : List ℕ → Found BasicMetadata → Output
 metadata_output issuer (Ok m) = document_output issuer m (endpoint_fault m.endpoints)
 metadata_output issuer (Err (status, body)) = failure_output (other_reply_text status)
 
+-- the reply to a request for metadata: metadata, another status, or an error (RFC 6749, 5.2)
 abbrev pub metadata_answer : ReplyRule → ReplyView → Answer (Found BasicMetadata) (ErrorParts ErrorCode)
 metadata_answer rule = found_answer rule (metadata_reading any_object) (error_reading error_code_reading)
 
+-- what is shown of a request for metadata that has to name `issuer`
 abbrev pub IsDiscovered : ReplyRule → List ℕ → Parts → List Reply → Output → Type 0
 IsDiscovered rule issuer = IsRequestShown (metadata_output issuer) (error_display error_code_text) (metadata_answer rule) get_lines
 
--- the issuer that the metadata has to name: the one that is asked for, unless another is expected
+-- the issuer that the metadata has to name: `expected_issuer` if it is given, else `issuer`
 abbrev pub expected_issuer : MetadataParams → List ℕ
 expected_issuer p = unwrap_or p.expected_issuer p.issuer
 
--- a URL that is an issuer has its metadata at that place, and any other is refused
+-- the output for a URL: if it can be an issuer, that of a request for its metadata; else the reason
 abbrev pub IsIssuerOutput : ReplyRule → MetadataParams → List Reply → Parts → Option IssuerError → Output → Type 0
 IsIssuerOutput rule p replies url None o = IsDiscovered rule (expected_issuer p) (place p.well_known url) replies o
 IsIssuerOutput rule p replies url (Some error) o = o ≡ failure_output (issuer_error_text error)
 
+-- the output for a parsed issuer: a text that is not a URL is refused
 abbrev pub IsUrlOutput : ReplyRule → MetadataParams → List Reply → Parsed Parts → Output → Type 0
 IsUrlOutput rule p replies (Ok url) o = IsIssuerOutput rule p replies url (issuer_refusal url) o
 IsUrlOutput rule p replies (Err cause) o = o ≡ failure_output (issuer_error_text NotUrl)
 
--- the client's other settings do not count
+-- the output of `metadata`; of the client only the reply rule counts
 abbrev pub IsMetadataOutput : Settings → MetadataParams → List Reply → Output → Type 0
 IsMetadataOutput client p replies o = IsUrlOutput client.reply_rule p replies (parse_url None p.issuer) o

@@ -1,33 +1,36 @@
--- The command `redirect`: what the redirect says by which a user comes back (RFC 6749, 4.1.2 and 4.1.2.1; RFC 9207, 2.4).
+-- The command `redirect`: what the URL says that the user was sent back to (RFC 6749, 4.1.2 and
+-- 4.1.2.1; RFC 9207, 2.4).
 use Rattle.std.specs.Prelude.{◌≡◌, ℕ, List, Result, Ok, Err, codes}
 use Rattle.oauth2_codes.specs.AuthorizationCodes.{authorization_error_code_text}
 use Rattle.oauth2_form.specs.Query.{query_form}
-use Rattle.oauth2_redirect.specs.Redirect.{IssuerExpectation, required, compared, unknown, RedirectRefusal, other_state, other_issuer, refused, no_code, answer}
+use Rattle.oauth2_redirect.specs.Redirect.{IssuerExpectation, required, compared, unknown, RedirectErrorView, other_state, other_issuer, refused, no_code, answer}
 use Rattle.oauth2_world.specs.Lines.{quotation}
 use Rattle.oauth2_request_commands.specs.Exchange.{error_display}
 use Rattle.oauth2_request_commands.specs.Out.{Output, success_output, failure_output}
 use Rattle.oauth2_script.specs.RedirectParams as script
 
--- why there is no code; an error of the server is shown with its description and its page
-abbrev pub refusal_text : RedirectRefusal → List ℕ
+-- why there is no code; an error of the server is shown with its description and its URI
+abbrev pub refusal_text : RedirectErrorView → List ℕ
 refusal_text other_state = codes "redirect has another state"
 refusal_text other_issuer = codes "redirect has another issuer"
 refusal_text (refused error) = error_display authorization_error_code_text error
 refusal_text no_code = codes "redirect has no code"
 
-abbrev pub shown_answer : Result (List ℕ) RedirectRefusal → Output
+-- the output for the result of a redirect: the code as a JSON string, or why there is none
+abbrev pub shown_answer : Result (List ℕ) RedirectErrorView → Output
 shown_answer (Ok code) = success_output (quotation code)
 shown_answer (Err why) = failure_output (refusal_text why)
 
--- the issuer that a script expects
+-- the issuer that a script expects, as the library takes it (RFC 9207, 2.4)
 abbrev pub rule_of : script.Issuer → IssuerExpectation
 rule_of (script.required issuer) = required issuer
 rule_of (script.compared issuer) = compared issuer
 rule_of script.unknown = unknown
 
--- what the redirect says to a client whose login has this state and expects that issuer
-abbrev pub redirect_answer : script.RedirectParams → Result (List ℕ) RedirectRefusal
+-- the code of the redirect, or why there is none, for the state and the issuer of the parameters
+abbrev pub redirect_answer : script.RedirectParams → Result (List ℕ) RedirectErrorView
 redirect_answer p = answer p.state (rule_of p.issuer) (query_form p.redirect.url)
 
+-- the output of `redirect`
 abbrev pub IsRedirectOutput : script.RedirectParams → Output → Type 0
 IsRedirectOutput p o = o ≡ shown_answer (redirect_answer p)

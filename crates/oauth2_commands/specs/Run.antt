@@ -1,4 +1,4 @@
--- What a run over an input writes, and how it ends.
+-- The output of a run over an input: what it writes, and how it ends.
 use Rattle.std.specs.Prelude.{◌≡◌, ℕ, List, Option, Some, None, codes}
 use Rattle.oauth2.specs.Settings.{Settings}
 use Rattle.oauth2_request_commands.specs.Authorize.{IsAuthorizeOutput}
@@ -24,6 +24,7 @@ use Rattle.oauth2_script.specs.Replies.{Reply}
 use Rattle.oauth2_request_commands.specs.declared.status.RunStatus.{RunStatus}
 use Rattle.oauth2_request_commands.specs.declared.status.RunStatus.TheVariants as status
 
+-- the output of each command, with this client, this clock and these replies
 abbrev pub IsCommandOutput : Settings → Clock → List Reply → Command → Output → Type 0
 IsCommandOutput client clock replies (code p) o = IsCodeOutput client p replies o
 IsCommandOutput client clock replies (refresh p) o = IsRefreshOutput client p replies o
@@ -39,19 +40,22 @@ IsCommandOutput client clock replies (id_token p) o = IsIdTokenOutput client p c
 IsCommandOutput client clock replies (authorize p) o = IsAuthorizeOutput client p o
 IsCommandOutput client clock replies (redirect p) o = IsRedirectOutput p o
 
+-- the output for an input that is not a script
 abbrev pub bad_script : Output
 bad_script = record { lines = line (codes "bad script"); status = status.BadScript }
 
+-- the output of a script; `None` is a bad script
 abbrev pub IsScriptOutput : Option Script → Output → Type 0
 IsScriptOutput None o = o ≡ bad_script
 IsScriptOutput (Some s) o = IsCommandOutput (settings_of s.client) (new_clock s.readings) s.replies s.command o
 
--- what was written, and how the run ended
+-- `written` is the lines of an output that `IsOutput` allows, and `s` is its status
 abbrev pub Shows : List ℕ → RunStatus → (Output → Type 0) → Type 0
 Shows written s IsOutput = (o : Output) × IsOutput o × (written ≡ o.lines) × (s ≡ o.status)
 
--- a function of the input but for the target, which is the one that its URL's text has, and for
--- where memory runs out inside a call of the client: before a request is made, behind it, or behind
--- any beginning of a poll; the answer of that call is then `starved`
+-- the output of a run over this input. The input determines it, with two exceptions: the target of
+-- a request, which is one that the text of its URL has; and where memory runs out inside a call of
+-- the client (before the request, after it, or at some point of a poll), when the call ends with
+-- `no_memory_output`
 unfoldable pub IsOutputOf : List ℕ → Output → Type 0
 IsOutputOf input o = IsScriptOutput (script_in input) o

@@ -1,4 +1,4 @@
--- What only private clauses cite.
+-- Definitions for contracts of functions that are not exported.
 pub mod ClaimRows
 pub mod Discovery
 pub mod Kept

@@ -1,4 +1,4 @@
-//! The commands of a script.
+//! Each command of a script and the function that runs it.
 
 ghost use Rattle.std.specs.Prelude.{◌≡◌, false, string_bytes, IfOk};
 ghost use Rattle.oauth2_request_commands.specs.Out.{Adds};
@@ -19,7 +19,7 @@ use oauth2_script::Command;
 use oauth2_world::ScriptedWorld;
 use std::alloc::{AllocError, Global};
 
-/// Runs a command, and gathers its lines.
+/// Runs a command, and adds its lines to those of the client in `world`.
 pub fn run_command(
     alloc: Global,
     client: &ScriptClient,

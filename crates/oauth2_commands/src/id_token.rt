@@ -40,7 +40,7 @@ fn rule_of(issuer: IssuerParam) -> IssuerRule
     }
 }
 
-// Whether the rules for the token hold at this moment.
+// Checks the claims at this moment (OpenID Connect Core 1.0, section 3.1.3.7).
 fn check(
     alloc: Global,
     client: &ScriptClient,
@@ -81,7 +81,7 @@ fn show_verdict(
     }
 }
 
-// Why a text is no ID token.
+// Adds the line why a text is not an ID token.
 fn show_read_error(
     alloc: Global,
     lines: &mut String,
@@ -99,7 +99,8 @@ fn show_read_error(
     show_error_text(alloc, lines, error)
 }
 
-/// Shows what an ID token claims, or the first rule that it breaks, or why the text is none.
+/// Shows the claims of an ID token, or the first rule that it breaks, or why the text is not an ID
+/// token (OpenID Connect Core 1.0, section 3.1.3.7).
 pub fn run_id_token(
     alloc: Global,
     client: &ScriptClient,

@@ -1,4 +1,4 @@
-//! An ID token whose rules hold, as JSON.
+//! An ID token that passes the checks, as JSON.
 
 ghost use Rattle.std.specs.Prelude.{◌≡◌, Ok, Some, IfOk, map, option_copied, option_map};
 ghost use Rattle.std.specs.Prelude.{string_bytes};
@@ -11,16 +11,16 @@ ghost use Rattle.oauth2_commands.specs.private.ClaimRows.{bindings_rows, sign_in
 ghost use Rattle.oauth2_commands.specs.private.ClaimRows.{names_rows, times_rows};
 
 use oauth2::{ToJson, WriteError};
-use oauth2_times::time_value;
 use oauth2_json::members;
 use oauth2_openid::{AccessTokenHash, IdTokenClaims, Nonce};
+use oauth2_times::time_value;
 use serde_json::{Map, Value};
 use std::alloc::{AllocError, Global};
 
-/// What is shown of an ID token whose rules hold.
+/// What is shown of an ID token that passes the checks.
 #[derive(Drop)]
 pub struct CheckedToken<'a> {
-    /// What its hash says of the access token.
+    /// Whether its `at_hash` is the hash of the access token.
     pub hash: AccessTokenHash,
     pub claims: &'a IdTokenClaims,
 }

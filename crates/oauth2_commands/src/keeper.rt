@@ -1,4 +1,4 @@
-//! The command `keeper`: a keeper of the client's token, called at each reading in turn.
+//! The command `keeper`: a keeper of the client's token, called once at each reading.
 
 ghost use Rattle.std.specs.Prelude.{◌≡◌, ◌++◌, ℕ, Option, Some, false, string_bytes, codes};
 ghost use Rattle.std.specs.Prelude.{IfOk, map};
@@ -29,7 +29,7 @@ type KeptClient = BasicClient<
     EndpointSet,
 >;
 
-// The first fault is one of all.
+// The status of two calls: `later` if the first call has an answer, else the status of the first.
 fn both(first: RunStatus, later: RunStatus) -> RunStatus
     ensures { result ≡ spec.both first later }
 {
@@ -40,7 +40,7 @@ fn both(first: RunStatus, later: RunStatus) -> RunStatus
     }
 }
 
-// The calls at these moments.
+// Calls the keeper at each of these moments, and shows each result.
 fn show_calls(
     alloc: Global,
     keeper: &mut ScriptKeeper<'_>,
@@ -62,7 +62,7 @@ fn show_calls(
     Ok(status)
 }
 
-// A copy of the client, whose type says that it has this token endpoint.
+// A copy of the client whose type says that the token endpoint is set; its URL is `token_url`.
 fn with_token_endpoint(
     alloc: Global,
     client: &ScriptClient,
@@ -74,7 +74,7 @@ fn with_token_endpoint(
     Ok(client.try_clone(alloc)?.set_token_uri(token_url))
 }
 
-// Adds each of these parameters.
+// Adds each of these extra parameters, in order.
 fn add_extra<'a>(
     alloc: Global,
     keeper: &mut PlainKeeper<'a>,
@@ -94,7 +94,7 @@ fn add_extra<'a>(
     Ok(())
 }
 
-// The calls of a new keeper.
+// Makes a keeper, calls it at each reading, and shows each result.
 fn show_new_keeper(
     alloc: Global,
     client: &KeptClient,
@@ -115,7 +115,10 @@ fn show_new_keeper(
         extra_params,
         retry_after,
     } = params;
-    let times = RenewalTimes { margin, default_lifetime: life };
+    let times = RenewalTimes {
+        margin,
+        default_lifetime: life,
+    };
     let mut keeper = TokenKeeper::new(client, refresh, times);
     keeper.add_scopes(alloc, scopes)?;
     add_extra(alloc, &mut keeper, extra_params.as_slice())?;
@@ -123,7 +126,7 @@ fn show_new_keeper(
     show_calls(alloc, &mut keeper, readings, http_client)
 }
 
-// The client has no token endpoint.
+// Adds the line that the client has no token endpoint.
 fn show_no_endpoint(alloc: Global, lines: &mut String) -> Result<RunStatus, AllocError>
     ensures { IfOk result (λ status. AddsOutput (string_bytes lines.old) (string_bytes lines.new)
         status (missing (codes "token"))) }
@@ -132,7 +135,7 @@ fn show_no_endpoint(alloc: Global, lines: &mut String) -> Result<RunStatus, Allo
     show_configuration_error(alloc, lines, &error)
 }
 
-/// Keeps a token, and shows what came of the call at each reading.
+/// Calls a keeper at each reading, and shows each request and each result.
 pub fn run_keeper(
     alloc: Global,
     client: &ScriptClient,

@@ -1,4 +1,4 @@
-//! The commands of a JSON script, run with a client that answers from the script.
+//! The commands of a JSON script, run with a client that returns the replies of the script.
 
 #![tactic(auto)]
 

@@ -1,4 +1,4 @@
-//! The command `metadata`: an issuer's metadata is asked for.
+//! The command `metadata`: the client gets an issuer's metadata.
 
 ghost use Rattle.std.specs.Prelude.{◌≡◌, false, option_map, string_bytes, unwrap_or, IfOk};
 ghost use Rattle.oauth2_commands.specs.Metadata as spec;
@@ -20,7 +20,7 @@ use std::alloc::{AllocError, Global};
 
 type Metadata = ServerMetadata<EmptyExtraTokenFields>;
 
-// The request to the place that a well-known URI has.
+// The request for the issuer's metadata at this well-known URI.
 fn request_of(
     alloc: Global,
     issuer: String,
@@ -34,8 +34,8 @@ fn request_of(
     }
 }
 
-// The same request, for metadata that has to name this issuer, if one is given.
-fn expecting(request: MetadataRequest, issuer: Option<String>) -> MetadataRequest
+// The request, where the metadata has to name `issuer` if one is given.
+fn with_expected_issuer(request: MetadataRequest, issuer: Option<String>) -> MetadataRequest
     ensures { result ≡ record request {
       issuer = unwrap_or (option_map string_bytes issuer) request.issuer;
     } }
@@ -46,7 +46,7 @@ fn expecting(request: MetadataRequest, issuer: Option<String>) -> MetadataReques
     }
 }
 
-// Why a text is no issuer. A URL that is too long is want of memory here.
+// Adds the line why a text is not an issuer. A URL that is too long counts as out of memory.
 fn show_issuer_error(
     alloc: Global,
     lines: &mut String,
@@ -62,7 +62,7 @@ fn show_issuer_error(
     }
 }
 
-// Why there is no metadata.
+// Adds the line why there is no metadata.
 fn show_metadata_error(
     alloc: Global,
     lines: &mut String,
@@ -93,7 +93,7 @@ fn show_metadata(
     }
 }
 
-// Sends the request, and shows what came of it.
+// Sends the request, and shows it and its result.
 fn ask(
     alloc: Global,
     request: MetadataRequest,
@@ -108,7 +108,7 @@ fn ask(
     show_metadata(alloc, &mut http_client.lines, &end)
 }
 
-/// Asks for an issuer's metadata, and shows what came of it.
+/// Gets an issuer's metadata, and shows the request and its result (RFC 8414, section 3).
 pub fn run_metadata(
     alloc: Global,
     client: &ScriptClient,
@@ -123,7 +123,10 @@ pub fn run_metadata(
     let rule = client.reply_rule();
     match request_of(alloc, params.issuer, params.well_known) {
         Ok(request) => {
-            let request = expecting(request.set_reply_rule(rule), params.expected_issuer);
+            let request = with_expected_issuer(
+                request.set_reply_rule(rule),
+                params.expected_issuer,
+            );
             ask(alloc, request, http_client)
         }
         Err(error) => show_issuer_error(alloc, &mut http_client.lines, error),

@@ -1,12 +1,12 @@
-//! The command `redirect`: what the redirect says by which a user comes back.
+//! The command `redirect`: reads the code from the URL that the user was sent back to.
 
 ghost use Rattle.std.specs.Prelude.{◌≡◌, ℕ, List, Result, string_bytes, IfOk};
 ghost use Rattle.oauth2_request_commands.specs.Out.{success_output, Adds, AddsOutput};
 ghost use Rattle.oauth2_commands.specs.Redirect as spec;
 ghost use Rattle.oauth2_redirect.specs.Redirect.{
-  RedirectRefusal,
+  RedirectErrorView,
   Tells,
-  TellsRefusal,
+  ShowsRedirectError,
   issuer_expectation,
 };
 ghost use Rattle.oauth2_script.specs.Views.{expected_issuer_view, redirect_view};
@@ -26,7 +26,7 @@ fn read(alloc: Global, params: &RedirectParams) -> Result<AuthorizationCode, Red
     read_redirect(alloc, params.redirect.url(), &params.state, issuer)
 }
 
-// The issuer that a script expects.
+// The issuer that a script expects, as the library takes it.
 fn expected_issuer(issuer: &ExpectedIssuerParam) -> ExpectedIssuer<'_>
     ensures { issuer_expectation result ≡ spec.rule_of (expected_issuer_view issuer.now) }
 {
@@ -50,14 +50,14 @@ fn show_code(
     Ok(RunStatus::Answered)
 }
 
-// Why there is no code.
+// Adds the line why there is no code.
 fn show_refusal(
     alloc: Global,
     lines: &mut String,
     error: &RedirectError,
 ) -> Result<RunStatus, AllocError>
-    ensures { IfOk result (λ status. (told : Result (List ℕ) RedirectRefusal)
-        → TellsRefusal error.now told
+    ensures { IfOk result (λ status. (told : Result (List ℕ) RedirectErrorView)
+        → ShowsRedirectError error.now told
         → AddsOutput (string_bytes lines.old) (string_bytes lines.new) status
         (spec.shown_answer told)) }
 {
@@ -67,7 +67,7 @@ fn show_refusal(
     show_error_text(alloc, lines, error)
 }
 
-/// Shows the code that a redirect brings, or why it brings none.
+/// Shows the code of a redirect, or why it has none (RFC 6749, section 4.1.2).
 pub fn run_redirect(
     alloc: Global,
     params: RedirectParams,

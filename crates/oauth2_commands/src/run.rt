@@ -1,4 +1,4 @@
-//! From the bytes that are read to the bytes that are written.
+//! A whole run: reads the input, runs the script, and writes the output.
 
 ghost use Rattle.std.specs.Prelude.{◌≡◌, List, ℕ, Some, false, string_bytes, IfOk, IfSome};
 ghost use Rattle.std.specs.Io.KnownBytes.{Appends};
@@ -18,7 +18,7 @@ use oauth2_world::{ScriptedClient, ScriptedClock, ScriptedWorld};
 use std::alloc::{AllocError, Global};
 use std::io::Write;
 
-// Runs a command by the client that a script names, and lets go of that client.
+// Makes the client of the script, runs the command with it, and drops the client.
 fn run_by(
     alloc: Global,
     client: ClientPart,
@@ -34,7 +34,7 @@ fn run_by(
     run_command(alloc, &client_of(client), command, world)
 }
 
-// The lines of a script, and how its run ends.
+// Runs a script; returns its lines and its status.
 fn run_lines(alloc: Global, script: Script) -> Result<(String, RunStatus), AllocError>
     ensures { IfOk result (λ r. Shows (string_bytes r.0) r.1
         (IsScriptOutput (Some (script_view script)))) }
@@ -62,7 +62,7 @@ fn run_lines(alloc: Global, script: Script) -> Result<(String, RunStatus), Alloc
     Ok((http_client.lines, status))
 }
 
-// The lines of a run over this input, and how it ends.
+// Runs the script in this input; returns its lines and its status.
 #[tactic(auto, unfolding(crate::specs::Run::IsOutputOf))]
 fn output_of(alloc: Global, input: &[u8]) -> Result<(String, RunStatus), AllocError>
     ensures { IfOk result (λ r. Shows (string_bytes r.0) r.1 (IsOutputOf input.now)) }
@@ -79,23 +79,23 @@ fn output_of(alloc: Global, input: &[u8]) -> Result<(String, RunStatus), AllocEr
 
 /// Reads a script to its end, runs its command, and writes the lines of the run.
 ///
-/// Calls the reader at most 1,048,576 times, and no more once it has ended or failed. An input
-/// that has not ended by then is a failed read.
+/// The reader is called at most 1,048,576 times, and not again after its end or a failure. If the
+/// input has not ended by then, `Read` is returned.
 pub fn run_script<R: ScriptReader, W: Write>(
     alloc: Global,
     reader: &mut R,
     writer: &mut W,
 ) -> Result<RunStatus, RunFault>
-    // What is written is what the definition says of what was read.
+    // The output is one that `IsOutputOf` allows for the input.
     ensures shown { IfOk result (λ status. IfSome (R.remaining reader.old) (λ input.
         (written : List ℕ) × Appends (W.contents writer.old) (W.contents writer.new) written
         × Shows written status (IsOutputOf input))) }
-    // How often the reader is called: never behind its end or a failure. A `Read` fault comes of a
-    // failed read, or of the last read that is allowed.
+    // The reader is not called again after its end or a failure. `Read` is returned after a failed
+    // read, or if the last allowed read is not the end.
     ensures calls { Calls R.reads result reader.old reader.new }
-    // Where the input can't be read, nothing is written.
+    // If the input can't be read, nothing is written.
     ensures unread { result ≡ Err RunFault.Read → writer.new ≡ writer.old }
-    // Nor where memory ran out outside a call of the client.
+    // Nothing is written if memory ran out outside a call of the client.
     ensures unfed { result ≡ Err RunFault.Memory → writer.new ≡ writer.old }
 {
     let input = read_input(alloc, reader)?;

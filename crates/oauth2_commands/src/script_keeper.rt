@@ -1,4 +1,4 @@
-//! The keeper of a script, and what one call of it shows.
+//! The keeper of the command `keeper`, and what one call of it shows.
 
 ghost use Rattle.std.specs.Prelude.{◌≡◌, ℕ, ℤ, Option, Some, None, false, option_map};
 ghost use Rattle.std.specs.Prelude.{◌++◌, string_bytes, IfOk, OnOk};
@@ -22,7 +22,7 @@ use oauth2_world::{NoReply, ScriptedClient, print_answer, quoted};
 use std::alloc::{AllocError, Global};
 use std::time::Duration;
 
-/// A keeper for a client of a script.
+/// A keeper for the client of a script, which never waits.
 pub type PlainKeeper<'a> = BasicTokenKeeper<
     'a,
     EndpointMaybeSet,
@@ -31,7 +31,7 @@ pub type PlainKeeper<'a> = BasicTokenKeeper<
     EndpointMaybeSet,
 >;
 
-/// The same, which makes no request for some time after one that failed.
+/// A keeper for the client of a script, which makes no request for some time after a failed one.
 pub type WaitingKeeper<'a> = PatientKeeper<
     'a,
     BasicErrorResponse,
@@ -45,7 +45,7 @@ pub type WaitingKeeper<'a> = PatientKeeper<
     EndpointMaybeSet,
 >;
 
-/// A keeper, by whether its script has `retry_after`.
+/// The keeper of a script: `Waiting` if the script has `retry_after`, else `Plain`.
 #[derive(Drop)]
 pub enum ScriptKeeper<'a> {
     Plain(PlainKeeper<'a>),
@@ -53,7 +53,7 @@ pub enum ScriptKeeper<'a> {
 }
 
 impl<'a> ScriptKeeper<'a> {
-    /// A keeper that waits so long after a request that failed, if at all.
+    /// A keeper that waits `retry_after` after a failed request; `None` means no wait.
     pub fn new(keeper: PlainKeeper<'a>, retry_after: Option<Duration>) -> ScriptKeeper<'a>
         ensures waits { spec.WaitsFor result (option_map as_nanos retry_after) }
         ensures stands { (client : ScriptedClient)
@@ -79,7 +79,7 @@ fn show_kept(
     Ok(RunStatus::Answered)
 }
 
-// The end of a wait, as it is shown.
+// The second of the end of a wait as text; `null` if the end is past the last `Timestamp`.
 fn end_text(alloc: Global, until: Option<Timestamp>) -> Result<String, AllocError>
     ensures { IfOk result (λ text. (end : ℤ) → IsUntil end until
         → string_bytes text ≡ end_text end) }
@@ -97,7 +97,7 @@ fn print_wait(lines: &mut String, end: &str) -> Result<(), AllocError>
     writeln!(lines, "answer waits {end}")
 }
 
-// No request is made before this moment.
+// Adds the line that no request is made before `until`. The status is `Fault`.
 fn show_wait(
     alloc: Global,
     lines: &mut String,
@@ -111,7 +111,7 @@ fn show_wait(
     Ok(RunStatus::Fault)
 }
 
-// Why a keeper has no good token.
+// Adds the line why a keeper has no good token.
 fn show_error(
     alloc: Global,
     lines: &mut String,
@@ -126,7 +126,7 @@ fn show_error(
     }
 }
 
-// A call of a keeper that never waits.
+// Calls a keeper that never waits, and shows the result.
 fn show_plain_call(
     alloc: Global,
     keeper: &mut PlainKeeper<'_>,
@@ -146,7 +146,7 @@ fn show_plain_call(
     }
 }
 
-// A call of a keeper that waits after a request that failed.
+// Calls a keeper that waits after a failed request, and shows the result.
 fn show_waiting_call(
     alloc: Global,
     keeper: &mut WaitingKeeper<'_>,
@@ -172,7 +172,7 @@ fn show_waiting_call(
     }
 }
 
-/// One call, and what came of it.
+/// Calls the keeper once at `now`, and shows the request, if there is one, and the result.
 pub fn show_call(
     alloc: Global,
     keeper: &mut ScriptKeeper<'_>,

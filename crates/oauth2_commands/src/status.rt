@@ -1,16 +1,16 @@
-//! Why a run has no status.
+//! The errors of a run.
 
 ghost use Rattle.std.specs.Prelude.{◌≡◌};
 ghost use Rattle.oauth2_commands.specs.declared.status.RunFault.TheVariants.{Memory};
 
 use std::alloc::AllocError;
 
-/// Why a run has no status.
+/// The error of a run that has no `RunStatus`.
 #[derive(Clone, Copy, Debug, PartialEq, Eq)]
 pub enum RunFault {
-    /// The reader failed, or showed no end within the calls that it is given. Nothing was written.
+    /// The reader failed, or did not end within 1,048,576 calls. Nothing was written.
     Read,
-    /// The writer failed. Some of the lines may be written.
+    /// The writer failed. Some of the lines may have been written.
     Write,
     /// Memory ran out outside a call of the client. Nothing was written.
     Memory,

@@ -6,8 +6,9 @@ use Rattle.oauth2_wire.specs.Expected.{Configuration}
 use Rattle.oauth2_replies.specs.Device.{DeviceAuthorization}
 use Rattle.oauth2_requests.specs.Base.{Base, configuration_of}
 
--- who asks, where and with which code, how long the code is good, how long the device waits between
--- two requests, and up to where a failed call doubles that wait; lengths in nanoseconds
+-- the token request of a device: the client, the endpoint, the device code, its lifetime, the
+-- interval between two requests, and the cap of the back-off after failed calls; lengths in
+-- nanoseconds
 pub record DeviceToken : Type 0 where
   pub base : Base
   pub token_url : Addressed
@@ -16,17 +17,16 @@ pub record DeviceToken : Type 0 where
   pub interval : ℕ
   pub max_backoff_interval : ℕ
 
--- the same beside a clock
+-- such a request, with a clock
 pub record Clocked (T : Type 0) : Type 0 where
   pub request : DeviceToken
   pub time_fn : T
 
--- a number of seconds in nanoseconds
+-- n seconds, in nanoseconds
 abbrev pub nanos_of_seconds : ℕ → ℕ
 nanos_of_seconds n = n * 1_000_000_000
 
--- the request for the token of a device that was told these codes (RFC 8628, section 3.2); the cap
--- is ten seconds
+-- the token request of a device that received this response (RFC 8628, 3.2); the cap is ten seconds
 abbrev pub new_device_token : {EF : Type 0} → Base → Addressed → DeviceAuthorization EF → DeviceToken
 new_device_token base token_url response = record {
   base = base;
@@ -37,12 +37,13 @@ new_device_token base token_url response = record {
   max_backoff_interval = nanos_of_seconds 10;
 }
 
--- the grant and the code
+-- the grant type and the device code (RFC 8628, 3.4)
 abbrev pub device_token_pairs : List ℕ → List Pair
 device_token_pairs device_code =
     (codes "grant_type", codes "urn:ietf:params:oauth:grant-type:device_code")
     ∷ (codes "device_code", device_code)
     ∷ []
 
+-- what each request of the poll sends
 abbrev pub device_token_configuration : DeviceToken → Configuration
 device_token_configuration r = configuration_of r.base (device_token_pairs r.device_code) None

@@ -1,3 +1,3 @@
--- What private clauses alone cite.
+-- Definitions cited only by private functions and invariants.
 pub mod Joined
 pub mod Round

@@ -17,12 +17,11 @@ use std::alloc::{AllocError, Global};
 use std::marker::{Model, PhantomData};
 use std::time::Duration;
 
-/// No clock was set. Such a request can poll only with `poll_with`, in a world of yours, which has
-/// a clock itself.
+/// No clock was set. Such a request can only poll with `poll_with`, whose world has a clock.
 #[derive(Clone, Copy, Debug)]
 pub struct NoClock;
 
-/// A request for the token of a device, which is sent until it is decided, with a clock `T`.
+/// A request for the token of a device, which is sent until a reply decides. `T` is its clock.
 #[derive(Drop)]
 pub struct DeviceAccessTokenRequest<'a, TR, EF, T = NoClock> {
     base: BaseRequest<'a>,
@@ -53,8 +52,9 @@ impl<'a, TR, EF, T> Model for DeviceAccessTokenRequest<'a, TR, EF, T> {
 }
 
 impl<'a, TR, EF> DeviceAccessTokenRequest<'a, TR, EF> {
-    /// A request at this endpoint for the device that got this response, with a cap of ten seconds
-    /// and no clock. `oauth2::Client` makes it; a caller with endpoints of its own can too.
+    /// A request to this endpoint for the device that received this response, with a cap of ten
+    /// seconds and no clock. `oauth2::Client` builds it; call `new` yourself if you keep your
+    /// endpoints without a `Client`.
     pub fn new(
         base: BaseRequest<'a>,
         token_url: &'a TokenUrl,
@@ -74,7 +74,8 @@ impl<'a, TR, EF> DeviceAccessTokenRequest<'a, TR, EF> {
 }
 
 impl<'a, TR, EF, T> DeviceAccessTokenRequest<'a, TR, EF, T> {
-    /// Adds a parameter. If the request itself sends a parameter of that name, both are sent.
+    /// Adds an extra parameter. If the request itself sends a parameter with that name, both are
+    /// sent.
     pub fn add_extra_param(
         mut self,
         name: ParamText<'a>,
@@ -118,8 +119,8 @@ impl<'a, TR, EF, T> DeviceAccessTokenRequest<'a, TR, EF, T> {
         self
     }
 
-    /// The POST that each round of a poll sends. `NotHttp` where the endpoint's URL is no HTTP
-    /// target.
+    /// The POST that each round of a poll sends. The error is `NotHttp` if the endpoint URL is not
+    /// an HTTP target.
     pub fn prepare_request(&self, alloc: Global) -> Result<HttpRequest, RequestFault>
         ensures ok { IfOk result (IsDeviceRequest self.now.request) }
         ensures not_http { result ≡ Err RequestFault.NotHttp
@@ -143,7 +144,7 @@ impl<'a, TR, EF, T> DeviceAccessTokenRequest<'a, TR, EF, T> {
         self.base.reply_rule()
     }
 
-    // The request with another clock, and the one that it had.
+    // Replaces the clock; returns the request and the clock that it had.
     pub(crate) fn replace_clock<F>(self, clock: F) -> (DeviceAccessTokenRequest<'a, TR, EF, F>, T)
         ensures request { result.0.request ≡ self.entry.request }
         ensures clock { result.0.time_fn ≡ clock }

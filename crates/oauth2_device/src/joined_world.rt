@@ -46,7 +46,8 @@ where
     }
 }
 
-// Does nothing: the use ties what became of a loan to the parameter that lent it.
+// Does nothing. The call tells the checker that what happened to a borrow happened to the parameter
+// from which it was borrowed.
 pub(crate) fn take_back<T>(lent: &mut T)
     ensures { lent.new ≡ lent.old }
 {}

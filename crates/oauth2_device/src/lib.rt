@@ -1,5 +1,5 @@
 //! The poll of a device for its token (RFC 8628, sections 3.4 and 3.5): its request, and the poll
-//! of the token endpoint over a world that has a clock, sends requests and sleeps.
+//! of the token endpoint in a world that has a clock, sends requests and sleeps.
 
 #![tactic(auto)]
 

@@ -1,4 +1,4 @@
-//! The poll over a world (RFC 8628, section 3.5).
+//! Polling in a world that has a clock, sends requests and sleeps (RFC 8628, section 3.5).
 
 ghost use Rattle.std.specs.Prelude.{◌≡◌, ◌<◌, List, Err, IfOk, IfSome};
 ghost use Rattle.std.specs.Duration.{as_nanos};
@@ -10,7 +10,7 @@ ghost use Rattle.oauth2_device.specs.private.Round.{IsJudged, IsTurn};
 
 use crate::device_access_token_request::DeviceAccessTokenRequest;
 use crate::poll_world::PollWorld;
-use crate::verdict::{PollError, Verdict, expired, judge_answer};
+use crate::verdict::{PollError, Verdict, expired_token_error, judge_answer};
 use oauth2_codes::DeviceCodeErrorResponse;
 use oauth2_poll::{DevicePoll, PollAnswer, PollReady, PollSettings, PollStep};
 use oauth2_replies::TokenResponse;
@@ -52,7 +52,7 @@ impl<'a, TR: TokenResponse, EF, T> DeviceAccessTokenRequest<'a, TR, EF, T> {
         self.follow(alloc, world, timeout, max_polls)
     }
 
-    // The whole poll.
+    // Runs the whole poll.
     fn follow<W: PollWorld>(
         &self,
         alloc: Global,
@@ -85,7 +85,7 @@ impl<'a, TR: TokenResponse, EF, T> DeviceAccessTokenRequest<'a, TR, EF, T> {
         }
     }
 
-    // The intervals and the limit of the poll.
+    // The settings of the poll: its interval, its cap and its limit of requests.
     fn settings(&self, max_polls: u64) -> PollSettings
         ensures interval { as_nanos result.interval ≡ self.now.request.interval }
         ensures cap { as_nanos result.cap ≡ self.now.request.max_backoff_interval }
@@ -98,7 +98,8 @@ impl<'a, TR: TokenResponse, EF, T> DeviceAccessTokenRequest<'a, TR, EF, T> {
         }
     }
 
-    // One round: its result, or none where the poll goes on.
+    // Runs one round. Returns the result of the poll, or `None` if the poll goes on. `kept` is the
+    // request once it is built; `sent` says whether an earlier round sent one.
     fn round<W: PollWorld>(
         &self,
         alloc: Global,
@@ -121,7 +122,7 @@ impl<'a, TR: TokenResponse, EF, T> DeviceAccessTokenRequest<'a, TR, EF, T> {
     {
         let now = world.now();
         match poll.ready(now) {
-            PollReady::Expired => return Some(Err(expired(alloc, sent))),
+            PollReady::Expired => return Some(Err(expired_token_error(alloc, sent))),
             PollReady::Ask => {}
         }
         let request = match self.next_request(alloc, kept) {
@@ -136,7 +137,7 @@ impl<'a, TR: TokenResponse, EF, T> DeviceAccessTokenRequest<'a, TR, EF, T> {
                     world.sleep(duration);
                     None
                 }
-                // `Done` follows a deciding answer alone, which is no `Again`.
+                // `Done` follows only a deciding answer, and `Again` never has one.
                 PollStep::Limit | PollStep::Done => {
                     Some(Err(RequestTokenError::with_text(alloc, "polling limit reached", true)))
                 }
@@ -144,7 +145,8 @@ impl<'a, TR: TokenResponse, EF, T> DeviceAccessTokenRequest<'a, TR, EF, T> {
         }
     }
 
-    // The request of a round. The first is built and kept, and each one sent is a copy of it.
+    // The request of a round. The first round builds it and keeps it; each request that is sent is
+    // a copy of it.
     fn next_request(
         &self,
         alloc: Global,
@@ -165,7 +167,7 @@ impl<'a, TR: TokenResponse, EF, T> DeviceAccessTokenRequest<'a, TR, EF, T> {
         Ok(copy)
     }
 
-    // What came of the request.
+    // What the result of a request means to the poll.
     fn judge<RE: Drop>(&self, alloc: Global, reply: Result<HttpResponse, RE>) -> Verdict<TR, RE>
         ensures { IsJudged TR.meaning
             (device_answer self.now.request.base.reply_rule TR.reading) reply result }

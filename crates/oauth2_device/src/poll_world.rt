@@ -1,13 +1,13 @@
-//! What a device polls in.
+//! The world that a device polls in.
 
 use jiff::Timestamp;
 use oauth2_wire::{HttpRequest, HttpResponse};
 use std::time::Duration;
 
-/// What a device polls in: a clock, a client and a way to sleep.
+/// The world that a device polls in: a clock, a client and a way to sleep.
 ///
-/// If each call may always be made, do not define `is_ready`. Without `reads`, `sends` and
-/// `sleeps`, contracts say nothing of what the world does.
+/// If every call is always allowed, do not define `is_ready`. If you do not define `reads`, `sends`
+/// and `sleeps`, contracts say nothing about what the world does.
 pub trait PollWorld {
     ghost use Rattle.std.specs.Prelude.{ℕ, Vec, Result, ⊤};
     ghost use Rattle.std.specs.declared.alloc.Global.{Global};
@@ -19,10 +19,11 @@ pub trait PollWorld {
     /// Why a request got no reply.
     type Error: Drop;
 
-    // Each call may be made in this state.
+    // Every call is allowed in this state.
     ghost is_ready: { Self → Type 0 } = { λ _. ⊤ };
 
-    // What each call may do: the state before, what is told, what is answered, the state after.
+    // What each call may do, as a relation: the state before, the argument, the result, the state
+    // after.
     ghost reads: { Self → Timestamp → Self → Type 0 } = { λ _ _ _. ⊤ };
 
     ghost sends: { Self → Request (Vec ℕ Global)
@@ -36,13 +37,13 @@ pub trait PollWorld {
         ensures reads { reads self.old result self.new }
         ensures ready { is_ready self.new };
 
-    /// Sends one request.
+    /// Sends one request and returns its reply.
     fn send(&mut self, request: HttpRequest) -> Result<HttpResponse, Self::Error>
         requires { is_ready self.old }
         ensures sends { sends self.old request result self.new }
         ensures ready { is_ready self.new };
 
-    /// Sleeps.
+    /// Sleeps for `duration`.
     fn sleep(&mut self, duration: Duration)
         requires { is_ready self.old }
         ensures sleeps { sleeps self.old duration self.new }

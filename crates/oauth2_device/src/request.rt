@@ -1,4 +1,4 @@
-//! The poll by a clock, a client and a sleep function.
+//! Polling with a clock, a client and a sleep function.
 
 ghost use Rattle.std.specs.Prelude.{◌<◌, List};
 ghost use Rattle.oauth2_device.specs.Events.{Event, ClockLeads, ClientLeads, SleepLeads};
@@ -18,8 +18,8 @@ where
     TR: TokenResponse,
     F: FnMut() -> Timestamp + Drop,
 {
-    /// Polls by the clock that was set, a client and a sleep function: `poll_with` in the world
-    /// that they are together, with its ends and errors.
+    /// Polls with the clock that was set, a client and a sleep function. The result and the errors
+    /// are those of `poll_with`.
     pub fn request<C: SyncHttpClient, S: FnMut(Duration)>(
         self,
         alloc: Global,

@@ -1,4 +1,4 @@
-//! What an answer means to a device that polls (RFC 8628, section 3.5).
+//! What a reply means to a device that polls (RFC 8628, section 3.5).
 
 ghost use Rattle.oauth2_wire.specs.Reply.{Answer, ShowsAnswer};
 ghost use Rattle.oauth2_device.specs.Poll.{DeviceError, SaysExpired, device_error};
@@ -10,16 +10,16 @@ use oauth2_replies::TokenResponse;
 use oauth2_wire::RequestTokenError;
 use std::alloc::{AllocError, Global};
 
-// Why a poll gave no token.
+// The error of a poll.
 pub(crate) type PollError<RE> = RequestTokenError<RE, DeviceCodeErrorResponse>;
 
-// What an answer means to a poll: it goes on, or this is its result.
+// What the result of a request means to a poll: it goes on, or it ends with this result.
 pub(crate) enum Verdict<TR, RE> {
     Again(PollAnswer),
     Decided(Result<TR, PollError<RE>>),
 }
 
-// What a reply says.
+// What a reply that was read means to a poll.
 pub(crate) fn judge_answer<RE, TR: TokenResponse>(
     answer: Result<TR, PollError<RE>>,
 ) -> Verdict<TR, RE>
@@ -38,8 +38,9 @@ pub(crate) fn judge_answer<RE, TR: TokenResponse>(
     }
 }
 
-// The error of a device whose code has expired.
-pub(crate) fn expired<RE>(alloc: Global, sent: bool) -> PollError<RE>
+// The error after the deadline: `ServerResponse` with the code `ExpiredToken`, or `Memory { sent }`
+// if memory runs out.
+pub(crate) fn expired_token_error<RE>(alloc: Global, sent: bool) -> PollError<RE>
     ensures { OrMemory SaysExpired sent result }
 {
     match String::from_str(alloc, "This device code has expired.") {

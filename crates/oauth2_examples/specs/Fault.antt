@@ -1,8 +1,8 @@
--- The exit status of a run without an answer.
+-- The exit status of a run that failed.
 use Rattle.std.specs.Prelude.{ℕ}
 use Rattle.oauth2_examples.specs.declared.over_connection.fault.Fault.{Fault}
 
--- 2 where the settings are wrong, so that nothing was asked, and else 1
+-- the exit status of a fault: 2 if a setting is wrong or cannot be read, otherwise 1
 abbrev pub fault_exit_status : Fault → ℕ
 fault_exit_status (Fault.Setting error) = 2
 fault_exit_status (Fault.Unreadable name) = 2

@@ -1,5 +1,6 @@
-//! One request over a connection that is open already: standard input is what the server sends, and
-//! standard output is what it is sent. `socat` or a program like it opens the connection, with TLS:
+//! Sends one request over a connection that is already open: writes the request to standard output,
+//! and reads the reply from standard input. `socat` or a similar program opens the connection, with
+//! TLS:
 //!
 //!     socat OPENSSL:as.example:443 EXEC:'oauth2_examples over_connection settings.json'
 //!
@@ -19,21 +20,21 @@ use settings::Settings;
 use std::io::{Stdin, Stdout};
 use std::process::ExitCode;
 
-/// The client of a run: its one connection is standard input and output.
+/// The HTTP client of a run: its only connection is standard input and output.
 pub type HttpClient = Http1Client<Over<Duplex<Stdin, Stdout>>>;
 
-/// Makes the request that a file of settings names, and prints what came of it.
+/// Makes the request that the settings file at `path` names, and prints the answer or the error.
 pub fn over_connection(rt: &HostRuntime, path: &str) -> ExitCode {
     ended(rt, run(rt, path))
 }
 
-/// Prints what came of a run.
+/// Prints the answer or the error on standard error, and returns the exit status.
 pub fn ended(rt: &HostRuntime, end: Result<Value, Fault>) -> ExitCode {
     let (line, status) = match end {
         Ok(answer) => (answer.to_string(rt.alloc()), 0),
         Err(fault) => (fault.line(rt.alloc()), fault.status()),
     };
-    // If standard error cannot be written, the status is all that is left.
+    // If standard error cannot be written, only the exit status shows how the run ended.
     let _ = match line {
         Ok(line) => rt.eprintln(line),
         Err(_) => rt.eprintln("{\"error\":\"Out of memory\"}"),
@@ -47,7 +48,7 @@ fn run(rt: &HostRuntime, path: &str) -> Result<Value, Fault> {
     ask(&mut settings, &mut http_client)
 }
 
-/// The client of a run.
+/// Makes the HTTP client of a run, with the limits on a reply that the settings have.
 pub fn connected(rt: &HostRuntime, settings: &mut Settings<'_>) -> Result<HttpClient, Fault> {
     let connection = Over::new(Duplex {
         reader: rt.stdin(),
@@ -57,7 +58,7 @@ pub fn connected(rt: &HostRuntime, settings: &mut Settings<'_>) -> Result<HttpCl
     Ok(Http1Client::new(rt.alloc(), connection).set_bounds(bounds))
 }
 
-// Makes the request of the command that the settings name.
+// Makes the request that the setting `command` names.
 fn ask(settings: &mut Settings<'_>, http_client: &mut HttpClient) -> Result<Value, Fault> {
     let command: String = settings.needed("command")?;
     match command.as_str() {

@@ -1,11 +1,12 @@
-//! A service that keeps its token over a restart. It goes on with the token that it stored, asks
-//! for another when that is good no longer, and stores what it has before it ends. A failed request
-//! is not made again at once. Standard input and output are its connection, as in
-//! `over_connection`:
+//! A service that keeps its token over a restart. It starts with the token that it stored, requests
+//! another when that one is about to expire, and stores its token before it ends. After a failed
+//! request it makes no other one for 30 seconds. Standard input and output are its connection, as
+//! in `over_connection`:
 //!
 //!     socat OPENSSL:as.example:443 EXEC:'oauth2_examples stored_token settings.json'
 //!
-//! It needs the token for each of the `jobs` of its settings, and prints what it has for each.
+//! It needs the token for each of the `jobs` of its settings, and prints the token or the error for
+//! each.
 
 use crate::over_connection::fault::Fault;
 use crate::over_connection::requests::{TokenClient, token_client};
@@ -13,7 +14,9 @@ use crate::over_connection::settings::Settings;
 use crate::over_connection::{HttpClient, connected, ended};
 use jiff::Timestamp;
 use oauth2::{ParamText, compact, read_body};
-use oauth2_keeper::{BasicPatientKeeper, BasicTokenKeeper, PatientError, RenewalTimes, TokenKeeper};
+use oauth2_keeper::{
+    BasicPatientKeeper, BasicTokenKeeper, PatientError, RenewalTimes, TokenKeeper,
+};
 use oauth2_stored_token::{StoredToken, start_from_stored, to_stored};
 use serde_json::{Value, json};
 use std::alloc::{AllocError, Global};
@@ -25,13 +28,13 @@ use std::time::Duration;
 // A token is not used in the last seconds of its lifetime, so that it is still good on its way.
 const MARGIN_SECONDS: u64 = 10;
 
-// How long a token is good if the reply has no `expires_in`.
+// The lifetime of a token whose reply has no `expires_in`.
 const LIFETIME_SECONDS: u64 = 300;
 
-// How long no request is made after one that failed.
+// After a failed request, no other request is made for this long.
 const WAIT_SECONDS: u64 = 30;
 
-/// Does the jobs that a file of settings names, and prints what came of them.
+/// Does the jobs that the settings file at `path` names, and prints a list with their results.
 pub fn stored_token(rt: &HostRuntime, path: &str) -> ExitCode {
     ended(rt, run(rt, path))
 }
@@ -76,7 +79,7 @@ fn keeper<'a>(
     Ok(keeper.set_retry_after(wait).use_token_until_end())
 }
 
-// Goes on with what was stored, which has to be of this client and of this token endpoint.
+// Starts with the stored token, which has to be of this client and of this token endpoint.
 fn restore(rt: &HostRuntime, keeper: &mut BasicTokenKeeper<'_>, store: &str) -> Result<(), Fault> {
     match load(rt, store)? {
         Some(stored) => match start_from_stored(keeper, stored) {
@@ -95,7 +98,7 @@ fn load(rt: &HostRuntime, store: &str) -> Result<Option<StoredToken>, Fault> {
     }
 }
 
-// Writes another file first, so that the stored token is the old one or the new one, and whole.
+// Writes another file and renames it, so the store always holds the whole old or new token.
 fn save(rt: &HostRuntime, keeper: &BasicTokenKeeper<'_>, store: &str) -> Result<(), Fault> {
     let alloc = rt.alloc();
     let Some(stored) = to_stored(alloc, keeper)? else {
@@ -126,7 +129,7 @@ fn answers(
     Ok(answers)
 }
 
-// The token for a job, or why there is none.
+// The result of a job as JSON: the token, the error, or when the wait ends.
 fn answer(
     rt: &HostRuntime,
     keeper: &mut BasicPatientKeeper<'_>,
@@ -153,7 +156,7 @@ fn answer(
     }
 }
 
-// A moment as a text, or null.
+// A time as text, or null.
 fn moment(alloc: Global, moment: Option<Timestamp>) -> Result<Value, AllocError> {
     match moment {
         Some(moment) => Ok(Value::String(moment.to_string(alloc)?)),

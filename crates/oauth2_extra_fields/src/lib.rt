@@ -1,4 +1,4 @@
-//! Extra fields as a list of named members, each with a kind of values of its own.
+//! Extra fields as a list of named members, each with the type of its value.
 
 #![tactic(auto)]
 

@@ -1,4 +1,4 @@
-//! The kinds of values that a named member can have.
+//! The types of values that a named member can have.
 
 ghost use Rattle.std.specs.Prelude.{◌≡◌, ℕ, List, Bool, Ok, string_bytes, refl};
 ghost use Rattle.serde_json.specs.Data.{Data, boolean, number, unsigned, string};
@@ -11,7 +11,7 @@ use serde_json::Value;
 use std::alloc::{AllocError, Global};
 use std::fmt;
 
-/// A kind of values of a member that may be absent.
+/// The type of the value of a member that may be absent.
 pub trait MemberValue: fmt::Debug + Drop + Sized {
     ghost use Rattle.std.specs.Prelude.{◌≡◌, Ok, IfOk, option_map};
     ghost use Rattle.serde_json.specs.Data.{Data};
@@ -19,18 +19,18 @@ pub trait MemberValue: fmt::Debug + Drop + Sized {
     ghost use Rattle.oauth2_json.specs.Reading.{Reading, ReadsAs};
     ghost use Rattle.oauth2_json.specs.Members.{optional_member};
 
-    /// What contracts see of a value, wherever it lies in memory.
+    /// What contracts see of a value, without its place in memory.
     ghost Meaning: { Type 0 };
 
     ghost meaning: { Self → Meaning };
 
-    /// What a JSON value that is not null reads to.
+    /// What a JSON value is read as, if it is not null.
     ghost reading: { Data → Reading Meaning };
 
     /// What a value is written as.
     ghost written: { Self → Data };
 
-    /// Reads the member of that name; its fault stands under the name.
+    /// Reads the member `name`, where absent and null are `None`. A fault names this member.
     fn read_member(
         alloc: Global,
         name: &str,
@@ -39,15 +39,15 @@ pub trait MemberValue: fmt::Debug + Drop + Sized {
         ensures { ReadsAs (option_map meaning) result
             (optional_member reading name.now (option_map view found)) };
 
-    /// The JSON value of a member that may be absent.
+    /// The JSON value of a member, or `None` if it is absent. An error means out of memory.
     fn member_value(alloc: Global, value: &Option<Self>) -> Result<Option<Value>, AllocError>
         ensures { IfOk result (λ v. option_map view v ≡ option_map written value.now) };
 
-    /// The copy; an error where memory runs out.
+    /// A copy with the same meaning. An error means out of memory.
     fn try_copy(&self, alloc: Global) -> Result<Self, AllocError>
         ensures { IfOk result (λ copy. meaning copy ≡ meaning self.now) };
 
-    /// What is written reads back.
+    /// What a value is written as reads back as that value.
     ghost reads_back: { (x : Self) → reading (written x) ≡ Ok (meaning x) };
 }
 
@@ -141,7 +141,7 @@ impl MemberValue for bool {
     }
 }
 
-/// Any value but null, which counts as absent.
+/// Any JSON value except null, which is read as absent.
 impl MemberValue for Value {
     ghost Meaning = { Data };
 

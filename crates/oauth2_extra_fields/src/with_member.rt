@@ -1,4 +1,4 @@
-//! Extra fields: a named member, and the rest.
+//! Extra fields: a named member, and the other fields.
 
 ghost use Rattle.std.specs.Prelude.{◌≡◌, option_copied, IfOk};
 ghost use Rattle.oauth2_json.specs.Writing.{WritesAs};
@@ -21,22 +21,22 @@ use serde_json::Value;
 use std::alloc::{AllocError, Global};
 use std::marker::Model;
 
-/// A member that the standard does not name: its name, and the kind of its value.
+/// A member that the standard does not name: its name and the type of its value.
 pub trait NamedMember {
     ghost use Rattle.std.specs.Prelude.{◌≡◌, ℕ, List};
 
-    /// The kind of its value.
+    /// The type of its value.
     type Value: MemberValue;
 
     ghost name: { List ℕ };
 
-    /// Its name.
+    /// The name of the member, as in JSON.
     fn name() -> &'static str
         ensures { result.now ≡ name };
 }
 
-/// Extra fields: the member that `M` names, which may be absent, and the rest: none, unless a type
-/// is given for it.
+/// Extra fields: the member that `M` names, which may be absent, and other fields of the type
+/// `Rest`. By default there are no other fields.
 #[derive_where(Debug; Rest)]
 pub struct WithMember<M: NamedMember, Rest = EmptyExtraTokenFields> {
     value: Option<M::Value>,
@@ -52,14 +52,14 @@ impl<M: NamedMember, Rest> Model for WithMember<M, Rest> {
 }
 
 impl<M: NamedMember, Rest> WithMember<M, Rest> {
-    /// Fields of this value, where it is there, and the rest.
+    /// Extra fields with this value, or `None` if the member is absent, and these other fields.
     pub fn new(value: Option<M::Value>, rest: Rest) -> WithMember<M, Rest>
         ensures { result ≡ member_and_rest value rest }
     {
         WithMember { value, rest }
     }
 
-    /// The value of the member, where it is there.
+    /// The value of the member; `None` if it is absent.
     pub fn value(&self) -> Option<&M::Value>
         ensures { option_copied result ≡ self.now.value }
     {
@@ -99,7 +99,7 @@ impl<M: NamedMember, Rest: FromJson + Drop> FromJson for WithMember<M, Rest> {
 }
 
 impl<M: NamedMember, Rest: ToJson> WithMember<M, Rest> {
-    fn written(&self, alloc: Global) -> Result<Value, WriteError>
+    fn to_value(&self, alloc: Global) -> Result<Value, WriteError>
         ensures { WritesAs result
             (with_member_writing M.name M.Value.written Rest.writing self.now) }
     {
@@ -117,14 +117,14 @@ impl<M: NamedMember, Rest: FromJson + ToJson> ToJson for WithMember<M, Rest> {
     fn to_json(&self, alloc: Global) -> Result<Value, WriteError>
         ensures written { WritesAs result
             (with_member_writing M.name M.Value.written Rest.writing self.now) }
-        // So a response that holds them reads back.
+        // So these extra fields meet the condition under which a response reads back.
         ensures kept { IfOk result (λ _. IsValueKept M.Value.written self.now.value
             → AreFieldsKept Rest.reading Rest.meaning Rest.writing self.now.rest
             → AreFieldsKept (with_member_reading M.name M.Value.reading Rest.reading)
             (with_member_seen M.Value.meaning Rest.meaning)
             (with_member_writing M.name M.Value.written Rest.writing) self.now) }
     {
-        self.written(alloc)
+        self.to_value(alloc)
     }
 }
 

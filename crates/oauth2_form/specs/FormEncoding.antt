@@ -12,11 +12,11 @@ is_left_alone b = is_ascii_alphanumeric b || list_any (λ mark. b == mark) (code
 abbrev pub hex_digit : ℕ → ℕ
 hex_digit n = slice_index (codes "0123456789ABCDEF") n
 
--- what stands for a byte: a space is a plus sign, and each byte of the set is `%` and two digits
+-- the encoding of a byte: `+` for a space, `%` and two digits for a byte of the set, else the byte
 abbrev pub form_byte : ℕ → List ℕ
 form_byte b =
     if b == 32 then codes "+" else (if is_left_alone b then b ∷ [] else codes "%" ++ hex_digit (b / 16) ∷ hex_digit (b % 16) ∷ [])
 
--- what stands for a text
+-- the encoding of a text
 abbrev pub form_text : List ℕ → List ℕ
 form_text text = flat_map form_byte text

@@ -1,6 +1,6 @@
--- How long a text is, as a `usize` tells it.
+-- The length of a text as a `usize`.
 use Rattle.std.specs.Prelude.{ℕ, ◌-◌, ◌^◌, List, length, min}
 
--- the text's number of bytes, and the greatest `usize` for each number above it
+-- the length of the text in bytes, or 2^64 - 1, the greatest `usize`, if it is longer
 abbrev pub counted : List ℕ → ℕ
 counted text = min (length text) (2 ^ 64 - 1)

@@ -2,7 +2,7 @@
 use Rattle.std.specs.Prelude.{ℕ, List, [], ◌++◌, codes, fold, Option, None, Some}
 use Rattle.oauth2_form.specs.Pairs.{Pair}
 
--- the text of the scopes, if a scope was added, and the extra parameters
+-- the scopes as one text, if any scope was added, and the extra parameters
 pub record Params : Type 0 where
   pub scope : Option (List ℕ)
   pub extra_params : List Pair
@@ -11,11 +11,11 @@ pub record Params : Type 0 where
 abbrev pub no_params : Params
 no_params = record { scope = None; extra_params = [] }
 
--- the text of the scopes with one more: a list of scopes is delimited by spaces (RFC 6749, section 3.3)
+-- the text of the scopes with one more scope, after a space if there were any (RFC 6749, 3.3)
 abbrev pub with_scope : Option (List ℕ) → List ℕ → List ℕ
 with_scope None scope = scope
 with_scope (Some text) scope = text ++ codes " " ++ scope
 
--- the same with more scopes, one after another
+-- the text of the scopes with more scopes, in order
 abbrev pub with_scopes : Option (List ℕ) → List (List ℕ) → Option (List ℕ)
 with_scopes text scopes = fold (λ t scope. Some (with_scope t scope)) text scopes

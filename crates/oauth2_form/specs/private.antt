@@ -1,3 +1,3 @@
--- What only private clauses cite.
+-- Definitions cited only by private functions and invariants.
 pub mod EncodingTable
 pub mod Written

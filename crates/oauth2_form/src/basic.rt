@@ -14,10 +14,10 @@ use std::alloc::{AllocError, Global};
 pub fn basic_header(alloc: Global, id: &str, secret: &str) -> Result<HeaderValue, AllocError>
     ensures value { IfOk result (λ v. v ≡ plain_value (basic_value id.now secret.now)) }
 
-    // A server that decodes it reads the same two texts.
+    // A server that decodes the header reads the same identifier and secret.
     ensures read_back { IfOk result (λ v. basic v.bytes ≡ Some (id.now, secret.now)) }
 
-    // No other two texts have this header.
+    // No other identifier and secret have this header.
     ensures injective { IfOk result
         (λ v. (other_id other_secret : List ℕ) → All IsByte other_id → All IsByte other_secret
         → v.bytes ≡ basic_value other_id other_secret
@@ -38,7 +38,7 @@ fn basic_value(alloc: Global, id: &str, secret: &str) -> Result<String, AllocErr
     append_encoded_text(&mut text, id)?;
     text.push(b':')?;
     append_encoded_text(&mut text, secret)?;
-    // At least as much as `Basic ` and the base64 text take: four bytes for three.
+    // At least the length of `Basic ` and the base64 text: four bytes for every three.
     let room = text.len().saturating_add(text.len() / 2);
     let mut value = String::with_capacity(alloc, room.saturating_add(10))?;
     value.push_str("Basic ")?;

@@ -1,4 +1,4 @@
-//! A text that is kept as a form encodes it.
+//! A text stored in its form encoding.
 
 ghost use Rattle.std.specs.Prelude.{◌≡◌, ◌++◌, All, codes, IfOk, OnOk, OnErr};
 ghost use Rattle.oauth2_form.specs.Pairs.{IsByte};
@@ -8,7 +8,7 @@ use crate::form_encoding::append_encoded_text;
 use std::alloc::{AllocError, Global};
 use std::marker::Model;
 
-/// A text, kept as a form encodes it. Contracts see the text.
+/// A text, stored in its form encoding. Contracts see the decoded text.
 #[derive(Debug, Drop)]
 pub struct EncodedText {
     text: Vec<u8>,
@@ -27,7 +27,7 @@ impl Model for EncodedText {
 }
 
 impl EncodedText {
-    /// The text, encoded.
+    /// Encodes the text.
     pub fn new(alloc: Global, s: &str) -> Result<EncodedText, AllocError>
         ensures { IfOk result (λ t. t ≡ s.now) }
     {
@@ -36,7 +36,7 @@ impl EncodedText {
         Ok(EncodedText { text })
     }
 
-    /// Adds a space and the word. If memory runs out, the text is as it was.
+    /// Appends a space and the word. If memory runs out, the text is unchanged.
     pub fn push_word(&mut self, word: &str) -> Result<(), AllocError>
         ensures ok { OnOk result (self.new ≡ self.old ++ codes " " ++ word.now) }
         ensures err { OnErr result (self.new ≡ self.old) }
@@ -45,7 +45,7 @@ impl EncodedText {
         Ok(())
     }
 
-    /// The text as a form encodes it.
+    /// The encoded text.
     pub fn as_encoded(&self) -> &[u8]
         ensures text { result.now ≡ encoded_text self.now }
         ensures bytes { All IsByte self.now }
@@ -54,7 +54,7 @@ impl EncodedText {
     }
 }
 
-// Appends the encoding of a space and a word, or leaves what there was.
+// Appends the encoding of a space and a word. If memory runs out, the text is unchanged.
 fn append_word(text: &mut Vec<u8>, word: &str) -> Result<(), AllocError>
     ensures ok { OnOk result
         (text.new.items ≡ text.old.items ++ encoded_text (codes " " ++ word.now)) }

@@ -1,4 +1,4 @@
-//! The body of a form, as the list of its pairs.
+//! A form body, seen as the list of its pairs.
 
 ghost use Rattle.std.specs.Prelude.{◌≡◌, ℕ, List, [], ◌∷◌, ◌++◌, length, IfOk, OnOk, OnErr};
 ghost use Rattle.form_urlencoded.specs.Form.{append_pair as with_pair};
@@ -44,7 +44,7 @@ impl FormBody {
         }
     }
 
-    /// A form with no pairs, and room for so many bytes.
+    /// A form with no pairs, with room for `capacity` bytes.
     pub fn with_capacity(alloc: Global, capacity: usize) -> Result<FormBody, AllocError>
         ensures { IfOk result (λ body. body ≡ []) }
     {
@@ -52,14 +52,14 @@ impl FormBody {
         Ok(FormBody { text })
     }
 
-    /// How many bytes the form has.
+    /// The length of the encoded form in bytes.
     pub fn byte_len(&self) -> usize
         ensures { result ≡ length (extend_pairs [] self.now) }
     {
         self.text.len()
     }
 
-    /// Adds a pair at the end. If memory runs out, the form is as it was.
+    /// Appends a pair. If memory runs out, the form is unchanged.
     pub fn push(&mut self, name: &str, value: &str) -> Result<(), AllocError>
         ensures ok { OnOk result (self.new ≡ self.old ++ (name.now, value.now) ∷ []) }
         ensures err { OnErr result (self.new ≡ self.old) }
@@ -68,8 +68,8 @@ impl FormBody {
         Ok(())
     }
 
-    /// Adds a pair whose name needs no escape, such as `client_id`. If memory runs out, the form is
-    /// as it was.
+    /// Appends a pair whose name needs no escape, such as `client_id`. If memory runs out, the form
+    /// is unchanged.
     pub fn push_plain(&mut self, name: &str, value: &str) -> Result<(), AllocError>
         requires { encoded_text name.now ≡ name.now }
         ensures ok { OnOk result (self.new ≡ self.old ++ (name.now, value.now) ∷ []) }
@@ -79,7 +79,8 @@ impl FormBody {
         Ok(())
     }
 
-    /// The form with one more pair, whose value is encoded already.
+    /// The form with one more pair, whose value is already encoded. If memory runs out, the form is
+    /// dropped.
     pub fn push_encoded(self, name: &str, value: &EncodedText) -> Result<FormBody, AllocError>
         ensures { IfOk result (λ body. body ≡ self ++ (name.now, value.now) ∷ []) }
     {
@@ -88,7 +89,8 @@ impl FormBody {
         Ok(FormBody { text })
     }
 
-    /// The form with the pairs of another form after its own. Nothing is encoded again.
+    /// The form with the pairs of another form appended. No pair is encoded again. If memory runs
+    /// out, the form is dropped.
     pub fn append(self, other: &FormBody) -> Result<FormBody, AllocError>
         ensures { IfOk result (λ body. body ≡ self ++ other.now) }
     {
@@ -107,7 +109,7 @@ impl FormBody {
     }
 }
 
-// The form's text with a name, encoded, and a value, as it stands.
+// The text of the form with one more pair: the name is encoded, the value is taken as it is.
 fn append_name_and_encoded_value(
     text: Vec<u8>,
     name: &str,
@@ -122,7 +124,7 @@ fn append_name_and_encoded_value(
     Ok(new)
 }
 
-// The texts of two forms as one.
+// The texts of two forms, joined by `&` if neither is empty.
 fn join_forms(text: Vec<u8>, other: &[u8]) -> Result<Vec<u8>, AllocError>
     ensures { IfOk result (λ new. IsWritten text.items → IsWritten other.now →
         JoinsForms text.items other.now new.items) }

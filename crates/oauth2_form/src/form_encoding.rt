@@ -1,4 +1,4 @@
-//! Texts and pairs as a form encodes them (URL Standard, section 5.2), appended to what there is.
+//! Appends texts and pairs to a form, encoded (URL Standard, 5.2).
 
 ghost use Rattle.std.specs.Prelude.{◌≡◌, ◌≤◌, ◌+◌, ◌∷◌, [], ◌++◌, OnOk, OnErr, vec_len};
 ghost use Rattle.std.specs.Prelude.{vec_capacity, List, ℕ, length};
@@ -13,8 +13,8 @@ ghost use Rattle.oauth2_form.specs.private.EncodingTable.{single_byte};
 use percent_encoding::percent_encode_byte;
 use std::alloc::AllocError;
 
-// The one byte that a form writes for each byte, or 0 where it writes an escape. No byte is
-// written as 0, which itself needs an escape.
+// For each byte, the single byte that encodes it, or 0 if it is encoded by an escape. No byte is
+// encoded as 0, since 0 itself needs an escape.
 #[rattlefmt::skip]
 static SINGLE_BYTES: [u8; 256] = [
     0, 0, 0, 0, 0, 0, 0, 0, 0, 0, 0, 0, 0, 0, 0, 0,
@@ -35,7 +35,7 @@ static SINGLE_BYTES: [u8; 256] = [
     0, 0, 0, 0, 0, 0, 0, 0, 0, 0, 0, 0, 0, 0, 0, 0,
 ];
 
-/// Appends the encoding of the text. If memory runs out, `out` is as it was.
+/// Appends the encoding of the text. If memory runs out, `out` is unchanged.
 pub fn append_encoded_text(out: &mut Vec<u8>, text: &str) -> Result<(), AllocError>
     ensures ok { OnOk result (out.new.items ≡ out.old.items ++ byte_serialize text.now) }
     ensures standard { OnOk result (out.new.items ≡ out.old.items ++ form_text text.now) }
@@ -49,7 +49,7 @@ pub fn append_encoded_text(out: &mut Vec<u8>, text: &str) -> Result<(), AllocErr
     Ok(())
 }
 
-/// Appends a pair to a form. If memory runs out, the form is as it was.
+/// Appends a pair to a form. If memory runs out, the form is unchanged.
 pub fn append_pair(form: &mut Vec<u8>, name: &str, value: &str) -> Result<(), AllocError>
     ensures ok { OnOk result (form.new.items ≡ append_pair form.old.items name.now value.now) }
     ensures extends { OnOk result
@@ -64,7 +64,7 @@ pub fn append_pair(form: &mut Vec<u8>, name: &str, value: &str) -> Result<(), Al
     Ok(())
 }
 
-/// How many bytes the text has where a form encodes it. `usize::MAX` stands for more.
+/// The length in bytes of the form-encoded text, or `usize::MAX` if it is longer.
 pub fn encoded_len(text: &str) -> usize
     ensures { result ≡ counted (byte_serialize text.now) }
 {
@@ -75,8 +75,8 @@ pub fn encoded_len(text: &str) -> usize
     len
 }
 
-/// How many bytes a form of `form_len` bytes has with one more pair, whose value has `value_len`
-/// bytes where it is encoded. `usize::MAX` stands for more.
+/// The length in bytes of a form of `form_len` bytes after one more pair, whose encoded value has
+/// `value_len` bytes; `usize::MAX` if it is longer.
 pub fn len_with_pair(form_len: usize, name: &str, value_len: usize) -> usize
     ensures { (form value : List ℕ) → form_len ≡ counted form
         → value_len ≡ counted (byte_serialize value)
@@ -89,15 +89,15 @@ pub fn len_with_pair(form_len: usize, name: &str, value_len: usize) -> usize
     name.saturating_add("=".len()).saturating_add(value_len)
 }
 
-// How many bytes stand for the byte.
+// The length in bytes of the encoding of one byte: 1 or 3.
 fn byte_len(byte: u8) -> usize
     ensures { result ≡ length (serialize_byte byte) }
 {
     if single_byte(byte) == 0 { 3 } else { 1 }
 }
 
-// Appends `&` unless the form is empty, the name, `=` and the value. A refused growth may leave a
-// part of them.
+// Appends `&` unless the form is empty, then the name, `=` and the value. If memory runs out, a
+// part of them may have been appended.
 fn append_name_and_value(form: &mut Vec<u8>, name: &str, value: &str) -> Result<(), AllocError>
     ensures ok { OnOk result (form.new.items
         ≡ form.old.items ++ separator form.old.items ++ serialize_pair (name.now, value.now)) }
@@ -107,8 +107,8 @@ fn append_name_and_value(form: &mut Vec<u8>, name: &str, value: &str) -> Result<
     append_encoded_bytes(form, value.as_bytes())
 }
 
-// Appends `&` unless the form is empty, the name and `=`. A refused growth may leave a part of
-// them.
+// Appends `&` unless the form is empty, then the name and `=`. If memory runs out, a part of them
+// may have been appended.
 pub(crate) fn append_name(form: &mut Vec<u8>, name: &str) -> Result<(), AllocError>
     ensures ok { OnOk result (form.new.items
         ≡ form.old.items ++ separator form.old.items
@@ -132,9 +132,9 @@ pub(crate) fn append_separator(form: &mut Vec<u8>) -> Result<(), AllocError>
     Ok(())
 }
 
-// Appends the encoding of the bytes. A refused growth may leave a part of it. Where `reserve`
-// moves a `Vec` it at least doubles its room, so many short texts are moved no more often than one
-// long.
+// Appends the encoding of the bytes. If memory runs out, a part of it may have been appended. When
+// `reserve` moves a `Vec`, it at least doubles its capacity, so many short texts cause no more
+// moves than one long text.
 fn append_encoded_bytes(out: &mut Vec<u8>, bytes: &[u8]) -> Result<(), AllocError>
     ensures ok { OnOk result (out.new.items ≡ out.old.items ++ byte_serialize bytes.now) }
     ensures grows { IsPrefix out.old.items out.new.items }
@@ -160,7 +160,7 @@ fn single_byte(byte: u8) -> u8
     SINGLE_BYTES[usize::from(byte)]
 }
 
-// Appends the escape of the byte, and makes room for the bytes that are left to encode.
+// Appends the escape of the byte, and reserves room for the `left` bytes that are still to encode.
 #[inline(never)]
 fn append_escape(out: &mut Vec<u8>, byte: u8, left: usize) -> Result<(), AllocError>
     ensures ok { OnOk result (out.new.items ≡ out.old.items ++ percent_encode_byte byte) }

@@ -11,8 +11,8 @@ use std::marker::Model;
 
 /// The scopes and the extra parameters of a request, encoded as they are added.
 ///
-/// Contracts see the scopes as one text with a space between each two (RFC 6749, section 3.3), and
-/// the parameters as their list.
+/// Contracts see the scopes as one text, separated by spaces (RFC 6749, 3.3), and the parameters as
+/// a list of pairs.
 #[derive(Debug)]
 pub struct ParamBuffer {
     scope: Option<EncodedText>,
@@ -50,7 +50,7 @@ impl ParamBuffer {
         }
     }
 
-    /// Adds a scope. If memory runs out, the buffer is as it was.
+    /// Adds a scope. If memory runs out, the buffer is unchanged.
     pub fn add_scope(&mut self, scope: &str) -> Result<(), AllocError>
         ensures ok { OnOk result
             (self.new ≡ record self.old { scope = Some (with_scope self.old.scope scope.now) }) }
@@ -68,7 +68,7 @@ impl ParamBuffer {
         }
     }
 
-    /// Adds a parameter. If memory runs out, the buffer is as it was.
+    /// Adds an extra parameter. If memory runs out, the buffer is unchanged.
     pub fn add_extra(&mut self, name: &str, value: &str) -> Result<(), AllocError>
         ensures ok { OnOk result (self.new ≡ record self.old {
           extra_params = self.old.extra_params ++ (name.now, value.now) ∷ [];
@@ -86,14 +86,14 @@ impl ParamBuffer {
         self.scope.is_some()
     }
 
-    /// The text of the scopes, encoded.
+    /// The scopes as one encoded text, separated by spaces; `None` if no scope was added.
     pub fn scope(&self) -> Option<&EncodedText>
         ensures { option_copied result ≡ self.now.scope }
     {
         self.scope.as_ref()
     }
 
-    /// The parameters, encoded.
+    /// The extra parameters, encoded.
     pub fn extra_params(&self) -> &FormBody
         ensures { result.now ≡ self.now.extra_params }
     {

@@ -1,4 +1,4 @@
-//! The query of a URL, as the text of a form to which pairs are appended.
+//! The query of a URL, as a form to which pairs are appended.
 
 ghost use Rattle.std.specs.Prelude.{◌≡◌, ◌∷◌, [], List, IfErr, IfOk, OnErr, OnOk, unwrap_or};
 ghost use Rattle.form_urlencoded.specs.Form.{byte_serialize, IsPrefix};
@@ -13,7 +13,7 @@ use percent_encoding::ascii_str;
 use std::alloc::{AllocError, Global};
 use url::{ParseError, Url};
 
-// How many bytes of pairs a form has room for before it grows.
+// How many bytes of pairs a form has room for before it reallocates.
 const ROOM: usize = 256;
 
 /// The text of a URL's query, with room for more pairs; empty if the URL has no query.
@@ -28,7 +28,7 @@ pub fn query_text(alloc: Global, url: &Url) -> Result<Vec<u8>, AllocError>
 }
 
 /// Appends a pair whose name needs no escape, such as `client_id`. If memory runs out, the form is
-/// as it was.
+/// unchanged.
 pub fn append_plain_pair(form: &mut Vec<u8>, name: &str, value: &str) -> Result<(), AllocError>
     requires { byte_serialize name.now ≡ name.now }
     ensures ok { OnOk result
@@ -43,8 +43,8 @@ pub fn append_plain_pair(form: &mut Vec<u8>, name: &str, value: &str) -> Result<
     Ok(())
 }
 
-// Appends `&` unless the form is empty, the name as it is, `=` and the value. If memory runs out,
-// a part of them may be left.
+// Appends `&` unless the form is empty, then the name as it is, `=` and the encoded value. If
+// memory runs out, a part of them may have been appended.
 fn append_plain_name_and_value(
     form: &mut Vec<u8>,
     name: &str,
@@ -62,8 +62,8 @@ fn append_plain_name_and_value(
     Ok(())
 }
 
-/// The URL with this text as its query: its own query, to which pairs were appended. An error
-/// is `OutOfMemory`, or `Overflow` for a URL that would be too long.
+/// The URL with `form` as its query; `form` is its old query with pairs appended. The error is
+/// `OutOfMemory`, or `Overflow` if the URL would be too long.
 pub fn with_query(url: &Url, form: &[u8]) -> Result<Url, ParseError>
     requires valid { IsValid url.now }
     requires form { (pairs : List Pair) × ExtendsForm (unwrap_or url.now.query []) form.now pairs }

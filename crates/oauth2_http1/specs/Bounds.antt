@@ -1,8 +1,9 @@
--- The bounds that a client has unless it is given others.
+-- The default bounds of a client, and the most bytes that are read for a reply.
 use Rattle.std.specs.Prelude.{ℕ, ◌+◌, ◌-◌, ◌*◌, ◌^◌, min}
 use Rattle.oauth2_http1.specs.declared.bounds.Bounds.{Bounds}
 
--- a body of 1 MiB, as many reads, and 16 KiB for a head, for extensions of chunks and for trailers
+-- at most 1 MiB for a body, 1,048,576 reads, and 16 KiB each for a head, for the extensions of all
+-- chunks and for the trailers
 abbrev pub default_bounds : Bounds
 default_bounds = record {
   limits = record { max_head_len = 16384; max_extensions_len = 16384; max_trailers_len = 16384 };
@@ -10,8 +11,8 @@ default_bounds = record {
   max_reads = 1048576;
 }
 
--- a reply, with all responses of 1xx before it, has at most so many bytes: eight for each that the bounds allow its parts, but
--- no more than a number of 64 bits
+-- the most bytes that are read for one reply, with all responses of status 1xx before it: eight
+-- times the sum of the bounds on its parts, but at most 2^64 - 1
 abbrev pub most_bytes : Bounds → ℕ
 most_bytes b =
     min (8 * (b.limits.max_head_len + b.limits.max_extensions_len + b.limits.max_trailers_len + b.max_body)) (2 ^ 64 - 1)

@@ -1,4 +1,4 @@
--- From bytes to bytes: what a request over an HTTP/1.1 client wrote and read, by its result.
+-- The bytes that a request over an HTTP/1.1 client wrote and read, by its result.
 use Rattle.std.specs.Prelude.{◌≡◌, ℕ, ◌≤◌, ◌⊎◌, ⊤, true, false, List, length, codes, string_bytes, map}
 use Rattle.std.specs.Prelude.{Option, option_map, IfSome, Result, Ok, Err}
 use Rattle.std.specs.declared.io.Error as Io
@@ -25,7 +25,7 @@ use Rattle.oauth2_http1.specs.Reply.{Terms, ReadsReply, entries_of}
 use Rattle.oauth2_http1.specs.Calls.{ReadFails, Sends}
 use Rattle.oauth2_http1.specs.Client.{Writes, Opens, Exchanges, CanSend, CannotSend, NoReply, reply_terms}
 
--- a reply of the grammar as what an answer is made of: its status, its first Content-Type value (RFC 9110, 8.3), its body
+-- the view of a parsed reply: its status, its first Content-Type value (RFC 9110, 8.3) and its body
 abbrev pub view_of_reply : Response → ReplyView
 view_of_reply m = record {
   status = status_code m.head;
@@ -33,7 +33,8 @@ view_of_reply m = record {
   body = m.body.bytes;
 }
 
--- the stream begins with one reply, after responses of 1xx, and with no other (RFC 9112, 4 and 6.3; RFC 9110, 15.2)
+-- the stream begins with one reply, which has this view, after responses of status 1xx; it can be
+-- read in no other way (RFC 9112, 4 and 6.3; RFC 9110, 15.2)
 pub record BeginsWith (t : Terms) (view : ReplyView) (stream : List ℕ) : Type 0 where
   pub reply : Response
   pub rest : List ℕ
@@ -41,7 +42,8 @@ pub record BeginsWith (t : Terms) (view : ReplyView) (stream : List ℕ) : Type 
   pub only : (another : Response) (after : List ℕ) → ReadsReply t stream another after → (another ≡ reply) × (after ≡ rest)
   pub is : view ≡ view_of_reply reply
 
--- why a configuration's request cannot be sent: it is a POST that leaves its framing to the client, so two reasons are none
+-- why a configured request cannot be sent; it is a POST that leaves its framing to the client, so
+-- two of the faults cannot occur
 abbrev pub CannotPost : MessageFault → HttpRequest → Type 0
 CannotPost Fault.OwnFraming request = ⊥
 CannotPost Fault.Connect request = ⊥
@@ -50,8 +52,9 @@ CannotPost fault request = CannotSend fault request
 module _ {C S E : Type 0} (opens : C → Place → Result S E → C → Type 0) (contents remaining : S → Option (List ℕ))
     (reads writes : S → Result ℕ Io.Error → S → Type 0) (flushes : S → Result ⊤ Io.Error → S → Type 0)
     (c : Configuration) (text : List ℕ) where
-  -- the configuration's request to the endpoint was written, whole and once, on one connection, which was opened to the place
-  -- that the endpoint names; a server reads the bytes as this request, in no other way (RFC 9112, 3 and 6; RFC 6749, 2.3.1)
+  -- the configured request was written once and whole on one connection, which was opened to the
+  -- place that the endpoint names; a server reads the bytes only as this request (RFC 9112, 3 and
+  -- 6; RFC 6749, 2.3.1)
   pub record SendsBytes (before : Http1Client C) (sent : S) (after : Http1Client C) : Type 0 where
     pub request : HttpRequest
     pub is : IsRequestOf c text (view_of request)
@@ -59,7 +62,7 @@ module _ {C S E : Type 0} (opens : C → Place → Result S E → C → Type 0) 
     pub read_as : AreReadAs c wrote.place request wrote.bytes
     pub bounds : after.bounds ≡ before.bounds
 
-  -- it was sent, and this is said of the reply that the bytes begin with which came
+  -- the request was sent, a reply with this view was received, and `Says` holds of the view
   pub record Replied (before after : Http1Client C) (Says : ReplyView → Type 0) : Type 0 where
     pub sent : S
     pub sends : SendsBytes before sent after
@@ -68,7 +71,7 @@ module _ {C S E : Type 0} (opens : C → Place → Result S E → C → Type 0) 
     pub within : length view.body ≤ before.bounds.max_body
     pub came : IfSome (remaining sent) (BeginsWith (reply_terms before.bounds (codes "POST")) view)
 
-  -- by the client's error: the request was not sent, a write failed, or no reply was read
+  -- by the error of the client: the request was not sent, a write failed, or no reply was read
   abbrev pub NotReplied : Http1Client C → Http1Error E → Http1Client C → Type 0
   NotReplied before (http.Request fault) after =
       (after ≡ before) × (request : HttpRequest) × IsRequestOf c text (view_of request) × CannotPost fault request
@@ -84,8 +87,8 @@ module _ {C S E : Type 0} (opens : C → Place → Result S E → C → Type 0) 
       × (left : S) × ReadFails reads fault sent left
 
   module _ {D A T X : Type 0} (meaning : D → A) (error_meaning : T → X) (says : ReplyView → Answer A X) where
-    -- by the result: a value (RFC 6749, 5.1), an error response (5.2) and a fault are what the reply says that came; the other
-    -- results say whether the request was sent
+    -- by the result: a value (RFC 6749, 5.1), an error response (5.2) and a fault of the body are
+    -- what the received reply says; the other results say whether the request was sent
     abbrev pub FromBytes : Http1Client C → Result D (RequestTokenError (Http1Error E) T) → Http1Client C → Type 0
     FromBytes before (Ok value) after = Replied before after (λ view. says view ≡ accepted (meaning value))
     FromBytes before (Err (token.ServerResponse error)) after = Replied before after (λ view. says view ≡ refused (error_meaning error))
@@ -97,7 +100,7 @@ module _ {C S E : Type 0} (opens : C → Place → Result S E → C → Type 0) 
     FromBytes before (Err (token.Memory true)) after = Replied before after (λ view. ⊤)
     FromBytes before (Err (token.Memory false)) after = after ≡ before
 
--- whatever request meets its contract over this client, its result is from bytes
+-- `FromBytes` holds of the result of each request that meets its contract over this client
 module _ {C S E : Type 0} (opens : C → Place → Result S E → C → Type 0) (contents remaining : S → Option (List ℕ))
     (reads writes : S → Result ℕ Io.Error → S → Type 0) (flushes : S → Result ⊤ Io.Error → S → Type 0)
     {D A T X : Type 0} (meaning : D → A) (error_meaning : T → X) where

@@ -1,4 +1,4 @@
--- Why a stream gives no reply.
+-- Why no reply is read from a stream.
 use Rattle.std.specs.Prelude.{ℕ, ◌<◌, ◌≤◌, ⊤, Bool, false, List, [], ◌∷◌, length, Option, IfSome}
 use Rattle.http1.specs.Body.{Body}
 use Rattle.http1.specs.ReadError.{is_line_end}
@@ -7,7 +7,8 @@ use Rattle.oauth2_http1.specs.Reply.{Terms, ReadsReply}
 use Rattle.oauth2_http1.specs.declared.fault.ReplyFault.{ReplyFault}
 use Rattle.oauth2_http1.specs.declared.fault.ReplyFault.TheVariants as Fault
 
--- what an error says of a reply that the stream holds all the same
+-- what a fault says about the body of a reply that the stream begins with nevertheless; `most` is
+-- the bound on a body, in bytes
 abbrev pub RefusesBody : ReplyFault → ℕ → Body → Type 0
 RefusesBody (Fault.Response e) most body = ⊥
 RefusesBody Fault.EmptyLine most body = ⊥
@@ -19,7 +20,7 @@ RefusesBody Fault.Fields most body = ⊤
 RefusesBody (Fault.Read e) most body = ⊤
 RefusesBody Fault.Memory most body = ⊤
 
--- why the known stream gave no reply
+-- what a fault says about the known stream: `RefusesBody` holds of each reply that it begins with
 abbrev pub Refuses : ReplyFault → Terms → ℕ → Option (List ℕ) → Type 0
 Refuses e t most known =
     IfSome known (λ stream. (reply : Response) (rest : List ℕ) → ReadsReply t stream reply rest → RefusesBody e most reply.body)
@@ -29,10 +30,10 @@ abbrev pub begins_with_line_end : List ℕ → Bool
 begins_with_line_end [] = false
 begins_with_line_end (b ∷ bs) = is_line_end b
 
--- the known stream has as many bytes as reads or bytes were allowed
+-- the known stream has at least as many bytes as reads (or bytes) were allowed
 abbrev pub Spent : ℕ → Option (List ℕ) → Type 0
 Spent reads known = IfSome known (λ stream. reads ≤ length stream)
 
--- a map of headers holds no longer name
+-- the length in bytes of the longest name in a header map
 abbrev pub longest_name : ℕ
 longest_name = 65535

@@ -1,4 +1,4 @@
--- Why no bytes are made of a request.
+-- Why a request cannot be written as bytes.
 use Rattle.std.specs.Prelude.{◌≡◌, ℕ, List, Vec, Option, Some, IsTrue, ⊤}
 use Rattle.http.specs.declared.request.Request.{Request}
 use Rattle.http.specs.Request.{head_of, body_of}
@@ -14,17 +14,17 @@ use Rattle.oauth2_http1.specs.declared.fault.MessageFault.TheVariants as Fault
 use Rattle.oauth2_http1.specs.Origin.{Place, origin_form}
 use Rattle.oauth2_http1.specs.Message.{body_size, sent_fields}
 
--- a refusal of the kit's client as a fault
+-- an error of the HTTP/1.1 writer (crate `http1`) as a fault
 abbrev pub fault_of_write_error : WriteError → MessageFault
 fault_of_write_error OutOfMemory = Fault.Memory
 fault_of_write_error e = Fault.Refused e
 
--- why the kit's client writes no head with these parts: two `Host` fields, no request line, or no field (RFC 9112, 3, 3.2 and 5)
+-- why the HTTP/1.1 writer (crate `http1`) refuses a head with these parts (RFC 9112, 3, 3.2 and 5)
 abbrev pub write_error : List ℕ → List ℕ → List Header → List ℕ → Option WriteError
 write_error method target fields body =
     plan_refusal (plan_fields (method_kind method) (body_size method body) fields) (is_request_line method target 1) fields
 
--- why no bytes were made of a request with these parts
+-- why a request with these parts cannot be written as bytes
 abbrev pub Unsent : MessageFault → List ℕ → List ℕ → List Header → List ℕ → Type 0
 Unsent Fault.NoOrigin method target fields body = ⊥
 Unsent Fault.NoHost method target fields body = ⊥
@@ -34,7 +34,7 @@ Unsent Fault.Connect method target fields body = IsTrue (is_connect (method_kind
 Unsent (Fault.Refused e) method target fields body = write_error method target fields body ≡ Some e
 Unsent Fault.Memory method target fields body = ⊤
 
--- why no bytes were made of a request to a place
+-- why a request to this place cannot be written as bytes
 abbrev pub UnsentTo : {Z : Type 0} → Place → Request (Vec ℕ Z) → MessageFault → Type 0
 UnsentTo place r e =
     Unsent e (head_of r).method (origin_form (head_of r).uri) (sent_fields place (head_of r).headers) (body_of r).items

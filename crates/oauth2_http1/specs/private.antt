@@ -1,2 +1,2 @@
--- What only private clauses cite.
+-- Definitions cited only by private functions.
 pub mod Phase

@@ -5,16 +5,17 @@ ghost use Rattle.oauth2_http1.specs.Bounds.{default_bounds, most_bytes};
 
 use http1::Limits;
 
-/// How much of a reply is read. `Bounds::default()` has a body of 1 MiB, as many reads, and 16 KiB
-/// each for a head, for the extensions of all chunks and for the trailers. All that is read of one
-/// reply, with responses of 1xx and the lines of chunks, is bounded by these too (`most_bytes`).
+/// How much of a reply is read. `Bounds::default()` allows 1 MiB for a body, 1,048,576 reads, and
+/// 16 KiB each for a head, for the extensions of all chunks and for the trailers. The bounds also
+/// limit all bytes that are read for one reply, with responses of status 1xx and the lines of
+/// chunks (`most_bytes`).
 #[derive(Clone, Copy, Debug, PartialEq, Eq)]
 pub struct Bounds {
-    /// The lengths of a head, of the extensions of all chunks, and of the trailers.
+    /// The most bytes of a head, of the extensions of all chunks, and of the trailers.
     pub limits: Limits,
-    /// A body has at most so many bytes.
+    /// The most bytes of a body.
     pub max_body: usize,
-    /// The reader is called at most so often, without the calls that a signal interrupted.
+    /// How often the reader is called at most. Calls that a signal interrupted do not count.
     pub max_reads: u32,
 }
 
@@ -31,7 +32,7 @@ impl Default for Bounds {
 }
 
 impl Bounds {
-    /// Takes heads of at most so many bytes.
+    /// Sets the most bytes of a head.
     pub fn set_max_head(mut self, bytes: usize) -> Bounds
         ensures { result ≡ record self { limits = record self.limits { max_head_len = bytes } } }
     {
@@ -39,7 +40,7 @@ impl Bounds {
         self
     }
 
-    /// Takes at most so many bytes of extensions, in all chunks of a body together.
+    /// Sets the most bytes of extensions, in all chunks of a body together.
     pub fn set_max_extensions(mut self, bytes: usize) -> Bounds
         ensures { result ≡ record self {
           limits = record self.limits { max_extensions_len = bytes };
@@ -49,8 +50,8 @@ impl Bounds {
         self
     }
 
-    /// Takes trailers of at most so many bytes, with the empty line behind them. Below 2, no
-    /// chunked body is taken.
+    /// Sets the most bytes of the trailers, with the empty line after them. Below 2, every chunked
+    /// body is refused.
     pub fn set_max_trailers(mut self, bytes: usize) -> Bounds
         ensures { result ≡ record self {
           limits = record self.limits { max_trailers_len = bytes };
@@ -60,7 +61,7 @@ impl Bounds {
         self
     }
 
-    /// Takes bodies of at most so many bytes.
+    /// Sets the most bytes of a body.
     pub fn set_max_body(mut self, bytes: usize) -> Bounds
         ensures { result ≡ record self { max_body = bytes } }
     {
@@ -68,8 +69,8 @@ impl Bounds {
         self
     }
 
-    /// Once so many bytes of one reply have come, no more are read: eight times as many as a head,
-    /// the extensions, the trailers and the body may have together.
+    /// The most bytes that are read for one reply: eight times the sum of the bounds on a head, the
+    /// extensions, the trailers and the body.
     pub fn most_bytes(&self) -> usize
         ensures { result ≡ most_bytes self.now }
     {
@@ -81,7 +82,7 @@ impl Bounds {
             .saturating_mul(8)
     }
 
-    /// Calls the reader at most so often.
+    /// Sets how often the reader is called at most.
     pub fn set_max_reads(mut self, reads: u32) -> Bounds
         ensures { result ≡ record self { max_reads = reads } }
     {

@@ -1,6 +1,6 @@
 //! Why a call gave no reply.
 
-use crate::fault::{ReplyFault, MessageFault, write_text};
+use crate::fault::{MessageFault, ReplyFault, write_text};
 use oauth2_types::display::write_display;
 use std::{fmt, io};
 
@@ -9,11 +9,11 @@ use std::{fmt, io};
 pub enum Http1Error<E> {
     /// The request cannot be sent. No connection was opened.
     Request(MessageFault),
-    /// No connection was opened.
+    /// The connector returned this error. No connection was opened.
     Connect(E),
-    /// A write failed. How much was written is not known, and it is not written again.
+    /// A write failed. It is not known how much was written, and nothing is written again.
     Write(io::Error),
-    /// The request was written, and no reply was read.
+    /// The request was written, but no reply was read.
     Reply(ReplyFault),
 }
 

@@ -1,4 +1,4 @@
-//! A client's own credentials over a connection.
+//! A request with the client's own credentials over HTTP/1.1.
 
 ghost use Rattle.url.specs.Parts.{serialize};
 ghost use Rattle.oauth2_wire.specs.Reply.{answer_of};
@@ -12,7 +12,7 @@ use oauth2_requests::ClientCredentialsTokenRequest;
 use oauth2_wire::RequestTokenError;
 use std::alloc::Global;
 
-/// The token for the client's own credentials (RFC 6749, section 4.4.2).
+/// Requests a token with the client's own credentials (RFC 6749, section 4.4.2).
 #[tactic(auto, using(oauth2_http1::proofs::FromBytes::from_bytes))]
 pub fn token_for_credentials<C: Connect, TE: ErrorResponse, TR: TokenResponse>(
     alloc: Global,

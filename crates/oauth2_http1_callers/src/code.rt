@@ -1,4 +1,4 @@
-//! A code over a connection.
+//! The exchange of a code over HTTP/1.1.
 
 ghost use Rattle.url.specs.Parts.{serialize};
 ghost use Rattle.oauth2_wire.specs.Reply.{answer_of};
@@ -12,7 +12,7 @@ use oauth2_requests::CodeTokenRequest;
 use oauth2_wire::RequestTokenError;
 use std::alloc::Global;
 
-/// The token for a code (RFC 6749, section 4.1.3).
+/// Exchanges a code for a token (RFC 6749, section 4.1.3).
 #[tactic(auto, using(oauth2_http1::proofs::FromBytes::from_bytes))]
 pub fn token_for_code<C: Connect, TE: ErrorResponse, TR: TokenResponse>(
     alloc: Global,

@@ -1,4 +1,4 @@
-//! The codes of a device over a connection.
+//! A device authorization request over HTTP/1.1.
 
 ghost use Rattle.url.specs.Parts.{serialize};
 ghost use Rattle.oauth2_replies.specs.Device.{device_seen, device_reading};
@@ -13,7 +13,7 @@ use oauth2_requests::DeviceAuthorizationRequest;
 use oauth2_wire::RequestTokenError;
 use std::alloc::Global;
 
-/// The codes for a device and its user (RFC 8628, section 3.1).
+/// Requests the codes for a device and its user (RFC 8628, section 3.1).
 #[tactic(auto, using(oauth2_http1::proofs::FromBytes::from_bytes))]
 pub fn device_codes<C: Connect, TE: ErrorResponse, EF: ExtraDeviceAuthorizationFields + Drop>(
     alloc: Global,

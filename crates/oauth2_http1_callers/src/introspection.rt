@@ -1,4 +1,4 @@
-//! An introspection over a connection.
+//! An introspection request over HTTP/1.1.
 
 ghost use Rattle.url.specs.Parts.{serialize};
 ghost use Rattle.oauth2_wire.specs.Reply.{answer_of};
@@ -12,7 +12,7 @@ use oauth2_requests::IntrospectionRequest;
 use oauth2_wire::RequestTokenError;
 use std::alloc::Global;
 
-/// What a token is worth (RFC 7662, section 2).
+/// Introspects a token (RFC 7662, section 2).
 #[tactic(auto, using(oauth2_http1::proofs::FromBytes::from_bytes))]
 pub fn worth_of_token<C: Connect, TE: ErrorResponse, TIR: FromJson>(
     alloc: Global,

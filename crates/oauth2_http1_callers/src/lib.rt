@@ -1,6 +1,7 @@
-//! Callers that send each kind of request over an HTTP/1.1 client. The contract of each is one
-//! definition, from bytes to bytes. All is compiled with the tests alone: a library would pass on
-//! all that its public names mention.
+//! Functions that send each kind of request over an HTTP/1.1 client. The contract of each is one
+//! definition, from the bytes that are sent to the bytes that are received. Everything here is
+//! compiled only with the tests: a library would also have to export all that its public names
+//! mention.
 
 #![tactic(auto)]
 

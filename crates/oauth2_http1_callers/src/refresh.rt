@@ -1,4 +1,4 @@
-//! A refresh over a connection.
+//! A refresh request over HTTP/1.1.
 
 ghost use Rattle.url.specs.Parts.{serialize};
 ghost use Rattle.oauth2_wire.specs.Reply.{answer_of};
@@ -12,7 +12,7 @@ use oauth2_requests::RefreshTokenRequest;
 use oauth2_wire::RequestTokenError;
 use std::alloc::Global;
 
-/// The token for a refresh token (RFC 6749, section 6).
+/// Requests a token with a refresh token (RFC 6749, section 6).
 #[tactic(auto, using(oauth2_http1::proofs::FromBytes::from_bytes))]
 pub fn refreshed_token<C: Connect, TE: ErrorResponse, TR: TokenResponse>(
     alloc: Global,

@@ -1,4 +1,4 @@
-//! A revocation over a connection.
+//! A revocation request over HTTP/1.1.
 
 ghost use Rattle.url.specs.Parts.{serialize};
 ghost use Rattle.oauth2_wire.specs.Reply.{status_answer_of};
@@ -12,7 +12,7 @@ use oauth2_requests::RevocationRequest;
 use oauth2_wire::RequestTokenError;
 use std::alloc::Global;
 
-/// Revokes a token. A success says no more than its status (RFC 7009, section 2.2).
+/// Revokes a token. Success means only that the reply's status is 200 (RFC 7009, section 2.2).
 #[tactic(auto, using(oauth2_http1::proofs::FromBytes::from_bytes))]
 pub fn revoke<C: Connect, RT: RevocableToken + Drop, TE: ErrorResponse>(
     alloc: Global,

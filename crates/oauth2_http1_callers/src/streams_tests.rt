@@ -1,4 +1,5 @@
-//! One request over streams in memory: the exchange of a code of RFC 6749, sections 4.1.3 and 5.1.
+//! Tests of one request over streams in memory: the exchange of a code, with the request and the
+//! reply of RFC 6749, sections 4.1.3 and 5.1.
 
 use crate::code::token_for_code;
 use oauth2_codes::BasicErrorResponse;
@@ -19,7 +20,8 @@ const REPLY: &str = "HTTP/1.1 200 OK\r\n\
     {\"access_token\":\"2YotnFZFEjr1zCsicMWpAA\",\"token_type\":\"example\",\"expires_in\":3600,\
     \"refresh_token\":\"tGzv3JOkF0XG5Qx2TlKWIA\",\"example_parameter\":\"example_value\"}";
 
-// The RFC's request, with the fields that this client adds, in its order. A point is not encoded.
+// The RFC's request, with the header fields that this client adds, in this client's order. This
+// client does not encode a `.`.
 const REQUEST: &str = "POST /token HTTP/1.1\r\n\
     host: server.example.com\r\n\
     accept: application/json\r\n\

@@ -1,4 +1,4 @@
-//! Each bound, on both sides.
+//! Tests of each bound, with replies just inside and just outside it.
 
 use crate::support::{GET, GET_BYTES, assert_at, assert_text_at, outcome_of};
 use crate::wire::Wire;
@@ -59,7 +59,7 @@ const BOUNDS: &[(Bound, &str, &str)] = &[
     (Bound::Body(1), CLOSE, "Reply(TooLong)"),
 ];
 
-// What a call returns within one bound, where the reply comes in pieces of this length.
+// What a call returns within one bound, if the reply comes in pieces of this many bytes.
 fn text_within(rt: &(impl Abort + AllocGlobal), bound: Bound, came: &str, piece: usize) -> String {
     let mut wire = Wire::new(came.as_bytes(), GET_BYTES.as_bytes()).in_pieces(piece, piece);
     outcome_of(rt, &mut wire, bounds_of(bound), GET).text
@@ -82,9 +82,9 @@ fn each_bound(rt: HostRuntime) {
     }
 }
 
-// How a reply begins, a text that then repeats so often, how it ends, the bound on its head, and
-// the front of what the call returns. 16,384 is the default bound. The last two rows are on both
-// sides of the longest name that a map of headers holds.
+// How a reply begins, a text that is then repeated, how often, how the reply ends, the bound on its
+// head, and the beginning of what the call returns. 16,384 is the default bound. The last two rows
+// are just below and just above the longest name that a map of headers can hold.
 type LongRow = (
     &'static str,
     &'static str,

@@ -1,4 +1,4 @@
-//! Connections that are handed out once, and a client's own bounds.
+//! Tests of a client that has one connection, and of a client's bounds.
 
 use crate::exchange::{MemoryClient, call, request_of};
 use crate::support::{GET, GET_BYTES, assert_at, assert_text_at, text_of};
@@ -7,14 +7,14 @@ use oauth2_http1::{Duplex, Http1Client, Over, send};
 use std::io::{self, Read};
 use std::process::Abort;
 
-// One call of a client.
+// Checks one call of a client.
 fn assert_call(rt: &(impl Abort + AllocGlobal), client: &mut MemoryClient<'_, '_>, wanted: &str) {
     let request = request_of(rt.alloc(), GET).expect(rt, "a request");
     let text = text_of(rt, &call(client, request));
     assert_text_at(rt, text.as_str(), wanted, wanted);
 }
 
-// Two calls of a client that has these bounds on a body and on the reads.
+// Checks two calls of a client that has these bounds on the body and on the number of reads.
 fn assert_two_calls(
     rt: &(impl Abort + AllocGlobal),
     wire: &mut Wire<'_>,
@@ -28,7 +28,7 @@ fn assert_two_calls(
     assert_call(rt, &mut client, "Connect(NoConnection)");
 }
 
-// The bounds on a body and on the reads, and what the first call returns.
+// The bounds on the body and on the number of reads, and what the first call returns.
 const FIRST: &[((usize, u32), &str)] = &[
     ((2, 1), "HTTP/1.1 200\ncontent-length: 2\n\n{}"),
     ((1, 1), "Reply(TooLong)"),

@@ -1,4 +1,4 @@
-//! One exchange over a connection in memory, and what comes of it as a text.
+//! One exchange over a connection in memory, and its result as a text.
 
 use crate::wire::Wire;
 use http::request::Parts;
@@ -52,8 +52,8 @@ fn head_of(alloc: Global, texts: RequestTexts<'_>) -> Option<Parts> {
     })
 }
 
-/// The request of these texts. There is none where memory runs out, or where one of them is no part
-/// of a request.
+/// The request of these texts. `None` if memory runs out, or if one of them is not valid in a
+/// request.
 pub fn request_of(alloc: Global, texts: RequestTexts<'_>) -> Option<HttpRequest> {
     let body = texts.body.as_bytes().to_vec(alloc).ok()?;
     Some(Request::from_parts(head_of(alloc, texts)?, body))
@@ -67,7 +67,7 @@ pub fn call(client: &mut MemoryClient<'_, '_>, request: HttpRequest) -> Answer {
     client.call(request)
 }
 
-/// Calls a client once, whose connection is this one. Returns also whether it was handed out.
+/// Calls a client once, which has this connection. Also returns whether the client opened it.
 pub fn call_once(
     alloc: Global,
     wire: &mut Wire<'_>,
@@ -103,8 +103,8 @@ pub fn show<W: Write>(out: &mut W, answer: &Answer) -> io::Result<()> {
     }
 }
 
-/// Calls a client once, as `call_once` does, and shows what it returns. Returns whether the
-/// connection was handed out.
+/// Calls a client once, as `call_once` does, and writes the result. Returns whether the client
+/// opened the connection.
 pub fn show_once<W: Write>(
     alloc: Global,
     wire: &mut Wire<'_>,

@@ -1,4 +1,4 @@
-//! Reads and writes that fail.
+//! Tests of reads and writes that fail.
 
 use crate::exchange::{Answer, RequestTexts, request_of};
 use crate::support::{assert_at, assert_text_at, outcome_of, text_of};
@@ -27,14 +27,15 @@ const UNWRITTEN: &str = "Write(Kind(ConnectionReset))";
 
 const UNREAD: &str = "Reply(Read(Kind(ConnectionReset)))";
 
-// A connection that takes and gives a byte at a call, and fails at the call of that number.
+// A connection that takes or returns one byte at each call, and fails at the call with this number.
 fn byte_by_byte(fails_at: usize) -> Wire<'static> {
     let mut wire = Wire::new(REPLY.as_bytes(), POST_BYTES.as_bytes()).in_pieces(1, 1);
     wire.fails_at = fails_at;
     wire
 }
 
-// Nothing is called after a failure, and what was written before it is the front of the request.
+// Checks that nothing is called after a failure, and that the beginning of the request was written
+// before it.
 fn assert_failure(rt: &(impl Abort + AllocGlobal), at: usize, wanted: &str) {
     let mut wire = byte_by_byte(at);
     let outcome = outcome_of(rt, &mut wire, Bounds::default(), POST);

@@ -74,10 +74,10 @@ const ROWS: [Row; 2] = [
     ),
 ];
 
-// Each read gives so many bytes, and each write takes so many.
+// Each read returns at most this many bytes, and each write takes at most this many.
 const PIECE: usize = 7;
 
-// Whether the connection was handed out, and how much of its request was not written.
+// Writes whether the client opened the connection, and how much of its request was not written.
 fn show_wire<W: Write>(out: &mut W, is_open: bool, wire: &Wire<'_>, sent: &str) -> io::Result<()> {
     let unwritten = wire.awaited.len();
     writeln!(
@@ -103,8 +103,8 @@ fn show_call<W: Write>(
     show_wire(out, is_open, &wire, sent)
 }
 
-// One exchange: the request, the reply or the error, and what became of the connection. What is
-// written here takes no memory.
+// Makes one exchange, and writes the request, the reply or the error, and what became of the
+// connection. Writing this does not allocate.
 fn show_exchange<W: Write>(alloc: Global, row: Row, out: &mut W) -> io::Result<()> {
     let (texts, sent, came) = row;
     writeln!(out, "request {} {}", texts.method, texts.target)?;
@@ -114,7 +114,7 @@ fn show_exchange<W: Write>(alloc: Global, row: Row, out: &mut W) -> io::Result<(
     }
 }
 
-// How often the argument asks for the exchange of a token, if there is one.
+// The number of token exchanges to make, if there is an argument.
 fn asked_times(rt: &HostRuntime) -> Option<u64> {
     let mut arguments = env::args(rt).ok()?;
     let _program = arguments.next();

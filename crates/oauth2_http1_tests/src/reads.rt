@@ -1,16 +1,16 @@
-//! How much is read, and how often.
+//! Tests of how much is read, and how often.
 
 use crate::support::{GET, GET_BYTES, assert_at, assert_text_at, outcome_of};
 use crate::wire::Wire;
 use oauth2_http1::Bounds;
 use std::process::Abort;
 
-// One read asks for so many bytes.
+// One read requests this many bytes.
 const CHUNK: usize = 4096;
 
-// A reply of these bytes and then of a text again and again; what a call returns that takes heads,
-// extensions and trailers of 500 bytes and bodies of 64; and how many bytes show it. All in all it
-// takes 8 * (500 + 500 + 500 + 64) bytes.
+// How a reply begins, and a text that then repeats without end; what a call returns whose bounds
+// are 500 bytes for heads, for extensions and for trailers, and 64 for bodies; and after how many
+// bytes that is clear. In all the call takes 8 * (500 + 500 + 500 + 64) bytes.
 const ENDLESS: &[(&str, &str, &str, usize)] = &[
     ("", "\r\n", "Reply(EmptyLine)", 1),
     ("H", "a", "Reply(Response(Parse(Version)))", 2),
@@ -71,7 +71,7 @@ fn endless<'a>(came: &'a str, again: &'a str) -> Wire<'a> {
     wire
 }
 
-// How many bytes a call reads of this connection, within these bounds.
+// How many bytes a call reads from this connection, within these bounds.
 fn taken(
     rt: &(impl Abort + AllocGlobal),
     mut wire: Wire<'_>,
@@ -83,7 +83,8 @@ fn taken(
     wire.given
 }
 
-// The last read begins before the error shows, and takes what one read asks for.
+// Checks that the last read begins before the error is clear, and takes at most the bytes of one
+// read.
 fn assert_end(rt: &(impl Abort + AllocGlobal), came: &str, text: &str, wanted: &str, shows: usize) {
     let bounds = Bounds::default()
         .set_max_head(500)
@@ -158,7 +159,7 @@ fn reads_are_counted(rt: HostRuntime) {
     }
 }
 
-// So often each read is interrupted, what the call returns, and how often it reads.
+// How often each read is interrupted, what the call returns, and how often it reads.
 const INTERRUPTED: &[(usize, &str, usize)] = &[
     (0, READ, 40),
     (1, READ, 2 * 40),

@@ -1,4 +1,4 @@
-//! Replies as servers send them.
+//! Tests of replies as servers send them.
 
 use crate::exchange::RequestTexts;
 use crate::support::{GET, GET_BYTES, assert_at, assert_text_at, outcome_of};
@@ -26,7 +26,7 @@ fn assert_reply(
     );
 }
 
-// The reply comes byte by byte, in two pieces that are parted at every place, and in one.
+// Checks a reply that comes byte by byte, in two pieces split at every place, and in one piece.
 fn assert_reply_in_pieces(rt: &(impl Abort + AllocGlobal), came: &str, past: usize, wanted: &str) {
     assert_reply(rt, (came, past, wanted), 1, 1);
     for first in 1..=came.len() {
@@ -177,8 +177,8 @@ fn replies_that_are_cut(rt: HostRuntime) {
     }
 }
 
-// What is no reply within the bounds, and why. RFC 9112: 2.2 (line ends), 2.3 (versions), 4, 5.1
-// and 5.2 (fields), 6.1 to 6.3 (two lengths, or none that can be read), 7.1.
+// Texts that are no reply within the bounds, and the errors. RFC 9112: 2.2 (line ends), 2.3
+// (versions), 4, 5.1 and 5.2 (fields), 6.1 to 6.3 (two lengths, or none that can be read), 7.1.
 const REFUSED: &[(&str, &str)] = &[
     (
         "HTTP/1.1 200 OK\r\ntransfer-encoding: chunked\r\ncontent-length: 2\r\n\r\n\

@@ -1,4 +1,4 @@
-//! The bytes of requests, and requests that are not sent.
+//! Tests of the bytes of requests, and of requests that are not sent.
 
 use crate::exchange::RequestTexts;
 use crate::support::{assert_at, assert_text_at, outcome_of, text_of_request};
@@ -175,7 +175,7 @@ fn assert_written(rt: &(impl Abort + AllocGlobal), request: Request, bytes: &str
     let outcome = outcome_of(rt, &mut wire, Bounds::default(), texts_of(request));
     assert_text_at(rt, outcome.text.as_str(), "HTTP/1.1 204\n\n", bytes);
     assert_at(rt, wire.is_written(), bytes);
-    // The kit's server reads one request with the same parts, and no byte after it.
+    // The kit's server reads one request with the same parts, and there is no byte after it.
     assert_text_at(rt, text_of_request(rt, bytes).as_str(), bytes, bytes);
 }
 

@@ -1,4 +1,4 @@
-//! What the kit's HTTP server reads of the bytes of a request.
+//! Reads the bytes of a request as the kit's HTTP server does.
 
 ghost use Rattle.httparse.specs.Spans.{IsRequestWithin};
 
@@ -6,7 +6,7 @@ use http1::{Event, Limits, Server};
 use httparse::spans::{EMPTY_HEADER_SPAN, HeaderSpan, RequestSpans};
 use std::io::{self, Write};
 
-// Writes a head as RFC 9112, 2.1, 3 and 5 have it.
+// Writes a head in the form of RFC 9112, 2.1, 3 and 5.
 fn show_head<W: Write>(
     out: &mut W,
     input: &[u8],

@@ -1,4 +1,4 @@
-//! What the tests of several subjects share.
+//! Functions that several test files share.
 
 use crate::exchange::{Answer, RequestTexts, call_once, request_of, show};
 use crate::server::show_request;
@@ -15,14 +15,14 @@ pub const GET: RequestTexts<'static> = RequestTexts {
     body: "",
 };
 
-/// Its bytes, by RFC 9112, 3 and 3.2, with the fields that the client adds.
+/// The bytes of `GET`, by RFC 9112, 3 and 3.2, with the header fields that the client adds.
 pub const GET_BYTES: &str = "GET /jwks HTTP/1.1\r\nhost: as.example\r\n\
 accept-encoding: identity\r\nconnection: close\r\n\r\n";
 
-/// What one call showed.
+/// The outcome of one call.
 #[derive(Drop)]
 pub struct Outcome {
-    /// Whether the connection was handed out.
+    /// Whether the client opened the connection.
     pub is_open: bool,
     /// The reply or the error.
     pub text: String,
@@ -35,7 +35,7 @@ pub fn text_of(rt: &(impl Abort + AllocGlobal), answer: &Answer) -> String {
     String::from_utf8(text).expect(rt, "a text")
 }
 
-/// What the kit's server reads of these bytes as a text.
+/// The request that the kit's server reads from these bytes, as a text.
 pub fn text_of_request(rt: &(impl Abort + AllocGlobal), bytes: &str) -> String {
     let mut text = Vec::new(rt.alloc());
     show_request(&mut text, bytes.as_bytes()).expect(rt, "a text");

@@ -1,10 +1,10 @@
-//! The texts of errors.
+//! Tests of the texts of errors.
 
 use crate::support::assert_displayed_as;
 use http1::chunked::ChunkError;
 use http1::framing::FramingError;
 use http1::{ReadError, WriteError};
-use oauth2_http1::{Http1Error, NoConnection, ReplyFault, MessageFault};
+use oauth2_http1::{Http1Error, MessageFault, NoConnection, ReplyFault};
 use std::io::{self, ErrorKind};
 
 type Error = Http1Error<NoConnection>;

@@ -1,4 +1,4 @@
-//! A connection that fails in one way alone, and what a client tells of it.
+//! Tests of a connection whose only failure is a timeout, and of the client's error then.
 
 use crate::exchange::request_of;
 use crate::support::{GET, GET_BYTES, assert_text_at, text_of};
@@ -8,7 +8,7 @@ use oauth2_wire::SyncHttpClient;
 use std::io::{self, ErrorKind, Read, Write};
 use std::process::Abort;
 
-/// A connection whose every failure is the end of its time.
+/// A connection whose every failure is a timeout.
 #[derive(Drop)]
 struct Timed<S> {
     stream: S,
@@ -53,8 +53,8 @@ impl<S: Write> Transmit for Timed<S> {
     }
 }
 
-// Which call of the connection fails, and what the client tells of it: the request is one write,
-// the flush is the second call, and the third is a read.
+// Which call of the connection fails, and the client's error. The first call writes the request,
+// the second flushes, and the third reads.
 const FAILURES: &[(usize, &str)] = &[
     (1, "Write(Kind(TimedOut))"),
     (2, "Write(Kind(TimedOut))"),

@@ -1,4 +1,4 @@
-//! One token exchange, made again and again.
+//! One token exchange, made many times.
 
 use crate::exchange::{RequestTexts, call_once, request_of};
 use crate::wire::Wire;
@@ -6,8 +6,8 @@ use oauth2_http1::Bounds;
 use std::alloc::Global;
 use std::io::{self, Write};
 
-// The request of RFC 6749, 4.1.3, with the fields of `Accept` and `User-Agent` that other clients
-// write as well.
+// The request of RFC 6749, 4.1.3, with the header fields `Accept` and `User-Agent`, which other
+// clients also send.
 const REQUEST: RequestTexts<'static> = RequestTexts {
     method: "POST",
     target: "https://server.example.com/token",
@@ -36,7 +36,7 @@ const CAME: &str = "HTTP/1.1 200 OK\r\ncontent-type: application/json;charset=UT
     \"expires_in\":3600,\"refresh_token\":\"tGzv3JOkF0XG5Qx2TlKWIA\",\
     \"example_parameter\":\"example_value\"}";
 
-// The body of the reply. There is none where the exchange failed or wrote something else.
+// The body of the reply. `None` if the exchange failed, or wrote something else than the request.
 fn exchange(alloc: Global) -> Option<Vec<u8>> {
     let request = request_of(alloc, REQUEST)?;
     let mut wire = Wire::new(CAME.as_bytes(), SENT.as_bytes());
@@ -47,7 +47,8 @@ fn exchange(alloc: Global) -> Option<Vec<u8>> {
     Some(answer.ok()?.into_body())
 }
 
-/// Makes the exchange so often, and writes the request of the last one and the body of its reply.
+/// Makes the exchange `times` times, and writes the request and the body of the reply of the last
+/// one.
 pub fn repeat<W: Write>(alloc: Global, times: u64, out: &mut W) -> io::Result<()> {
     let mut last = None;
     for _ in 0..times {

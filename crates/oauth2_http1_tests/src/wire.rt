@@ -4,39 +4,40 @@ ghost use Rattle.std.specs.Prelude.{◌≤◌, length};
 
 use std::io::{self, ErrorKind, Read, Write};
 
-/// A connection that has a reply to give, and that is to be written one request.
+/// A connection that returns one reply to its reads, and expects one request to be written.
 #[derive(Drop)]
 pub struct Wire<'a> {
-    /// The bytes that are still to come.
+    /// The bytes of the reply that were not read yet.
     pub left: &'a [u8],
-    /// What comes after them, again and again. Where it is empty, the connection has ended.
+    /// What comes after them, repeated without end. If it is empty, the connection ends there.
     pub again: &'a [u8],
-    /// What is still to be written.
+    /// The bytes of the request that were not written yet.
     pub awaited: &'a [u8],
-    /// The first read gives at most so many bytes.
+    /// The first read returns at most this many bytes.
     pub first: usize,
-    /// The other reads give at most so many bytes, and each write takes at most so many.
+    /// The other reads return at most this many bytes, and each write takes at most this many.
     pub piece: usize,
-    /// Which call fails, counted from 1. None is the call 0.
+    /// Which call fails, counted from 1. With 0, no call fails.
     pub fails_at: usize,
-    /// So often each read is interrupted.
+    /// How often each read is interrupted.
     pub interrupts: usize,
-    /// So often the next read is still interrupted.
+    /// How often the next read is still interrupted.
     pub interrupts_left: usize,
-    /// How often it was called: read, written or flushed.
+    /// How often it was called, for a read, a write or a flush.
     pub calls: usize,
     /// How often it was read.
     pub reads: usize,
     /// How often it was read when no byte was left.
     pub reads_past: usize,
-    /// How many bytes it gave.
+    /// How many bytes were read.
     pub given: usize,
-    /// Whether something else was written.
+    /// Whether something else than the request was written.
     pub is_other: bool,
 }
 
 impl<'a> Wire<'a> {
-    /// A connection that gives this reply whole, and takes this request whole.
+    /// A connection that returns this whole reply at one read, and takes this whole request at one
+    /// write.
     pub fn new(reply: &'a [u8], request: &'a [u8]) -> Wire<'a> {
         Wire {
             left: reply,
@@ -55,7 +56,7 @@ impl<'a> Wire<'a> {
         }
     }
 
-    /// The same connection, which gives and takes pieces of these lengths.
+    /// The same connection, which returns and takes pieces of at most these lengths.
     pub fn in_pieces(self, first: usize, piece: usize) -> Wire<'a> {
         Wire {
             first,
@@ -64,12 +65,12 @@ impl<'a> Wire<'a> {
         }
     }
 
-    /// Whether the request was written, whole and once.
+    /// Whether exactly the request was written.
     pub fn is_written(&self) -> bool {
         self.awaited.is_empty() && !self.is_other
     }
 
-    // One call, which may be the one that fails.
+    // Counts one call. An error if it is the call that fails.
     fn count(&mut self) -> io::Result<()> {
         self.calls = self.calls.saturating_add(1);
         if self.calls == self.fails_at {
@@ -78,7 +79,7 @@ impl<'a> Wire<'a> {
         Ok(())
     }
 
-    // A read, which may be interrupted.
+    // An error if this read is interrupted.
     fn interrupt(&mut self) -> io::Result<()> {
         if self.interrupts_left > 0 {
             self.interrupts_left -= 1;
@@ -88,7 +89,7 @@ impl<'a> Wire<'a> {
         Ok(())
     }
 
-    // What a read gives, where no byte may be left.
+    // If no byte is left, counts the read in `reads_past`, and continues with `again`.
     fn refill(&mut self) {
         if self.left.is_empty() {
             self.reads_past = self.reads_past.saturating_add(1);
@@ -96,7 +97,7 @@ impl<'a> Wire<'a> {
         }
     }
 
-    // Gives the next piece.
+    // Copies the next piece into `buf`, and returns its length.
     fn give(&mut self, buf: &mut [u8]) -> usize
         ensures { result ≤ length buf.new }
     {

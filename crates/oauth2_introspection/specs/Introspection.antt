@@ -11,7 +11,7 @@ use Rattle.oauth2_json.specs.Puts.{Row, put_all}
 use Rattle.oauth2_body_members.specs.Table.{Table, column, ◌▸◌, end, names_of, table_reading, rows_of}
 use Rattle.oauth2_replies.specs.Kept.{IsTypeKept, AreFieldsKept, AreScopesKept}
 
--- an introspection response; its times are in nanoseconds since 1970-01-01T00:00:00Z
+-- an introspection response (RFC 7662, 2.2); times are in nanoseconds since 1970-01-01T00:00:00Z
 pub record Introspection (E T : Type 0) : Type 0 where
   pub active : Bool
   pub scopes : Option (List (List ℕ))
@@ -27,22 +27,23 @@ pub record Introspection (E T : Type 0) : Type 0 where
   pub jti : Option (List ℕ)
   pub extra_fields : E
 
+-- an introspection response with these members, in the order of the fields
 abbrev pub introspection : {E T : Type 0}
     → Bool → Option (List (List ℕ)) → Option (List ℕ) → Option (List ℕ) → Option T → Option ℤ → Option ℤ → Option ℤ
     → Option (List ℕ) → Option (List (List ℕ)) → Option (List ℕ) → Option (List ℕ) → E → Introspection E T
 introspection a s c u t e i n b d o j x = record { active = a; scopes = s; client_id = c; username = u; token_type = t; exp = e; iat = i; nbf = n; sub = b; aud = d; iss = o; jti = j; extra_fields = x }
 
--- a response whose extra fields are seen by f and whose token type is seen by g
+-- the same response with `f` applied to its extra fields and `g` to its token type
 abbrev pub introspection_seen : {E T F M : Type 0} → (E → F) → (T → M) → Introspection E T → Introspection F M
 introspection_seen f g r =
     introspection r.active r.scopes r.client_id r.username (option_map g r.token_type) r.exp r.iat r.nbf r.sub r.aud r.iss r.jti (f r.extra_fields)
 
--- a response without its extra fields, its token type as JSON
+-- the same response without extra fields, with the JSON value `type_written` as its token type
 abbrev pub introspection_written : {E T : Type 0} → Option Data → Introspection E T → Introspection (Unit {0}) Data
 introspection_written type_written r =
     introspection r.active r.scopes r.client_id r.username type_written r.exp r.iat r.nbf r.sub r.aud r.iss r.jti tt
 
--- each own member: how it is read, and how it is written once the token type is JSON
+-- each member of RFC 7662, 2.2: how it is read, and how it is written once the token type is JSON
 abbrev pub introspection_table : {T : Type 0} → (Data → Reading T) → Table (Introspection (Unit {0}) Data)
 introspection_table token_type =
     column (codes "active") (needed_member flag) (λ r. Some (boolean r.active))
@@ -59,23 +60,25 @@ introspection_table token_type =
     ▸ column (codes "jti") (optional_member text) (λ r. option_map string r.jti)
     ▸ end
 
--- whatever reads the token type, the names are the same
+-- the names of these members, which do not depend on how the token type is read
 abbrev pub introspection_names : List (List ℕ)
 introspection_names = names_of (introspection_table Ok)
 
--- what each own member reads to, and then the object of the others
+-- reads the members of RFC 7662, 2.2, and then the extra fields from an object of the other members
 abbrev pub introspection_row : {E T : Type 0} → (Data → Reading E) → (Data → Reading T) → Members → Reading (Introspection E T)
 introspection_row extra_fields token_type ms =
     table_reading (introspection_table token_type) (Ok introspection) ms ⊛ extra_fields (object (others introspection_names ms))
 
+-- reads an introspection response from a JSON object (RFC 7662, 2.2)
 abbrev pub introspection_reading : {E T : Type 0} → (Data → Reading E) → (Data → Reading T) → Data → Reading (Introspection E T)
 introspection_reading extra_fields token_type d = read_then (members_of_object d) (introspection_row extra_fields token_type)
 
--- the type's own members, none of which is written where it is none; `type_written` is the token type's JSON
+-- the members of RFC 7662, 2.2, and their values; a member without a value is not written;
+-- `type_written` is the token type's JSON
 abbrev pub introspection_rows : {E T : Type 0} → Option Data → Introspection E T → List Row
 introspection_rows type_written r = rows_of (introspection_table Ok) (introspection_written type_written r)
 
--- the type's own members beside those of its extra fields
+-- writes these members and those of the extra fields, whose names must differ, as one object
 abbrev pub introspection_writing : {E T : Type 0} → (E → Writing) → (T → Writing) → Introspection E T → Writing
 introspection_writing extra_fields token_type r =
     write_then (optional_writing token_type r.token_type) (λ t.
@@ -83,7 +86,8 @@ introspection_writing extra_fields token_type r =
     write_then (beside introspection_names x) (λ ms.
     Ok (object (put_all (introspection_rows t r) ms)))))
 
--- what reads back as itself once it is written: no time is told but in whole seconds
+-- when a written introspection response reads back as itself: `er`, `em` and `ew` are the reading,
+-- the meaning and the writing of the extra fields, and `tr`, `tm` and `tw` those of the token type
 pub record IsIntrospectionKept {E T F M : Type 0} (er : Data → Reading F) (em : E → F) (ew : E → Writing) (tr : Data → Reading M) (tm : T → M) (tw : T → Writing) (r : Introspection E T) : Type 0 where
   pub token_type : IfSome r.token_type (IsTypeKept tr tm tw)
   pub scopes : AreScopesKept r.scopes

@@ -28,7 +28,7 @@ pub type BasicTokenIntrospectionResponse = StandardTokenIntrospectionResponse<
     BasicTokenType,
 >;
 
-/// What every introspection response tells.
+/// What every introspection response holds, whatever its extra fields are (RFC 7662, section 2.2).
 pub trait TokenIntrospectionResponse: FromJson + ToJson + fmt::Debug {
     ghost use Rattle.std.specs.Prelude.{
       ◌≡◌,
@@ -43,6 +43,7 @@ pub trait TokenIntrospectionResponse: FromJson + ToJson + fmt::Debug {
       string_bytes,
     };
 
+    /// The type that `token_type` returns.
     type TokenType: TokenType;
 
     ghost active: { Self → Bool };
@@ -55,7 +56,7 @@ pub trait TokenIntrospectionResponse: FromJson + ToJson + fmt::Debug {
 
     ghost token_type: { Self → Option Self.TokenType };
 
-    /// In nanoseconds since 1970-01-01T00:00:00Z, as are the next two.
+    /// `exp`, `iat` and `nbf` are in nanoseconds since 1970-01-01T00:00:00Z.
     ghost exp: { Self → Option ℤ };
 
     ghost iat: { Self → Option ℤ };
@@ -70,7 +71,7 @@ pub trait TokenIntrospectionResponse: FromJson + ToJson + fmt::Debug {
 
     ghost jti: { Self → Option (List ℕ) };
 
-    /// Whether the token is active.
+    /// Whether the token is active. If not, the server should send no other member.
     fn active(&self) -> bool
         ensures { result ≡ active self.now };
 
@@ -78,7 +79,7 @@ pub trait TokenIntrospectionResponse: FromJson + ToJson + fmt::Debug {
     fn scopes(&self) -> Option<&Vec<Scope>>
         ensures { option_map (λ list. list.now.items) result ≡ scopes self.now };
 
-    /// The client that asked for the token.
+    /// The client that requested the token.
     fn client_id(&self) -> Option<&ClientId>
         ensures { option_copied result ≡ client_id self.now };
 
@@ -98,7 +99,7 @@ pub trait TokenIntrospectionResponse: FromJson + ToJson + fmt::Debug {
     fn iat(&self) -> Option<Timestamp>
         ensures { option_map (λ time. time.nanosecond) result ≡ iat self.now };
 
-    /// Before when the token is not to be used.
+    /// The time before which the token must not be used.
     fn nbf(&self) -> Option<Timestamp>
         ensures { option_map (λ time. time.nanosecond) result ≡ nbf self.now };
 
@@ -106,7 +107,7 @@ pub trait TokenIntrospectionResponse: FromJson + ToJson + fmt::Debug {
     fn sub(&self) -> Option<&str>
         ensures { option_copied result ≡ sub self.now };
 
-    /// For whom the token is meant.
+    /// The audience of the token. A single string in the response is a list of one.
     fn aud(&self) -> Option<&Vec<String>>
         ensures { option_map (λ list. map string_bytes list.now.items) result ≡ aud self.now };
 
@@ -119,7 +120,7 @@ pub trait TokenIntrospectionResponse: FromJson + ToJson + fmt::Debug {
         ensures { option_copied result ≡ jti self.now };
 }
 
-/// The introspection response of the standard, with extra fields `EF` and token types `TT`.
+/// The introspection response of RFC 7662, section 2.2, with extra fields `EF` and token type `TT`.
 #[derive(Debug)]
 pub struct StandardTokenIntrospectionResponse<EF, TT> {
     pub(crate) active: bool,
@@ -183,7 +184,7 @@ impl<EF, TT> Model for StandardTokenIntrospectionResponse<EF, TT> {
 impl<EF: Drop, TT: Drop> StandardTokenIntrospectionResponse<EF, TT> {
     ghost use Rattle.oauth2_introspection.specs.Introspection.{introspection};
 
-    /// A response that tells nothing else.
+    /// A response with `active` and extra fields only; all other members are absent.
     pub fn new(active: bool, extra_fields: EF) -> Self
         ensures { result
             ≡ introspection active None None None None None None None None None None None
@@ -206,61 +207,72 @@ impl<EF: Drop, TT: Drop> StandardTokenIntrospectionResponse<EF, TT> {
         }
     }
 
+    /// Sets whether the token is active.
     pub fn set_active(&mut self, active: bool)
         ensures { self.new ≡ record self.old { active = active } }
     {
         self.active = active;
     }
 
+    /// Replaces the scopes. An empty list is written as an empty string, which does not read back
+    /// as an empty list.
     pub fn set_scopes(&mut self, scopes: Option<Vec<Scope>>)
         ensures { self.new ≡ record self.old { scopes = option_map (λ list. list.items) scopes } }
     {
         self.scopes = scopes;
     }
 
+    /// Replaces the client that requested the token.
     pub fn set_client_id(&mut self, client_id: Option<ClientId>)
         ensures { self.new ≡ record self.old { client_id = client_id } }
     {
         self.client_id = client_id;
     }
 
+    /// Replaces the name of the resource owner who authorized the token.
     pub fn set_username(&mut self, username: Option<String>)
         ensures { self.new ≡ record self.old { username = option_map string_bytes username } }
     {
         self.username = username;
     }
 
+    /// Replaces the token type.
     pub fn set_token_type(&mut self, token_type: Option<TT>)
         ensures { self.new ≡ record self.old { token_type = token_type } }
     {
         self.token_type = token_type;
     }
 
-    /// Written as whole seconds, rounded down, as are the next two.
+    /// Replaces the time when the token expires. It is written as whole seconds, rounded down.
     pub fn set_exp(&mut self, exp: Option<Timestamp>)
         ensures { self.new ≡ record self.old { exp = option_map (λ time. time.nanosecond) exp } }
     {
         self.exp = exp;
     }
 
+    /// Replaces the time when the token was issued. It is written as whole seconds, rounded down.
     pub fn set_iat(&mut self, iat: Option<Timestamp>)
         ensures { self.new ≡ record self.old { iat = option_map (λ time. time.nanosecond) iat } }
     {
         self.iat = iat;
     }
 
+    /// Replaces the time before which the token must not be used. It is written as whole seconds,
+    /// rounded down.
     pub fn set_nbf(&mut self, nbf: Option<Timestamp>)
         ensures { self.new ≡ record self.old { nbf = option_map (λ time. time.nanosecond) nbf } }
     {
         self.nbf = nbf;
     }
 
+    /// Replaces the subject of the token.
     pub fn set_sub(&mut self, sub: Option<String>)
         ensures { self.new ≡ record self.old { sub = option_map string_bytes sub } }
     {
         self.sub = sub;
     }
 
+    /// Replaces the audience of the token. It is written as an array.
     pub fn set_aud(&mut self, aud: Option<Vec<String>>)
         ensures { self.new ≡ record self.old {
           aud = option_map (λ list. map string_bytes list.items) aud;
@@ -269,12 +281,14 @@ impl<EF: Drop, TT: Drop> StandardTokenIntrospectionResponse<EF, TT> {
         self.aud = aud;
     }
 
+    /// Replaces the issuer of the token.
     pub fn set_iss(&mut self, iss: Option<String>)
         ensures { self.new ≡ record self.old { iss = option_map string_bytes iss } }
     {
         self.iss = iss;
     }
 
+    /// Replaces the identifier of the token.
     pub fn set_jti(&mut self, jti: Option<String>)
         ensures { self.new ≡ record self.old { jti = option_map string_bytes jti } }
     {
@@ -288,6 +302,7 @@ impl<EF: Drop, TT: Drop> StandardTokenIntrospectionResponse<EF, TT> {
         &self.extra_fields
     }
 
+    /// Replaces the members that the standard does not name.
     pub fn set_extra_fields(&mut self, extra_fields: EF)
         ensures { self.new ≡ record self.old { extra_fields = extra_fields } }
     {
@@ -381,7 +396,7 @@ impl<EF: ExtraTokenFields + Drop, TT: TokenType + Drop> TokenIntrospectionRespon
     }
 }
 
-// What was granted, and to whom.
+// The state of the token, its scopes, its client and its resource owner.
 #[derive(Drop)]
 pub(crate) struct Grant {
     pub(crate) active: bool,
@@ -390,7 +405,7 @@ pub(crate) struct Grant {
     pub(crate) username: Option<String>,
 }
 
-// What the token is, and when it is good.
+// The type of the token and its three times.
 #[derive(Drop)]
 pub(crate) struct Validity<TT> {
     pub(crate) token_type: Option<TT>,
@@ -399,7 +414,7 @@ pub(crate) struct Validity<TT> {
     pub(crate) nbf: Option<Timestamp>,
 }
 
-// Whom the token names, and its own name.
+// The subject, audience, issuer and identifier of the token.
 #[derive(Drop)]
 pub(crate) struct Claims {
     pub(crate) sub: Option<String>,

@@ -34,13 +34,13 @@ use oauth2_body_members::Object;
 use oauth2_codes::TokenType;
 use oauth2_json::{FromJson, ReadError, ToJson, WriteError, members};
 use oauth2_replies::{ExtraTokenFields, scopes_value};
-use oauth2_types::ClientId;
 use oauth2_times::{take_optional_time, time_value};
+use oauth2_types::ClientId;
 use serde_json::{Map, Value};
 use std::alloc::{AllocError, Global};
 use std::ops::Deref;
 
-/// The own members.
+/// The members of RFC 7662, section 2.2.
 const NAMES: [&str; 12] = [
     "active",
     "scope",
@@ -134,7 +134,7 @@ fn take_claims(alloc: Global, members: &mut Object<'_>) -> Result<Claims, ReadEr
     })
 }
 
-// The own members, group by group, and what is left of the others.
+// Reads the members group by group, and then the extra fields from the members that are left.
 fn from_members<EF: ExtraTokenFields + Drop, TT: TokenType + Drop>(
     alloc: Global,
     mut members: Object<'_>,
@@ -164,7 +164,7 @@ fn from_members<EF: ExtraTokenFields + Drop, TT: TokenType + Drop>(
 }
 
 impl<EF: ExtraTokenFields, TT: TokenType> StandardTokenIntrospectionResponse<EF, TT> {
-    fn written(&self, alloc: Global) -> Result<Value, WriteError>
+    fn to_value(&self, alloc: Global) -> Result<Value, WriteError>
         ensures written { WritesAs result (introspection_writing EF.writing TT.writing self.now) }
         ensures times { AreInstants self.now }
     {
@@ -214,13 +214,13 @@ impl<EF: ExtraTokenFields, TT: TokenType> ToJson for StandardTokenIntrospectionR
 
     fn to_json(&self, alloc: Global) -> Result<Value, WriteError>
         ensures written { WritesAs result (introspection_writing EF.writing TT.writing self.now) }
-        // What is kept reads back as the same response.
+        // What is written reads back as the same response, if `IsIntrospectionKept` holds of it.
         ensures reads_back { IfOk result (λ v.
             IsIntrospectionKept EF.reading EF.meaning EF.writing TT.reading TT.meaning TT.writing
             self.now
             → introspection_reading EF.reading TT.reading (view v)
             ≡ Ok (introspection_seen EF.meaning TT.meaning self.now)) }
     {
-        self.written(alloc)
+        self.to_value(alloc)
     }
 }

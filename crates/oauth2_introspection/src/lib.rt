@@ -1,4 +1,4 @@
-//! The response of an OAuth 2.0 server to an introspection (RFC 7662).
+//! The response of an OAuth 2.0 server to an introspection (RFC 7662), and the times in it.
 
 #![tactic(auto)]
 
@@ -6,7 +6,7 @@ mod introspection;
 mod introspection_json;
 
 pub use introspection::{
-    // The standard's, and what every response tells.
+    // The response of RFC 7662, and the trait of every introspection response.
     BasicTokenIntrospectionResponse, StandardTokenIntrospectionResponse,
     TokenIntrospectionResponse,
 };

@@ -9,24 +9,28 @@ use Rattle.oauth2_json.specs.Members.{members_of_object, needed_member}
 use Rattle.oauth2_json.specs.Puts.{Row, put_all}
 use Rattle.oauth2_json.specs.Values.{text}
 
+-- a code challenge from its text and its method
 abbrev pub challenge : List ℕ → List ℕ → Challenge
 challenge c m = record { text = c; method = m }
 
--- other members are ignored
+-- reads the two members of a challenge, each a JSON string; other members are ignored
 abbrev pub challenge_row : Members → Reading Challenge
 challenge_row ms =
     Ok challenge
     ⊛ needed_member text (codes "code_challenge") (get_member (codes "code_challenge") ms)
     ⊛ needed_member text (codes "code_challenge_method") (get_member (codes "code_challenge_method") ms)
 
+-- what a JSON value reads to as a code challenge; it has to be an object
 abbrev pub challenge_reading : Data → Reading Challenge
 challenge_reading d = read_then (members_of_object d) challenge_row
 
+-- the two members that a code challenge is written as
 abbrev pub challenge_rows : Challenge → List Row
 challenge_rows c =
     (codes "code_challenge", Some (string c.text))
     ∷ (codes "code_challenge_method", Some (string c.method))
     ∷ []
 
+-- the JSON object that a code challenge is written as; no challenge is refused
 abbrev pub challenge_writing : Challenge → Writing
 challenge_writing c = Ok (object (put_all (challenge_rows c) no_members))

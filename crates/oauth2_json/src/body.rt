@@ -1,4 +1,4 @@
-//! Whole texts of JSON.
+//! Whole bodies of JSON.
 
 ghost use Rattle.std.specs.Prelude.{◌≡◌, ◌≤◌, Ok, Some, false, IfOk, IfErr, string_bytes};
 ghost use Rattle.serde_json.specs.Data.{Data, depth};
@@ -12,14 +12,14 @@ use crate::read::{FromJson, ReadError};
 use crate::write::{ToJson, WriteError};
 use std::alloc::Global;
 
-/// Reads one whole JSON value.
+/// Reads a body that is one JSON value in UTF-8.
 pub fn read_body<T: FromJson>(alloc: Global, bytes: &[u8]) -> Result<T, ReadError>
     ensures { ReadsAs T.meaning result (body_reading T.reading bytes.now) }
 {
     T::from_body(alloc, bytes)
 }
 
-/// The compact text of what is written.
+/// Writes a value as a compact JSON text.
 pub fn compact<T: ToJson>(alloc: Global, value: &T) -> Result<String, WriteError>
     ensures text { IfOk result (λ s. (d : Data) × (T.writing value.now ≡ Ok d)
         × (has_float d ≡ false → string_bytes s ≡ compact_text d)

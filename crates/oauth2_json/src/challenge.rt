@@ -31,8 +31,8 @@ impl FromJson for PkceCodeChallenge {
     }
 }
 
-// The members of a challenge.
-fn written(alloc: Global, challenge: &PkceCodeChallenge) -> Result<Value, WriteError>
+// Writes a challenge as an object with two members.
+fn challenge_value(alloc: Global, challenge: &PkceCodeChallenge) -> Result<Value, WriteError>
     ensures { WritesAs result (challenge_writing challenge.now) }
 {
     let text = Value::try_from_str(alloc, challenge.as_str())?;
@@ -50,6 +50,6 @@ impl ToJson for PkceCodeChallenge {
         ensures written { WritesAs result (challenge_writing self.now) }
         ensures reads_back { IfOk result (λ v. challenge_reading (view v) ≡ Ok self.now) }
     {
-        written(alloc, self)
+        challenge_value(alloc, self)
     }
 }

@@ -16,7 +16,7 @@ use serde_json::Value;
 use std::alloc::{AllocError, Global};
 use std::convert::AsStr;
 
-/// Reads a text, its ASCII letters lowered. A fault names no member.
+/// Reads a JSON string after its ASCII letters are lowered. A fault has an empty member name.
 pub fn deserialize_untagged_enum_case_insensitive<T: FromJson>(
     alloc: Global,
     value: Value,
@@ -27,8 +27,8 @@ pub fn deserialize_untagged_enum_case_insensitive<T: FromJson>(
     Ok(read)
 }
 
-/// Reads a text and splits it at every space (RFC 6749, section 3.3); null reads as `None`. The
-/// error names no member.
+/// Reads a JSON string and splits it at every space (RFC 6749, section 3.3). Null reads as `None`.
+/// A fault has an empty member name.
 pub fn deserialize_space_delimited_vec<T: FromJson + Drop>(
     alloc: Global,
     value: Value,
@@ -39,7 +39,8 @@ pub fn deserialize_space_delimited_vec<T: FromJson + Drop>(
     members::optional_words(alloc, "", Some(value))
 }
 
-/// Reads a text or a list of texts; null is none. A fault names no member.
+/// Reads a JSON string or an array of strings. Null reads as `None`. A fault has an empty member
+/// name.
 pub fn deserialize_optional_string_or_vec_string(
     alloc: Global,
     value: Value,
@@ -50,14 +51,14 @@ pub fn deserialize_optional_string_or_vec_string(
     members::optional_texts(alloc, "", Some(value))
 }
 
-/// The text of a list, with one space between two entries; none is null.
+/// Writes a list as one JSON string, with a space between two entries. `None` is written as null.
 pub fn serialize_space_delimited_vec<T: AsStr>(
     alloc: Global,
     words: &Option<Vec<T>>,
 ) -> Result<Value, AllocError>
     ensures value { IfOk result (λ v. view v
         ≡ words_data (option_map (λ v. map T.text v.items) words.now)) }
-    // A list reads back exactly where it isn't empty and no entry holds a space.
+    // A list reads back unchanged exactly if it isn't empty and no entry has a space.
     ensures reads_back { let lists = option_map (λ v. map T.text v.items) words.now in
         IfOk result (λ v. (nullable (words_reading text) (view v) ≡ Ok lists)
         ↔ IfSome lists (λ ps. IsTrue (are_words ps))) }

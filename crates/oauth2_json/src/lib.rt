@@ -1,4 +1,4 @@
-//! JSON values of OAuth 2.0: what reads to which record, and what is written.
+//! Reading the values of OAuth 2.0 from JSON, and writing them as JSON.
 
 #![tactic(auto)]
 

@@ -29,7 +29,7 @@ impl<T: FromJson> FromJson for Lowered<T> {
     }
 }
 
-/// A text that has to be there, read with its ASCII letters lowered.
+/// Reads a required string after its ASCII letters are lowered.
 pub fn needed_lowered<T: FromJson>(
     alloc: Global,
     name: &str,
@@ -42,7 +42,7 @@ pub fn needed_lowered<T: FromJson>(
     Ok(read)
 }
 
-/// A text that may be absent, but not null, read with its ASCII letters lowered.
+/// Reads a string that may be absent, but not null, after its ASCII letters are lowered.
 pub fn present_lowered<T: FromJson>(
     alloc: Global,
     name: &str,

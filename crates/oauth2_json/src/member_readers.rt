@@ -1,4 +1,4 @@
-//! The members of an object, by name: what is taken out, and a reader for each kind of absence.
+//! The members of an object: taking one out, and readers for required and optional ones.
 
 ghost use Rattle.std.specs.Prelude.{◌≡◌, option_map};
 ghost use Rattle.serde_json.specs.Find.{get_member};
@@ -12,7 +12,7 @@ use crate::read::{FromJson, ParseCause, ReadError};
 use serde_json::{Map, Value};
 use std::alloc::Global;
 
-/// The members of an object. Takes no memory.
+/// Returns the members of an object; any other value is `NotObject`. Allocates nothing.
 pub fn of_object(alloc: Global, value: Value) -> Result<Map<String, Value>, ReadError>
     ensures { ReadsExactly (λ m. members_view m.entries) result (members_of_object (view value)) }
 {
@@ -22,7 +22,7 @@ pub fn of_object(alloc: Global, value: Value) -> Result<Map<String, Value>, Read
     }
 }
 
-/// Takes the member out.
+/// Removes the member of that name and returns its value; `None` if there is none.
 pub fn take(members: &mut Map<String, Value>, name: &str) -> Option<Value>
     ensures found { option_map view result
         ≡ get_member name.now (members_view members.old.entries) }
@@ -32,7 +32,7 @@ pub fn take(members: &mut Map<String, Value>, name: &str) -> Option<Value>
     members.remove(name)
 }
 
-// What a member's value reads to; a fault stands under the member's name.
+// Reads a member's value. A fault is reported with the member's name.
 pub(crate) fn under_name<T: FromJson>(
     alloc: Global,
     name: &str,
@@ -46,7 +46,7 @@ pub(crate) fn under_name<T: FromJson>(
     }
 }
 
-/// A member that has to be there.
+/// Reads a required member: absent is `Missing`, null is `WrongType`.
 pub fn needed<T: FromJson>(alloc: Global, name: &str, found: Option<Value>) -> Result<T, ReadError>
     ensures { ReadsAs T.meaning result (needed_member T.reading name.now (option_map view found)) }
 {
@@ -57,7 +57,7 @@ pub fn needed<T: FromJson>(alloc: Global, name: &str, found: Option<Value>) -> R
     }
 }
 
-/// A member that may be absent or null.
+/// Reads a member that may be absent or null; both read as `None`.
 pub fn optional<T: FromJson>(
     alloc: Global,
     name: &str,
@@ -72,7 +72,7 @@ pub fn optional<T: FromJson>(
     }
 }
 
-/// A member that may be absent, but not null.
+/// Reads a member that may be absent. Null is read by `T` like any other value.
 pub fn present<T: FromJson>(
     alloc: Global,
     name: &str,
@@ -87,7 +87,7 @@ pub fn present<T: FromJson>(
     }
 }
 
-/// A member that has to be there, under its own name or another one, not under both.
+/// Reads a required member that has one of two names. It is `BothNames` if both are present.
 pub fn either_name<T: FromJson>(
     alloc: Global,
     name: &str,

@@ -1,4 +1,4 @@
-//! What the writer of an object needs: the members that stand beside its own, and its own.
+//! Helpers that write an object: the type's own members, and the extra members next to them.
 
 ghost use Rattle.std.specs.Prelude.{◌≡◌, true, option_map, is_some, IfOk, OnOk, OnErr, map};
 ghost use Rattle.serde_json.specs.Find.{get_member};
@@ -49,7 +49,7 @@ pub fn beside(own: &[&str], extra: Value) -> Result<Map<String, Value>, WriteErr
     Ok(members)
 }
 
-/// Puts a member in, where there is one.
+/// Puts in a member that has a value. `None` changes nothing.
 pub fn put_some(
     members: &mut Map<String, Value>,
     alloc: Global,
@@ -58,7 +58,7 @@ pub fn put_some(
 ) -> Result<(), AllocError>
     ensures ok { OnOk result (members_view members.new.entries
         ≡ put_some name.now (option_map view value) (members_view members.old.entries)) }
-    // Members in byte order of their names stay so.
+    // If the members were in byte order of their names, they still are.
     ensures ordered { OnOk result (in_order (members_view members.old.entries) ≡ true
         → in_order (members_view members.new.entries) ≡ true) }
     ensures err { OnErr result (members.new.entries ≡ members.old.entries) }
@@ -69,7 +69,7 @@ pub fn put_some(
     }
 }
 
-/// The value of a text that may be absent.
+/// Converts an optional text to a JSON string.
 pub fn text_value<T: AsStr>(alloc: Global, text: &Option<T>) -> Result<Option<Value>, AllocError>
     ensures { IfOk result
         (λ v. option_map view v ≡ option_map string (option_map T.text text.now)) }
@@ -80,7 +80,7 @@ pub fn text_value<T: AsStr>(alloc: Global, text: &Option<T>) -> Result<Option<Va
     }
 }
 
-/// What is written, where there is something.
+/// Writes an optional value. `None` writes nothing.
 pub fn optional_to_json<T: ToJson>(
     alloc: Global,
     value: &Option<T>,

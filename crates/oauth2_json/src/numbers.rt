@@ -58,7 +58,7 @@ impl FromJson for WholeNumber {
     }
 }
 
-/// A truth value that has to be there.
+/// Reads a required member that is true or false.
 pub fn needed_flag(alloc: Global, name: &str, found: Option<Value>) -> Result<bool, ReadError>
     ensures { ReadsAs (λ b. b) result (needed_member flag name.now (option_map view found)) }
 {
@@ -66,7 +66,7 @@ pub fn needed_flag(alloc: Global, name: &str, found: Option<Value>) -> Result<bo
     Ok(b)
 }
 
-/// A number that has to be there.
+/// Reads a required member that is a whole number and not negative.
 pub fn needed_number(alloc: Global, name: &str, found: Option<Value>) -> Result<u64, ReadError>
     ensures { ReadsAs (λ n. n) result
         (needed_member whole_number name.now (option_map view found)) }
@@ -75,7 +75,7 @@ pub fn needed_number(alloc: Global, name: &str, found: Option<Value>) -> Result<
     Ok(n)
 }
 
-/// A number that may be absent or null.
+/// Reads a whole number that is not negative. Absent and null read as `None`.
 pub fn optional_number(
     alloc: Global,
     name: &str,
@@ -90,7 +90,7 @@ pub fn optional_number(
     }
 }
 
-/// A number that is `default` where it is absent or null.
+/// Reads a whole number that is not negative. Absent and null read as `default`.
 pub fn number_or(
     alloc: Global,
     name: &str,
@@ -106,7 +106,7 @@ pub fn number_or(
     }
 }
 
-/// The value of a number that may be absent.
+/// Converts an optional number to a JSON number.
 pub fn number_value(n: Option<u64>) -> Option<Value>
     ensures { option_map view result ≡ option_map (λ x. number (unsigned x)) n }
 {

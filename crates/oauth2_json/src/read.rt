@@ -1,4 +1,4 @@
-//! Reading: what a type reads a JSON value to, and why it reads to nothing.
+//! Reading: the trait of the types that can be read from JSON, and the errors.
 
 ghost use Rattle.std.specs.Prelude.{◌≡◌, Some};
 ghost use Rattle.oauth2_json.specs.ErrorTexts.{cause_text, parse_fault_text, read_error_text};
@@ -39,14 +39,14 @@ pub enum ParseCause {
 pub struct ParseFault {
     /// The name of the member.
     pub member: String,
-    /// Why it reads to nothing.
+    /// Why it could not be read.
     pub cause: ParseCause,
 }
 
-/// Why nothing was read.
+/// Why a value could not be read.
 #[derive(Debug, PartialEq, Eq, Drop)]
 pub enum ReadError {
-    /// The value reads to nothing.
+    /// The value has a fault.
     Fault(ParseFault),
     /// Memory ran out.
     Memory,
@@ -129,7 +129,7 @@ impl<T: Drop> From<AllocFailed<T>> for ReadError {
 }
 
 impl ReadError {
-    /// The whole value is at fault. Takes no memory.
+    /// A fault of the whole value: the member name is empty. Allocates nothing.
     pub fn whole(alloc: Global, cause: ParseCause) -> ReadError
         ensures { IsFault result (whole cause) }
     {
@@ -137,7 +137,7 @@ impl ReadError {
         ReadError::Fault(ParseFault { member, cause })
     }
 
-    /// The member is at fault.
+    /// A fault of the member `name`; `Memory` if there is no memory for the name.
     pub fn at(alloc: Global, name: &str, cause: ParseCause) -> ReadError
         ensures { FaultsAs result (record { member = name.now; cause = cause }) }
     {
@@ -147,8 +147,8 @@ impl ReadError {
         }
     }
 
-    /// The error under the name of an outer member, for a fault inside that member. The cause
-    /// stays the same.
+    /// The error with the name of an outer member, for a fault inside that member. The cause stays
+    /// the same.
     pub fn under(self, alloc: Global, name: &str) -> ReadError
         ensures { UnderAs name.now self result }
     {
@@ -167,18 +167,21 @@ pub trait FromJson {
     ghost use Rattle.serde_json.specs.Data.{Data, Members, object};
     ghost use Rattle.serde_json.specs.View.{view};
 
-    /// What contracts see of a record: its texts as bytes, wherever they lie in memory.
+    /// What contracts compare of a value: its contents, with texts as bytes, not its place in
+    /// memory.
     ghost Meaning: { Type 0 };
 
     ghost meaning: { Self → Meaning };
 
-    /// What a value reads to.
+    /// What a JSON value reads to: a meaning, or a fault.
     ghost reading: { Data → Reading Meaning };
 
+    /// Reads a JSON value that is already parsed.
     fn from_json(alloc: Global, value: Value) -> Result<Self, ReadError>
         ensures { ReadsAs meaning result (reading (view value)) };
 
-    /// Reads the one JSON value that a whole body is; a type may do so without a `Value`.
+    /// Reads a whole body, which has to be one JSON value. A type may override it, to read the body
+    /// without a `Value`.
     fn from_body(alloc: Global, bytes: &[u8]) -> Result<Self, ReadError>
         ensures { ReadsAs meaning result (body_reading reading bytes.now) }
     {

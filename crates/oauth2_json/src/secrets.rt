@@ -1,4 +1,4 @@
-//! Secrets as JSON texts.
+//! Secrets as JSON strings.
 
 ghost use Rattle.std.specs.Prelude.{ℕ, List, Ok};
 ghost use Rattle.serde_json.specs.Data.{string};

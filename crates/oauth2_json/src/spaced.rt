@@ -37,11 +37,11 @@ pub fn pieces<T: FromJson + Drop>(alloc: Global, text: &str) -> Result<Vec<T>, R
     Ok(read)
 }
 
-// How many bytes a text of words has room for before it grows.
+// The initial capacity of a joined text, in bytes.
 const ROOM: usize = 64;
 
-/// The texts, with one space between two.
-pub fn joined<T: AsStr>(alloc: Global, items: &[T]) -> Result<String, AllocError>
+/// Joins the texts, with one space between two.
+pub fn join_with_spaces<T: AsStr>(alloc: Global, items: &[T]) -> Result<String, AllocError>
     ensures { IfOk result (λ s. string_bytes s ≡ joined_words (map T.text items.now)) }
 {
     let Some((first, rest)) = items.split_first() else {
@@ -65,7 +65,7 @@ fn append_spaced<T: AsStr>(text: &mut String, items: &[T]) -> Result<(), AllocEr
     Ok(())
 }
 
-// A text, split at every space, of which `T` reads each piece.
+// The pieces of a text that is split at every space, each read as a `T`.
 #[derive(Drop)]
 pub(crate) struct Spaced<T>(pub(crate) Vec<T>);
 
@@ -82,7 +82,7 @@ impl<T: FromJson + Drop> FromJson for Spaced<T> {
     }
 }
 
-/// The list of a text that may be absent or null.
+/// Reads a string as the list of its pieces between spaces. Absent and null read as `None`.
 pub fn optional_words<T: FromJson + Drop>(
     alloc: Global,
     name: &str,
@@ -97,14 +97,14 @@ pub fn optional_words<T: FromJson + Drop>(
     }
 }
 
-// The text of a list, as a JSON value.
+// Writes a list as one JSON string, with a space between two entries.
 pub(crate) fn words_text<T: AsStr>(alloc: Global, words: &[T]) -> Result<Value, AllocError>
     ensures { IfOk result (λ v. view v ≡ string (joined_words (map T.text words.now))) }
 {
-    Ok(Value::String(joined(alloc, words)?))
+    Ok(Value::String(join_with_spaces(alloc, words)?))
 }
 
-/// The text of a list that may be absent.
+/// Converts an optional list to one JSON string, with a space between two entries.
 pub fn words_value<T: AsStr>(
     alloc: Global,
     words: &Option<Vec<T>>,

@@ -1,4 +1,4 @@
-//! Lists of texts as members. For some a text alone is a list of one (RFC 7662, section 2.2).
+//! Lists of texts as members. Some may be a single string, read as a list of one (RFC 7662, 2.2).
 
 ghost use Rattle.std.specs.Prelude.{◌≡◌, ℕ, List, [], ◌∷◌, map, option_map, IfOk, string_bytes};
 ghost use Rattle.serde_json.specs.Data.{array};
@@ -12,7 +12,7 @@ use crate::read::{FromJson, ParseCause, ReadError};
 use serde_json::Value;
 use std::alloc::{AllocError, Global};
 
-// A text, or a list of texts.
+// A JSON string or an array of strings.
 #[derive(Drop)]
 pub(crate) struct Texts(pub(crate) Vec<String>);
 
@@ -60,7 +60,7 @@ fn values(alloc: Global, texts: &[String]) -> Result<Vec<Value>, AllocError>
     Ok(list)
 }
 
-/// A text or a list of texts that may be absent or null.
+/// Reads a string, as a list of one, or an array of strings. Absent and null read as `None`.
 pub fn optional_texts(
     alloc: Global,
     name: &str,
@@ -75,7 +75,7 @@ pub fn optional_texts(
     }
 }
 
-/// A text or a list of texts that has to be there.
+/// Reads a required member that is a string, read as a list of one, or an array of strings.
 pub fn needed_texts(
     alloc: Global,
     name: &str,
@@ -88,7 +88,7 @@ pub fn needed_texts(
     Ok(list)
 }
 
-/// A list of texts that may be absent or null. A text alone is of the wrong type.
+/// Reads an array of strings. Absent and null read as `None`. A single string is `WrongType`.
 pub fn optional_text_list(
     alloc: Global,
     name: &str,
@@ -103,7 +103,7 @@ pub fn optional_text_list(
     }
 }
 
-/// The value of a list of texts that may be absent.
+/// Converts an optional list of texts to a JSON array of strings.
 pub fn texts_value(alloc: Global, texts: &Option<Vec<String>>) -> Result<Option<Value>, AllocError>
     ensures { IfOk result (λ v. option_map view v
         ≡ option_map (λ ps. array (text_items ps))

@@ -1,4 +1,4 @@
-//! Texts as JSON texts.
+//! Texts as JSON strings.
 
 ghost use Rattle.std.specs.Prelude.{ℕ, List, Ok, string_bytes};
 ghost use Rattle.serde_json.specs.Data.{string};
@@ -22,7 +22,7 @@ impl FromJson for String {
 
     fn from_json(alloc: Global, value: Value) -> Result<String, ReadError>
         ensures reads { ReadsAs string_bytes result (text (view value)) }
-        // Takes no memory.
+        // The same without `Memory`, since nothing is allocated.
         ensures exactly { ReadsExactly string_bytes result (text (view value)) }
     {
         match value {

@@ -1,4 +1,4 @@
-//! URLs as JSON texts.
+//! URLs as JSON strings.
 
 ghost use Rattle.std.specs.Prelude.{◌≡◌, ℕ, List, None, Ok, Err, ◌⊎◌};
 ghost use Rattle.serde_json.specs.Data.{string};
@@ -18,8 +18,8 @@ use std::alloc::Global;
 use std::ops::Deref;
 use url::ParseError;
 
-// Why a text is no URL.
-fn refused(alloc: Global, error: ParseError) -> ReadError
+// The reading error for an error of the URL parser.
+fn url_error(alloc: Global, error: ParseError) -> ReadError
     ensures { (text : List ℕ) → (parse_url None text ≡ Err error) ⊎ IsOutOfRoom error
         → ErrsAs result (url_text text) }
 {
@@ -40,7 +40,7 @@ impl FromJson for AuthUrl {
         let text = String::from_json(alloc, value)?;
         match AuthUrl::new(alloc, text) {
             Ok(url) => Ok(url),
-            Err(error) => Err(refused(alloc, error)),
+            Err(error) => Err(url_error(alloc, error)),
         }
     }
 }
@@ -64,7 +64,7 @@ impl FromJson for DeviceAuthorizationUrl {
         let text = String::from_json(alloc, value)?;
         match DeviceAuthorizationUrl::new(alloc, text) {
             Ok(url) => Ok(url),
-            Err(error) => Err(refused(alloc, error)),
+            Err(error) => Err(url_error(alloc, error)),
         }
     }
 }
@@ -88,7 +88,7 @@ impl FromJson for EndUserVerificationUrl {
         let text = String::from_json(alloc, value)?;
         match EndUserVerificationUrl::new(alloc, text) {
             Ok(url) => Ok(url),
-            Err(error) => Err(refused(alloc, error)),
+            Err(error) => Err(url_error(alloc, error)),
         }
     }
 }
@@ -112,7 +112,7 @@ impl FromJson for IntrospectionUrl {
         let text = String::from_json(alloc, value)?;
         match IntrospectionUrl::new(alloc, text) {
             Ok(url) => Ok(url),
-            Err(error) => Err(refused(alloc, error)),
+            Err(error) => Err(url_error(alloc, error)),
         }
     }
 }
@@ -136,7 +136,7 @@ impl FromJson for RedirectUrl {
         let text = String::from_json(alloc, value)?;
         match RedirectUrl::new(alloc, text) {
             Ok(url) => Ok(url),
-            Err(error) => Err(refused(alloc, error)),
+            Err(error) => Err(url_error(alloc, error)),
         }
     }
 }
@@ -160,7 +160,7 @@ impl FromJson for RevocationUrl {
         let text = String::from_json(alloc, value)?;
         match RevocationUrl::new(alloc, text) {
             Ok(url) => Ok(url),
-            Err(error) => Err(refused(alloc, error)),
+            Err(error) => Err(url_error(alloc, error)),
         }
     }
 }
@@ -184,7 +184,7 @@ impl FromJson for TokenUrl {
         let text = String::from_json(alloc, value)?;
         match TokenUrl::new(alloc, text) {
             Ok(url) => Ok(url),
-            Err(error) => Err(refused(alloc, error)),
+            Err(error) => Err(url_error(alloc, error)),
         }
     }
 }

@@ -1,4 +1,4 @@
-//! Writing: what a value is written as, and why it is not.
+//! Writing: the trait of the types that can be written as JSON, and the errors.
 
 ghost use Rattle.std.specs.Prelude.{◌≡◌, Some};
 ghost use Rattle.oauth2_json.specs.ErrorTexts.{write_error_text};
@@ -7,7 +7,7 @@ use serde_json::Value;
 use std::alloc::{AllocError, AllocFailed, Global};
 use std::fmt;
 
-/// Why nothing was written.
+/// Why a value could not be written.
 #[derive(Clone, Copy, Debug, PartialEq, Eq, Drop)]
 pub enum WriteError {
     /// Memory ran out.
@@ -60,9 +60,10 @@ impl<T: Drop> From<AllocFailed<T>> for WriteError {
 pub trait ToJson {
     ghost use Rattle.oauth2_json.specs.Writing.{Writing, WritesAs};
 
-    /// What a value is written as.
+    /// What a value is written as: JSON, or a refusal.
     ghost writing: { Self → Writing };
 
+    /// Writes the value as a JSON value.
     fn to_json(&self, alloc: Global) -> Result<Value, WriteError>
         ensures { WritesAs result (writing self.now) };
 }

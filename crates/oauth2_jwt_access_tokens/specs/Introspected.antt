@@ -4,12 +4,13 @@ use Rattle.oauth2_introspection.specs.Introspection.{Introspection, introspectio
 use Rattle.oauth2_openid.specs.Rules.{is_among}
 use Rattle.oauth2_jwt_access_tokens.specs.AccessToken.{AccessToken}
 
--- a scope is one of those that the token has
+-- whether a scope is one of those of the token, byte for byte; none is if the token has no scopes
 abbrev pub is_in_scope : List ℕ → Option (List (List ℕ)) → Bool
 is_in_scope scope None = false
 is_in_scope scope (Some scopes) = is_among scope scopes
 
--- an active token; a JSON Web Token says nothing of a user name and of a token type
+-- the response for an active token; it has no `username` and no `token_type`, which a JWT access
+-- token does not have
 abbrev pub introspected : {E T : Type 0} → AccessToken → E → Introspection E T
 introspected t extra_fields =
     let claims = t.token.claims.own in

@@ -1,5 +1,5 @@
--- What a resource server expects of a JWT access token, and the rules by which it takes one (RFC 9068, 4),
--- in the order in which the first that does not hold is named.
+-- What a resource server expects of a JWT access token, and the rules for one (RFC 9068, 4). They
+-- are tried in the order of this file, and the first broken rule is the fault.
 use Rattle.std.specs.Prelude.{◌≡◌, ◌⊎◌, ℕ, ℤ, pos, ◌+ℤ◌, ◌<ℤ◌, ◌≤ℤ◌, int_lt, int_le, List, map, Contains, Bool, false, not, ◌||◌, if◌then◌else◌, Option, Some, None, is_some, option_and_then, IfSome, IsSomeAnd, Result, Ok, Err, bytes_eq, codes}
 use Rattle.std.specs.Char.{to_ascii_lowercase}
 use Rattle.serde_json.specs.Find.{get, as_str}
@@ -13,71 +13,76 @@ use Rattle.oauth2_jwt_access_tokens.specs.declared.fault.AccessTokenFault.{Acces
 use Rattle.oauth2_jwt_access_tokens.specs.declared.fault.AccessTokenFault.TheVariants as fault
 use Rattle.oauth2_jwt_access_tokens.specs.AccessToken.{AccessToken}
 
--- what is expected; the leeway is in nanoseconds
+-- what a resource server expects of an access token; the leeway is in nanoseconds
 pub record Expectation : Type 0 where
   pub issuer : List ℕ
   pub audience : List ℕ
   pub algorithm : SignatureAlgorithm
   pub leeway : ℕ
 
--- a rule holds, or it does not, and then it is named
+-- the outcome of a rule: `Ok` if it holds, else the fault that names it
 abbrev pub Verdict : Type 0
 Verdict = Result Unit AccessTokenFault
 
+-- the outcome of a rule: `Ok` if its condition is met, else this fault
 abbrev pub rule : Bool → AccessTokenFault → Verdict
 rule is_met error = if is_met then Ok tt else Err error
 
--- one rule and then another: of two that do not hold the first is named
+-- one rule and then another: if both are broken, the first is the fault
 infixr 20 ◌then◌
 abbrev pub ◌then◌ : Verdict → Verdict → Verdict
 (Ok u) then later = later
 (Err e) then later = Err e
 
--- RFC 9068, 2.1 and 4; RFC 7515, 4.1.9: the type, in any case of letters, with `application/` or without
+-- whether a type is that of an access token: `at+jwt` or `application/at+jwt`, in any case of
+-- letters (RFC 9068, 2.1 and 4; RFC 7515, 4.1.9)
 abbrev pub names_access_token : Option (List ℕ) → Bool
 names_access_token None = false
 names_access_token (Some typ) =
     bytes_eq (map to_ascii_lowercase typ) (codes "at+jwt")
     || bytes_eq (map to_ascii_lowercase typ) (codes "application/at+jwt")
 
+-- the type (`typ`) in the header, if it is a string (RFC 7515, 4.1.9)
 abbrev pub type_of : DecodedToken → Option (List ℕ)
 type_of token = option_and_then as_str (get (codes "typ") token.header.others)
 
+-- RFC 9068, 4: the type in the header is that of an access token
 abbrev pub type_rule : DecodedToken → Verdict
 type_rule token = rule (names_access_token (type_of token)) fault.OtherType
 
--- the algorithm is the registered one, which `none` never is
+-- RFC 9068, 4: the algorithm is the expected one, which is never `none`
 abbrev pub algorithm_rule : Expectation → DecodedToken → Verdict
 algorithm_rule expected token =
     rule (bytes_eq token.header.own.algorithm (algorithm_name expected.algorithm)) fault.OtherAlgorithm
 
--- RFC 7515, 4.1.11: the header names no extension that has to be understood
+-- RFC 7515, 4.1.11: the header has no `crit`, which names extensions that have to be understood
 abbrev pub critical_rule : DecodedToken → Verdict
 critical_rule token = rule (not (is_some (get (codes "crit") token.header.others))) fault.CriticalExtension
 
--- the issuer is the expected one, byte for byte
+-- RFC 9068, 4: the claim `iss` is the expected issuer, byte for byte
 abbrev pub issuer_rule : Expectation → DecodedToken → Verdict
 issuer_rule expected token = rule (bytes_eq token.claims.own.issuer expected.issuer) fault.OtherIssuer
 
--- the resource server is one of the audiences
+-- RFC 9068, 4: the resource server is one of the audiences (`aud`), byte for byte
 abbrev pub audience_rule : Expectation → DecodedToken → Verdict
 audience_rule expected token = rule (is_among expected.audience token.claims.own.audience) fault.OtherAudience
 
--- this moment is before the expiry and the leeway after it
+-- RFC 9068, 4: the moment `now` is before the expiry (`exp`) plus the leeway
 abbrev pub expiry_rule : Expectation → ℤ → DecodedToken → Verdict
 expiry_rule expected now token =
     rule (int_lt now (token.claims.own.expires_at +ℤ pos expected.leeway)) fault.Expired
 
--- RFC 7519, 4.1.5: where there is a time from which on the token counts, it is not after this moment
--- and the leeway
+-- RFC 7519, 4.1.5: the moment before which the token must not be accepted, if it has one, is not
+-- after the moment `now` plus the leeway
 abbrev pub start_of : ℕ → ℤ → Option ℤ → Verdict
 start_of leeway now None = Ok tt
 start_of leeway now (Some start) = rule (int_le start (now +ℤ pos leeway)) fault.NotYetValid
 
+-- RFC 7519, 4.1.5: that rule for the claim `nbf` and the expected leeway
 abbrev pub start_rule : Expectation → ℤ → AccessToken → Verdict
 start_rule expected now t = start_of expected.leeway now t.own.not_before
 
--- each rule but that of the signature holds, or the first that does not is named
+-- all rules except that of the signature, in this order: the first broken rule is the fault
 abbrev pub access_token_checked : Expectation → ℤ → AccessToken → Verdict
 access_token_checked expected now t =
     type_rule t.token
@@ -88,28 +93,30 @@ access_token_checked expected now t =
     then expiry_rule expected now t.token
     then start_rule expected now t
 
--- the fault of a signature, and why it is refused
+-- the fault is one of the signature, and says why it is refused
 abbrev pub IsSignatureFault : List ListedKey → SignatureAlgorithm → DecodedToken → AccessTokenFault → Type 0
 IsSignatureFault keys algorithm token (fault.Signature error) = IsRefusal keys algorithm token error
 IsSignatureFault keys algorithm token other = ⊥
 
--- the first rule that does not hold is named; the signature comes last
+-- the fault is that of the first broken rule, or that of the signature if no other rule is broken
 abbrev pub FaultsBy : Verdict → List ListedKey → SignatureAlgorithm → DecodedToken → AccessTokenFault → Type 0
 FaultsBy (Ok u) keys algorithm token named = IsSignatureFault keys algorithm token named
 FaultsBy (Err first) keys algorithm token named = named ≡ first
 
+-- the fault is that of the first broken rule for this access token; the signature comes last
 abbrev pub IsFirstFault : Expectation → List ListedKey → ℤ → AccessToken → AccessTokenFault → Type 0
 IsFirstFault expected keys now t named =
     FaultsBy (access_token_checked expected now t) keys expected.algorithm t.token named
 
--- ---- that all hold
+-- ---- the rules as one proposition: all of them hold
 
+-- the type is `at+jwt` or `application/at+jwt`, in any case of letters (RFC 9068, 4)
 abbrev pub IsAccessTokenType : List ℕ → Type 0
 IsAccessTokenType typ =
     (map to_ascii_lowercase typ ≡ codes "at+jwt") ⊎ (map to_ascii_lowercase typ ≡ codes "application/at+jwt")
 
--- the token is as RFC 9068, 4, has it, at this moment, for a resource server that expects this and knows
--- these keys of the issuer
+-- the token meets RFC 9068, 4, for a resource server that expects this and has these keys of the
+-- issuer, at the moment `now` (nanoseconds since 1970-01-01T00:00:00Z)
 pub record AccessTokenHolds (expected : Expectation) (keys : List ListedKey) (now : ℤ) (t : AccessToken) : Type 0 where
   pub token_type : IsSomeAnd (type_of t.token) IsAccessTokenType
   pub no_extension : get (codes "crit") t.token.header.others ≡ None

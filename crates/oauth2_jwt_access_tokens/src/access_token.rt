@@ -29,15 +29,15 @@ use std::alloc::Global;
 use std::convert::AsStr;
 use std::fmt;
 
-/// Why a text reads to no JWT access token: as for an ID token. A claim that is missing or of a
-/// wrong type is `Fault(TokenPart::Payload, ..)`, whose `member` is its name. A `nonce`, `azp` or
-/// `at_hash` of a wrong type is one too, though RFC 9068 has no such claims.
+/// Why a text could not be read as a JWT access token: the errors are those of an ID token. A claim
+/// that is missing or of a wrong type is `Fault(TokenPart::Payload, ..)`, whose `member` is its
+/// name. This includes a `nonce`, `azp` or `at_hash` of a wrong type, which RFC 9068 does not have.
 pub type JwtAccessTokenReadError = IdTokenReadError;
 
 /// A JWT access token (RFC 9068, 2) that nobody has checked.
 ///
-/// Anyone can make a text that reads to any claims. So take a request only by a
-/// `VerifiedAccessToken`, which `verified` returns.
+/// Anyone can make a text with any claims. So accept a request only with a `VerifiedAccessToken`,
+/// which `verified` returns.
 #[derive(Drop)]
 pub struct JwtAccessToken {
     pub(crate) token: IdToken,
@@ -61,7 +61,7 @@ impl JwtAccessToken {
     /// Reads a token in compact form (RFC 7515, section 7.1), as a request carries it.
     pub fn from_text(alloc: Global, text: &str) -> Result<JwtAccessToken, JwtAccessTokenReadError>
         ensures read { TokenReadsAs access_token_of result (access_token_reading text.now) }
-        // Nothing of the text is lost.
+        // No byte of the text is lost.
         ensures compact { IfOk result (λ t. text.now ≡ compact_of (access_token_of t).token) }
     {
         match IdToken::from_text(alloc, text) {
@@ -108,7 +108,7 @@ impl JwtAccessToken {
         &self.own.client_id
     }
 
-    /// From when on the token is not to be accepted (`exp`).
+    /// The moment from which on the token must not be accepted (`exp`).
     pub fn expires_at(&self) -> Timestamp
         ensures { result.nanosecond ≡ (access_token_of self.now).token.claims.own.expires_at }
     {
@@ -122,7 +122,7 @@ impl JwtAccessToken {
         self.token.claims().issued_at()
     }
 
-    /// Before when the token is not to be accepted (`nbf`).
+    /// The moment before which the token must not be accepted (`nbf`).
     pub fn not_before(&self) -> Option<Timestamp>
         ensures { option_map (λ time. time.nanosecond) result
             ≡ (access_token_of self.now).own.not_before }
@@ -130,7 +130,7 @@ impl JwtAccessToken {
         self.own.not_before
     }
 
-    /// The token's own name, which its issuer gives to no other token (`jti`).
+    /// The identifier of the token, which its issuer gives to no other token (`jti`).
     pub fn token_id(&self) -> &str
         ensures { result.now ≡ (access_token_of self.now).own.token_id }
     {
@@ -158,7 +158,7 @@ impl JwtAccessToken {
     }
 
     /// The object of the claims that an ID token has no method for: `client_id`, `jti`, `scope` and
-    /// `nbf` as they came, and those that no method tells, such as `roles` (RFC 9068, 2.2.3.1).
+    /// `nbf` as they came, and claims without a method, such as `roles` (RFC 9068, 2.2.3.1).
     pub fn other_claims(&self) -> &Value
         ensures { view result.now ≡ (access_token_of self.now).token.claims.others }
     {

@@ -38,9 +38,9 @@ use serde_json::Value;
 use std::time::Duration;
 
 impl JwtAccessToken {
-    /// Whether the token is to be taken at this moment by a resource server that expects this and
-    /// knows these keys of the issuer; else the first rule that does not hold, in the order of
-    /// `AccessTokenFault`. Takes no memory.
+    /// Checks each rule for the token at the moment `now`, for a resource server that expects this
+    /// and has these keys of the issuer. The error is the first broken rule, in the order of
+    /// `AccessTokenFault`. It allocates nothing.
     pub fn check(
         &self,
         expected: &ExpectedAccessToken,
@@ -58,7 +58,7 @@ impl JwtAccessToken {
         }
     }
 
-    // The first rule that does not hold, the signature's aside.
+    // Checks each rule except that of the signature. The error is the first broken rule.
     fn first_broken(
         &self,
         expected: &ExpectedAccessToken,
@@ -76,7 +76,7 @@ impl JwtAccessToken {
         self.check_start(expected, now)
     }
 
-    // What the header says that the token is.
+    // The type of the token (`typ`) in its header, if it is a string.
     fn token_type(&self) -> Option<&str>
         ensures { option_copied result ≡ type_of (access_token_of self.now).token }
     {

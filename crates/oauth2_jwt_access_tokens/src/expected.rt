@@ -9,10 +9,10 @@ use std::time::Duration;
 pub struct ExpectedAccessToken {
     /// The issuer of the tokens, as its metadata name it. It is compared byte for byte.
     pub issuer: String,
-    /// This resource server's own name, as the authorization server writes it into `aud`. It is
-    /// compared byte for byte.
+    /// The identifier of this resource server, as the authorization server writes it into `aud`.
+    /// It is compared byte for byte.
     pub audience: String,
-    /// The algorithm by which the issuer signs its access tokens. Take it from the issuer's
+    /// The algorithm with which the issuer signs its access tokens. Take it from the issuer's
     /// documents or from its operator, never from a token.
     pub algorithm: SignatureAlgorithm,
     /// How far the clocks of the issuer and of the resource server may be apart.

@@ -13,14 +13,14 @@ use std::fmt;
 /// these variants; the signature comes last, because it costs most.
 #[derive(Clone, Copy, Debug, PartialEq, Eq, Drop)]
 pub enum AccessTokenFault {
-    /// The header's `typ` is neither `at+jwt` nor `application/at+jwt`, in any case of letters, or
-    /// it has none (RFC 9068, 4). An ID token is refused so.
+    /// The header has no `typ`, or it is neither `at+jwt` nor `application/at+jwt`, in any case of
+    /// letters (RFC 9068, 4). An ID token without such a `typ` is refused for this.
     OtherType,
-    /// The algorithm is not the one that the issuer signs with. A token with `none` is refused so
-    /// (RFC 9068, 4), and one with an HMAC.
+    /// The algorithm is not the one that the issuer signs with. A token with `none` is refused for
+    /// this (RFC 9068, 4), and so is a token with an HMAC.
     OtherAlgorithm,
-    /// The header has the member `crit`: an extension that has to be understood, which none is here
-    /// (RFC 7515, 4.1.11).
+    /// The header has the member `crit`, which names extensions that have to be understood. This
+    /// crate understands none (RFC 7515, 4.1.11).
     CriticalExtension,
     /// The issuer is another one (RFC 9068, 4).
     OtherIssuer,
@@ -28,10 +28,10 @@ pub enum AccessTokenFault {
     OtherAudience,
     /// The token has expired (RFC 9068, 4).
     Expired,
-    /// The token does not count yet, by its `nbf` (RFC 7519, 4.1.5).
+    /// The token must not be accepted yet, by its `nbf` (RFC 7519, 4.1.5).
     NotYetValid,
-    /// The signature is not one by the issuer's keys (RFC 9068, 4). Of the variants of the error
-    /// `OtherAlgorithm` and `ShortSecret` do not occur here.
+    /// The signature is not one by the issuer's keys (RFC 9068, 4). The variants `OtherAlgorithm`
+    /// and `ShortSecret` of the error do not occur here.
     Signature(SignatureError),
 }
 

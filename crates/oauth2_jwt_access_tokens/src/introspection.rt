@@ -10,7 +10,7 @@ use oauth2_introspection::StandardTokenIntrospectionResponse;
 use oauth2_types::{ClientId, Scope, TryClone};
 use std::alloc::{AllocError, Global};
 
-// Who issued the token, of whom it speaks, and to whom.
+// Copies of the issuer, the subject and the audience of a token.
 #[derive(Drop)]
 struct Parties {
     issuer: String,
@@ -18,7 +18,7 @@ struct Parties {
     audience: Vec<String>,
 }
 
-// To which client it was issued, for what, and its own name.
+// Copies of the client, the scopes and the identifier (`jti`) of a token.
 #[derive(Drop)]
 struct Grant {
     client_id: ClientId,
@@ -66,10 +66,10 @@ fn grant_of(alloc: Global, token: &JwtAccessToken) -> Result<Grant, AllocError>
 }
 
 impl VerifiedAccessToken {
-    /// What an introspection of the token would have told, so that one program serves both kinds of
-    /// tokens: an active token, with what it says under the names of RFC 7662, 2.2. It has no user
-    /// name and no token type, which a JWT access token does not say. The fields that the standard
-    /// does not name are the caller's. If memory runs out they are dropped.
+    /// The token as an introspection response for an active token (RFC 7662, 2.2), so that one
+    /// program can handle both kinds of tokens. It has no `username` and no `token_type`, which a
+    /// JWT access token does not have. `extra_fields` are the fields that the standard does not
+    /// define; they are dropped if memory runs out.
     pub fn introspection<EF: Drop, TT: Drop>(
         &self,
         alloc: Global,

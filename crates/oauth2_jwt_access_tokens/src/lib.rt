@@ -1,4 +1,4 @@
-//! JWT access tokens (RFC 9068) at a resource server: what one says, and whether it is to be taken.
+//! JWT access tokens (RFC 9068) at a resource server: reading them, and checking them.
 
 #![tactic(auto)]
 

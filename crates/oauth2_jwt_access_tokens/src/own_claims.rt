@@ -1,4 +1,4 @@
-//! The claims of a JWT access token that an ID token has not (RFC 9068, 2.2 and 2.2.3).
+//! The claims of a JWT access token that an ID token does not have (RFC 9068, 2.2 and 2.2.3).
 
 ghost use Rattle.std.specs.Prelude.{◌≡◌, IfOk, codes, option_map};
 ghost use Rattle.serde_json.specs.Find.{get};
@@ -7,14 +7,14 @@ ghost use Rattle.oauth2_json.specs.Reading.{ReadsAs};
 ghost use Rattle.oauth2_jwt_access_tokens.specs.AccessToken.{own_claims_row};
 
 use jiff::Timestamp;
-use oauth2_times::optional_time;
 use oauth2_json::{ReadError, members};
+use oauth2_times::optional_time;
 use oauth2_types::{ClientId, Scope};
 use serde_json::Value;
 use std::alloc::{AllocError, Global};
 use std::marker::Model;
 
-// The client, the token's own name, its scope, and from when on it counts.
+// The claims `client_id`, `jti`, `scope` and `nbf`.
 #[derive(Drop)]
 pub(crate) struct AccessTokenClaims {
     pub(crate) client_id: ClientId,
@@ -37,7 +37,7 @@ impl Model for AccessTokenClaims {
     } };
 }
 
-// A copy of what a claim holds.
+// A copy of the JSON value of the claim `name`, if it is present.
 fn copy_of(claims: &Value, name: &str) -> Result<Option<Value>, AllocError>
     ensures { IfOk result (λ copy. option_map view copy ≡ get name.now (view claims.now)) }
 {
@@ -47,7 +47,7 @@ fn copy_of(claims: &Value, name: &str) -> Result<Option<Value>, AllocError>
     }
 }
 
-// What these claims hold of them.
+// Reads those claims from the object of claims.
 #[tactic(auto, unfolding(crate::specs::AccessToken::own_claims_row))]
 pub(crate) fn own_claims(alloc: Global, claims: &Value) -> Result<AccessTokenClaims, ReadError>
     ensures { ReadsAs (λ c. c) result (own_claims_row (view claims.now)) }

@@ -1,4 +1,4 @@
-//! A JWT access token that was checked.
+//! A JWT access token for which every rule was checked.
 
 ghost use Rattle.std.specs.Prelude.{◌≡◌, ◌↔◌, IfErr, IfOk, IsOk, Some, codes};
 ghost use Rattle.std.specs.Fmt.{DisplaysOnOk, WritesStyledOnOk};
@@ -14,7 +14,7 @@ use oauth2_keys::JsonWebKeySet;
 use std::fmt;
 
 /// A JWT access token for which every rule of RFC 9068, 4, held when it was checked. Only
-/// `verified` makes one. It says nothing of whether its scope allows what a request asks for.
+/// `verified` makes one. Whether its scope allows a request is not checked.
 #[derive(Drop)]
 pub struct VerifiedAccessToken {
     token: JwtAccessToken,
@@ -30,7 +30,7 @@ pub struct RefusedAccessToken {
 }
 
 impl JwtAccessToken {
-    /// The token as one that was checked, if `check` succeeds; else its fault, and the token back.
+    /// The token as a verified one, if `check` succeeds; else the fault, and the token back.
     pub fn verified(
         self,
         expected: &ExpectedAccessToken,
@@ -53,14 +53,14 @@ impl JwtAccessToken {
 }
 
 impl VerifiedAccessToken {
-    /// What the token says.
+    /// The token, to read its claims.
     pub fn token(&self) -> &JwtAccessToken
         ensures { access_token_of result.now ≡ verified_token_of self.now }
     {
         &self.token
     }
 
-    /// The token, which counts as unchecked again.
+    /// The token as an unverified one.
     pub fn into_token(self) -> JwtAccessToken
         ensures { access_token_of result ≡ verified_token_of self }
     {
@@ -82,7 +82,7 @@ impl fmt::Debug for VerifiedAccessToken {
     }
 }
 
-/// Writes the fault alone.
+/// Writes only the fault.
 impl fmt::Display for RefusedAccessToken {
     ghost output = { λ r. Some (access_token_fault_text r.fault) };
 

@@ -1,11 +1,12 @@
-//! Reads the JWT access tokens that standard input lists, and checks them by the keys that it lists.
+//! Reads the JWT access tokens and keys that standard input lists, and checks the tokens.
 //!
-//! A line `set JSON` reads the keys of the issuer, and a line `expect ISSUER AUDIENCE ALGORITHM LEEWAY`
-//! says what a resource server expects, the leeway in seconds. A line `says TOKEN` prints what a token
-//! says, and a line `scope SCOPE TOKEN` whether it has a scope. A line `check SECOND TOKEN` checks a
-//! token at that second since 1970, and a line `introspect SECOND TOKEN` prints a token that passes as
-//! the response of an introspection. A line that begins with `#` is a heading, and is printed as it
-//! is. The file `stdout` has what has to be printed for the file `stdin`.
+//! A line `set JSON` reads the keys of the issuer. A line `expect ISSUER AUDIENCE ALGORITHM LEEWAY`
+//! sets what a resource server expects, with the leeway in seconds. A line `says TOKEN` prints what
+//! a token has, and a line `scope SCOPE TOKEN` whether it has a scope. A line `check SECOND TOKEN`
+//! checks a token at that second since 1970. A line `introspect SECOND TOKEN` prints a token that
+//! passes the check, in the form of an introspection response. A line that begins with `#` is a
+//! heading, and is printed as it is. The file `stdout` has the expected output for the file
+//! `stdin`.
 
 #![tactic(auto)]
 

@@ -1,3 +1,3 @@
--- What only private clauses cite.
+-- Definitions that only private clauses cite.
 pub mod Params
 pub mod Settled

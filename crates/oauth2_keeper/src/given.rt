@@ -1,4 +1,4 @@
-//! What a keeper takes of a reply.
+//! What a keeper uses of a token response.
 
 ghost use Rattle.std.specs.Prelude.{◌≡◌, IfOk};
 ghost use Rattle.oauth2_keeper.specs.Keeper.{given_by};
@@ -8,7 +8,7 @@ use std::alloc::{AllocError, Global};
 use std::marker::Model;
 use std::time::Duration;
 
-// Copies of what a reply tells.
+// Copies of the parts of a token response that a keeper uses.
 #[derive(Drop)]
 pub(crate) struct Given {
     pub(crate) access_token: AccessToken,
@@ -31,8 +31,11 @@ impl Model for Given {
 }
 
 impl Given {
-    // What a reply tells.
-    pub(crate) fn copied<TR: TokenResponse>(alloc: Global, reply: &TR) -> Result<Given, AllocError>
+    // Copies the access token, its lifetime and the refresh token of a token response.
+    pub(crate) fn from_reply<TR: TokenResponse>(
+        alloc: Global,
+        reply: &TR,
+    ) -> Result<Given, AllocError>
         ensures { IfOk result (λ given. given
             ≡ given_by TR.access_token TR.lifetime TR.refresh_token reply.now) }
     {

@@ -33,21 +33,21 @@ impl Model for KeptToken {
 }
 
 impl KeptToken {
-    // Whether the token is good at a moment.
+    // Whether the token is good at `now`: its lifetime ends no earlier than `margin` after that.
     pub(crate) fn is_good(&self, margin: Duration, now: Timestamp) -> bool
         ensures { result ≡ is_good_at (as_nanos margin) now.nanosecond self.now }
     {
         nanosecond_after(now, margin) <= nanosecond_after(self.accepted_at, self.lifetime)
     }
 
-    // Whether its lifetime has not ended at a moment.
+    // Whether the token's lifetime has not ended at `now`.
     pub(crate) fn lasts(&self, now: Timestamp) -> bool
         ensures { result ≡ is_good_at 0 now.nanosecond self.now }
     {
         now.as_nanosecond() <= nanosecond_after(self.accepted_at, self.lifetime)
     }
 
-    // The last moment at which the token is good, where it is one of `jiff`.
+    // The last time at which the token is good; `None` if it is out of the range of `Timestamp`.
     pub(crate) fn good_until(&self, margin: Duration) -> Option<Timestamp>
         ensures variant { IsSome result
             ↔ IsTimestampNanos (good_until_of (as_nanos margin) self.now) }

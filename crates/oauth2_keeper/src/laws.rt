@@ -1,4 +1,4 @@
-//! What a keeper keeps over many calls.
+//! Laws: what a keeper keeps over many calls, and how long a patient keeper waits.
 
 ghost use Rattle.oauth2_wire.specs.Once.{AsksOnce};
 ghost use Rattle.oauth2_wire.specs.Reply.{answer_of};
@@ -15,8 +15,8 @@ ghost use Rattle.oauth2_keeper.specs.Runs.{EachRunKeepsTheLast, EachRunFollowsFr
 
 use oauth2::{ErrorResponse, SyncHttpClient, TokenResponse};
 
-/// After any calls, in order, the kept token is that of the last accepted reply, and the refresh
-/// token that of the last accepted reply that gave one, at first the one given.
+/// After any number of calls, the kept token is that of the last accepted reply, and the refresh
+/// token that of the last accepted reply that has one. Until then, each is as before the calls.
 #[tactic(auto, using(crate::proofs::RunLaws::keeps_the_last))]
 pub fn each_run_keeps_the_last<C: SyncHttpClient, TE: ErrorResponse, TR: TokenResponse>()
     ensures { EachRunKeepsTheLast
@@ -24,8 +24,8 @@ pub fn each_run_keeps_the_last<C: SyncHttpClient, TE: ErrorResponse, TR: TokenRe
         (given_by TR.access_token TR.lifetime TR.refresh_token) }
 {}
 
-/// Which of any calls ask, and so what is kept after each, is a function of their moments and of
-/// the replies to their requests.
+/// Which calls make a request, and so what is kept after each, depends only on what was kept at
+/// first, the times of the calls and the replies to their requests.
 #[tactic(auto, using(crate::proofs::RunLaws::is_its_replies))]
 pub fn each_run_follows_from_its_replies<C: SyncHttpClient, TE: ErrorResponse, TR: TokenResponse>()
     ensures { EachRunFollowsFromItsReplies
@@ -33,8 +33,8 @@ pub fn each_run_follows_from_its_replies<C: SyncHttpClient, TE: ErrorResponse, T
         (given_by TR.access_token TR.lifetime TR.refresh_token) }
 {}
 
-/// The calls of a patient keeper that are not held back are calls of its keeper at the same
-/// moments, in order, so its laws hold for them.
+/// The calls of a patient keeper that are not held back are calls of its keeper at the same times,
+/// in order, so the laws of a keeper hold for them.
 #[tactic(auto, using(crate::proofs::Patience::is_a_run))]
 pub fn each_patient_run_is_a_run<C: SyncHttpClient, TE: ErrorResponse, TR: TokenResponse>()
     ensures { EachPatientRunIsARun
@@ -42,8 +42,8 @@ pub fn each_patient_run_is_a_run<C: SyncHttpClient, TE: ErrorResponse, TR: Token
         (given_by TR.access_token TR.lifetime TR.refresh_token) }
 {}
 
-/// After a request of a patient keeper that failed, no call sends one before the wait has passed:
-/// since that request or, if the clock was set back to before it, since the first call after that.
+/// After a failed request, a patient keeper makes no request before the wait has passed. The wait
+/// begins at that request or, if the clock was set back to before it, at the first call after that.
 pub fn each_failure_is_waited_for<C: SyncHttpClient, TE: ErrorResponse, TR: TokenResponse>()
     ensures waits { EachFailureIsWaitedFor
         (λ rule. AsksOnce TR.meaning TE.meaning C.step (answer_of rule TR.reading TE.reading))
@@ -64,7 +64,7 @@ pub fn each_wait_ends<C: SyncHttpClient, TE: ErrorResponse, TR: TokenResponse>()
         (given_by TR.access_token TR.lifetime TR.refresh_token) }
 {}
 
-/// A fault begins a wait exactly if its request reached the client.
+/// An error of a request begins a wait exactly if the HTTP client was called.
 pub fn each_sent_fault_counts<C: SyncHttpClient, TE: ErrorResponse, TR: TokenResponse>()
     ensures { EachSentFaultCounts
         (λ rule. AsksOnce TR.meaning TE.meaning C.step (answer_of rule TR.reading TE.reading))

@@ -1,5 +1,5 @@
 //! The keeper of a client's access token: it hands out the token that it has while that is good,
-//! and asks the token endpoint for another where it is not (RFC 6749, sections 4.4 and 6).
+//! and else requests another from the token endpoint (RFC 6749, sections 4.4 and 6).
 
 #![tactic(auto)]
 

@@ -25,14 +25,14 @@ impl<'a> Model for Params<'a> {
 }
 
 impl<'a> Params<'a> {
-    // None.
+    // No parameters.
     pub(crate) fn new() -> Params<'a>
         ensures { result ≡ [] }
     {
         Params { params: None }
     }
 
-    // Adds one.
+    // Adds a parameter at the end. After an error, nothing is added.
     pub(crate) fn push(
         &mut self,
         alloc: Global,
@@ -57,7 +57,7 @@ impl<'a> Params<'a> {
         }
     }
 
-    // They, in order.
+    // The parameters, in the order in which they were added.
     fn as_slice(&self) -> &[(ParamText<'a>, ParamText<'a>)]
         ensures { map param_pair result.now ≡ self.now }
     {
@@ -68,7 +68,7 @@ impl<'a> Params<'a> {
     }
 }
 
-// A request by the client's own credentials, with the scopes, if there are any, and the parameters.
+// Adds the scopes, if there are any, and the parameters to a request by the client's credentials.
 pub(crate) fn with_client_params<'r, TE, TR>(
     alloc: Global,
     request: ClientCredentialsTokenRequest<'r, TE, TR>,
@@ -93,7 +93,7 @@ pub(crate) fn with_client_params<'r, TE, TR>(
     Ok(request)
 }
 
-// A request by a refresh token, with the scopes, if there are any, and the parameters.
+// Adds the scopes, if there are any, and the parameters to a request by a refresh token.
 pub(crate) fn with_refresh_params<'r, TE, TR>(
     alloc: Global,
     request: RefreshTokenRequest<'r, TE, TR>,

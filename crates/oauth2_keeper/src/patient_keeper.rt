@@ -1,4 +1,4 @@
-//! A keeper that does not ask at every call a server that fails.
+//! A keeper that waits after a failed request before it makes another.
 
 ghost use Rattle.std.specs.Prelude.{
   ◌≡◌,
@@ -52,10 +52,9 @@ use std::time::Duration;
 /// Why a patient keeper has no good token.
 #[derive(Debug, Drop)]
 pub enum PatientError<RE, TE> {
-    /// The error of the request for another.
+    /// The request for another token failed with this error.
     Request(RequestTokenError<RE, TE>),
-    /// No request goes out before this moment, which is `None` if it is out of the range of
-    /// `Timestamp`.
+    /// No request is made before this time; `None` if it is out of the range of `Timestamp`.
     Waits(Option<Timestamp>),
 }
 
@@ -96,7 +95,7 @@ where
     failed_at: Option<Timestamp>,
 }
 
-// Written out, as that of a `TokenKeeper` is.
+// `Drop` is written out for the same reason as that of `TokenKeeper`.
 impl<'a, TE, TR, TIR, RT, TRE, A, D, I, R> Drop
     for PatientKeeper<'a, TE, TR, TIR, RT, TRE, A, D, I, R>
 where
@@ -165,7 +164,7 @@ where
     I: EndpointState,
     R: EndpointState,
 {
-    /// Makes no request until so much time has passed since the moment of one that failed.
+    /// A keeper that makes no request until `wait` has passed since the last failed one.
     pub fn set_retry_after(
         self,
         wait: Duration,
@@ -202,14 +201,14 @@ where
         self
     }
 
-    /// What it keeps.
+    /// The `TokenKeeper` in it, with the kept token and the settings.
     pub fn keeper(&self) -> &TokenKeeper<'a, TE, TR, TIR, RT, TRE, A, D, I, R>
         ensures { result.now ≡ self.now.keeper }
     {
         &self.keeper
     }
 
-    /// Forgets the kept token, as `forget_token` of the keeper. A wait goes on.
+    /// Forgets the kept token, as `TokenKeeper::forget_token` does. A wait does not end by this.
     pub fn forget_token(&mut self)
         ensures { self.new ≡ record self.old {
           keeper = record self.old.keeper { token = None };
@@ -218,7 +217,8 @@ where
         self.keeper.forget_token();
     }
 
-    /// Forgets the kept refresh token, as `forget_refresh_token` of the keeper. A wait goes on.
+    /// Forgets the kept refresh token, as `TokenKeeper::forget_refresh_token` does. A wait does not
+    /// end by this.
     pub fn forget_refresh_token(&mut self)
         ensures { self.new ≡ record self.old {
           keeper = record self.old.keeper { refresh_token = None };
@@ -227,7 +227,8 @@ where
         self.keeper.forget_refresh_token();
     }
 
-    // Notes that a request was accepted, unless the kept token was good and none was made.
+    // Ends the wait after a call without an error, unless the kept token was good and no request
+    // was made.
     fn note_success(&mut self, was_good: bool)
         ensures { self.new ≡ record self.old {
           failed_at = if was_good then self.old.failed_at else None;
@@ -238,7 +239,7 @@ where
         }
     }
 
-    // Notes the moment from which a call is held back.
+    // Sets the time from which the wait is counted, for a call at `now` that is held back.
     fn note_wait(&mut self, now: Timestamp)
         ensures { self.new ≡ held_back self.old now.nanosecond }
     {
@@ -247,7 +248,7 @@ where
         }
     }
 
-    // Notes the moment of a request that failed.
+    // Begins the wait after a request at `now` failed, if its error counts.
     fn note_fault(&mut self, now: Timestamp, counts: bool)
         ensures { self.new ≡ record self.old {
           failed_at = if counts then Some now.nanosecond else self.old.failed_at;
@@ -258,7 +259,7 @@ where
         }
     }
 
-    // Whether a request is needed, and none may go out.
+    // Whether a call at `now` needs a request but may not make one yet.
     fn is_held_back(&self, now: Timestamp) -> bool
         ensures { result ≡ is_held_back self.now now.nanosecond }
     {
@@ -271,7 +272,7 @@ where
         }
     }
 
-    // Whether the kept token may be handed out in place of a new one.
+    // Whether the kept token may be used during a wait.
     fn lasts(&self, now: Timestamp) -> bool
         ensures { result ≡ lasts self.now now.nanosecond }
     {
@@ -279,8 +280,8 @@ where
     }
 }
 
-// The moment from which a call waits after a request that failed. Where the clock was set back, the
-// call comes first, and the wait is counted from there.
+// The time from which a call at `now` waits after a request that failed. If the clock was set back,
+// `now` is the earlier one, and the wait is counted from it.
 fn waits_from(now: Timestamp, failed_at: Timestamp) -> Timestamp
     ensures { result.nanosecond ≡ waits_from now.nanosecond failed_at.nanosecond }
 {
@@ -291,17 +292,17 @@ fn waits_from(now: Timestamp, failed_at: Timestamp) -> Timestamp
     }
 }
 
-// The end of a wait.
+// When the wait after `failed_at` ends; `None` if that is past the last `Timestamp`.
 fn end_of_wait(failed_at: Timestamp, wait: Duration) -> Option<Timestamp>
     ensures { IsUntil (failed_at.nanosecond +ℤ pos (as_nanos wait)) result }
 {
     Timestamp::from_nanosecond(nanosecond_after(failed_at, wait)).ok()
 }
 
-// What the error of a request says of an endpoint that is no HTTP target.
+// The text of the error of a request whose endpoint is not an HTTP target.
 const NOT_HTTP: &str = "failed to prepare request: endpoint URL is not an HTTP target";
 
-// Whether a fault is that of a request that reached the client.
+// Whether an error of a request begins a wait: the HTTP client was called.
 fn counts<RE, TE>(error: &RequestTokenError<RE, TE>) -> bool
     ensures { result ≡ counts error.now }
 {
@@ -390,7 +391,8 @@ where
         }
     }
 
-    /// What `read` makes of the kept token after `keep_good`, or that call's fault.
+    /// Calls `keep_good` and returns what `read` returns for the kept token, or the error of that
+    /// call.
     pub fn with_token<C: SyncHttpClient, F: FnOnce(&AccessToken) -> V, V>(
         &mut self,
         alloc: Global,

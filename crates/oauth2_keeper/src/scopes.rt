@@ -1,4 +1,4 @@
-//! Scopes, as the one text that a request sends.
+//! Scopes as the text that a request sends, separated by spaces (RFC 6749, section 3.3).
 
 ghost use Rattle.std.specs.Prelude.{◌≡◌, ℕ, List, IfOk};
 ghost use Rattle.std.specs.Iterator.{Drains, IsFinite};
@@ -7,7 +7,7 @@ ghost use Rattle.oauth2_form.specs.Params.{with_scope, with_scopes};
 use oauth2::{Scope, TryClone};
 use std::alloc::{AllocError, Global};
 
-// The text of the scopes with one more.
+// The text of these scopes and one more.
 pub(crate) fn joined_scope(scopes: Option<Scope>, scope: Scope) -> Result<Scope, AllocError>
     ensures { IfOk result (λ joined. joined ≡ with_scope scopes scope) }
 {
@@ -22,7 +22,7 @@ pub(crate) fn joined_scope(scopes: Option<Scope>, scope: Scope) -> Result<Scope,
     }
 }
 
-// The text of the scopes with more, in order.
+// The text of these scopes and the added ones, in order; `None` if there are none.
 pub(crate) fn joined_scopes<I: IntoIterator<Item = Scope>>(
     alloc: Global,
     scopes: &Option<Scope>,

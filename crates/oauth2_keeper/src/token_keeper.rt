@@ -42,9 +42,9 @@ ghost use Rattle.oauth2_keeper.specs.Keeper.{
 ghost use Rattle.oauth2_keeper.specs.private.Settled.{Settles, RenewsAndSettles};
 
 use crate::given::Given;
-use crate::renewal_times::RenewalTimes;
 use crate::kept_token::KeptToken;
 use crate::params::{Params, with_client_params, with_refresh_params};
+use crate::renewal_times::RenewalTimes;
 use crate::scopes::{joined_scope, joined_scopes};
 use jiff::Timestamp;
 use oauth2::basic::{
@@ -62,7 +62,7 @@ use std::time::Duration;
 
 /// Keeps a client's access token, and the refresh token to get another with.
 ///
-/// The parameters are those of its client, whose token endpoint is set.
+/// The type parameters are those of its client, whose token endpoint is set.
 /// Contracts see a keeper of any type as a `Keeper`.
 pub struct TokenKeeper<'a, TE, TR, TIR, RT, TRE, A, D, I, R>
 where
@@ -80,7 +80,8 @@ where
     refresh_token: Option<RefreshToken>,
 }
 
-// Written out, a function that holds a keeper proves its drop by one call on each way out.
+// `Drop` is written out, so that in a function that holds a keeper, the proof of its drop is one
+// call on each path.
 impl<'a, TE, TR, TIR, RT, TRE, A, D, I, R> Drop
     for TokenKeeper<'a, TE, TR, TIR, RT, TRE, A, D, I, R>
 where
@@ -155,8 +156,8 @@ where
     I: EndpointState,
     R: EndpointState,
 {
-    /// A keeper without a token. One that it gets is good until `times.margin` before its lifetime
-    /// ends, which is `times.default_lifetime` if the reply has no `expires_in`.
+    /// A keeper without a token. A token is good until `margin` before its lifetime ends. Its
+    /// lifetime is `life` if the reply has none.
     pub fn new(
         client: &'a Client<TE, TR, TIR, RT, TRE, A, D, I, R, EndpointSet>,
         refresh_token: Option<RefreshToken>,
@@ -184,8 +185,8 @@ where
         }
     }
 
-    /// Adds a scope to those that a request by the client's own credentials asks for (RFC 6749,
-    /// section 4.4.2).
+    /// Adds a scope to those that are requested with the client's credentials (RFC 6749, section
+    /// 4.4.2).
     pub fn add_scope(&mut self, alloc: Global, scope: Scope) -> Result<(), AllocError>
         ensures ok { OnOk result (self.new
             ≡ record self.old { scope = Some (with_scope self.old.scope scope) }) }
@@ -213,9 +214,8 @@ where
         Ok(())
     }
 
-    /// Adds a scope to those that a request by a refresh token asks for. While none is added, the
-    /// request has no `scope`, and the server keeps to the scopes that it granted (RFC 6749,
-    /// section 6).
+    /// Adds a scope to those that are requested with a refresh token. If none is added, the request
+    /// has no `scope`, and the server keeps the scopes that it granted (RFC 6749, section 6).
     pub fn add_refresh_scope(&mut self, alloc: Global, scope: Scope) -> Result<(), AllocError>
         ensures ok { let joined = with_scope self.old.refresh_scope scope in
             OnOk result (self.new ≡ record self.old { refresh_scope = Some joined }) }
@@ -226,8 +226,8 @@ where
         Ok(())
     }
 
-    /// Adds a parameter to each request. If the request itself sends a parameter of that name,
-    /// both are sent.
+    /// Adds a parameter to each request. If the request itself sends one with that name, both are
+    /// sent.
     pub fn add_extra_param(
         &mut self,
         alloc: Global,
@@ -243,8 +243,8 @@ where
         self.extra_params.push(alloc, name, value)
     }
 
-    /// Goes on from a token that was stored: the one that a call at `accepted_at` got, with its
-    /// lifetime and the refresh token that was kept with it.
+    /// Starts from a stored token: the one that a call at `accepted_at` got, with its lifetime and
+    /// the refresh token that was kept with it.
     pub fn starting_from(
         mut self,
         access_token: AccessToken,
@@ -262,8 +262,8 @@ where
         self
     }
 
-    /// Goes on from a token that was stored, as `starting_from`. A token and a refresh token that it
-    /// has give way.
+    /// Starts from a stored token, as `starting_from` does. The token and the refresh token replace
+    /// those that were kept.
     pub fn start_from(
         &mut self,
         access_token: AccessToken,
@@ -285,16 +285,16 @@ where
         self.refresh_token = refresh_token;
     }
 
-    /// Forgets the kept token, so the next call makes a request. For a token that a server rejects
-    /// before its lifetime ends (RFC 6750, section 3.1, `invalid_token`).
+    /// Forgets the kept token, so that the next call makes a request. It is for a token that a
+    /// server rejects before its lifetime ends (RFC 6750, section 3.1, `invalid_token`).
     pub fn forget_token(&mut self)
         ensures { self.new ≡ record self.old { token = None } }
     {
         self.token = None;
     }
 
-    /// Forgets the kept refresh token, so the next request is one by the client's own credentials.
-    /// For a refresh token that the server refused (RFC 6749, section 5.2, `invalid_grant`).
+    /// Forgets the kept refresh token, so that the next request uses the client's credentials. It
+    /// is for a refresh token that the server refused (RFC 6749, section 5.2, `invalid_grant`).
     pub fn forget_refresh_token(&mut self)
         ensures { self.new ≡ record self.old { refresh_token = None } }
     {
@@ -337,7 +337,7 @@ where
         }
     }
 
-    /// The kept refresh token: that of the last reply that had one, at first the one given.
+    /// The kept refresh token: that of the last reply that had one, or before that the initial one.
     pub fn refresh_token(&self) -> Option<&RefreshToken>
         ensures { option_copied result ≡ self.now.refresh_token }
     {
@@ -368,7 +368,7 @@ where
         }
     }
 
-    // Whether the kept token is good.
+    // Whether there is a kept token that is good at `now`.
     pub(crate) fn is_good(&self, now: Timestamp) -> bool
         ensures { result ≡ is_good self.now now.nanosecond }
     {
@@ -378,7 +378,7 @@ where
         }
     }
 
-    // Whether the lifetime of the kept token has not ended.
+    // Whether there is a kept token whose lifetime has not ended at `now`.
     pub(crate) fn lasts(&self, now: Timestamp) -> bool
         ensures { result ≡ is_good_if_any 0 now.nanosecond self.now.token }
     {
@@ -388,7 +388,7 @@ where
         }
     }
 
-    // Keeps what a reply tells, which was accepted at a moment.
+    // Keeps the token of a reply that was accepted at `now`, and its refresh token if it has one.
     fn accept(&mut self, now: Timestamp, given: Given)
         ensures { self.new ≡ accept self.old now.nanosecond given }
     {
@@ -466,7 +466,8 @@ where
         }
     }
 
-    /// What `read` makes of the kept token after `keep_good`, or that call's fault.
+    /// Calls `keep_good` and returns what `read` returns for the kept token, or the error of that
+    /// call.
     pub fn with_token<C: SyncHttpClient, F: FnOnce(&AccessToken) -> V, V>(
         &mut self,
         alloc: Global,
@@ -491,7 +492,7 @@ where
         }
     }
 
-    // Asks for another token, and keeps it.
+    // Requests another token, and keeps it.
     fn renew<C: SyncHttpClient>(
         &mut self,
         alloc: Global,
@@ -509,7 +510,7 @@ where
         self.settle(alloc, now, answer)
     }
 
-    // Asks for another token.
+    // Requests another token.
     fn ask<C: SyncHttpClient>(
         &self,
         alloc: Global,
@@ -527,7 +528,7 @@ where
         }
     }
 
-    // Asks by the refresh token that is kept.
+    // Requests another token with the kept refresh token.
     fn ask_by_refresh_token<C: SyncHttpClient>(
         &self,
         alloc: Global,
@@ -549,7 +550,7 @@ where
         }
     }
 
-    // Asks by the client's own credentials.
+    // Requests another token with the client's credentials.
     fn ask_by_credentials<C: SyncHttpClient>(
         &self,
         alloc: Global,
@@ -570,7 +571,7 @@ where
         }
     }
 
-    // Keeps what the answer to a request tells.
+    // Keeps the token in the answer to a request, or returns its error.
     fn settle<RE>(
         &mut self,
         alloc: Global,
@@ -581,7 +582,7 @@ where
             self.old now.nanosecond answer result self.new }
     {
         match answer {
-            Ok(reply) => match Given::copied(alloc, &reply) {
+            Ok(reply) => match Given::from_reply(alloc, &reply) {
                 Ok(given) => {
                     self.accept(now, given);
                     Ok(())

@@ -1,4 +1,4 @@
-//! What is added to a keeper.
+//! Adds scopes and parameters to a keeper.
 
 use oauth2::{ParamText, Scope};
 use oauth2_keeper::BasicTokenKeeper;
@@ -28,7 +28,7 @@ fn scopes(alloc: Global, texts: &[&str]) -> Result<Vec<Scope>, Ended> {
     Ok(scopes)
 }
 
-// Adds to a keeper. Returns whether memory was refused to the keeper.
+// Adds to a keeper. Returns whether the keeper ran out of memory.
 fn is_refused<'a>(
     alloc: Global,
     keeper: &mut BasicTokenKeeper<'a>,
@@ -47,7 +47,7 @@ fn is_refused<'a>(
     Ok(added.is_err())
 }
 
-/// Adds all of them, and each that was refused memory once more. Returns whether one was.
+/// Adds all of them, and tries again if memory runs out. Returns whether one had to be tried again.
 pub fn add_all<'a>(
     alloc: Global,
     keeper: &mut BasicTokenKeeper<'a>,

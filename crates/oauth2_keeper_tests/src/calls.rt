@@ -1,4 +1,4 @@
-//! The calls of a keeper.
+//! Calls a keeper, and prints what it does.
 
 use crate::client::{NoReply, OneReply, Reply};
 use crate::values::{Moment, moment, show_moment};
@@ -12,12 +12,12 @@ use std::error::Error;
 use std::io::Write;
 use std::time::Duration;
 
-/// A call: its moment, and the reply to its request.
+/// A call: its time, and the reply to its request.
 pub type Call<'a> = (Moment, Reply<'a>);
 
 type Answer = Result<(), PatientError<NoReply, BasicErrorResponse>>;
 
-/// Makes the calls, and shows what comes of each.
+/// Makes the calls, and prints the result of each.
 pub fn show_calls<W: Write>(
     alloc: Global,
     keeper: &mut BasicPatientKeeper<'_>,
@@ -31,7 +31,8 @@ pub fn show_calls<W: Write>(
     Ok(())
 }
 
-// A call. If memory runs out in it, shows whether the HTTP client was called, and calls again.
+// Makes a call. If memory runs out in it, prints how often the HTTP client was called, and calls
+// again.
 fn show_call<W: Write>(
     alloc: Global,
     keeper: &mut BasicPatientKeeper<'_>,
@@ -48,7 +49,7 @@ fn show_call<W: Write>(
     Err(Ended::Starved(Want::RequestTokenError { sent }))
 }
 
-// A call by a new HTTP client, and how often that was called.
+// Makes a call with a new HTTP client. Also returns how often that was called.
 fn show_new_try<W: Write>(
     alloc: Global,
     keeper: &mut BasicPatientKeeper<'_>,
@@ -63,7 +64,8 @@ fn show_new_try<W: Write>(
     Ok((tried?, calls))
 }
 
-// Calls again. If the first request was sent, nothing is sent before the wait has passed.
+// Calls again. If the first request was sent, first prints a line if a call before the end of the
+// wait sends a request.
 fn show_again<W: Write>(
     alloc: Global,
     keeper: &mut BasicPatientKeeper<'_>,
@@ -93,8 +95,8 @@ fn is_asked(alloc: Global, keeper: &mut BasicPatientKeeper<'_>, now: Timestamp) 
     http_client.calls != 0
 }
 
-// A call, and what comes of it: the body of its request, and the kept token or the error. If memory
-// runs out, it shows nothing, and returns whether the request was sent.
+// Makes a call, and prints the body of its request, and the kept token or the error. If memory runs
+// out, it prints nothing, and returns whether the request was sent.
 fn show_try<W: Write>(
     alloc: Global,
     keeper: &mut BasicPatientKeeper<'_>,

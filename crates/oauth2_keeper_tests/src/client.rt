@@ -1,4 +1,4 @@
-//! The client of the rows, and an HTTP client that replies what a row says.
+//! The client of the rows, and an HTTP client that returns the reply of a row.
 
 use oauth2::basic::BasicClient;
 use oauth2::http::response::Parts;
@@ -34,12 +34,12 @@ pub fn client(alloc: Global) -> Result<TokenClient, Ended> {
 /// The status and the body of a reply.
 pub type Reply<'a> = (u16, &'a str);
 
-/// There is no reply left.
+/// No reply is left.
 #[derive(Clone, Copy, Debug)]
 pub struct NoReply;
 
-/// An HTTP client that replies at its first call. The reply was made before, so a call takes no
-/// memory.
+/// An HTTP client that returns one reply, at its first call. The reply was made before, so a call
+/// does not allocate.
 #[derive(Drop)]
 pub struct OneReply {
     pub calls: u64,
@@ -64,7 +64,7 @@ impl OneReply {
         })
     }
 
-    /// A client that fails.
+    /// A client whose calls all fail.
     pub fn without_reply() -> OneReply {
         OneReply {
             calls: 0,

@@ -1,4 +1,4 @@
-//! What a keeper keeps, and to when its token is good.
+//! Prints what a keeper keeps, and until when its token is used.
 
 use crate::client::OneReply;
 use crate::values::{show_duration, show_moment};
@@ -8,7 +8,7 @@ use oauth2_refused_memory_values_tests::Ended;
 use std::alloc::Global;
 use std::io::Write;
 
-/// What a keeper keeps.
+/// Prints what a keeper keeps.
 pub fn show_kept<W: Write>(out: &mut W, keeper: &BasicTokenKeeper<'_>) -> Result<(), Ended> {
     show_moment(out, "accepted at", keeper.accepted_at())?;
     show_duration(out, "lifetime", keeper.lifetime())?;
@@ -42,7 +42,8 @@ fn bytes_by_with_token(
         .ok()
 }
 
-/// How many bytes the kept token has, by the two calls that lend it.
+/// Prints how many bytes the kept token has, by each of the two calls that return it (`token` and
+/// `with_token`).
 pub fn show_lent<W: Write>(
     alloc: Global,
     keeper: &mut BasicPatientKeeper<'_>,

@@ -1,10 +1,10 @@
 //! Tests of `oauth2_keeper` and `oauth2_stored_token`: runs the rows that standard input names, one
-//! on each line, and prints what comes of each. The file `stdout` has what it has to print:
-//! `tools/tests/test_keeper_rows.py` derives each line from the row's inputs, RFC 6749 and the pages.
-//! `tools/refusals` refuses memory to each row.
+//! on each line, and prints the result of each. The file `stdout` has the expected output:
+//! `tools/tests/test_keeper_rows.py` derives each line from the row's inputs, RFC 6749 and the
+//! pages. `tools/refusals` makes each row run out of memory.
 //!
-//! Printing takes no memory, so a growth that is refused belongs to a call of the row, or to what
-//! it is called with. The exit status is that of `run_rows`.
+//! Printing does not allocate, so an allocation that fails belongs to a call of the row, or to the
+//! values that it is called with. The exit status is that of `run_rows`.
 
 #![tactic(auto)]
 

@@ -1,4 +1,4 @@
-//! The rows by their names.
+//! Finds and runs the row of a name.
 
 use crate::additions::{Addition, add_all};
 use crate::calls::{Call, show_calls};
@@ -11,9 +11,9 @@ use oauth2_refused_memory_values_tests::{Ended, Rows, find};
 use std::alloc::{AllocError, Global};
 use std::io::Write;
 
-// A keeper: what it starts from and forgets of that, what is added to it, its margin, how long it
-// waits, whether it uses a token to the end of its lifetime, its calls, and a moment at which its
-// token is good.
+// A keeper: what it starts from, what of that it forgets, what is added to it, its margin, how long
+// it waits after a failed request, whether it uses a token until the end of its lifetime, its
+// calls, and a time at which its token is used.
 #[derive(Clone, Copy)]
 struct KeeperRow {
     start: Start<'static>,
@@ -40,7 +40,7 @@ enum Row {
     NotTaken(&'static str),
 }
 
-// The reply of RFC 6749, section 5.1, and that of section 4.4.3, which has no refresh token.
+// The reply of RFC 6749, section 5.1, and the reply of section 4.4.3, which has no refresh token.
 const TOKENS: Reply<'static> = (
     200,
     "{\"access_token\":\"2YotnFZFEjr1zCsicMWpAA\",\"token_type\":\"example\",\
@@ -180,7 +180,7 @@ const ROWS: [(&str, Row); 19] = [
             ..USUAL
         }),
     ),
-    // The last moment that there is, and a moment after it.
+    // The last time that can be represented, and a time after it.
     (
         "good_until_the_end",
         Row::Keeper(KeeperRow {
@@ -290,7 +290,7 @@ const ROWS: [(&str, Row); 19] = [
     ),
 ];
 
-/// The calls of keepers and of stored tokens.
+/// The rows of keepers and of stored tokens.
 pub struct KeeperRows;
 
 impl Rows for KeeperRows {
@@ -341,8 +341,8 @@ fn patient<'a>(keeper: BasicTokenKeeper<'a>, row: KeeperRow) -> BasicPatientKeep
     }
 }
 
-// The calls of a keeper, and what it keeps then. `was_refused` says whether an addition to it was
-// refused memory, and made again.
+// Prints the calls of a keeper, and what it keeps after them. `was_refused` says whether an
+// addition to it ran out of memory, and was made again.
 fn show_keeper<W: Write>(
     alloc: Global,
     keeper: &mut BasicPatientKeeper<'_>,

@@ -1,4 +1,4 @@
-//! Stored tokens: as values, as JSON and as debug texts.
+//! Prints stored tokens as JSON and as debug texts, and makes keepers that start from them.
 
 use crate::client::TokenClient;
 use crate::values::{Moment, Span, duration, moment};
@@ -15,7 +15,7 @@ use std::time::Duration;
 pub enum Start<'a> {
     /// No token.
     Empty,
-    /// A token, the moment of the call that got it, its lifetime, and a refresh token.
+    /// A token, the time of the call that got it, its lifetime, and a refresh token.
     Values(&'a str, Moment, Span, Option<&'a str>),
     /// A stored token as JSON.
     Json(&'a str),
@@ -30,10 +30,17 @@ fn refresh_token(alloc: Global, token: Option<&str>) -> Result<Option<RefreshTok
 
 fn empty(client: &TokenClient, margin: Duration) -> BasicTokenKeeper<'_> {
     let default_lifetime = Duration::from_secs(60);
-    TokenKeeper::new(client, None, RenewalTimes { margin, default_lifetime })
+    TokenKeeper::new(
+        client,
+        None,
+        RenewalTimes {
+            margin,
+            default_lifetime,
+        },
+    )
 }
 
-/// A keeper with what it starts from. The lifetime of a token is a minute if the reply has none.
+/// A keeper that starts from `start`. The lifetime of a token is one minute if the reply has none.
 pub fn started<'a>(
     alloc: Global,
     client: &'a TokenClient,
@@ -66,7 +73,7 @@ fn show_json<W: Write>(alloc: Global, stored: &StoredToken, out: &mut W) -> Resu
     Ok(())
 }
 
-/// What a keeper keeps, as it is stored.
+/// Prints what a keeper keeps, as it is stored.
 pub fn show_stored<W: Write>(
     alloc: Global,
     keeper: &BasicTokenKeeper<'_>,
@@ -81,7 +88,8 @@ pub fn show_stored<W: Write>(
     }
 }
 
-/// The debug texts of a stored token, and the JSON that it is written as; or why there is none.
+/// Prints the debug texts of a stored token and the JSON that it is written as, or why the JSON
+/// cannot be read as one.
 pub fn show_text<W: Write>(alloc: Global, json: &str, out: &mut W) -> Result<(), Ended> {
     let read: Result<StoredToken, ReadError> = read_body(alloc, json.as_bytes());
     match read {
@@ -94,7 +102,8 @@ pub fn show_text<W: Write>(alloc: Global, json: &str, out: &mut W) -> Result<(),
     }
 }
 
-/// Why a keeper does not take a stored token, what it keeps then, and the token that it gives back.
+/// Prints why a keeper does not accept a stored token, what the keeper keeps then, and the stored
+/// token that the error returns.
 pub fn show_not_taken<W: Write>(
     alloc: Global,
     client: &TokenClient,

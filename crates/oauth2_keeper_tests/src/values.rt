@@ -1,16 +1,17 @@
-//! Moments and durations of the rows, and their lines.
+//! The times and durations of the rows, and how they are printed.
 
 use jiff::Timestamp;
 use oauth2_refused_memory_values_tests::Ended;
 use std::io::Write;
 use std::time::Duration;
 
-/// So many seconds and nanoseconds since 1970.
+/// A time in seconds and nanoseconds since 1970.
 pub type Moment = (i64, i32);
 
-/// So many seconds and nanoseconds.
+/// A duration in seconds and nanoseconds.
 pub type Span = (u64, u64);
 
+/// The time of so many seconds and nanoseconds since 1970.
 pub fn moment((second, nanosecond): Moment) -> Result<Timestamp, Ended> {
     match Timestamp::new(second, nanosecond) {
         Ok(moment) => Ok(moment),
@@ -18,11 +19,12 @@ pub fn moment((second, nanosecond): Moment) -> Result<Timestamp, Ended> {
     }
 }
 
+/// The duration of so many seconds and nanoseconds.
 pub fn duration((seconds, nanoseconds): Span) -> Duration {
     Duration::from_secs(seconds).saturating_add(Duration::from_nanos(nanoseconds))
 }
 
-/// A moment as seconds and nanoseconds, which have the same sign.
+/// Prints a time as seconds and nanoseconds, which have the same sign.
 pub fn show_moment<W: Write>(
     out: &mut W,
     name: &str,
@@ -40,7 +42,7 @@ pub fn show_moment<W: Write>(
     Ok(())
 }
 
-/// A duration as seconds and nanoseconds.
+/// Prints a duration as seconds and nanoseconds.
 pub fn show_duration<W: Write>(
     out: &mut W,
     name: &str,

@@ -10,7 +10,7 @@ use Rattle.oauth2_keys.specs.declared.algorithm.SignatureAlgorithm.TheVariants.{
 use Rattle.oauth2_keys.specs.declared.public_key.PublicKey.{PublicKey}
 use Rattle.oauth2_keys.specs.declared.public_key.PublicKey.TheVariants.{Rsa, P256}
 
--- the value of `alg`
+-- the value of `alg` for an algorithm (RFC 7518, 3.1)
 abbrev pub algorithm_name : SignatureAlgorithm → List ℕ
 algorithm_name Rs256 = codes "RS256"
 algorithm_name Rs384 = codes "RS384"
@@ -20,7 +20,7 @@ algorithm_name Ps384 = codes "PS384"
 algorithm_name Ps512 = codes "PS512"
 algorithm_name Es256 = codes "ES256"
 
--- the algorithm of that name
+-- the algorithm with that name, if it is one of these (RFC 7518, 3.1)
 abbrev pub algorithm_named : List ℕ → Option SignatureAlgorithm
 algorithm_named name =
     if bytes_eq name (codes "RS256") then Some Rs256
@@ -32,7 +32,7 @@ algorithm_named name =
     else (if bytes_eq name (codes "ES256") then Some Es256
     else None))))))
 
--- RFC 7518, 3.3 and 3.5: the RSA scheme; ES256 has none
+-- the RSA scheme of an algorithm (RFC 7518, 3.3 and 3.5); ES256 has none
 abbrev pub rsa_scheme : SignatureAlgorithm → Option SignatureScheme
 rsa_scheme Rs256 = Some (Pkcs1v15 Sha256)
 rsa_scheme Rs384 = Some (Pkcs1v15 Sha384)
@@ -42,14 +42,14 @@ rsa_scheme Ps384 = Some (Pss Sha384)
 rsa_scheme Ps512 = Some (Pss Sha512)
 rsa_scheme Es256 = None
 
--- octets are the signature of a message by that RSA scheme, or else by ES256 (RFC 7518, 3.4), and by
--- that key, which is of the type that it asks for
+-- the octets are a signature of the message by the key and this RSA scheme, or ES256 if there is
+-- none (RFC 7518, 3.4). No octets are one by a key of the other type.
 abbrev pub IsSignatureIn : Option SignatureScheme → PublicKey → List ℕ → List ℕ → Type 0
 IsSignatureIn (Some scheme) (Rsa key) message signature = IsRsaSignature scheme key.modulus key.exponent message signature
 IsSignatureIn (Some scheme) (P256 key) message signature = ⊥
 IsSignatureIn None (Rsa key) message signature = ⊥
 IsSignatureIn None (P256 key) message signature = IsEcdsaSignature key.x key.y message signature
 
--- octets are the signature of a message by that algorithm and that key
+-- the octets are a signature of the message by this algorithm and this key
 abbrev pub IsSignatureBy : SignatureAlgorithm → PublicKey → List ℕ → List ℕ → Type 0
 IsSignatureBy algorithm key message signature = IsSignatureIn (rsa_scheme algorithm) key message signature

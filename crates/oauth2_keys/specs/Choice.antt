@@ -1,4 +1,4 @@
--- Which key of a set a signature is checked by (OpenID Connect Core 1.0, 10.1; RFC 7517, 4).
+-- Which key of a set a signature is checked with (OpenID Connect Core 1.0, 10.1; RFC 7517, 4).
 use Rattle.std.specs.Prelude.{ℕ, List, [], ◌∷◌, codes, bytes_eq, Bool, true, false, ◌&&◌, if◌then◌else◌, Option, Some, None, is_some, is_none, Result, Ok, Err}
 use Rattle.oauth2_openid.specs.Rules.{is_among}
 use Rattle.oauth2_keys.specs.declared.algorithm.SignatureAlgorithm.{SignatureAlgorithm}
@@ -22,24 +22,24 @@ abbrev pub fits_operations : Option (List (List ℕ)) → Bool
 fits_operations None = true
 fits_operations (Some operations) = is_among (codes "verify") operations
 
--- RFC 7517, 4.4: the algorithm is absent, or that one
+-- RFC 7517, 4.4: the key's algorithm is absent, or the token's
 abbrev pub fits_algorithm : Option (List ℕ) → SignatureAlgorithm → Bool
 fits_algorithm None algorithm = true
 fits_algorithm (Some name) algorithm = bytes_eq name (algorithm_name algorithm)
 
--- RFC 7515, 4.1.4: where a token names a key, it is the key's name
+-- RFC 7515, 4.1.4: if the token has a key identifier (`kid`), it is the key's
 abbrev pub fits_key_id : Option (List ℕ) → Option (List ℕ) → Bool
 fits_key_id key_id None = true
 fits_key_id None (Some told) = false
 fits_key_id (Some key_id) (Some told) = bytes_eq key_id told
 
--- RFC 7518, 3.1: the key is of the type that the algorithm asks for: RSA for one with an RSA scheme
+-- RFC 7518, 3.1: the key has the type that the algorithm requires: RSA for one with an RSA scheme
 -- (3.3 and 3.5), and P-256 for ES256 (3.4)
 abbrev pub fits_type : PublicKey → SignatureAlgorithm → Bool
 fits_type (Rsa key) algorithm = is_some (rsa_scheme algorithm)
 fits_type (P256 key) algorithm = is_none (rsa_scheme algorithm)
 
--- a token with this algorithm and this key identifier may be signed by the key
+-- whether a token with this algorithm and this key identifier may be signed by the key
 abbrev pub is_for : SignatureAlgorithm → Option (List ℕ) → Key → Bool
 is_for algorithm told key =
     fits_use key.key_use
@@ -48,35 +48,36 @@ is_for algorithm told key =
     && fits_key_id key.key_id told
     && fits_type key.public_key algorithm
 
--- the keys of a set that are for it
+-- the usable keys of a set that may have signed a token with this algorithm and key identifier
 abbrev pub candidates : SignatureAlgorithm → Option (List ℕ) → List ListedKey → List PublicKey
 candidates algorithm told [] = []
 candidates algorithm told (Usable k ∷ ks) =
     if is_for algorithm told k then k.public_key ∷ candidates algorithm told ks else candidates algorithm told ks
 candidates algorithm told (Unusable u ∷ ks) = candidates algorithm told ks
 
--- the fault of the first key of that name that is of no use
+-- the fault of the first unusable key with this key identifier
 abbrev pub fault_of : List ℕ → List ListedKey → Option KeyError
 fault_of told [] = None
 fault_of told (Usable k ∷ ks) = fault_of told ks
 fault_of told (Unusable u ∷ ks) =
     if fits_key_id u.key_id (Some told) then Some u.fault else fault_of told ks
 
--- there is no key: the one that is named is of no use, or there is none
+-- the error if no key may have signed the token: `UnusableKey` with this fault, or else `NoKey`
 abbrev pub named_fault : Option KeyError → SignatureError
 named_fault None = error.NoKey
 named_fault (Some fault) = error.UnusableKey fault
 
+-- that error for a token with this key identifier, or with none
 abbrev pub why_none : Option (List ℕ) → List ListedKey → SignatureError
 why_none None keys = error.NoKey
 why_none (Some told) keys = named_fault (fault_of told keys)
 
--- the only one of the keys
+-- the only key of a list; this error if the list is empty; `AmbiguousKey` if it has several
 abbrev pub sole : List PublicKey → SignatureError → Result PublicKey SignatureError
 sole [] none = Err none
 sole (k ∷ []) none = Ok k
 sole (k ∷ j ∷ ks) none = Err error.AmbiguousKey
 
--- the key by which a token with this algorithm and this key identifier is checked
+-- the key with which a token with this algorithm and this key identifier is checked
 abbrev pub chosen_key : List ListedKey → SignatureAlgorithm → Option (List ℕ) → Result PublicKey SignatureError
 chosen_key keys algorithm told = sole (candidates algorithm told keys) (why_none told keys)

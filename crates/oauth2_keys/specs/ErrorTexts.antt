@@ -1,4 +1,4 @@
--- What `Display` writes of the errors.
+-- The texts that `Display` writes for the errors.
 use Rattle.std.specs.Prelude.{ℕ, List, ◌++◌, codes}
 use Rattle.rsa_signatures.specs.ErrorTexts.{key_error_text as rsa_error_text}
 use Rattle.ecdsa_signatures.specs.ErrorTexts.{key_error_text as p256_error_text}
@@ -10,6 +10,7 @@ use Rattle.oauth2_keys.specs.declared.key_members.KeyReadError.TheVariants.{Faul
 use Rattle.oauth2_keys.specs.declared.signature_error.SignatureError.{SignatureError}
 use Rattle.oauth2_keys.specs.declared.signature_error.SignatureError.TheVariants.{OtherAlgorithm, NoKey, AmbiguousKey, UnusableKey, ShortSecret, WrongSignature}
 
+-- the text for each fault of a key
 abbrev pub key_error_text : KeyError → List ℕ
 key_error_text Private = codes "the key is a private key or a secret"
 key_error_text (Missing member) = codes "the key has no member " ++ member_name member
@@ -21,10 +22,12 @@ key_error_text (WrongSize member) = codes "the member " ++ member_name member ++
 key_error_text (Rsa error) = rsa_error_text error
 key_error_text (P256 error) = p256_error_text error
 
+-- the text for each reason why a key could not be read
 abbrev pub key_read_error_text : KeyReadError → List ℕ
 key_read_error_text (Fault error) = key_error_text error
 key_read_error_text Memory = codes "out of memory"
 
+-- the text for each reason why a signature is refused
 abbrev pub signature_error_text : SignatureError → List ℕ
 signature_error_text OtherAlgorithm = codes "the algorithm is not the registered one"
 signature_error_text NoKey = codes "no key of the set is for the token"

@@ -1,4 +1,4 @@
--- A JSON Web Key that signatures can be checked by (RFC 7517, 4; RFC 7518, 6).
+-- A JSON Web Key that signatures can be checked with (RFC 7517, 4; RFC 7518, 6).
 use Rattle.std.specs.Prelude.{ℕ, List, length, codes, bytes_eq, ◌==◌, if◌then◌else◌, Option, option_and_then, Result, Ok, Err}
 use Rattle.serde_json.specs.Data.{Data}
 use Rattle.serde_json.specs.Find.{get, as_str}
@@ -15,7 +15,7 @@ use Rattle.oauth2_keys.specs.declared.public_key.PublicKey.{PublicKey}
 use Rattle.oauth2_keys.specs.declared.public_key.PublicKey.TheVariants as kind
 use Rattle.oauth2_keys.specs.Members.{KeyReading, ◌⊛◌, key_then, is_private, optional_text, optional_texts, needed_text, octets}
 
--- what it says of its use (RFC 7517, 4.2 to 4.5), and the key
+-- the members `use`, `key_ops`, `alg` and `kid` (RFC 7517, 4.2 to 4.5), and the public key
 pub record Key : Type 0 where
   pub key_use : Option (List ℕ)
   pub operations : Option (List (List ℕ))
@@ -23,48 +23,54 @@ pub record Key : Type 0 where
   pub key_id : Option (List ℕ)
   pub public_key : PublicKey
 
+-- `Key` from its fields, in their order
 abbrev pub key : Option (List ℕ) → Option (List (List ℕ)) → Option (List ℕ) → Option (List ℕ) → PublicKey → Key
 key u o a i k = record { key_use = u; operations = o; algorithm = a; key_id = i; public_key = k }
 
--- RFC 7518, 6.3.1: the modulus and the exponent
+-- an RSA key, or its fault as a `KeyError`
 abbrev pub rsa_of : Result RsaKey RsaKeyError → KeyReading PublicKey
 rsa_of (Ok k) = Ok (kind.Rsa k)
 rsa_of (Err e) = Err (error.Rsa e)
 
+-- the RSA key of the members `n` and `e` (RFC 7518, 6.3.1)
 abbrev pub rsa_key : Data → KeyReading PublicKey
 rsa_key d =
     key_then (octets member.Modulus d) (λ n.
     key_then (octets member.Exponent d) (λ e. rsa_of (rsa_key_of (number n) (number e))))
 
--- RFC 7518, 6.2.1: a point of the curve; each coordinate of P-256 has 32 octets
+-- a coordinate `x` or `y`, which has 32 octets on P-256 (RFC 7518, 6.2.1.2 and 6.2.1.3)
 abbrev pub coordinate : KeyMember → Data → KeyReading (List ℕ)
 coordinate m d = key_then (octets m d) (λ c. if length c == 32 then Ok c else Err (error.WrongSize m))
 
+-- a key on P-256, or its fault as a `KeyError`
 abbrev pub p256_of : Result P256Key P256KeyError → KeyReading PublicKey
 p256_of (Ok k) = Ok (kind.P256 k)
 p256_of (Err e) = Err (error.P256 e)
 
+-- the key on P-256 of the members `x` and `y` (RFC 7518, 6.2.1)
 abbrev pub curve_key : Data → KeyReading PublicKey
 curve_key d =
     key_then (coordinate member.X d) (λ x.
     key_then (coordinate member.Y d) (λ y. p256_of (p256_key_of (number x) (number y))))
 
+-- the key of the members `crv`, `x` and `y`; the curve has to be P-256 (RFC 7518, 6.2.1)
 abbrev pub elliptic_key : Data → KeyReading PublicKey
 elliptic_key d =
     key_then (needed_text member.Curve d) (λ curve.
     if bytes_eq curve (codes "P-256") then curve_key d else Err error.UnknownCurve)
 
--- RFC 7517, 4.1; RFC 7518, 6.1
+-- the public key of this key type, which has to be `RSA` or `EC` (RFC 7517, 4.1; RFC 7518, 6.1)
 abbrev pub of_type : List ℕ → Data → KeyReading PublicKey
 of_type key_type d =
     if bytes_eq key_type (codes "RSA") then rsa_key d
     else (if bytes_eq key_type (codes "EC") then elliptic_key d
     else Err error.UnknownType)
 
+-- the public key of a JSON Web Key, by its member `kty` (RFC 7517, 4.1)
 unfoldable pub public_key : Data → KeyReading PublicKey
 public_key d = key_then (needed_text member.KeyType d) (λ key_type. of_type key_type d)
 
--- a private key is none; other members are ignored (RFC 7517, 4)
+-- the key of a JSON value: a private key is refused; other members are ignored (RFC 7517, 4)
 abbrev pub key_reading : Data → KeyReading Key
 key_reading d =
     if is_private d then Err error.Private
@@ -75,13 +81,13 @@ key_reading d =
     ⊛ optional_text member.KeyId d
     ⊛ public_key d)
 
--- ---- a key that is of no use
+-- ---- a key that cannot be used
 
--- what it is called, if it says so, and its fault
+-- a key that cannot be used: its key identifier, if it has one, and its fault
 pub record Unusable : Type 0 where
   pub key_id : Option (List ℕ)
   pub fault : KeyError
 
--- its key identifier, if that is a text
+-- the key identifier (`kid`) of a JSON value, if it is a string
 abbrev pub told_key_id : Data → Option (List ℕ)
 told_key_id d = option_and_then as_str (get (codes "kid") d)

@@ -10,19 +10,21 @@ use Rattle.oauth2_keys.specs.declared.json_web_key.ListedKey.TheVariants.{Usable
 use Rattle.oauth2_keys.specs.Members.{KeyReading}
 use Rattle.oauth2_keys.specs.Key.{Key, key_reading, told_key_id}
 
--- a key that signatures can be checked by, or what it is called and its fault
+-- a key that signatures can be checked with, or the key identifier and the fault of another one
 abbrev pub listed_as : Option (List ℕ) → KeyReading Key → ListedKey
 listed_as key_id (Ok k) = Usable k
 listed_as key_id (Err e) = OfNoUse (record { key_id = key_id; fault = e })
 
+-- a key of the set, from its JSON value
 unfoldable pub listed_key : Data → ListedKey
 listed_key d = listed_as (told_key_id d) (key_reading d)
 
+-- the keys of the set, in the order of the array
 abbrev pub listed_keys : Items → List ListedKey
 listed_keys no_items = []
 listed_keys (item d ds) = listed_key d ∷ listed_keys ds
 
--- `keys` is an array (5.1)
+-- the value of the member `keys`, which has to be an array (5.1)
 abbrev pub keys_reading : Data → Reading (List ListedKey)
 keys_reading null = wrong_type
 keys_reading (boolean b) = wrong_type
@@ -31,7 +33,7 @@ keys_reading (string s) = wrong_type
 keys_reading (array ds) = Ok (listed_keys ds)
 keys_reading (object ms) = wrong_type
 
--- other members of the set are ignored
+-- the keys of a set: an object with the member `keys`; its other members are ignored (RFC 7517, 5)
 abbrev pub set_reading : Data → Reading (List ListedKey)
 set_reading d =
     read_then (members_of_object d) (λ ms. needed_member keys_reading (codes "keys") (get_member (codes "keys") ms))

@@ -7,17 +7,19 @@ use Rattle.oauth2_keys.specs.declared.key_error.KeyMember.TheVariants as member
 use Rattle.oauth2_keys.specs.declared.key_error.KeyError.TheVariants as error
 use Rattle.oauth2_keys.specs.Members.{KeyReading, ◌⊛◌, key_then, needed_text, base64_text}
 
--- 3.2 and 3.3: the required members alone, in the order of their names, with no white space between
+-- 3.2 and 3.3: an RSA key as JSON: only the required members, ordered by name, without white space
 abbrev pub rsa_text : List ℕ → List ℕ → List ℕ
 rsa_text e n = codes "{\"e\":\"" ++ e ++ codes "\",\"kty\":\"RSA\",\"n\":\"" ++ n ++ codes "\"}"
 
+-- 3.2 and 3.3: the same for a key on P-256
 abbrev pub elliptic_text : List ℕ → List ℕ → List ℕ
 elliptic_text x y = codes "{\"crv\":\"P-256\",\"kty\":\"EC\",\"x\":\"" ++ x ++ codes "\",\"y\":\"" ++ y ++ codes "\"}"
 
--- such a text of a key: each member is base64url, which needs no escape in JSON
+-- that text of an RSA key; its members have to be base64url, which needs no escape in JSON
 abbrev pub rsa_canonical : Data → KeyReading (List ℕ)
 rsa_canonical key = Ok rsa_text ⊛ base64_text member.Exponent key ⊛ base64_text member.Modulus key
 
+-- that text of an elliptic curve key, whose curve has to be P-256
 abbrev pub elliptic_canonical : Data → KeyReading (List ℕ)
 elliptic_canonical key =
     key_then (needed_text member.Curve key) (λ curve.
@@ -25,6 +27,7 @@ elliptic_canonical key =
     then Ok elliptic_text ⊛ base64_text member.X key ⊛ base64_text member.Y key
     else Err error.UnknownCurve)
 
+-- that text of a key, whose key type has to be `RSA` or `EC`
 abbrev pub canonical : Data → KeyReading (List ℕ)
 canonical key =
     key_then (needed_text member.KeyType key) (λ key_type.
@@ -32,6 +35,6 @@ canonical key =
     else (if bytes_eq key_type (codes "EC") then elliptic_canonical key
     else Err error.UnknownType))
 
--- 3: the digest of that text, in base64url
+-- 3: the SHA-256 digest of that text, in base64url
 abbrev pub thumbprint : Data → KeyReading (List ℕ)
 thumbprint key = key_then (canonical key) (λ text. Ok (base64url (sha256 text)))

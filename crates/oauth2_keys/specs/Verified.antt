@@ -9,20 +9,20 @@ use Rattle.oauth2_keys.specs.declared.signature_error.SignatureError.TheVariants
 use Rattle.oauth2_keys.specs.Algorithm.{algorithm_name, IsSignatureBy}
 use Rattle.oauth2_keys.specs.Choice.{chosen_key}
 
--- a function returned that key, seen by `meaning`, or that error
+-- a function returned the expected key, seen by `meaning`, or the expected error
 abbrev pub ChoosesAs : {T : Type 0} → (T → PublicKey) → Result T SignatureError → Result PublicKey SignatureError → Type 0
 ChoosesAs meaning (Ok key) expected = expected ≡ Ok (meaning key)
 ChoosesAs meaning (Err e) expected = expected ≡ Err e
 
--- the token has the registered algorithm, and its signature is one by the key that is chosen for it,
--- over what is signed
+-- the token has the registered algorithm, and its signature is one of the signed text by the key
+-- that is chosen for the token
 pub record IsVerified (keys : List ListedKey) (algorithm : SignatureAlgorithm) (token : DecodedToken) : Type 0 where
   pub algorithm_is : token.header.own.algorithm ≡ algorithm_name algorithm
   pub key : PublicKey
   pub key_is : chosen_key keys algorithm token.header.own.key_id ≡ Ok key
   pub signature_is : IsSignatureBy algorithm key token.signed token.signature
 
--- why a token is refused
+-- the reasons why a token is refused, and what is true of the token for each
 abbrev pub IsRefusal : List ListedKey → SignatureAlgorithm → DecodedToken → SignatureError → Type 0
 IsRefusal keys algorithm token error.OtherAlgorithm = token.header.own.algorithm ≢ algorithm_name algorithm
 IsRefusal keys algorithm token error.NoKey = chosen_key keys algorithm token.header.own.key_id ≡ Err error.NoKey

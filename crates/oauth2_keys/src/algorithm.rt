@@ -5,7 +5,7 @@ ghost use Rattle.oauth2_keys.specs.Algorithm.{algorithm_name, algorithm_named, r
 
 use rsa_signatures::{HashFunction, SignatureScheme};
 
-/// An algorithm by which a public key checks a signature (RFC 7518, 3.1). `none` is none of them.
+/// An algorithm for signatures that a public key checks (RFC 7518, 3.1). `none` is not one of them.
 #[derive(Clone, Copy, Debug, PartialEq, Eq, Drop)]
 pub enum SignatureAlgorithm {
     /// `RS256`
@@ -25,7 +25,7 @@ pub enum SignatureAlgorithm {
 }
 
 impl SignatureAlgorithm {
-    /// The algorithm of that name, if it is one of these.
+    /// The algorithm with that name, as `alg` has it; `None` if it is not one of these.
     pub fn from_name(name: &str) -> Option<SignatureAlgorithm>
         ensures { result ≡ algorithm_named name.now }
     {
@@ -41,7 +41,7 @@ impl SignatureAlgorithm {
         }
     }
 
-    /// The name, as `alg` has it.
+    /// The name of the algorithm, as `alg` has it.
     pub fn name(self) -> &'static str
         ensures { result.now ≡ algorithm_name self }
     {
@@ -56,7 +56,7 @@ impl SignatureAlgorithm {
         }
     }
 
-    // How an RSA key checks it; `None` where it asks for a key on a curve.
+    // The RSA scheme of the algorithm; `None` if it requires a key on a curve.
     pub(crate) fn rsa_scheme(self) -> Option<SignatureScheme>
         ensures { result ≡ rsa_scheme self }
     {

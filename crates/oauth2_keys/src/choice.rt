@@ -1,4 +1,4 @@
-//! Which key of a set a signature is checked by.
+//! Which key of a set a signature is checked with.
 
 ghost use Rattle.std.specs.Prelude.{
   ◌≡◌,
@@ -91,7 +91,7 @@ pub(crate) fn fits_type(key: &PublicKey, algorithm: SignatureAlgorithm) -> bool
     }
 }
 
-// The first key that is for a token, and the keys after it.
+// The first key that may have signed a token, and the keys after it in the set.
 fn first_candidate<'a>(
     keys: &'a [ListedKey],
     algorithm: SignatureAlgorithm,
@@ -113,7 +113,7 @@ fn first_candidate<'a>(
     None
 }
 
-// The fault of the first key of that name that is of no use.
+// The fault of the first unusable key with this key identifier.
 fn fault_of(keys: &[ListedKey], told: &str) -> Option<KeyError>
     ensures { result ≡ fault_of told.now keys.now }
 {
@@ -139,7 +139,7 @@ fn why_none(keys: &[ListedKey], told: Option<&str>) -> SignatureError
     }
 }
 
-// The key by which a token with this algorithm and this key identifier is checked.
+// The key with which a token with this algorithm and this key identifier is checked.
 pub(crate) fn chosen_key<'a>(
     keys: &'a [ListedKey],
     algorithm: SignatureAlgorithm,

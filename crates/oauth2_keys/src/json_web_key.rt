@@ -1,4 +1,4 @@
-//! JSON Web Keys, and what each reads to.
+//! JSON Web Keys, and how each is read.
 
 ghost use Rattle.std.specs.Prelude.{
   ◌≡◌,
@@ -36,7 +36,7 @@ use serde_json::Value;
 use std::alloc::{AllocError, Global};
 use std::marker::Model;
 
-/// A JSON Web Key (RFC 7517, 4) by which signatures can be checked.
+/// A JSON Web Key (RFC 7517, 4) that signatures can be checked with.
 #[derive(Drop)]
 pub struct JsonWebKey {
     key_use: Option<String>,
@@ -46,19 +46,19 @@ pub struct JsonWebKey {
     public_key: PublicKey,
 }
 
-/// A key of a set that is of no use, and why.
+/// A key of a set that cannot be used, and why.
 #[derive(Drop)]
 pub struct UnusableKey {
     key_id: Option<String>,
     fault: KeyError,
 }
 
-/// A key as a set lists it. One that is of no use does not spoil the set (RFC 7517, 5).
+/// A key of a set. A key that cannot be used does not make the set unusable (RFC 7517, 5).
 #[derive(Drop)]
 pub enum ListedKey {
-    /// Signatures can be checked by it.
+    /// Signatures can be checked with it.
     Usable(JsonWebKey),
-    /// It is of no use.
+    /// It cannot be used.
     Unusable(UnusableKey),
 }
 
@@ -177,9 +177,9 @@ fn told_key_id(alloc: Global, key: &Value) -> Result<Option<String>, AllocError>
     }
 }
 
-// A key as a set lists it.
+// A key of a set, from its JSON value.
 #[tactic(auto, unfolding(crate::specs::KeySet::listed_key))]
-pub(crate) fn listed(alloc: Global, key: &Value) -> Result<ListedKey, AllocError>
+pub(crate) fn read_listed_key(alloc: Global, key: &Value) -> Result<ListedKey, AllocError>
     ensures { IfOk result (λ listed. listed ≡ listed_key (view key.now)) }
 {
     match usable(alloc, key) {
@@ -223,7 +223,7 @@ impl JsonWebKey {
         }
     }
 
-    /// What the key is called (`kid`; RFC 7517, 4.5).
+    /// The identifier of the key (`kid`; RFC 7517, 4.5).
     pub fn key_id(&self) -> Option<&str>
         ensures { option_copied result ≡ self.now.key_id }
     {
@@ -240,7 +240,7 @@ impl JsonWebKey {
         &self.public_key
     }
 
-    // Whether a token with this algorithm and this key identifier may be signed by it.
+    // Whether a token with this algorithm and this key identifier may be signed by this key.
     pub(crate) fn is_for(&self, algorithm: SignatureAlgorithm, key_id: Option<&str>) -> bool
         ensures { result ≡ is_for algorithm (option_copied key_id.entry) self.now }
     {
@@ -253,7 +253,7 @@ impl JsonWebKey {
 }
 
 impl UnusableKey {
-    /// What the key is called (`kid`), if that is a text.
+    /// The identifier of the key (`kid`), if it is a string.
     pub fn key_id(&self) -> Option<&str>
         ensures { option_copied result ≡ self.now.key_id }
     {
@@ -263,7 +263,7 @@ impl UnusableKey {
         }
     }
 
-    /// Its first fault.
+    /// The first fault of the key.
     pub fn fault(&self) -> KeyError
         ensures { result ≡ self.now.fault }
     {

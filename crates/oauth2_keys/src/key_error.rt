@@ -38,23 +38,23 @@ pub enum KeyMember {
 #[derive(Clone, Copy, Debug, PartialEq, Eq, Drop)]
 pub enum KeyError {
     /// It is a private key or a secret: it has a member `d` or `k` (RFC 7518, 6.2.2, 6.3.2 and
-    /// 6.4.1). Whoever can read the set can sign by it.
+    /// 6.4.1). Whoever can read the set can sign with it.
     Private,
-    /// The member has to be there.
+    /// The member is missing, or null.
     Missing(KeyMember),
-    /// The member is of another type.
+    /// The member has another JSON type.
     WrongType(KeyMember),
     /// The text of the member is not base64url without padding.
     NotBase64(KeyMember),
-    /// The key type (`kty`) is none of `RSA` and `EC`.
+    /// The key type (`kty`) is neither `RSA` nor `EC`.
     UnknownType,
     /// The curve (`crv`) is not `P-256`.
     UnknownCurve,
-    /// The coordinate is not as long as the curve asks (RFC 7518, 6.2.1.2 and 6.2.1.3).
+    /// The coordinate does not have 32 octets, the length of P-256 (RFC 7518, 6.2.1.2 and 6.2.1.3).
     WrongSize(KeyMember),
-    /// An RSA key is refused.
+    /// The modulus or the exponent of an RSA key is refused.
     Rsa(RsaKeyError),
-    /// A key on P-256 is refused.
+    /// The coordinates of a key on P-256 are refused.
     P256(P256KeyError),
 }
 

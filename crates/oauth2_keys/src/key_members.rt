@@ -1,4 +1,4 @@
-//! The members of a key, read where they stand in its object.
+//! The members of a key, read from its JSON object without a copy of it.
 
 ghost use Rattle.std.specs.Prelude.{
   ◌≡◌,
@@ -34,10 +34,10 @@ use serde_json::Value;
 use std::alloc::{AllocError, AllocFailed, Global};
 use std::fmt;
 
-/// Why nothing was read of a key.
+/// Why a key could not be read.
 #[derive(Debug, PartialEq, Eq, Drop)]
 pub enum KeyReadError {
-    /// The key is of no use.
+    /// The key cannot be used.
     Fault(KeyError),
     /// Memory ran out.
     Memory,
@@ -84,7 +84,7 @@ pub(crate) fn is_private(key: &Value) -> bool
     key.get("d").is_some() || key.get("k").is_some()
 }
 
-// A text that may be absent or null.
+// The string of a member; `None` if it is absent or null.
 pub(crate) fn optional_text(key: &Value, member: KeyMember) -> Result<Option<&str>, KeyError>
     ensures { FindsAs (option_map (λ text. text.now)) result
         (optional_text member (view key.now)) }
@@ -96,7 +96,7 @@ pub(crate) fn optional_text(key: &Value, member: KeyMember) -> Result<Option<&st
     }
 }
 
-// A text that has to be there.
+// The string of a member that has to be present.
 pub(crate) fn needed_text(key: &Value, member: KeyMember) -> Result<&str, KeyError>
     ensures { FindsAs (λ text. text.now) result (needed_text member (view key.now)) }
 {
@@ -107,13 +107,13 @@ pub(crate) fn needed_text(key: &Value, member: KeyMember) -> Result<&str, KeyErr
     }
 }
 
-fn copied(alloc: Global, text: &str) -> Result<String, KeyReadError>
+fn copy_text(alloc: Global, text: &str) -> Result<String, KeyReadError>
     ensures { KeyReadsAs string_bytes result (Ok text.now) }
 {
     Ok(String::from_str(alloc, text)?)
 }
 
-// A copy of a text that may be absent or null.
+// A copy of the string of a member; `None` if it is absent or null.
 pub(crate) fn own_text(
     alloc: Global,
     key: &Value,
@@ -123,7 +123,7 @@ pub(crate) fn own_text(
         (optional_text member (view key.now)) }
 {
     match optional_text(key, member) {
-        Ok(Some(text)) => Ok(Some(copied(alloc, text)?)),
+        Ok(Some(text)) => Ok(Some(copy_text(alloc, text)?)),
         Ok(None) => Ok(None),
         Err(fault) => Err(KeyReadError::Fault(fault)),
     }
@@ -143,7 +143,7 @@ fn texts_in(alloc: Global, member: KeyMember, items: &[Value]) -> Result<Vec<Str
     Ok(texts)
 }
 
-// A copy of a list of texts that may be absent or null.
+// A copy of the array of strings of a member; `None` if it is absent or null.
 pub(crate) fn own_texts(
     alloc: Global,
     key: &Value,
@@ -159,9 +159,9 @@ pub(crate) fn own_texts(
     }
 }
 
-// The octets of a text, where it is base64url without padding.
+// The octets of a text; `None` if it is not base64url without padding.
 #[tactic(auto, unfolding(oauth2_openid::specs::Token::bytes_of))]
-fn decoded(alloc: Global, text: &str) -> Result<Option<Vec<u8>>, AllocError>
+fn decode_octets(alloc: Global, text: &str) -> Result<Option<Vec<u8>>, AllocError>
     ensures { IfOk result (λ found. option_map (λ bytes. bytes.items) found ≡ bytes_of text.now) }
 {
     match URL_SAFE_NO_PAD.decode(alloc, text.as_bytes()) {
@@ -171,7 +171,7 @@ fn decoded(alloc: Global, text: &str) -> Result<Option<Vec<u8>>, AllocError>
     }
 }
 
-// A text that has to be there and is base64url without padding.
+// The text of a member that has to be present and base64url without padding.
 pub(crate) fn base64_text(
     alloc: Global,
     key: &Value,
@@ -180,7 +180,7 @@ pub(crate) fn base64_text(
     ensures { KeyReadsAs (λ text. text.now) result (base64_text member (view key.now)) }
 {
     match needed_text(key, member) {
-        Ok(text) => match decoded(alloc, text)? {
+        Ok(text) => match decode_octets(alloc, text)? {
             Some(_) => Ok(text),
             None => Err(KeyReadError::Fault(KeyError::NotBase64(member))),
         },
@@ -188,12 +188,12 @@ pub(crate) fn base64_text(
     }
 }
 
-// The octets of a member that has to be there.
+// The octets of a member that has to be present and base64url without padding.
 pub(crate) fn octets(alloc: Global, key: &Value, member: KeyMember) -> Result<Vec<u8>, KeyReadError>
     ensures { KeyReadsAs (λ v. v.items) result (octets member (view key.now)) }
 {
     match needed_text(key, member) {
-        Ok(text) => match decoded(alloc, text)? {
+        Ok(text) => match decode_octets(alloc, text)? {
             Some(octets) => Ok(octets),
             None => Err(KeyReadError::Fault(KeyError::NotBase64(member))),
         },

@@ -1,4 +1,4 @@
-//! A JSON Web Key Set (RFC 7517, 5), and the check of a token's signature by it.
+//! A JSON Web Key Set (RFC 7517, 5), and the check of a token's signature with it.
 
 ghost use Rattle.std.specs.Prelude.{◌≡◌, ◌↔◌, Ok, IfErr, IfOk, IsOk, option_copied};
 ghost use Rattle.serde_json.specs.View.{view, items_view};
@@ -10,7 +10,7 @@ ghost use Rattle.oauth2_keys.specs.Verified.{ChoosesAs, IsRefusal, IsVerified};
 
 use crate::algorithm::SignatureAlgorithm;
 use crate::choice::chosen_key;
-use crate::json_web_key::{ListedKey, listed};
+use crate::json_web_key::{ListedKey, read_listed_key};
 use crate::public_key::PublicKey;
 use crate::signature_error::SignatureError;
 use oauth2_json::{FromJson, ParseCause, ReadError, members};
@@ -43,7 +43,7 @@ fn listed_keys(alloc: Global, items: &[Value]) -> Result<Vec<ListedKey>, AllocEr
 {
     let mut keys = Vec::new(alloc);
     for item in items {
-        keys.push(listed(alloc, item)?)?;
+        keys.push(read_listed_key(alloc, item)?)?;
     }
     Ok(keys)
 }
@@ -92,8 +92,8 @@ impl JsonWebKeySet {
         self.keys.as_slice()
     }
 
-    /// The key by which a token with this algorithm and this key identifier is checked: the only
-    /// one that is for it. Of the token's other members none is looked at.
+    /// The key with which a token with this algorithm and this key identifier is checked: the only
+    /// one of the set that fits both. The token's other header members are ignored.
     pub fn chosen_key(
         &self,
         algorithm: SignatureAlgorithm,
@@ -106,7 +106,7 @@ impl JsonWebKeySet {
     }
 
     /// Whether the token has the algorithm that the client registered, and is signed by the key
-    /// that is chosen for it.
+    /// that `chosen_key` returns for it.
     pub fn verify(
         &self,
         token: &IdToken,

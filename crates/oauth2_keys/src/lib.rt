@@ -1,4 +1,4 @@
-//! Keys of an issuer as JSON Web Keys (RFC 7517), and the check of an ID token's signature by them.
+//! An issuer's JSON Web Keys (RFC 7517), and the check of an ID token's signature with them.
 
 #![tactic(auto)]
 

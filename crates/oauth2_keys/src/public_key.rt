@@ -1,4 +1,4 @@
-//! A public key that signatures can be checked by.
+//! A public key that signatures can be checked with.
 
 ghost use Rattle.std.specs.Prelude.{◌↔◌, IsTrue};
 ghost use Rattle.oauth2_keys.specs.Algorithm.{IsSignatureBy};
@@ -7,7 +7,7 @@ use crate::algorithm::SignatureAlgorithm;
 use ecdsa_signatures::P256PublicKey;
 use rsa_signatures::RsaPublicKey;
 
-/// A public key. Each kind of keys whose signatures can be checked has a variant here.
+/// A public key. There is a variant for each type of key that signatures can be checked with.
 #[derive(Drop)]
 pub enum PublicKey {
     /// `kty` is `RSA` (RFC 7518, 6.3).
@@ -17,8 +17,8 @@ pub enum PublicKey {
 }
 
 impl PublicKey {
-    /// Whether these octets are a signature of the message by this algorithm and this key. By an
-    /// algorithm that asks for another kind of keys none is.
+    /// Whether these octets are a signature of the message by this algorithm and this key. It is
+    /// `false` if the algorithm requires another type of key.
     pub fn verify(&self, algorithm: SignatureAlgorithm, message: &[u8], signature: &[u8]) -> bool
         ensures { IsTrue result ↔ IsSignatureBy algorithm self.now message.now signature.now }
     {

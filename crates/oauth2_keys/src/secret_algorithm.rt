@@ -1,4 +1,4 @@
-//! The signature of an ID token by the client's secret.
+//! The check of an ID token's signature with the client's secret.
 
 ghost use Rattle.std.specs.Prelude.{◌≡◌, ◌↔◌, IfErr, IsOk};
 ghost use Rattle.oauth2_openid.specs.Seen.{token_of};
@@ -14,8 +14,8 @@ use hmac_signatures::{HashFunction, HmacKey};
 use oauth2_openid::IdToken;
 use oauth2_types::ClientSecret;
 
-/// An algorithm by which the client's secret checks a signature (RFC 7518, 3.2; OpenID Connect Core
-/// 1.0, 10.1). Only a confidential client may register one.
+/// An algorithm for signatures that the client's secret checks (RFC 7518, 3.2; OpenID Connect
+/// Core 1.0, 10.1). Only a confidential client may register one.
 #[derive(Clone, Copy, Debug, PartialEq, Eq, Drop)]
 pub enum SecretAlgorithm {
     /// `HS256`
@@ -27,7 +27,7 @@ pub enum SecretAlgorithm {
 }
 
 impl SecretAlgorithm {
-    /// The name, as `alg` has it.
+    /// The name of the algorithm, as `alg` has it.
     pub fn name(self) -> &'static str
         ensures { result.now ≡ secret_algorithm_name self }
     {
@@ -48,7 +48,7 @@ impl SecretAlgorithm {
         }
     }
 
-    /// Whether the token has this algorithm, which the client registered, and is signed by the
+    /// Whether the token has this algorithm, which the client registered, and is signed with the
     /// client's secret.
     pub fn verify(self, token: &IdToken, secret: &ClientSecret) -> Result<(), SignatureError>
         ensures verified { IsOk result ↔ IsVerifiedBySecret secret.now self (token_of token.now) }

@@ -14,13 +14,13 @@ pub enum SignatureError {
     OtherAlgorithm,
     /// No key of the set is for the token.
     NoKey,
-    /// Several keys of the set are for the token, and it does not say by which it was signed.
+    /// Several keys of the set are for the token, and it does not say which one signed it.
     AmbiguousKey,
-    /// The key that the token names is of no use.
+    /// The key that the token names (`kid`) cannot be used.
     UnusableKey(KeyError),
     /// The client's secret is shorter than a digest of the algorithm (RFC 7518, 3.2).
     ShortSecret,
-    /// The signature is not that of the token by the key or the secret.
+    /// The signature is not a signature of the token by the key or the secret.
     WrongSignature,
 }
 

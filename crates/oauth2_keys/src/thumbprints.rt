@@ -88,9 +88,9 @@ fn base64url(alloc: Global, octets: &[u8]) -> Result<String, AllocError>
     URL_SAFE_NO_PAD.encode(alloc, octets)
 }
 
-/// The thumbprint of a JSON Web Key by SHA-256, in base64url: for an RSA key, and for one on the
-/// curve P-256. Of a private key it is that of its public part. The members are taken as the key
-/// writes them, so they have to be written as RFC 7518 asks, with no zeros in front.
+/// The SHA-256 thumbprint of a JSON Web Key in base64url, for an RSA key or a key on P-256. For a
+/// private key it is that of the public key. The members are taken as they are written, so they
+/// have to be written as RFC 7518 requires: `n` and `e` without leading zeros.
 pub fn thumbprint(alloc: Global, key: &Value) -> Result<String, KeyReadError>
     ensures { KeyReadsAs string_bytes result (thumbprint (view key.now)) }
 {

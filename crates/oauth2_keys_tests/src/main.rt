@@ -1,11 +1,11 @@
 //! Reads the key sets that standard input lists, and checks tokens and signatures by them.
 //!
-//! A line `set JSON` reads a set and prints a line for each key. A line `verify ALGORITHM TOKEN` checks
-//! the signature of an ID token, and a line `check ALGORITHM KEY-ID MESSAGE SIGNATURE` a signature in
-//! base64url by the key that is chosen; a key identifier of `-` is none. A line
-//! `secret ALGORITHM SECRET TOKEN` checks the signature of an ID token by a client's secret, and a line
-//! `thumbprint JSON` prints the thumbprint of a key. A line that begins with `#` is a heading, and is
-//! printed as it is. The file `stdout` has what has to be printed for the file
+//! A line `set JSON` reads a set and prints a line for each key. A line `verify ALGORITHM TOKEN`
+//! checks the signature of an ID token. A line `check ALGORITHM KEY-ID MESSAGE SIGNATURE` checks a
+//! signature in base64url by the key that is chosen; a KEY-ID of `-` means that there is none. A
+//! line `secret ALGORITHM SECRET TOKEN` checks the signature of an ID token by a client's secret,
+//! and a line `thumbprint JSON` prints the thumbprint of a key. A line that begins with `#` is a
+//! heading, and is printed as it is. The file `stdout` has what has to be printed for the file
 //! `stdin`.
 
 #![tactic(auto)]

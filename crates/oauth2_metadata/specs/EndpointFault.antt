@@ -19,21 +19,23 @@ forbids_fragment Revocation = true
 forbids_fragment DeviceAuthorization = false
 forbids_fragment Introspection = false
 
--- why a client may not call the URL: each endpoint is `https`, or `http` on this machine itself (RFC
--- 6749, 3.1 and 3.2; RFC 7009, 2; RFC 7662, 2; RFC 8628, 3.1)
+-- why a client may not call the URL: each endpoint must be `https`, or `http` with a loopback host
+-- (RFC 6749, 3.1 and 3.2; RFC 7009, 2; RFC 7662, 2; RFC 8628, 3.1)
 abbrev pub cause_of : Endpoint → Parts → Option EndpointCause
 cause_of endpoint url =
     if not (is_secure url) then Some NotHttps
     else (if forbids_fragment endpoint && is_some url.fragment then Some HasFragment else None)
 
--- an endpoint that is not there has no fault
+-- the fault of an endpoint with this URL: why a client may not call it; `None` if there is no URL
 abbrev pub fault_of : Endpoint → Option Parts → Option EndpointFault
 fault_of endpoint url =
     option_map (λ cause. record { endpoint = endpoint; cause = cause }) (option_and_then (cause_of endpoint) url)
 
+-- the parsed URL of an endpoint, if it is there
 abbrev pub url_of : Option Addressed → Option Parts
 url_of endpoint = option_map (λ a. a.url) endpoint
 
+-- the parsed URL of this endpoint of the metadata, if it is there
 abbrev pub url_at : Endpoint → EndpointMembers → Option Parts
 url_at Authorization m = url_of m.authorization_endpoint
 url_at Token m = url_of m.token_endpoint
@@ -41,17 +43,18 @@ url_at DeviceAuthorization m = url_of m.device_authorization_endpoint
 url_at Introspection m = url_of m.introspection_endpoint
 url_at Revocation m = url_of m.revocation_endpoint
 
+-- the fault of this endpoint of the metadata, if it has one
 abbrev pub fault_at : Endpoint → EndpointMembers → Option EndpointFault
 fault_at endpoint m = fault_of endpoint (url_at endpoint m)
 
--- of several faults the first
+-- the first endpoint of the metadata, in this order, that a client may not call, and why
 abbrev pub endpoint_fault : EndpointMembers → Option EndpointFault
 endpoint_fault m =
     option_or (option_or (option_or (option_or (fault_at Authorization m) (fault_at Token m)) (fault_at DeviceAuthorization m)) (fault_at Introspection m)) (fault_at Revocation m)
 
 -- ---- texts
 
--- the member's name (RFC 8414, 2; RFC 8628, 4)
+-- the name of an endpoint's member of the metadata (RFC 8414, 2; RFC 8628, 4)
 abbrev pub member_name : Endpoint → List ℕ
 member_name Authorization = codes "authorization_endpoint"
 member_name Token = codes "token_endpoint"
@@ -59,9 +62,11 @@ member_name DeviceAuthorization = codes "device_authorization_endpoint"
 member_name Introspection = codes "introspection_endpoint"
 member_name Revocation = codes "revocation_endpoint"
 
+-- the text of the reason why a client may not call an endpoint
 abbrev pub cause_text : EndpointCause → List ℕ
 cause_text NotHttps = codes "not an https URL"
 cause_text HasFragment = codes "a URL with a fragment"
 
+-- the text of a fault: the name of the endpoint's member, and the reason
 abbrev pub fault_text : EndpointFault → List ℕ
 fault_text fault = member_name fault.endpoint ++ codes ": " ++ cause_text fault.cause

@@ -11,7 +11,8 @@ use Rattle.oauth2_json.specs.Puts.{Row, put_all}
 use Rattle.oauth2_body_members.specs.Table.{Table, column, ◌▸◌, end, names_of, table_reading, rows_of}
 use Rattle.oauth2_metadata.specs.Kinds.{list_data, address_data}
 
--- Each group: its record, and its table, with one row a member: how it is read and how it is written.
+-- For each group of members: its record, and its table, which says how each member is read and
+-- written.
 
 -- the endpoints that this client calls (RFC 8414, 2; RFC 8628, 4)
 pub record EndpointMembers : Type 0 where
@@ -21,9 +22,11 @@ pub record EndpointMembers : Type 0 where
   pub introspection_endpoint : Option Addressed
   pub revocation_endpoint : Option Addressed
 
+-- the group with these members, in the order of `endpoint_table`
 abbrev pub endpoint_group : Option Addressed → Option Addressed → Option Addressed → Option Addressed → Option Addressed → EndpointMembers
 endpoint_group a b c d e = record { authorization_endpoint = a; token_endpoint = b; device_authorization_endpoint = c; introspection_endpoint = d; revocation_endpoint = e }
 
+-- the members of this group: how each is read and written; each may be absent or null
 abbrev pub endpoint_table : Table EndpointMembers
 endpoint_table =
     column (codes "authorization_endpoint") (optional_member url) (λ m. option_map address_data m.authorization_endpoint)
@@ -33,13 +36,16 @@ endpoint_table =
     ▸ column (codes "revocation_endpoint") (optional_member url) (λ m. option_map address_data m.revocation_endpoint)
     ▸ end
 
+-- the group, read from the members of a JSON object
 unfoldable pub endpoint_row : Members → Reading EndpointMembers
 endpoint_row ms = table_reading endpoint_table (Ok endpoint_group) ms
 
+-- the members that the group is written as
 unfoldable pub endpoint_rows : EndpointMembers → List Row
 endpoint_rows m = rows_of endpoint_table m
 
--- what the server's grants allow
+-- the scopes, response types and modes, grant types and PKCE methods that the server supports (RFC
+-- 8414, 2)
 pub record SupportedMembers : Type 0 where
   pub scopes_supported : Option (List (List ℕ))
   pub response_types_supported : Option (List (List ℕ))
@@ -47,9 +53,11 @@ pub record SupportedMembers : Type 0 where
   pub grant_types_supported : Option (List (List ℕ))
   pub code_challenge_methods_supported : Option (List (List ℕ))
 
+-- the group with these members, in the order of `supported_table`
 abbrev pub supported_group : Option (List (List ℕ)) → Option (List (List ℕ)) → Option (List (List ℕ)) → Option (List (List ℕ)) → Option (List (List ℕ)) → SupportedMembers
 supported_group a b c d e = record { scopes_supported = a; response_types_supported = b; response_modes_supported = c; grant_types_supported = d; code_challenge_methods_supported = e }
 
+-- the members of this group: how each is read and written; each may be absent or null
 abbrev pub supported_table : Table SupportedMembers
 supported_table =
     column (codes "scopes_supported") (optional_member text_list) (λ m. option_map list_data m.scopes_supported)
@@ -59,21 +67,25 @@ supported_table =
     ▸ column (codes "code_challenge_methods_supported") (optional_member text_list) (λ m. option_map list_data m.code_challenge_methods_supported)
     ▸ end
 
+-- the group, read from the members of a JSON object
 unfoldable pub supported_row : Members → Reading SupportedMembers
 supported_row ms = table_reading supported_table (Ok supported_group) ms
 
+-- the members that the group is written as
 unfoldable pub supported_rows : SupportedMembers → List Row
 supported_rows m = rows_of supported_table m
 
--- how a client may show who it is, at each endpoint
+-- the client authentication methods that each endpoint supports (RFC 8414, 2)
 pub record AuthMethodMembers : Type 0 where
   pub token_endpoint_auth_methods_supported : Option (List (List ℕ))
   pub introspection_endpoint_auth_methods_supported : Option (List (List ℕ))
   pub revocation_endpoint_auth_methods_supported : Option (List (List ℕ))
 
+-- the group with these members, in the order of `auth_method_table`
 abbrev pub auth_method_group : Option (List (List ℕ)) → Option (List (List ℕ)) → Option (List (List ℕ)) → AuthMethodMembers
 auth_method_group a b c = record { token_endpoint_auth_methods_supported = a; introspection_endpoint_auth_methods_supported = b; revocation_endpoint_auth_methods_supported = c }
 
+-- the members of this group: how each is read and written; each may be absent or null
 abbrev pub auth_method_table : Table AuthMethodMembers
 auth_method_table =
     column (codes "token_endpoint_auth_methods_supported") (optional_member text_list) (λ m. option_map list_data m.token_endpoint_auth_methods_supported)
@@ -81,21 +93,25 @@ auth_method_table =
     ▸ column (codes "revocation_endpoint_auth_methods_supported") (optional_member text_list) (λ m. option_map list_data m.revocation_endpoint_auth_methods_supported)
     ▸ end
 
+-- the group, read from the members of a JSON object
 unfoldable pub auth_method_row : Members → Reading AuthMethodMembers
 auth_method_row ms = table_reading auth_method_table (Ok auth_method_group) ms
 
+-- the members that the group is written as
 unfoldable pub auth_method_rows : AuthMethodMembers → List Row
 auth_method_rows m = rows_of auth_method_table m
 
--- by which algorithms it may sign a JWT that shows who it is, at each endpoint
+-- the algorithms for the JWT of a client's authentication that each endpoint supports (RFC 8414, 2)
 pub record SigningAlgorithmMembers : Type 0 where
   pub token_endpoint_auth_signing_alg_values_supported : Option (List (List ℕ))
   pub introspection_endpoint_auth_signing_alg_values_supported : Option (List (List ℕ))
   pub revocation_endpoint_auth_signing_alg_values_supported : Option (List (List ℕ))
 
+-- the group with these members, in the order of `signing_algorithm_table`
 abbrev pub signing_algorithm_group : Option (List (List ℕ)) → Option (List (List ℕ)) → Option (List (List ℕ)) → SigningAlgorithmMembers
 signing_algorithm_group a b c = record { token_endpoint_auth_signing_alg_values_supported = a; introspection_endpoint_auth_signing_alg_values_supported = b; revocation_endpoint_auth_signing_alg_values_supported = c }
 
+-- the members of this group: how each is read and written; each may be absent or null
 abbrev pub signing_algorithm_table : Table SigningAlgorithmMembers
 signing_algorithm_table =
     column (codes "token_endpoint_auth_signing_alg_values_supported") (optional_member text_list) (λ m. option_map list_data m.token_endpoint_auth_signing_alg_values_supported)
@@ -103,22 +119,26 @@ signing_algorithm_table =
     ▸ column (codes "revocation_endpoint_auth_signing_alg_values_supported") (optional_member text_list) (λ m. option_map list_data m.revocation_endpoint_auth_signing_alg_values_supported)
     ▸ end
 
+-- the group, read from the members of a JSON object
 unfoldable pub signing_algorithm_row : Members → Reading SigningAlgorithmMembers
 signing_algorithm_row ms = table_reading signing_algorithm_table (Ok signing_algorithm_group) ms
 
+-- the members that the group is written as
 unfoldable pub signing_algorithm_rows : SigningAlgorithmMembers → List Row
 signing_algorithm_rows m = rows_of signing_algorithm_table m
 
--- pages to read, and their languages
+-- the URLs of pages for developers and users, and the languages of the user interface (RFC 8414, 2)
 pub record PageMembers : Type 0 where
   pub service_documentation : Option (List ℕ)
   pub ui_locales_supported : Option (List (List ℕ))
   pub op_policy_uri : Option (List ℕ)
   pub op_tos_uri : Option (List ℕ)
 
+-- the group with these members, in the order of `page_table`
 abbrev pub page_group : Option (List ℕ) → Option (List (List ℕ)) → Option (List ℕ) → Option (List ℕ) → PageMembers
 page_group a b c d = record { service_documentation = a; ui_locales_supported = b; op_policy_uri = c; op_tos_uri = d }
 
+-- the members of this group: how each is read and written; each may be absent or null
 abbrev pub page_table : Table PageMembers
 page_table =
     column (codes "service_documentation") (optional_member text) (λ m. option_map string m.service_documentation)
@@ -127,23 +147,27 @@ page_table =
     ▸ column (codes "op_tos_uri") (optional_member text) (λ m. option_map string m.op_tos_uri)
     ▸ end
 
+-- the group, read from the members of a JSON object
 unfoldable pub page_row : Members → Reading PageMembers
 page_row ms = table_reading page_table (Ok page_group) ms
 
+-- the members that the group is written as
 unfoldable pub page_rows : PageMembers → List Row
 page_rows m = rows_of page_table m
 
--- where clients are registered, the server's keys, its metadata as a signed JWT (RFC 8414, 2.1), and
--- whether it tells its issuer in the redirect (RFC 9207, 3)
+-- the URLs of the client registration and of the server's keys, the metadata as a signed JWT (RFC
+-- 8414, 2 and 2.1), and whether the server's redirects have `iss` (RFC 9207, 3)
 pub record ServiceMembers : Type 0 where
   pub registration_endpoint : Option (List ℕ)
   pub jwks_uri : Option (List ℕ)
   pub signed_metadata : Option (List ℕ)
   pub authorization_response_iss_parameter_supported : Option Bool
 
+-- the group with these members, in the order of `service_table`
 abbrev pub service_group : Option (List ℕ) → Option (List ℕ) → Option (List ℕ) → Option Bool → ServiceMembers
 service_group a b c d = record { registration_endpoint = a; jwks_uri = b; signed_metadata = c; authorization_response_iss_parameter_supported = d }
 
+-- the members of this group: how each is read and written; each may be absent or null
 abbrev pub service_table : Table ServiceMembers
 service_table =
     column (codes "registration_endpoint") (optional_member text) (λ m. option_map string m.registration_endpoint)
@@ -152,14 +176,17 @@ service_table =
     ▸ column (codes "authorization_response_iss_parameter_supported") (optional_member flag) (λ m. option_map boolean m.authorization_response_iss_parameter_supported)
     ▸ end
 
+-- the group, read from the members of a JSON object
 unfoldable pub service_row : Members → Reading ServiceMembers
 service_row ms = table_reading service_table (Ok service_group) ms
 
+-- the members that the group is written as
 unfoldable pub service_rows : ServiceMembers → List Row
 service_rows m = rows_of service_table m
 
 -- ---- the whole document
 
+-- the metadata of an authorization server, with extra fields of type `E`
 pub record Metadata (E : Type 0) : Type 0 where
   pub issuer : List ℕ
   pub endpoints : EndpointMembers
@@ -170,13 +197,15 @@ pub record Metadata (E : Type 0) : Type 0 where
   pub services : ServiceMembers
   pub extra_fields : E
 
+-- the metadata with these parts
 abbrev pub metadata : {E : Type 0} → List ℕ → EndpointMembers → SupportedMembers → AuthMethodMembers → SigningAlgorithmMembers → PageMembers → ServiceMembers → E → Metadata E
 metadata i e s a g p v x = record { issuer = i; endpoints = e; supported = s; auth_methods = a; signing_algorithms = g; pages = p; services = v; extra_fields = x }
 
--- metadata whose extra fields are seen by f
+-- the metadata with `f` applied to its extra fields
 abbrev pub metadata_seen : {E F : Type 0} → (E → F) → Metadata E → Metadata F
 metadata_seen f m = metadata m.issuer m.endpoints m.supported m.auth_methods m.signing_algorithms m.pages m.services (f m.extra_fields)
 
+-- the names of all members that are not extra fields
 unfoldable pub metadata_names : List (List ℕ)
 metadata_names =
     codes "issuer"
@@ -187,7 +216,7 @@ metadata_names =
     ++ (names_of page_table
     ++ names_of service_table)))))
 
--- the table: the issuer alone has to be there
+-- the metadata, read from the members of its JSON object; only `issuer` is required
 abbrev pub metadata_row : {E : Type 0} → (Data → Reading E) → Members → Reading (Metadata E)
 metadata_row extra_fields ms =
     Ok metadata
@@ -200,10 +229,11 @@ metadata_row extra_fields ms =
     ⊛ service_row ms
     ⊛ extra_fields (object (others metadata_names ms))
 
+-- the metadata, read from a JSON value, which must be an object
 abbrev pub metadata_reading : {E : Type 0} → (Data → Reading E) → Data → Reading (Metadata E)
 metadata_reading extra_fields d = read_then (members_of_object d) (metadata_row extra_fields)
 
--- the type's own members, none of which is written where it is none
+-- the members that the metadata is written as, without those of its extra fields
 unfoldable pub metadata_rows : {E : Type 0} → Metadata E → List Row
 metadata_rows m =
     (codes "issuer", Some (string m.issuer))
@@ -214,7 +244,7 @@ metadata_rows m =
     ++ (page_rows m.pages
     ++ (service_rows m.services))))))
 
--- the type's own members beside those of its extra fields
+-- the JSON object that the metadata is written as, with the members of its extra fields
 abbrev pub metadata_writing : {E : Type 0} → (E → Writing) → Metadata E → Writing
 metadata_writing extra_fields m =
     write_then (extra_fields m.extra_fields) (λ x.

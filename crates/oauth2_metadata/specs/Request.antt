@@ -24,13 +24,14 @@ use Rattle.oauth2_metadata.specs.declared.metadata_error.MetadataError.{Metadata
 use Rattle.oauth2_metadata.specs.declared.metadata_error.MetadataError.TheVariants.{Endpoint, OtherIssuer, Reply, Status}
 use Rattle.oauth2_metadata.specs.declared.reply.OtherReply.{OtherReply}
 
--- the issuer that the metadata has to name, where it is, and the rule for the Content-Type of the reply
+-- a request for metadata: the issuer that the metadata must name, the URL of the metadata, and the
+-- rule for the Content-Type of the reply
 pub record MetadataQuery : Type 0 where
   pub issuer : List ℕ
   pub url : Parts
   pub reply_rule : ReplyRule
 
--- a GET of the text of a URL, which says that JSON is wanted
+-- a GET request for the URL with this text, with the header `Accept: application/json`
 pub record IsGetOf (text : List ℕ) (v : RequestView) : Type 0 where
   pub method : v.method ≡ codes "GET"
   pub target : Spells text v.target
@@ -38,10 +39,11 @@ pub record IsGetOf (text : List ℕ) (v : RequestView) : Type 0 where
   pub headers : v.headers ≡ one_header (codes "accept") (codes "application/json")
   pub body : v.body ≡ []
 
--- the text of an error
+-- the text of the error for metadata that names another issuer
 abbrev pub other_issuer_text : List ℕ → List ℕ
 other_issuer_text issuer = codes "metadata is another issuer's: " ++ issuer
 
+-- the text that `Display` writes of an error, where `text` is that of the server's error
 abbrev pub metadata_error_text : {RE T : Type 0} → (T → Option (List ℕ)) → MetadataError RE T → Option (List ℕ)
 metadata_error_text text (Reply error) = fault_text text error
 metadata_error_text text (Status reply) = Some (other_reply_text reply.status)
@@ -49,22 +51,23 @@ metadata_error_text text (Endpoint fault) = Some (endpoint_text fault)
 metadata_error_text text (OtherIssuer issuer) = Some (other_issuer_text (string_bytes issuer))
 
 module _ {E T RE : Type 0} where
-  -- a document whose endpoints have this fault, or none, counts where it has none and names that
-  -- issuer, byte for byte (RFC 8414, 3.3)
+  -- a document is returned if its endpoints have no fault and it names this issuer, byte for byte
+  -- (RFC 8414, 3.3); else the result says which of these is wrong first
   abbrev pub IsChecked : List ℕ → Metadata E → Option EndpointFault → Result (Metadata E) (MetadataError RE T) → Type 0
   IsChecked issuer m (Some fault) result = result ≡ Err (Endpoint fault)
   IsChecked issuer m None (Ok found) = (found ≡ m) × (m.issuer ≡ issuer)
   IsChecked issuer m None (Err (OtherIssuer named)) = (string_bytes named ≡ m.issuer) × ¬ (m.issuer ≡ issuer)
   IsChecked issuer m None (Err error) = ⊥
 
-  -- what was found is judged
+  -- the result for what was found: a document is checked, and everything else is an error
   abbrev pub IsJudged : List ℕ → Result (Result (Metadata E) OtherReply) (RequestTokenError RE T) → Result (Metadata E) (MetadataError RE T) → Type 0
   IsJudged issuer (Ok (Ok m)) result = IsChecked issuer m (endpoint_fault m.endpoints) result
   IsJudged issuer (Ok (Err reply)) result = result ≡ Err (Status reply)
   IsJudged issuer (Err error) result = result ≡ Err (Reply error)
 
 module _ {E A T F RE C : Type 0} where
-  -- the GET is asked for once, and the result is what its answer says, judged for this issuer
+  -- the GET request is sent at most once; the result is what its reply says, checked for this
+  -- issuer
   abbrev pub AsksForMetadata : (Metadata E → A) → (T → F) → (Data → Reading A) → (Data → Reading F)
       → (C → HttpRequest → Result HttpResponse RE → C → Type 0) → MetadataQuery → C → Result (Metadata E) (MetadataError RE T) → C → Type 0
   AsksForMetadata meaning error_meaning reading error_reading step query before result after =
@@ -72,7 +75,8 @@ module _ {E A T F RE C : Type 0} where
       × AsksOnce (found_seen meaning) error_meaning step (found_answer query.reply_rule reading error_reading)
       IsGetOf (serialize query.url) before outcome after
 
--- a request for the metadata of the issuer that a text is, at that place
+-- the request for the metadata at `place` of the issuer with this text, or why there is no such
+-- request
 abbrev pub IsAsked : (Parts → Parts) → List ℕ → Result MetadataQuery IssuerError → Type 0
 IsAsked place text (Ok query) =
     (url : Parts) × (parse_url None text ≡ Ok url) × (issuer_refusal url ≡ None)

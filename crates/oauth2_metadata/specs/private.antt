@@ -1,4 +1,4 @@
--- What only private clauses and lemmas cite.
+-- Definitions that only private clauses and lemmas cite.
 pub mod Turn
 pub mod Kept
 pub mod Found

@@ -1,11 +1,11 @@
-//! Why metadata makes no client for a task.
+//! Why no client for a task can be made from metadata.
 
 use crate::endpoint_fault::{Endpoint, EndpointFault};
 use oauth2_types::display::write_display;
 use std::alloc::AllocError;
 use std::fmt;
 
-/// Why the endpoints of metadata make no client for a task.
+/// Why no client for a task can be made with the endpoints of the metadata.
 #[derive(Clone, Copy, Debug, PartialEq, Eq)]
 pub enum EndpointError {
     /// A client may not call this endpoint.

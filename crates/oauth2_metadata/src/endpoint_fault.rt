@@ -24,7 +24,7 @@ pub enum Endpoint {
 /// Why a client may not call an endpoint.
 #[derive(Clone, Copy, Debug, PartialEq, Eq)]
 pub enum EndpointCause {
-    /// The scheme is not `https`. With a loopback host `http` will do.
+    /// The scheme is not `https`, nor `http` with a loopback host.
     NotHttps,
     /// The URL has a fragment, which its standard forbids.
     HasFragment,

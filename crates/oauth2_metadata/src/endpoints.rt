@@ -1,4 +1,4 @@
-//! A client with the endpoints that metadata tells.
+//! A client with the endpoints of the metadata.
 
 ghost use Rattle.std.specs.Prelude.{◌≡◌, Some, None, option_map, IfOk, MatchResult};
 ghost use Rattle.oauth2.specs.Settings.{Settings};
@@ -16,8 +16,8 @@ use oauth2_types::TryClone;
 use oauth2_urls::{AuthUrl, DeviceAuthorizationUrl, IntrospectionUrl, RevocationUrl, TokenUrl};
 use std::alloc::{AllocError, Global};
 
-/// The type of such a client: each endpoint may be there or not, so a call whose endpoint is absent
-/// returns `MissingUrl`.
+/// A client with the endpoints of the metadata. Each endpoint may be absent: a call that needs an
+/// absent one returns `MissingUrl`.
 pub type DiscoveredClient<TE, TR, TIR, RT, TRE> = Client<
     TE,
     TR,
@@ -31,7 +31,7 @@ pub type DiscoveredClient<TE, TR, TIR, RT, TRE> = Client<
     EndpointMaybeSet,
 >;
 
-/// The type of such a client that has an authorization and a token endpoint, as a login wants.
+/// Such a client that has an authorization and a token endpoint, for a login.
 pub type DiscoveredLoginClient<TE, TR, TIR, RT, TRE> = Client<
     TE,
     TR,
@@ -45,7 +45,7 @@ pub type DiscoveredLoginClient<TE, TR, TIR, RT, TRE> = Client<
     EndpointSet,
 >;
 
-/// The type of such a client that has a token endpoint, as a keeper wants.
+/// Such a client that has a token endpoint, for a keeper.
 pub type DiscoveredTokenClient<TE, TR, TIR, RT, TRE> = Client<
     TE,
     TR,
@@ -59,7 +59,7 @@ pub type DiscoveredTokenClient<TE, TR, TIR, RT, TRE> = Client<
     EndpointSet,
 >;
 
-/// The type of such a client that has a device authorization and a token endpoint.
+/// Such a client that has a device authorization and a token endpoint, for a login on a device.
 pub type DiscoveredDeviceClient<TE, TR, TIR, RT, TRE> = Client<
     TE,
     TR,
@@ -74,8 +74,8 @@ pub type DiscoveredDeviceClient<TE, TR, TIR, RT, TRE> = Client<
 >;
 
 impl<EF> ServerMetadata<EF> {
-    /// The client with these endpoints, and with none where none is told. If memory runs out, the
-    /// client is given up.
+    /// The client with these endpoints; those that the metadata does not have are not set. If
+    /// memory runs out, the client is dropped.
     pub fn endpoints_of<TE, TR, TIR, RT, TRE, A, D, I, R, T>(
         &self,
         alloc: Global,
@@ -102,9 +102,8 @@ impl<EF> ServerMetadata<EF> {
 }
 
 impl<EF> ServerMetadata<EF> {
-    /// The client with these endpoints, for a login by a code: an authorization and a token
-    /// endpoint are there. The client is given up where there is an error, here and in the next
-    /// two functions.
+    /// The client with these endpoints, for a login by a code, which needs the authorization and
+    /// the token endpoint. On an error the client is dropped, here and in the next two functions.
     pub fn login_client_of<TE, TR, TIR, RT, TRE, A, D, I, R, T>(
         &self,
         alloc: Global,
@@ -125,8 +124,8 @@ impl<EF> ServerMetadata<EF> {
         Ok(client.set_auth_uri(auth_url).set_token_uri(token_url))
     }
 
-    /// The client with these endpoints, for a keeper and for every request for a token: a token
-    /// endpoint is there.
+    /// The client with these endpoints, for a keeper and for every token request, which need the
+    /// token endpoint.
     pub fn token_client_of<TE, TR, TIR, RT, TRE, A, D, I, R, T>(
         &self,
         alloc: Global,
@@ -145,8 +144,8 @@ impl<EF> ServerMetadata<EF> {
         Ok(client.set_token_uri(token_url))
     }
 
-    /// The client with these endpoints, for a login on another device: a device authorization and
-    /// a token endpoint are there.
+    /// The client with these endpoints, for a login on another device, which needs the device
+    /// authorization and the token endpoint.
     pub fn device_client_of<TE, TR, TIR, RT, TRE, A, D, I, R, T>(
         &self,
         alloc: Global,
@@ -191,7 +190,7 @@ impl MetadataEndpoints {
             × (self.now.token_endpoint ≡ Some urls.1.now))
             (λ error. login_refusal self.now ≡ Some error) }
     {
-        self.refused()?;
+        self.refuse_calls()?;
         let Some(auth_url) = &self.authorization_endpoint else {
             return Err(EndpointError::Missing(Endpoint::Authorization));
         };
@@ -207,7 +206,7 @@ impl MetadataEndpoints {
             (λ url. (token_refusal self.now ≡ None) × (self.now.token_endpoint ≡ Some url.now))
             (λ error. token_refusal self.now ≡ Some error) }
     {
-        self.refused()?;
+        self.refuse_calls()?;
         let Some(token_url) = &self.token_endpoint else {
             return Err(EndpointError::Missing(Endpoint::Token));
         };
@@ -222,7 +221,7 @@ impl MetadataEndpoints {
             × (self.now.token_endpoint ≡ Some urls.1.now))
             (λ error. device_refusal self.now ≡ Some error) }
     {
-        self.refused()?;
+        self.refuse_calls()?;
         let Some(device_url) = &self.device_authorization_endpoint else {
             return Err(EndpointError::Missing(Endpoint::DeviceAuthorization));
         };
@@ -232,8 +231,8 @@ impl MetadataEndpoints {
         Ok((device_url, token_url))
     }
 
-    // An endpoint that a client may not call refuses each task.
-    fn refused(&self) -> Result<(), EndpointError>
+    // The error of every task if there is an endpoint that a client may not call.
+    fn refuse_calls(&self) -> Result<(), EndpointError>
         ensures { MatchResult result (λ _. endpoint_fault self.now ≡ None)
             (λ error. option_map Refused (endpoint_fault self.now) ≡ Some error) }
     {

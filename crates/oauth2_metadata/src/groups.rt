@@ -55,7 +55,7 @@ impl Model for MetadataEndpoints {
 }
 
 impl MetadataEndpoints {
-    // The first that a client may not call.
+    // The first endpoint that a client may not call, and why.
     pub(crate) fn fault(&self) -> Option<EndpointFault>
         ensures { result ≡ endpoint_fault self.now }
     {
@@ -132,7 +132,7 @@ fn forbids_fragment(endpoint: Endpoint) -> bool
     }
 }
 
-// What the server's grants allow.
+// The scopes, response types and modes, grant types and PKCE methods that the server supports.
 #[derive(Debug)]
 pub(crate) struct Supported {
     pub(crate) scopes_supported: Option<Vec<String>>,
@@ -177,7 +177,7 @@ impl Model for Supported {
     } };
 }
 
-// How a client may show who it is, at each endpoint.
+// The client authentication methods that each endpoint supports.
 #[derive(Debug)]
 pub(crate) struct AuthMethods {
     pub(crate) token_endpoint_auth_methods_supported: Option<Vec<String>>,
@@ -214,7 +214,7 @@ impl Model for AuthMethods {
     } };
 }
 
-// By which algorithms it may sign a JWT that shows who it is, at each endpoint.
+// The algorithms for the JWT of a client's authentication that each endpoint supports.
 #[derive(Debug)]
 pub(crate) struct SigningAlgorithms {
     pub(crate) token_endpoint_auth_signing_alg_values_supported: Option<Vec<String>>,
@@ -251,7 +251,7 @@ impl Model for SigningAlgorithms {
     } };
 }
 
-// Pages to read, and their languages.
+// The URLs of pages for developers and users, and the languages of the user interface.
 #[derive(Debug)]
 pub(crate) struct Pages {
     pub(crate) service_documentation: Option<String>,
@@ -287,8 +287,8 @@ impl Model for Pages {
     } };
 }
 
-// Where clients are registered, the server's keys, its metadata as a signed JWT, and whether it
-// tells its issuer in the redirect.
+// The URLs of the client registration and of the server's keys, the metadata as a signed JWT, and
+// whether the server's redirects have `iss`.
 #[derive(Debug)]
 pub(crate) struct Services {
     pub(crate) registration_endpoint: Option<String>,

@@ -18,14 +18,19 @@ ghost use Rattle.oauth2_metadata.specs.private.Turn.{
   services_in_turn,
 };
 
-use crate::groups::{AuthMethods, MetadataEndpoints, Pages, Services, SigningAlgorithms, Supported};
+use crate::groups::{
+    AuthMethods, MetadataEndpoints, Pages, Services, SigningAlgorithms, Supported,
+};
 use crate::kinds::take_flag;
 use oauth2_body_members::Object;
 use oauth2_json::ReadError;
 use std::alloc::Global;
 
 #[tactic(auto, unfolding(crate::specs::private::Turn::endpoints_in_turn, crate::specs::private::Turn::without_endpoints))]
-pub(crate) fn take_endpoints(alloc: Global, object: &mut Object<'_>) -> Result<MetadataEndpoints, ReadError>
+pub(crate) fn take_endpoints(
+    alloc: Global,
+    object: &mut Object<'_>,
+) -> Result<MetadataEndpoints, ReadError>
     ensures read { ReadsAs (λ m. m) result (endpoints_in_turn (object_members object.old)) }
     ensures rest { IfOk result (λ _. object_members object.new
         ≡ without_endpoints (object_members object.old)) }

@@ -9,7 +9,9 @@ ghost use Rattle.oauth2_metadata.specs.Metadata.{endpoint_rows, supported_rows, 
 ghost use Rattle.oauth2_metadata.specs.Metadata.{page_rows, service_rows};
 ghost use Rattle.oauth2_metadata.specs.private.Kept.{AreAddresses};
 
-use crate::groups::{AuthMethods, MetadataEndpoints, Pages, Services, SigningAlgorithms, Supported};
+use crate::groups::{
+    AuthMethods, MetadataEndpoints, Pages, Services, SigningAlgorithms, Supported,
+};
 use oauth2_json::{ToJson, members};
 use serde_json::{Map, Value};
 use std::alloc::{AllocError, Global};
@@ -188,7 +190,7 @@ impl Services {
     }
 }
 
-// The text of a URL. No URL type refuses to be written, so only memory can run out.
+// The JSON string of a URL, if there is one. The only possible error is that memory runs out.
 fn url_value<T: ToJson>(alloc: Global, url: &Option<T>) -> Result<Option<Value>, AllocError>
     ensures { IfOk result (λ v. optional_writing T.writing url.now ≡ Ok (option_map view v)) }
 {

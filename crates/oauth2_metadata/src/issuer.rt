@@ -22,12 +22,12 @@ const SERVER_PATH: &str = "/.well-known/oauth-authorization-server";
 
 const OPENID_PATH: &str = "/.well-known/openid-configuration";
 
-/// Why a text or a URL is no issuer, or its metadata has no URL.
+/// Why a text or a URL cannot be an issuer, or why its metadata has no URL.
 #[derive(Clone, Copy, Debug, PartialEq, Eq)]
 pub enum IssuerError {
     /// The text is not a URL.
     NotUrl,
-    /// The scheme is not `https`. With a loopback host `http` will do.
+    /// The scheme is not `https`, nor `http` with a loopback host.
     NotHttps,
     /// The URL has a query.
     HasQuery,
@@ -77,7 +77,7 @@ pub fn metadata_url(alloc: Global, issuer: &Url) -> Result<Url, IssuerError>
     if let Some(error) = refusal(issuer) {
         return Err(error);
     }
-    let own = trimmed(issuer.path());
+    let own = without_last_slash(issuer.path());
     if is_too_long(issuer, SERVER_PATH, own) {
         return Err(IssuerError::TooLong);
     }
@@ -94,7 +94,7 @@ pub fn openid_metadata_url(alloc: Global, issuer: &Url) -> Result<Url, IssuerErr
     if let Some(error) = refusal(issuer) {
         return Err(error);
     }
-    let own = trimmed(issuer.path());
+    let own = without_last_slash(issuer.path());
     if is_too_long(issuer, own, OPENID_PATH) {
         return Err(IssuerError::TooLong);
     }
@@ -103,7 +103,7 @@ pub fn openid_metadata_url(alloc: Global, issuer: &Url) -> Result<Url, IssuerErr
     at_path(issuer, path.as_str())
 }
 
-// Why a URL is no issuer.
+// Why a URL cannot be an issuer.
 fn refusal(url: &Url) -> Option<IssuerError>
     ensures { result ≡ issuer_refusal url.now }
 {
@@ -118,7 +118,7 @@ fn refusal(url: &Url) -> Option<IssuerError>
     }
 }
 
-// `https`, or `http` to this machine itself.
+// Whether the scheme is `https`, or `http` with a loopback host.
 pub(crate) fn is_secure(url: &Url) -> bool
     ensures { result ≡ is_secure url.now }
 {
@@ -141,14 +141,14 @@ fn is_loopback(url: &Url) -> bool
 }
 
 // The path without a slash at its end.
-fn trimmed(path: &str) -> &str
+fn without_last_slash(path: &str) -> &str
     ensures { result.now ≡ trimmed path.now }
 {
     path.strip_suffix('/').unwrap_or(path)
 }
 
-// Whether the URL of an issuer, with these two texts for its path, would be longer than a `Url` can
-// be. Tested first, since `set_path` leaves open which of its two errors tells what.
+// Whether the URL of an issuer, with these two texts as its path, would be longer than a `Url` can
+// be. It is checked first, since the contract of `set_path` does not say which error means that.
 fn is_too_long(issuer: &Url, front: &str, back: &str) -> bool
     ensures { IsTrue result ↔ 2 ^ 32
         ≤ offset issuer.now BeforePath + (length front.now + length back.now) }
@@ -157,7 +157,8 @@ fn is_too_long(issuer: &Url, front: &str, back: &str) -> bool
     issuer.index(Position::BeforePath).saturating_add(path) > u32::MAX as usize
 }
 
-// The URL with another path, of an issuer whose metadata has a URL.
+// The URL with another path. The caller has checked that it is not too long, so the error is
+// `Memory`.
 fn at_path(url: &Url, path: &str) -> Result<Url, IssuerError>
     requires valid { IsValid url.now }
     requires web { kind_of url.now ≡ SpecialNotFile }

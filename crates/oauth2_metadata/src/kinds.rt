@@ -1,4 +1,4 @@
-//! A truth value that may be absent or null, taken out of an object and read.
+//! A boolean member that may be absent or null, taken out of an object and read.
 
 ghost use Rattle.std.specs.Prelude.{◌≡◌};
 ghost use Rattle.oauth2_json.specs.Reading.{ReadsAs};
@@ -12,7 +12,7 @@ use oauth2_json::{ReadError, members};
 use serde_json::Value;
 use std::alloc::Global;
 
-// True or false.
+// Takes the boolean member with this name out of an object; `None` if it is absent or null.
 pub(crate) fn take_flag(
     alloc: Global,
     object: &mut Object<'_>,

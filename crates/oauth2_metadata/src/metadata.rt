@@ -13,16 +13,18 @@ ghost use Rattle.oauth2_metadata.specs.EndpointFault.{endpoint_fault};
 ghost use Rattle.oauth2_metadata.specs.Metadata.{Metadata};
 
 use crate::endpoint_fault::EndpointFault;
-use crate::groups::{AuthMethods, MetadataEndpoints, Pages, Services, SigningAlgorithms, Supported};
+use crate::groups::{
+    AuthMethods, MetadataEndpoints, Pages, Services, SigningAlgorithms, Supported,
+};
 use oauth2_replies::ExtraFields;
 use oauth2_urls::{AuthUrl, DeviceAuthorizationUrl, IntrospectionUrl, RevocationUrl, TokenUrl};
 use std::marker::Model;
 
 /// The metadata of an authorization server, with extra fields `EF` (RFC 8414, section 2; RFC 8628,
-/// section 4; RFC 9207, section 3). It is made by reading it.
+/// section 4; RFC 9207, section 3). It is made by reading a JSON object.
 ///
-/// Each member but the issuer may be absent. Where a standard has a default, the getter says so,
-/// and returns what the server told.
+/// Each member except the issuer may be absent. If a standard has a default, the comment of the
+/// getter names it, and the getter returns what the server sent.
 #[derive(Debug, Drop)]
 pub struct ServerMetadata<EF = ExtraFields> {
     pub(crate) issuer: String,
@@ -53,7 +55,7 @@ impl<EF> ServerMetadata<EF> {
         self.issuer.as_str()
     }
 
-    // The issuer alone.
+    // The issuer, moved out; the other members are dropped.
     pub(crate) fn into_issuer(self) -> String
     where
         EF: Drop,
@@ -97,15 +99,16 @@ impl<EF> ServerMetadata<EF> {
         self.endpoints.revocation_endpoint.as_ref()
     }
 
-    /// The first endpoint, in the order of `Endpoint`, that a client may not call. What `request`
-    /// of a `MetadataRequest` returns has none; ask this of a document that was read otherwise.
+    /// The first endpoint, in the order of `Endpoint`, that a client may not call. The metadata
+    /// that `request` of a `MetadataRequest` returns has none; call this for metadata from
+    /// elsewhere.
     pub fn endpoint_fault(&self) -> Option<EndpointFault>
         ensures { result ≡ endpoint_fault self.now.endpoints }
     {
         self.endpoints.fault()
     }
 
-    /// The scopes that the server knows, some or all of them.
+    /// Scopes that the server supports, not necessarily all of them.
     pub fn scopes_supported(&self) -> Option<&Vec<String>>
         ensures { option_map (λ list. map string_bytes list.now.items) result
             ≡ self.now.supported.scopes_supported }
@@ -113,7 +116,7 @@ impl<EF> ServerMetadata<EF> {
         self.supported.scopes_supported.as_ref()
     }
 
-    /// The response types. The standard wants them to be there.
+    /// The response types. RFC 8414 requires them, but they may be absent here.
     pub fn response_types_supported(&self) -> Option<&Vec<String>>
         ensures { option_map (λ list. map string_bytes list.now.items) result
             ≡ self.now.supported.response_types_supported }
@@ -121,7 +124,7 @@ impl<EF> ServerMetadata<EF> {
         self.supported.response_types_supported.as_ref()
     }
 
-    /// The response modes: `query` and `fragment` where none are told.
+    /// The response modes. The default is `query` and `fragment`.
     pub fn response_modes_supported(&self) -> Option<&Vec<String>>
         ensures { option_map (λ list. map string_bytes list.now.items) result
             ≡ self.now.supported.response_modes_supported }
@@ -129,7 +132,7 @@ impl<EF> ServerMetadata<EF> {
         self.supported.response_modes_supported.as_ref()
     }
 
-    /// The grant types: `authorization_code` and `implicit` where none are told.
+    /// The grant types. The default is `authorization_code` and `implicit`.
     pub fn grant_types_supported(&self) -> Option<&Vec<String>>
         ensures { option_map (λ list. map string_bytes list.now.items) result
             ≡ self.now.supported.grant_types_supported }
@@ -137,7 +140,7 @@ impl<EF> ServerMetadata<EF> {
         self.supported.grant_types_supported.as_ref()
     }
 
-    /// The methods of a code challenge. Where none are told, the server knows no challenges.
+    /// The PKCE code challenge methods. If they are absent, the server does not support PKCE.
     pub fn code_challenge_methods_supported(&self) -> Option<&Vec<String>>
         ensures { option_map (λ list. map string_bytes list.now.items) result
             ≡ self.now.supported.code_challenge_methods_supported }
@@ -145,8 +148,8 @@ impl<EF> ServerMetadata<EF> {
         self.supported.code_challenge_methods_supported.as_ref()
     }
 
-    /// How a client may show who it is at the token endpoint: by `client_secret_basic` where nothing
-    /// is told.
+    /// The client authentication methods of the token endpoint. The default is
+    /// `client_secret_basic`.
     pub fn token_endpoint_auth_methods_supported(&self) -> Option<&Vec<String>>
         ensures { option_map (λ list. map string_bytes list.now.items) result
             ≡ self.now.auth_methods.token_endpoint_auth_methods_supported }
@@ -156,7 +159,7 @@ impl<EF> ServerMetadata<EF> {
             .as_ref()
     }
 
-    /// How a client may show who it is at the introspection endpoint.
+    /// The client authentication methods of the introspection endpoint.
     pub fn introspection_endpoint_auth_methods_supported(&self) -> Option<&Vec<String>>
         ensures { option_map (λ list. map string_bytes list.now.items) result
             ≡ self.now.auth_methods.introspection_endpoint_auth_methods_supported }
@@ -166,8 +169,8 @@ impl<EF> ServerMetadata<EF> {
             .as_ref()
     }
 
-    /// How a client may show who it is at the revocation endpoint: by `client_secret_basic` where
-    /// nothing is told.
+    /// The client authentication methods of the revocation endpoint. The default is
+    /// `client_secret_basic`.
     pub fn revocation_endpoint_auth_methods_supported(&self) -> Option<&Vec<String>>
         ensures { option_map (λ list. map string_bytes list.now.items) result
             ≡ self.now.auth_methods.revocation_endpoint_auth_methods_supported }
@@ -177,7 +180,7 @@ impl<EF> ServerMetadata<EF> {
             .as_ref()
     }
 
-    /// The algorithms of a JWT by which a client shows who it is at the token endpoint.
+    /// The algorithms for the JWT of a client's authentication at the token endpoint.
     pub fn token_endpoint_auth_signing_alg_values_supported(&self) -> Option<&Vec<String>>
         ensures { option_map (λ list. map string_bytes list.now.items) result
             ≡ self.now.signing_algorithms.token_endpoint_auth_signing_alg_values_supported }
@@ -187,7 +190,7 @@ impl<EF> ServerMetadata<EF> {
             .as_ref()
     }
 
-    /// The algorithms of such a JWT at the introspection endpoint.
+    /// The algorithms for the JWT of a client's authentication at the introspection endpoint.
     pub fn introspection_endpoint_auth_signing_alg_values_supported(&self) -> Option<&Vec<String>>
         ensures { option_map (λ list. map string_bytes list.now.items) result
             ≡ self.now.signing_algorithms.introspection_endpoint_auth_signing_alg_values_supported }
@@ -197,7 +200,7 @@ impl<EF> ServerMetadata<EF> {
             .as_ref()
     }
 
-    /// The algorithms of such a JWT at the revocation endpoint.
+    /// The algorithms for the JWT of a client's authentication at the revocation endpoint.
     pub fn revocation_endpoint_auth_signing_alg_values_supported(&self) -> Option<&Vec<String>>
         ensures { option_map (λ list. map string_bytes list.now.items) result
             ≡ self.now.signing_algorithms.revocation_endpoint_auth_signing_alg_values_supported }
@@ -214,7 +217,7 @@ impl<EF> ServerMetadata<EF> {
         text_of(&self.pages.service_documentation)
     }
 
-    /// The languages of the server's pages, as tags of RFC 5646.
+    /// The languages of the server's user interface, as language tags of RFC 5646.
     pub fn ui_locales_supported(&self) -> Option<&Vec<String>>
         ensures { option_map (λ list. map string_bytes list.now.items) result
             ≡ self.now.pages.ui_locales_supported }
@@ -222,7 +225,7 @@ impl<EF> ServerMetadata<EF> {
         self.pages.ui_locales_supported.as_ref()
     }
 
-    /// The URL of a page on what a client may do with what it is told.
+    /// The URL of a page on how a client may use the data that the server provides.
     pub fn op_policy_uri(&self) -> Option<&str>
         ensures { option_copied result ≡ self.now.pages.op_policy_uri }
     {
@@ -250,15 +253,14 @@ impl<EF> ServerMetadata<EF> {
         text_of(&self.services.jwks_uri)
     }
 
-    /// The metadata as a signed JWT (RFC 8414, section 2.1). Nothing of it is read here.
+    /// The metadata as a signed JWT (RFC 8414, section 2.1). It is not decoded here.
     pub fn signed_metadata(&self) -> Option<&str>
         ensures { option_copied result ≡ self.now.services.signed_metadata }
     {
         text_of(&self.services.signed_metadata)
     }
 
-    /// Whether the server tells its issuer in the redirect: not where it does not say so (RFC 9207,
-    /// section 3).
+    /// Whether the server's redirects have `iss`; `false` if it does not say (RFC 9207, section 3).
     pub fn authorization_response_iss_parameter_supported(&self) -> bool
         ensures { result
             ≡ unwrap_or self.now.services.authorization_response_iss_parameter_supported false }
@@ -268,7 +270,7 @@ impl<EF> ServerMetadata<EF> {
             .unwrap_or(false)
     }
 
-    /// The members that the standards do not name.
+    /// The extra fields: what was read from the other members.
     pub fn extra_fields(&self) -> &EF
         ensures { result.now ≡ self.now.extra_fields }
     {

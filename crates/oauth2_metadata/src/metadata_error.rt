@@ -10,14 +10,14 @@ use std::fmt;
 /// Why there is no metadata of an issuer.
 #[derive(Debug, Drop)]
 pub enum MetadataError<RE, T = BasicErrorResponse> {
-    /// The request was not sent, its reply has the status 200 and is no metadata, or it is an error
-    /// response of RFC 6749, section 5.2.
+    /// The request was not sent or failed, or its reply has the status 200 and is not metadata, or
+    /// it is an error response (RFC 6749, section 5.2).
     Reply(RequestTokenError<RE, T>),
-    /// The reply has another status, such as 404, or one of a redirect.
+    /// The reply has another status than 200, for example 404 or that of a redirect.
     Status(OtherReply),
-    /// A client may not call this endpoint of the metadata, so nothing of it counts.
+    /// A client may not call this endpoint of the metadata, so none of the metadata is returned.
     Endpoint(EndpointFault),
-    /// The metadata is that of this other issuer, so nothing of it counts (RFC 8414, section 3.3).
+    /// The metadata names this other issuer, so none of it is returned (RFC 8414, section 3.3).
     OtherIssuer(String),
 }
 

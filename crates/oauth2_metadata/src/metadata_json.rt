@@ -47,7 +47,7 @@ impl<EF: ExtraTokenFields + Drop> FromJson for ServerMetadata<EF> {
     }
 }
 
-// The names of the type's own members.
+// The names of all members that are not extra fields.
 #[tactic(auto, unfolding(crate::specs::Metadata::metadata_names))]
 pub(crate) fn own_names() -> [&'static str; 25]
     ensures { map (λ name. name.now) result ≡ metadata_names }
@@ -81,7 +81,7 @@ pub(crate) fn own_names() -> [&'static str; 25]
     ]
 }
 
-// The own members, group by group, and what is left of the others.
+// Reads the members group by group; the extra fields are read from the members that are left.
 fn from_members<EF: ExtraTokenFields + Drop>(
     alloc: Global,
     mut object: Object<'_>,
@@ -110,7 +110,7 @@ fn from_members<EF: ExtraTokenFields + Drop>(
 }
 
 impl<EF: ExtraTokenFields> ServerMetadata<EF> {
-    fn written(&self, alloc: Global) -> Result<Value, WriteError>
+    fn to_value(&self, alloc: Global) -> Result<Value, WriteError>
         ensures written { WritesAs result (metadata_writing EF.writing self.now) }
         ensures addresses { IfOk result (λ _. AreAddresses self.now.endpoints) }
     {
@@ -146,11 +146,11 @@ impl<EF: ExtraTokenFields> ToJson for ServerMetadata<EF> {
 
     fn to_json(&self, alloc: Global) -> Result<Value, WriteError>
         ensures written { WritesAs result (metadata_writing EF.writing self.now) }
-        // Where its extra fields are kept, it reads back as the same metadata.
+        // If its extra fields read back as they were, so does the metadata.
         ensures reads_back { IfOk result (λ v.
             AreFieldsKept EF.reading EF.meaning EF.writing self.now.extra_fields
             → metadata_reading EF.reading (view v) ≡ Ok (metadata_seen EF.meaning self.now)) }
     {
-        self.written(alloc)
+        self.to_value(alloc)
     }
 }

@@ -1,4 +1,4 @@
-//! What the reply to a request for metadata is (RFC 8414, section 3.2).
+//! Sends a request for metadata, and reads its reply (RFC 8414, section 3.2).
 
 ghost use Rattle.std.specs.Prelude.{◌≡◌, Some};
 ghost use Rattle.oauth2_metadata.specs.Metadata.{metadata_seen, metadata_reading};
@@ -20,7 +20,8 @@ use oauth2_wire::{
 use std::alloc::Global;
 use std::fmt;
 
-/// A reply whose status is not 200, and whose body is no error response of RFC 6749, section 5.2.
+/// A redirect, or a reply with another status than 200 whose body is not an error response (RFC
+/// 6749, section 5.2).
 #[derive(Debug, Drop)]
 pub struct OtherReply {
     /// The status. 301, 302, 303, 307 and 308 are redirects, which are not followed.
@@ -49,7 +50,7 @@ impl fmt::Display for OtherReply {
     }
 }
 
-// The document, or the reply that is none.
+// The document of a reply, or a reply without one.
 pub(crate) type Found<EF> = Result<ServerMetadata<EF>, OtherReply>;
 
 pub(crate) type Outcome<EF, RE> = Result<Found<EF>, RequestTokenError<RE, BasicErrorResponse>>;
@@ -101,14 +102,14 @@ fn read_reply<RE, EF: ExtraTokenFields + Drop>(
     }
 }
 
-// Whether the status sends the client to another place.
+// Whether the status redirects the client to another URL.
 fn is_redirect(status: u16) -> bool
     ensures { result ≡ is_redirect status }
 {
     status == 301 || status == 302 || status == 303 || status == 307 || status == 308
 }
 
-// A failure of this status, whose body is told alone where it is no error response.
+// The result for a reply with this status: an error response, or else the status and the body.
 fn by_status<RE, EF: ExtraTokenFields + Drop>(
     alloc: Global,
     status: u16,

@@ -29,10 +29,10 @@ use std::alloc::{AllocError, Global};
 use std::marker::Model;
 use url::{ParseError, Url};
 
-/// A request for the metadata of an issuer, whose reply is read by the rule `Prefix`.
+/// A request for the metadata of an issuer. By default its reply is read by the rule `Prefix`.
 #[derive(Debug, Drop)]
 pub struct MetadataRequest {
-    // The issuer that the metadata has to name.
+    // The issuer that the metadata must name.
     issuer: String,
     url: Url,
     reply_rule: ReplyRule,
@@ -52,12 +52,12 @@ impl Model for MetadataRequest {
 }
 
 impl MetadataRequest {
-    /// A request to the place of RFC 8414, section 3.1. The issuer is a text, since the metadata
-    /// has to name it byte for byte.
+    /// A request to the URL of RFC 8414, section 3.1. The issuer is passed as a text, since the
+    /// metadata must name it byte for byte.
     pub fn new(alloc: Global, issuer: String) -> Result<MetadataRequest, IssuerError>
         ensures { IsAsked metadata_place (string_bytes issuer) result }
     {
-        let url = metadata_url(alloc, &parsed(alloc, issuer.as_str())?)?;
+        let url = metadata_url(alloc, &parse_issuer(alloc, issuer.as_str())?)?;
         Ok(MetadataRequest {
             issuer,
             url,
@@ -65,11 +65,11 @@ impl MetadataRequest {
         })
     }
 
-    /// A request to the place of OpenID Connect Discovery 1.0, section 4.1.
+    /// A request to the URL of OpenID Connect Discovery 1.0, section 4.1.
     pub fn openid(alloc: Global, issuer: String) -> Result<MetadataRequest, IssuerError>
         ensures { IsAsked openid_place (string_bytes issuer) result }
     {
-        let url = openid_metadata_url(alloc, &parsed(alloc, issuer.as_str())?)?;
+        let url = openid_metadata_url(alloc, &parse_issuer(alloc, issuer.as_str())?)?;
         Ok(MetadataRequest {
             issuer,
             url,
@@ -85,10 +85,10 @@ impl MetadataRequest {
         self
     }
 
-    /// Sets the issuer that the metadata has to name in place of the one that was asked for, byte
-    /// for byte. For a server that has one document for many issuers, as Entra's `common`, which
-    /// names `https://login.microsoftonline.com/{tenantid}/v2.0`. Do not set it otherwise: what is
-    /// left of RFC 8414, section 3.3, is the server that you know to answer so.
+    /// Sets the issuer that the metadata must name, byte for byte, if it is not the requested one.
+    /// It is for a server with one document for many issuers, such as Entra's `common`, which names
+    /// `https://login.microsoftonline.com/{tenantid}/v2.0`. Do not set it for any other server: it
+    /// replaces the issuer in the check of RFC 8414, section 3.3.
     pub fn set_expected_issuer(mut self, issuer: String) -> MetadataRequest
         ensures { result ≡ record self { issuer = string_bytes issuer } }
     {
@@ -96,7 +96,7 @@ impl MetadataRequest {
         self
     }
 
-    /// Where the metadata is asked for.
+    /// The URL that the request goes to.
     pub fn url(&self) -> &Url
         ensures { result.now ≡ self.now.url }
     {
@@ -118,9 +118,9 @@ impl MetadataRequest {
         Ok(Request::from_parts(head, Vec::new(alloc)))
     }
 
-    /// Sends the request, once, and reads its reply. A reply whose status is not 200 is read as an
-    /// error response, as those of the other endpoints are, unless it is a redirect. Where it reads
-    /// as none, it is told by its status.
+    /// Sends the request once, and reads its reply. A reply with another status than 200 is read as
+    /// an error response. If it is none, or if it is a redirect, the error is
+    /// `MetadataError::Status`.
     pub fn request<EF: ExtraTokenFields + Drop, C: SyncHttpClient>(
         self,
         alloc: Global,
@@ -135,7 +135,7 @@ impl MetadataRequest {
     {
         let prepared = self.prepare_request(alloc);
         match send(alloc, self.reply_rule, prepared, http_client) {
-            Ok(Ok(metadata)) => checked(self.issuer.as_str(), metadata),
+            Ok(Ok(metadata)) => check_metadata(self.issuer.as_str(), metadata),
             Ok(Err(reply)) => Err(MetadataError::Status(reply)),
             Err(error) => Err(MetadataError::Reply(error)),
         }
@@ -143,7 +143,7 @@ impl MetadataRequest {
 }
 
 // The metadata, if a client may call its endpoints and it names this issuer.
-fn checked<EF: Drop, RE>(
+fn check_metadata<EF: Drop, RE>(
     issuer: &str,
     metadata: ServerMetadata<EF>,
 ) -> Result<ServerMetadata<EF>, MetadataError<RE>>
@@ -158,8 +158,8 @@ fn checked<EF: Drop, RE>(
     }
 }
 
-// The URL that an issuer is.
-fn parsed(alloc: Global, issuer: &str) -> Result<Url, IssuerError>
+// The text of an issuer as a URL.
+fn parse_issuer(alloc: Global, issuer: &str) -> Result<Url, IssuerError>
     ensures ok { IfOk result (λ url. parse_url None issuer.now ≡ Ok url) }
     ensures refusal { IfErr result (λ error. IsNoUrl issuer.now error) }
 {
@@ -170,7 +170,7 @@ fn parsed(alloc: Global, issuer: &str) -> Result<Url, IssuerError>
     }
 }
 
-// The target that the URL's text spells.
+// The URL as the target of a request.
 fn target(alloc: Global, url: &Url) -> Result<Uri, RequestFault>
     ensures ok { IfOk result (Spells (serialize url.now)) }
     ensures not_http { result ≡ Err RequestFault.NotHttp → SpellsNone (serialize url.now) }
@@ -182,7 +182,7 @@ fn target(alloc: Global, url: &Url) -> Result<Uri, RequestFault>
     }
 }
 
-// The one header.
+// The header `Accept: application/json`.
 fn accept_header(alloc: Global) -> Result<HeaderMap, AllocError>
     ensures { IfOk result (λ headers. headers
         ≡ one_header (codes "accept") (codes "application/json")) }

@@ -1,4 +1,4 @@
-//! What servers reply with, and what a program reads of it.
+//! Tests of the replies of servers, and of what a program reads from them.
 
 use oauth2::basic::BasicClient;
 use oauth2::http::response::Parts;
@@ -13,7 +13,7 @@ use oauth2_metadata::{
 };
 use std::process::Abort;
 
-// A text of which proofs know nothing.
+// Makes a text whose bytes proofs do not see.
 fn text(rt: &(impl Abort + AllocGlobal), text: &str) -> String {
     String::from_str(rt.alloc(), text).expect(rt, "a text")
 }
@@ -32,7 +32,7 @@ const EXAMPLE: &str = r#"{"issuer":"https://server.example.com",
 "service_documentation":"http://server.example.com/service_documentation.html",
 "ui_locales_supported":["en-US","en-GB","en-CA","fr-FR","fr-CA"]}"#;
 
-// An HTTP client that hands out one reply, and counts its calls.
+// An HTTP client that returns one reply, and counts its calls.
 #[derive(Drop)]
 struct Canned {
     calls: u8,
@@ -91,7 +91,7 @@ fn example(rt: HostRuntime) {
         .expect(&rt, "a URL");
     assert_eq!(rt; user, "https://server.example.com/userinfo");
 
-    // What is written reads back.
+    // The metadata is written as JSON that is read as the same metadata.
     let written = compact(alloc, &metadata).ok().expect(&rt, "JSON");
     let again: ServerMetadata = read_body(alloc, written.as_bytes())
         .ok()
@@ -206,7 +206,7 @@ fn refused_endpoints(rt: HostRuntime) {
     }
 }
 
-// Replies that are told by their status (RFC 8414, section 3.2; RFC 9110, section 15.4).
+// Replies that are errors by their status (RFC 8414, section 3.2; RFC 9110, section 15.4).
 const STATUSES: [(u16, &str); 5] = [
     (404, "<html>"),
     (500, ""),

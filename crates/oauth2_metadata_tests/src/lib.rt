@@ -1,4 +1,4 @@
-//! The place of an issuer's metadata, and what a program reads of it.
+//! Tests of the URL of an issuer's metadata, and of what a program reads from the metadata.
 
 #![tactic(auto)]
 

@@ -1,10 +1,10 @@
-//! Where the metadata of an issuer is, which comes as a URL.
+//! Tests of the URL of an issuer's metadata, if the issuer is a `Url`.
 
 use oauth2::url::Url;
 use oauth2_metadata::{metadata_url, openid_metadata_url};
 use std::process::Abort;
 
-// A text of which proofs know nothing.
+// Makes a text whose bytes proofs do not see.
 fn text(rt: &(impl Abort + AllocGlobal), text: &str) -> String {
     String::from_str(rt.alloc(), text).expect(rt, "a text")
 }

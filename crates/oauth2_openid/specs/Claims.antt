@@ -1,7 +1,8 @@
 -- What an ID token claims, and what a client expects of it (OpenID Connect Core 1.0, section 2).
 use Rattle.std.specs.Prelude.{ℕ, ℤ, List, Option}
 
--- the claims that have a method; times are in nanoseconds since 1970-01-01T00:00:00Z
+-- the claims that `IdTokenClaims` has a method for; times are in nanoseconds since
+-- 1970-01-01T00:00:00Z
 pub record Claims : Type 0 where
   pub issuer : List ℕ
   pub subject : List ℕ
@@ -15,6 +16,7 @@ pub record Claims : Type 0 where
   pub authorized_party : Option (List ℕ)
   pub access_token_hash : Option (List ℕ)
 
+-- `Claims` from its fields, in their order
 abbrev pub claims : List ℕ → List ℕ → List (List ℕ) → ℤ → ℤ → Option ℤ
     → Option (List ℕ) → Option (List ℕ) → Option (List (List ℕ)) → Option (List ℕ) → Option (List ℕ) → Claims
 claims i s a e t u n c m p h =
@@ -32,14 +34,14 @@ claims i s a e t u n c m p h =
       access_token_hash = h;
     }
 
--- the issuers that are expected: one; or one of these; or, of a provider that has an issuer for each of
--- its tenants, what stands before the tenant's name and after it
+-- the issuers that a client expects: one; any of several; or, for a provider that has an issuer for
+-- each of its tenants, the parts of the issuer before and after the tenant's name
 pub data NamedIssuers : Type 0 where
   is : List ℕ → NamedIssuers
   one_of : List (List ℕ) → NamedIssuers
   per_tenant : List ℕ → List ℕ → NamedIssuers
 
--- what is expected; durations are in nanoseconds
+-- what a client expects of an ID token; durations are in nanoseconds
 pub record Expectation : Type 0 where
   pub issuer : NamedIssuers
   pub client : List ℕ

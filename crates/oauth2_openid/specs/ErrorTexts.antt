@@ -1,4 +1,4 @@
--- What `Display` writes of the errors.
+-- The texts that `Display` writes for the errors.
 use Rattle.std.specs.Prelude.{ℕ, List, ◌++◌, codes}
 use Rattle.oauth2_json.specs.ErrorTexts.{parse_fault_text}
 use Rattle.oauth2_json.specs.Reading.{fault_of}
@@ -9,18 +9,20 @@ use Rattle.oauth2_openid.specs.declared.read_error.IdTokenReadError.TheVariants 
 use Rattle.oauth2_openid.specs.declared.claims_error.ClaimsError.{ClaimsError}
 use Rattle.oauth2_openid.specs.declared.claims_error.ClaimsError.TheVariants as errors
 
+-- the name of a part of a token, as the error texts have it
 abbrev pub part_text : TokenPart → List ℕ
 part_text part.Header = codes "header"
 part_text part.Payload = codes "payload"
 part_text part.Signature = codes "signature"
 
--- the part, and what is wrong with it
+-- the text for each reason why a text is no ID token: the part, and what is wrong with it
 abbrev pub id_token_read_error_text : IdTokenReadError → List ℕ
 id_token_read_error_text reading.NotThreeParts = codes "not three parts"
 id_token_read_error_text (reading.NotBase64 part) = part_text part ++ codes ": not base64url"
 id_token_read_error_text (reading.Fault part fault) = part_text part ++ codes ": " ++ parse_fault_text (fault_of fault)
 id_token_read_error_text reading.Memory = codes "out of memory"
 
+-- the text for each rule that an ID token can break
 abbrev pub claims_error_text : ClaimsError → List ℕ
 claims_error_text errors.NoSignature = codes "the token has no signature"
 claims_error_text errors.OtherAlgorithm = codes "the algorithm is not the registered one"

@@ -1,4 +1,4 @@
--- What a text reads to as an ID token (OpenID Connect Core 1.0, section 2; RFC 7515).
+-- How a text is read as an ID token (OpenID Connect Core 1.0, section 2; RFC 7515).
 use Rattle.std.specs.Prelude.{ℕ, List, [], ◌∷◌, Option, Some, None, Ok, Err, codes, option_map}
 use Rattle.serde_json.specs.Data.{Data, null, Members, string, array, object}
 use Rattle.serde_json.specs.Find.{get_member}
@@ -15,7 +15,7 @@ use Rattle.oauth2_openid.specs.Claims.{Claims, claims}
 use Rattle.oauth2_openid.specs.Times.{time}
 use Rattle.oauth2_openid.specs.Token.{Header, header, WithOthers, with_others, DecodedToken, decoded_token, Parts, three_parts, signed_text, bytes_of, TokenReading, not_three_parts, not_base64, at_fault}
 
--- the header: of several faults the first row's
+-- the header from its members: if several are wrong, the first of these rows is reported
 abbrev pub header_row : Members → Reading (WithOthers Header)
 header_row ms =
     Ok (λ a k o. with_others (header a k) o)
@@ -23,21 +23,23 @@ header_row ms =
     ⊛ optional_member text (codes "kid") (get_member (codes "kid") ms)
     ⊛ Ok (object (others (codes "alg" ∷ codes "kid" ∷ []) ms))
 
+-- the header from its JSON value, which has to be an object (RFC 7515, 4)
 abbrev pub header_reading : Data → Reading (WithOthers Header)
 header_reading d = read_then (members_of_object d) header_row
 
--- a claim that no rule needs: what it says; and where it is of another kind, which costs no login,
--- what stands there, which is left among the other claims
+-- a claim that no rule needs, and its reading: the value; or, if the reading fails, which is no
+-- error, the JSON value, which is kept among the other claims
 abbrev pub said_or_left : {A : Type 0} → Data → Reading A → Option A × Option Data
 said_or_left d (Ok a) = (Some a, None)
 said_or_left d (Err fault) = (None, Some d)
 
+-- a member that holds such a claim; absent and null are no claim
 abbrev pub unneeded : {A : Type 0} → (Data → Reading A) → Option Data → Option A × Option Data
 unneeded kind None = (None, None)
 unneeded kind (Some null) = (None, None)
 unneeded kind (Some d) = said_or_left d (kind d)
 
--- each claim: how it is read, and how it is shown as JSON
+-- for each claim its name, how it is read, and how it is shown as JSON
 abbrev pub id_token_table : Table Claims
 id_token_table =
     column (codes "iss") (needed_member text) (λ c. Some (string c.issuer))
@@ -53,48 +55,55 @@ id_token_table =
     ▸ column (codes "at_hash") (optional_member text) (λ c. option_map string c.access_token_hash)
     ▸ end
 
+-- the names of the claims in that table
 abbrev pub id_token_names : List (List ℕ)
 id_token_names = names_of id_token_table
 
--- the other claims: the members that have no row, and what was left
+-- the object of the other claims: the members without a row in the table, and the claims whose
+-- reading failed (`said_or_left`)
 abbrev pub with_left : Option Data → Option Data → Option Data → Members → Data
 with_left auth_time acr amr ms =
     object (put_some (codes "auth_time") auth_time (put_some (codes "acr") acr (put_some (codes "amr") amr ms)))
 
--- the claims beside the object of the other claims
+-- the claims and the object of the other claims, from what was read for each row
 abbrev pub claims_with : Builder id_token_table (Members → WithOthers Claims)
 claims_with i s a e t u n c m p h ms = with_others (claims i s a e t u.0 n c.0 m.0 p h) (with_left u.1 c.1 m.1 ms)
 
+-- the claims from the members of the payload: if several are wrong, the first row is reported
 abbrev pub claims_row : Members → Reading (WithOthers Claims)
 claims_row ms = table_reading id_token_table (Ok claims_with) ms ⊛ Ok (others id_token_names ms)
 
--- the claims that are there, as members
+-- the claims that are present, as the members of a JSON object
 abbrev pub id_token_rows : Claims → List Row
 id_token_rows c = rows_of id_token_table c
 
+-- the claims from the JSON value of the payload, which has to be an object (RFC 7519, 4)
 abbrev pub claims_reading : Data → Reading (WithOthers Claims)
 claims_reading d = read_then (members_of_object d) claims_row
 
 -- ---- the whole text
 
+-- a reading, and then one that depends on its value; the first error is reported
 abbrev pub token_then : {A B : Type 0} → TokenReading A → (A → TokenReading B) → TokenReading B
 token_then (Ok a) f = f a
 token_then (Err e) f = Err e
 
+-- the bytes of a part; it is an error if the part is not base64url (RFC 7515, 2)
 abbrev pub bytes_part : TokenPart → Option (List ℕ) → TokenReading (List ℕ)
 bytes_part which None = Err (not_base64 which)
 bytes_part which (Some bytes) = Ok bytes
 
+-- a reading of the JSON of a part: a fault is reported with the part
 abbrev pub of_part : {M : Type 0} → TokenPart → Reading M → TokenReading M
 of_part which (Ok m) = Ok m
 of_part which (Err fault) = Err (at_fault which fault)
 
--- the bytes of that part are one whole JSON value, which reads to that
+-- a part that is one JSON value in base64url, and how that value is read
 abbrev pub json_part : {M : Type 0} → (Data → Reading M) → TokenPart → List ℕ → TokenReading M
 json_part reading which encoded =
     token_then (bytes_part which (bytes_of encoded)) (λ bytes. of_part which (body_reading reading bytes))
 
--- part by part, so of several faults the first part's
+-- the token from its three parts: if several are wrong, the first is reported
 abbrev pub parts_reading : Option Parts → TokenReading DecodedToken
 parts_reading None = Err not_three_parts
 parts_reading (Some p) =
@@ -103,5 +112,6 @@ parts_reading (Some p) =
     token_then (bytes_part part.Signature (bytes_of p.signature)) (λ s.
     Ok (decoded_token (signed_text p) h c s))))
 
+-- the ID token that a text in compact form holds, or why it holds none (RFC 7515, 7.1)
 abbrev pub compact_token_reading : List ℕ → TokenReading DecodedToken
 compact_token_reading encoded = parts_reading (three_parts encoded)

@@ -1,5 +1,5 @@
--- The rules for the claims of an ID token (OpenID Connect Core 1.0, 3.1.3.7), in the order in which
--- the first that does not hold is named.
+-- The rules for the claims of an ID token (OpenID Connect Core 1.0, 3.1.3.7). They are tried in the
+-- order of this file, and the first broken rule is the error.
 use Rattle.std.specs.Prelude.{◌≡◌, ℕ, ℤ, pos, ◌+ℤ◌, ◌<ℤ◌, ◌≤ℤ◌, ◌<◌, int_lt, int_le, nat_le, List, [], ◌∷◌, ◌++◌, length, All, Contains, Bool, true, false, ◌&&◌, ◌||◌, if◌then◌else◌, Option, Some, None, IfSome, IsSome, IsSomeAnd, option_map, Result, Ok, Err, bytes_eq}
 use Rattle.sha2.specs.Sha256.{sha256}
 use Rattle.oauth2_types.specs.Digest.{digest_eq}
@@ -7,25 +7,26 @@ use Rattle.oauth2_openid.specs.declared.claims_error.ClaimsError.{ClaimsError}
 use Rattle.oauth2_openid.specs.declared.claims_error.ClaimsError.TheVariants as errors
 use Rattle.oauth2_openid.specs.Claims.{Claims, Expectation, NamedIssuers, is, one_of, per_tenant}
 
--- a rule holds, or it does not, and then it is named
+-- the outcome of a rule: `Ok` if it holds, else the error that names it
 abbrev pub Verdict : Type 0
 Verdict = Result Unit ClaimsError
 
+-- the outcome of a rule: `Ok` if its condition is met, else this error
 abbrev pub rule : Bool → ClaimsError → Verdict
 rule is_met error = if is_met then Ok tt else Err error
 
--- one rule and then another: of two that do not hold the first is named
+-- one rule and then another: if both are broken, the first is the error
 infixr 20 ◌then◌
 abbrev pub ◌then◌ : {A : Type 0} → Verdict → Result A ClaimsError → Result A ClaimsError
 (Ok u) then later = later
 (Err e) then later = Err e
 
--- a text is one of these
+-- whether the text is one of the list, byte for byte
 abbrev pub is_among : List ℕ → List (List ℕ) → Bool
 is_among text [] = false
 is_among text (first ∷ later) = bytes_eq first text || is_among text later
 
--- each of them is one of these
+-- whether each text of the first list is in the second
 abbrev pub are_among : List (List ℕ) → List (List ℕ) → Bool
 are_among [] known = true
 are_among (first ∷ later) known = is_among first known && are_among later known
@@ -37,6 +38,7 @@ is_issuer (one_of named) tenant issuer = is_among issuer named
 is_issuer (per_tenant before after) None issuer = false
 is_issuer (per_tenant before after) (Some tenant) issuer = bytes_eq issuer (before ++ tenant ++ after)
 
+-- 3.1.3.7, 2: the claim `iss` is an expected issuer, for a token that names this tenant
 abbrev pub issuer_rule : Expectation → Option (List ℕ) → Claims → Verdict
 issuer_rule expected tenant claims = rule (is_issuer expected.issuer tenant claims.issuer) errors.OtherIssuer
 
@@ -49,47 +51,50 @@ abbrev pub trust_rule : Expectation → Claims → Verdict
 trust_rule expected claims =
     rule (are_among claims.audience (expected.client ∷ expected.other_audiences)) errors.UntrustedAudience
 
--- 3.1.3.7, 4 and 5: where there are several audiences there is an authorized party; where there is
--- one, it is the client or another one that is named
+-- 3.1.3.7, 4 and 5: a token with several audiences has an authorized party, and an authorized party
+-- is one of `parties`
 abbrev pub party_of : List (List ℕ) → List (List ℕ) → Option (List ℕ) → Verdict
 party_of parties audience None = rule (nat_le (length audience) 1) errors.NoAuthorizedParty
 party_of parties audience (Some party) = rule (is_among party parties) errors.OtherAuthorizedParty
 
+-- 3.1.3.7, 4 and 5: that rule for the claim `azp`; the parties are the client and those it names
 abbrev pub party_rule : Expectation → Claims → Verdict
 party_rule expected claims =
     party_of (expected.client ∷ expected.authorized_parties) claims.audience claims.authorized_party
 
--- 3.1.3.7, 9: this moment is before the expiry and the leeway after it
+-- 3.1.3.7, 9: the moment `now` is before the expiry plus the leeway
 abbrev pub expiry_rule : Expectation → ℤ → Claims → Verdict
 expiry_rule expected now claims = rule (int_lt now (claims.expires_at +ℤ pos expected.leeway)) errors.Expired
 
--- 3.1.3.7, 10: the token was not issued after this moment and the leeway
+-- 3.1.3.7, 10: the token was not issued after the moment `now` plus the leeway
 abbrev pub issued_rule : Expectation → ℤ → Claims → Verdict
 issued_rule expected now claims = rule (int_le claims.issued_at (now +ℤ pos expected.leeway)) errors.IssuedLater
 
--- 3.1.3.7, 11, and section 2: there is a nonce where one was sent and only there, and it has the
--- digest of that one
+-- 3.1.3.7, 11, and section 2: the token has a nonce exactly if one was sent, and both have the same
+-- SHA-256 digest
 abbrev pub nonce_of : Option (List ℕ) → Option (List ℕ) → Verdict
 nonce_of None None = Ok tt
 nonce_of None (Some told) = Err errors.NonceNotSent
 nonce_of (Some sent) None = Err errors.NoNonce
 nonce_of (Some sent) (Some told) = rule (digest_eq told sent) errors.OtherNonce
 
+-- 3.1.3.7, 11, and section 2: that rule for the nonce that was sent and the claim `nonce`
 abbrev pub nonce_rule : Expectation → Claims → Verdict
 nonce_rule expected claims = nonce_of expected.nonce claims.nonce
 
--- 3.1.3.7, 13, and section 2: where a maximum age was sent, the token says when the user logged in,
--- and this moment is not later than that age and the leeway after it
+-- 3.1.3.7, 13, and section 2: if a maximum age was sent, the token says when the user logged in,
+-- and the moment `now` is not later than that plus the age and the leeway
 abbrev pub age_of : ℕ → ℤ → Option ℕ → Option ℤ → Verdict
 age_of leeway now None auth_time = Ok tt
 age_of leeway now (Some greatest_age) None = Err errors.NoAuthTime
 age_of leeway now (Some greatest_age) (Some auth_time) =
     rule (int_le now (auth_time +ℤ pos greatest_age +ℤ pos leeway)) errors.AuthTooOld
 
+-- 3.1.3.7, 13, and section 2: that rule for the `max_age` that was sent and the claim `auth_time`
 abbrev pub age_rule : Expectation → ℤ → Claims → Verdict
 age_rule expected now claims = age_of expected.leeway now expected.greatest_age claims.auth_time
 
--- each rule holds, or the first that does not is named
+-- all rules for the claims, in this order: the first broken rule is the error
 abbrev pub claims_checked : Expectation → ℤ → Option (List ℕ) → Claims → Verdict
 claims_checked expected now tenant claims =
     issuer_rule expected tenant claims
@@ -101,17 +106,16 @@ claims_checked expected now tenant claims =
     then nonce_rule expected claims
     then age_rule expected now claims
 
--- ---- that all hold
+-- ---- the rules as one proposition: all of them hold
 
--- the issuer is the one that is named, or one of those; or it is what is named with the token's own
--- tenant in between
+-- the issuer is the expected one, or one of several, or the expected one of the token's own tenant
 abbrev pub IsIssuer : NamedIssuers → Option (List ℕ) → List ℕ → Type 0
 IsIssuer (is named) tenant issuer = issuer ≡ named
 IsIssuer (one_of named) tenant issuer = Contains named issuer
 IsIssuer (per_tenant before after) tenant issuer = IsSomeAnd tenant (λ name. issuer ≡ before ++ name ++ after)
 
--- the claims of a token that names this tenant are as 3.1.3.7 has them, at this moment, for a client
--- that expects this
+-- the claims of a token that names this tenant meet 3.1.3.7 for a client that expects this, at the
+-- moment `now` (nanoseconds since 1970-01-01T00:00:00Z)
 pub record ClaimsHold (expected : Expectation) (now : ℤ) (tenant : Option (List ℕ)) (claims : Claims) : Type 0 where
   pub issuer : IsIssuer expected.issuer tenant claims.issuer
   pub audience : Contains claims.audience expected.client

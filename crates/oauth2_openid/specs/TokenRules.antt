@@ -1,5 +1,5 @@
--- The rules for the header and for the hash of the access token (OpenID Connect Core 1.0, 3.1.3.6 to
--- 3.1.3.8; RFC 7515, 4.1.11), and all rules of a token.
+-- The rules for the header and for the hash of the access token (OpenID Connect Core 1.0, 3.1.3.6
+-- to 3.1.3.8; RFC 7515, 4.1.11), and all rules for a token together.
 use Rattle.std.specs.Prelude.{◌≡◌, ◌≢◌, ℕ, ℤ, List, [], ◌∷◌, map, take, Bool, not, ◌||◌, if◌then◌else◌, Option, Some, None, is_some, option_and_then, IfSome, Result, Ok, Err, bytes_eq, codes}
 use Rattle.std.specs.Char.{to_ascii_lowercase}
 use Rattle.serde_json.specs.Data.{Data}
@@ -15,35 +15,38 @@ use Rattle.oauth2_openid.specs.Claims.{Expectation}
 use Rattle.oauth2_openid.specs.Rules.{Verdict, rule, ◌then◌, is_among, claims_checked, ClaimsHold}
 use Rattle.oauth2_openid.specs.Token.{Header, WithOthers, DecodedToken}
 
--- no signature is named: by the empty text, or by `none`, in any case of letters
+-- whether the algorithm means no signature: it is empty, or `none` in any case of letters
 abbrev pub names_no_signature : List ℕ → Bool
 names_no_signature algorithm =
     bytes_eq algorithm [] || bytes_eq (map to_ascii_lowercase algorithm) (codes "none")
 
--- 3.1.3.7, 7, and section 2: the algorithm is the registered one, where one is given; else it is any
--- that names a signature
+-- 3.1.3.7, 7, and section 2: the algorithm is the registered one; if the client names none, it is
+-- any that means a signature
 abbrev pub algorithm_of : Option (List ℕ) → List ℕ → Verdict
 algorithm_of None algorithm = rule (not (names_no_signature algorithm)) errors.NoSignature
 algorithm_of (Some registered) algorithm = rule (bytes_eq algorithm registered) errors.OtherAlgorithm
 
+-- 3.1.3.7, 7, and section 2: that rule for the expected algorithm and the header's `alg`
 abbrev pub algorithm_rule : Expectation → Header → Verdict
 algorithm_rule expected header = algorithm_of expected.algorithm header.algorithm
 
--- RFC 7515, 4.1.11: the header names no extension that has to be understood
+-- RFC 7515, 4.1.11: the header has no `crit`, which names extensions that have to be understood
 abbrev pub critical_rule : WithOthers Header → Verdict
 critical_rule header = rule (not (is_some (get (codes "crit") header.others))) errors.CriticalExtension
 
--- RFC 7518, 3.1: the algorithms whose hash is SHA-256, SHA-384 and SHA-512
+-- the algorithms whose hash is SHA-256 (RFC 7518, 3.1)
 abbrev pub sha256_algorithms : List (List ℕ)
 sha256_algorithms = codes "RS256" ∷ codes "ES256" ∷ codes "PS256" ∷ codes "HS256" ∷ []
 
+-- the algorithms whose hash is SHA-384 (RFC 7518, 3.1)
 abbrev pub sha384_algorithms : List (List ℕ)
 sha384_algorithms = codes "RS384" ∷ codes "ES384" ∷ codes "PS384" ∷ codes "HS384" ∷ []
 
+-- the algorithms whose hash is SHA-512 (RFC 7518, 3.1)
 abbrev pub sha512_algorithms : List (List ℕ)
 sha512_algorithms = codes "RS512" ∷ codes "ES512" ∷ codes "PS512" ∷ codes "HS512" ∷ []
 
--- the left half of the access token's digest by the algorithm's hash, if it has one of these
+-- the left half of the access token's digest by the algorithm's hash; none for other algorithms
 abbrev pub half_digest : List ℕ → List ℕ → Option (List ℕ)
 half_digest algorithm access_token =
     if is_among algorithm sha256_algorithms
@@ -54,12 +57,12 @@ half_digest algorithm access_token =
     then Some (take 32 (sha512 access_token))
     else None))
 
--- the hash that the ID token tells is that half, in base64url
+-- 3.1.3.6: the hash in the ID token is that half in base64url; without a half it is not checked
 abbrev pub told_hash : List ℕ → Option (List ℕ) → Result AccessTokenHash ClaimsError
 told_hash told None = Ok hash.NotChecked
 told_hash told (Some half) = if bytes_eq told (base64url half) then Ok hash.Matches else Err errors.OtherAccessToken
 
--- 3.1.3.8
+-- 3.1.3.8: the claim `at_hash`, if the token has it, is the hash of the access token
 abbrev pub hash_rule : List ℕ → List ℕ → Option (List ℕ) → Result AccessTokenHash ClaimsError
 hash_rule algorithm access_token None = Ok hash.Absent
 hash_rule algorithm access_token (Some told) = told_hash told (half_digest algorithm access_token)
@@ -68,7 +71,7 @@ hash_rule algorithm access_token (Some told) = told_hash told (half_digest algor
 abbrev pub tenant_of : Data → Option (List ℕ)
 tenant_of other_claims = option_and_then as_str (get (codes "tid") other_claims)
 
--- each rule holds, or the first that does not is named
+-- all rules for a token, in this order: the first broken rule is the error
 abbrev pub token_checked : Expectation → List ℕ → ℤ → DecodedToken → Result AccessTokenHash ClaimsError
 token_checked expected access_token now token =
     algorithm_rule expected token.header.own
@@ -76,19 +79,20 @@ token_checked expected access_token now token =
     then claims_checked expected now (tenant_of token.claims.others) token.claims.own
     then hash_rule token.header.own.algorithm access_token token.claims.own.access_token_hash
 
--- ---- that all hold
+-- ---- the rules as one proposition: all of them hold
 
+-- the algorithm is the registered one; if the client names none, it is any that means a signature
 abbrev pub IsAlgorithm : Option (List ℕ) → List ℕ → Type 0
 IsAlgorithm None algorithm = (algorithm ≢ []) × (map to_ascii_lowercase algorithm ≢ codes "none")
 IsAlgorithm (Some registered) algorithm = algorithm ≡ registered
 
--- the hash that is told, if one is, is that of the access token, if the algorithm has one
+-- the claim `at_hash`, if present, is the hash of the access token, if the algorithm has a hash
 abbrev pub IsHashOf : List ℕ → List ℕ → Option (List ℕ) → Type 0
 IsHashOf algorithm access_token told =
     IfSome told (λ hash. IfSome (half_digest algorithm access_token) (λ half. hash ≡ base64url half))
 
--- the token is as 3.1.3.7 and 3.1.3.8 have it, but for its signature, at this moment, for a client
--- that expects this and got this access token
+-- the token meets 3.1.3.7 and 3.1.3.8, except for its signature, for a client that expects this and
+-- got this access token, at the moment `now` (nanoseconds since 1970-01-01T00:00:00Z)
 pub record Holds (expected : Expectation) (access_token : List ℕ) (now : ℤ) (token : DecodedToken) : Type 0 where
   pub algorithm : IsAlgorithm expected.algorithm token.header.own.algorithm
   pub no_extension : get (codes "crit") token.header.others ≡ None

@@ -28,12 +28,13 @@ use crate::claims_error::ClaimsError;
 use base64::engine::general_purpose::URL_SAFE_NO_PAD;
 use sha2::{Digest, Sha256, Sha384, Sha512};
 
-/// What the hash in an ID token (`at_hash`) says of the access token that came with it.
+/// The outcome of the check of the hash in an ID token (`at_hash`) against the access token that
+/// came with it.
 #[derive(Clone, Copy, Debug, PartialEq, Eq, Drop)]
 pub enum AccessTokenHash {
-    /// The ID token has none.
+    /// The ID token has no `at_hash`.
     Absent,
-    /// It is that access token's.
+    /// It is the hash of that access token.
     Matches,
     /// It was not compared: the ID token's algorithm is none of the twelve of RFC 7518, 3.1, that
     /// have a hash.
@@ -58,7 +59,7 @@ fn has_sha512(algorithm: &str) -> bool
     "RS512" == algorithm || "ES512" == algorithm || "PS512" == algorithm || "HS512" == algorithm
 }
 
-// Whether a text is the base64url of these bytes.
+// Whether `told` is these bytes in base64url.
 fn encodes(told: &str, bytes: &[u8]) -> bool
     requires { length bytes.now ≤ 32 }
     ensures { result ≡ bytes_eq told.now (base64url bytes.now) }
@@ -113,7 +114,7 @@ fn compare(algorithm: &str, access_token: &[u8], told: &str) -> Result<AccessTok
     }
 }
 
-// Whether the hash that is told is the access token's.
+// Checks the claim `at_hash` (`told`), if present, against the access token.
 pub(crate) fn check_hash(
     algorithm: &str,
     access_token: &[u8],

@@ -70,7 +70,7 @@ impl IdTokenClaims {
         self.issuer.as_str()
     }
 
-    /// The user, by a text that the issuer gives to no other (`sub`).
+    /// The identifier of the user, which the issuer gives to no other user (`sub`).
     pub fn subject(&self) -> &str
         ensures { result.now ≡ self.now.subject }
     {
@@ -84,7 +84,7 @@ impl IdTokenClaims {
         self.audience.as_slice()
     }
 
-    /// From when on the token is not to be accepted (`exp`).
+    /// The moment from which on the token must not be accepted (`exp`).
     pub fn expires_at(&self) -> Timestamp
         ensures { result.nanosecond ≡ self.now.expires_at }
     {
@@ -144,8 +144,8 @@ impl IdTokenClaims {
         text_of(&self.access_token_hash)
     }
 
-    // Whether each rule for the claims of a token that names this tenant holds at this moment, else
-    // the first that does not.
+    // Checks each rule for the claims of a token that names this tenant, at the moment `now`. The
+    // error is the first broken rule.
     pub(crate) fn check(
         &self,
         expected: &Expected,

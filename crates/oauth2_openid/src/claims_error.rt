@@ -14,8 +14,8 @@ pub enum ClaimsError {
     NoSignature,
     /// The algorithm is not the one that the client registered (3.1.3.7, 7).
     OtherAlgorithm,
-    /// The header has the member `crit`: an extension that has to be understood, which none is here
-    /// (RFC 7515, 4.1.11).
+    /// The header has the member `crit`, which names extensions that have to be understood. This
+    /// crate understands none (RFC 7515, 4.1.11).
     CriticalExtension,
     /// The issuer is not an expected one (3.1.3.7, 2).
     OtherIssuer,

@@ -34,7 +34,7 @@ use oauth2_json::{FromJson, ReadError};
 use serde_json::Value;
 use std::alloc::Global;
 
-// Who says it, of whom, to whom.
+// The issuer, the subject and the audience.
 #[derive(Drop)]
 struct Names {
     issuer: String,
@@ -42,7 +42,7 @@ struct Names {
     audience: Vec<String>,
 }
 
-// When.
+// The times.
 #[derive(Drop)]
 struct Times {
     expires_at: Timestamp,
@@ -50,7 +50,7 @@ struct Times {
     auth_time: Unneeded<Timestamp>,
 }
 
-// Of which request, and how the user logged in.
+// The nonce of the request, and how the user logged in.
 #[derive(Drop)]
 struct Login {
     nonce: Option<Nonce>,
@@ -58,14 +58,14 @@ struct Login {
     authentication_methods: Unneeded<Vec<String>>,
 }
 
-// What else the token is bound to.
+// The party and the access token that the ID token is bound to.
 #[derive(Drop)]
 struct Bindings {
     authorized_party: Option<String>,
     access_token_hash: Option<String>,
 }
 
-// The claims, and the members that are none of them.
+// The claims, and the object of the other members.
 #[derive(Drop)]
 pub(crate) struct AllClaims {
     pub(crate) claims: IdTokenClaims,
@@ -100,7 +100,7 @@ fn take_names(alloc: Global, members: &mut Object<'_>) -> Result<Names, ReadErro
     })
 }
 
-// A time that has to be there.
+// Takes a time that has to be present out of the members.
 fn needed_time(alloc: Global, members: &mut Object<'_>, name: &str) -> Result<Timestamp, ReadError>
     ensures read { ReadsAs (λ t. t.nanosecond) result
         (needed_member time name.now (get_member name.now (object_members members.old))) }
@@ -159,7 +159,7 @@ fn take_bindings(alloc: Global, members: &mut Object<'_>) -> Result<Bindings, Re
     })
 }
 
-// The own members, group by group, and what is left of the others.
+// Takes the claims out of the members, group by group; the other members are kept as an object.
 fn from_members(alloc: Global, mut members: Object<'_>) -> Result<AllClaims, ReadError>
     ensures { ReadsAs (λ c. with_others c.claims (view c.others)) result
         (claims_in_turn (object_members members.entry)) }

@@ -18,7 +18,7 @@ fn split_dot(text: &str) -> Option<(&str, &str)>
     text.split_once('.')
 }
 
-// The header, the payload and the signature, where there are just three parts.
+// The header, the payload and the signature, if there are exactly three parts.
 #[tactic(auto, using(crate::proofs::Dots::in_turn))]
 pub(crate) fn three_parts(text: &str) -> Option<(&str, &str, &str)>
     ensures joined { IfSome result (λ p. text.now ≡ (p.0.now ++ (46 ∷ p.1.now)) ++ (46 ∷ p.2.now)) }
@@ -28,7 +28,7 @@ pub(crate) fn three_parts(text: &str) -> Option<(&str, &str, &str)>
     cut_at_dots(text)
 }
 
-// The same, cut at one dot after another.
+// The three parts, cut at the first dot and then at the second.
 fn cut_at_dots(text: &str) -> Option<(&str, &str, &str)>
     ensures joined { IfSome result (λ p. text.now ≡ (p.0.now ++ (46 ∷ p.1.now)) ++ (46 ∷ p.2.now)) }
     ensures parts { option_map (λ p. token_parts p.0.now p.1.now p.2.now) result
@@ -42,9 +42,9 @@ fn cut_at_dots(text: &str) -> Option<(&str, &str, &str)>
     Some((header, payload, signature))
 }
 
-// The bytes of a part, where it is base64url without padding.
+// The bytes of a part; `None` if it is not base64url without padding.
 #[tactic(auto, unfolding(crate::specs::Token::bytes_of, oauth2_types::specs::Pkce::base64url))]
-pub(crate) fn decoded(alloc: Global, text: &str) -> Result<Option<Vec<u8>>, AllocError>
+pub(crate) fn decode_part(alloc: Global, text: &str) -> Result<Option<Vec<u8>>, AllocError>
     ensures value { IfOk result
         (λ found. option_map (λ bytes. bytes.items) found ≡ bytes_of text.now) }
     ensures exact { IfOk result
@@ -57,7 +57,7 @@ pub(crate) fn decoded(alloc: Global, text: &str) -> Result<Option<Vec<u8>>, Allo
     }
 }
 
-// Bytes that are written as their base64url.
+// Bytes that `Display` writes in base64url.
 #[derive(Clone, Copy)]
 pub(crate) struct Encoded<'a> {
     pub(crate) bytes: &'a [u8],

@@ -13,16 +13,16 @@ pub struct Expected {
     pub issuer: IssuerRule,
     /// The client itself.
     pub client_id: ClientId,
-    /// The audiences beside the client that it trusts, most often none: a token that is also for
-    /// another one is refused (3.1.3.7, 3).
+    /// The other audiences that the client trusts, most often none. A token with any other
+    /// audience is refused (3.1.3.7, 3).
     pub other_audiences: Vec<String>,
-    /// The parties beside the client to which its tokens may be issued (`azp`), most often none.
-    /// Such a party is an Android app whose tokens name its server as their audience.
+    /// The other parties to which its tokens may be issued (`azp`), most often none. An example is
+    /// an Android app whose tokens name its server as their audience.
     pub authorized_parties: Vec<String>,
     /// The algorithm that the client registered (`id_token_signed_response_alg`), such as `RS256`:
     /// a token with another one is refused. Only a client that registered `none` may name it here
-    /// (section 2). Without an algorithm any but `none` and the empty text is accepted; `None` and
-    /// the like count as `none`.
+    /// (section 2). If this is `None`, any algorithm is accepted except the empty text and `none`,
+    /// in any case of letters.
     pub algorithm: Option<String>,
     /// The nonce that was sent with the request, if one was.
     pub nonce: Option<Nonce>,

@@ -13,9 +13,9 @@ use std::alloc::{AllocError, Global};
 use std::fmt;
 use std::marker::Model;
 
-/// The extra fields of a token response that carries an ID token, as the text that came:
-/// `StandardTokenResponse<IdTokenFields, BasicTokenType>`. The text is not read with the response,
-/// so that a token at fault does not cost the response; `IdToken::from_text` reads it.
+/// The extra fields of a token response that carries an ID token:
+/// `StandardTokenResponse<IdTokenFields, BasicTokenType>`. They hold the token as the text that
+/// came, so that a wrong ID token does not make the response fail. `IdToken::from_text` reads it.
 pub type IdTokenFields = WithMember<IdTokenMember, EmptyExtraTokenFields>;
 
 /// The member `id_token`.
@@ -44,7 +44,7 @@ impl Model for IdTokenText {
 }
 
 impl IdTokenText {
-    /// Takes any text, as it is: none is checked.
+    /// Takes any text. It is not checked.
     pub fn new(secret: String) -> IdTokenText
         ensures { result ≡ string_bytes secret }
     {

@@ -14,14 +14,14 @@ use serde_json::Value;
 use std::alloc::Global;
 use std::marker::Model;
 
-/// What the header of an ID token says of the signature.
+/// The header of an ID token: the algorithm and the key of the signature.
 #[derive(Drop)]
 pub struct IdTokenHeader {
     pub(crate) algorithm: String,
     pub(crate) key_id: Option<String>,
 }
 
-// The header, and the members that have no field of it.
+// The header, and the object of its other members.
 #[derive(Drop)]
 pub(crate) struct WholeHeader {
     pub(crate) header: IdTokenHeader,
@@ -48,7 +48,7 @@ impl IdTokenHeader {
         self.algorithm.as_str()
     }
 
-    /// The key of the signature (`kid`).
+    /// The identifier of the key that made the signature (`kid`).
     pub fn key_id(&self) -> Option<&str>
         ensures { option_copied result ≡ self.now.key_id }
     {

@@ -19,7 +19,7 @@ use crate::access_token_hash::{AccessTokenHash, check_hash};
 use crate::claims::IdTokenClaims;
 use crate::claims_error::ClaimsError;
 use crate::claims_json::AllClaims;
-use crate::compact::{Encoded, decoded, three_parts};
+use crate::compact::{Encoded, decode_part, three_parts};
 use crate::expected::Expected;
 use crate::header::{IdTokenHeader, WholeHeader};
 use crate::read_error::{IdTokenReadError, TokenPart};
@@ -31,14 +31,14 @@ use serde_json::Value;
 use std::alloc::Global;
 use std::fmt;
 
-/// An ID token (section 2) whose signature nobody has checked.
+/// An ID token (OpenID Connect Core 1.0, section 2) whose signature nobody has checked.
 ///
-/// Anyone can make a text that reads to any claims. So rely on an ID token only if your own client
+/// Anyone can make a text with any claims. So rely on an ID token only if your own client
 /// received it directly from the issuer's token endpoint over TLS, whose certificate it checked:
-/// then TLS may stand in for the signature (3.1.3.7, 6). A token that came any other way, such as
+/// then TLS may replace the signature (3.1.3.7, 6). A token that came any other way, such as
 /// through the user's browser, in a request to your server or out of a store that others can write,
-/// says nothing until its signature has been checked against the issuer's keys. Do that with a
-/// library of your own, over `signed_part` and `signature`.
+/// says nothing until its signature has been checked against the issuer's keys. The crate
+/// `oauth2_keys` does that, and so can any library, over `signed_part` and `signature`.
 #[derive(Drop)]
 pub struct IdToken {
     header: WholeHeader,
@@ -47,12 +47,12 @@ pub struct IdToken {
     signature: Vec<u8>,
 }
 
-// What a part's JSON reads to.
+// Decodes a part of the token, and reads its JSON.
 #[tactic(auto, using(crate::proofs::Parts::json_part_has_parts))]
 fn read_part<T: FromJson>(alloc: Global, part: TokenPart, text: &str) -> Result<T, IdTokenReadError>
     ensures { TokenReadsAs T.meaning result (json_part T.reading part text.now) }
 {
-    let Some(bytes) = decoded(alloc, text)? else {
+    let Some(bytes) = decode_part(alloc, text)? else {
         return Err(IdTokenReadError::NotBase64(part));
     };
     match T::from_body(alloc, bytes.as_slice()) {
@@ -66,7 +66,7 @@ impl IdToken {
     /// Reads a token in compact form (RFC 7515, section 7.1).
     pub fn from_text(alloc: Global, text: &str) -> Result<IdToken, IdTokenReadError>
         ensures read { TokenReadsAs token_of result (compact_token_reading text.now) }
-        // Nothing of the text is lost.
+        // No byte of the text is lost.
         ensures compact { IfOk result (λ t. text.now ≡ compact_of (token_of t)) }
     {
         match three_parts(text) {
@@ -93,7 +93,7 @@ impl IdToken {
         let signed_part = format!(in alloc; "{header}.{payload}")?;
         let header = read_part::<WholeHeader>(alloc, TokenPart::Header, header)?;
         let claims = read_part::<AllClaims>(alloc, TokenPart::Payload, payload)?;
-        let Some(signature) = decoded(alloc, signature)? else {
+        let Some(signature) = decode_part(alloc, signature)? else {
             return Err(IdTokenReadError::NotBase64(TokenPart::Signature));
         };
         Ok(IdToken {
@@ -104,7 +104,7 @@ impl IdToken {
         })
     }
 
-    /// What the header says.
+    /// The header.
     pub fn header(&self) -> &IdTokenHeader
         ensures { result.now ≡ (token_of self.now).header.own }
     {
@@ -118,14 +118,15 @@ impl IdToken {
         &self.claims.claims
     }
 
-    /// The object of the members of the header that have no method of their own.
+    /// The object of the header's members that `IdTokenHeader` has no method for.
     pub fn other_header_members(&self) -> &Value
         ensures { view result.now ≡ (token_of self.now).header.others }
     {
         &self.header.others
     }
 
-    /// The object of the claims that have no method of their own.
+    /// The object of the claims that `IdTokenClaims` has no method for. `auth_time`, `acr` and
+    /// `amr` are in it too if they could not be read.
     pub fn other_claims(&self) -> &Value
         ensures { view result.now ≡ (token_of self.now).claims.others }
     {
@@ -139,16 +140,16 @@ impl IdToken {
         self.signed_part.as_str()
     }
 
-    /// The bytes of the signature, none for a token without one.
+    /// The bytes of the signature; empty for a token without one.
     pub fn signature(&self) -> &[u8]
         ensures { result.now ≡ (token_of self.now).signature }
     {
         self.signature.as_slice()
     }
 
-    /// Whether the token meets each rule of 3.1.3.7 at this moment, else the first that it does
-    /// not, in the order of `ClaimsError`; and what its hash says of the access token that came
-    /// with it. The signature is not checked: see the type.
+    /// Checks each rule of 3.1.3.7 at the moment `now`, and the hash of the access token that came
+    /// with the token. The error is the first broken rule, in the order of `ClaimsError`. The
+    /// signature is not checked: see the type.
     pub fn check(
         &self,
         expected: &Expected,
@@ -218,14 +219,14 @@ impl IdToken {
     }
 }
 
-// Whether an algorithm is none: `none` in any case of letters, or the empty text.
+// Whether an algorithm means no signature: `none` in any case of letters, or the empty text.
 fn names_no_signature(algorithm: &str) -> bool
     ensures { result ≡ names_no_signature algorithm.now }
 {
     algorithm.is_empty() || algorithm.eq_ignore_ascii_case("none")
 }
 
-/// Writes the token itself, in compact form, as an `id_token_hint` has it.
+/// Writes the whole token in compact form, as an `id_token_hint` carries it.
 impl fmt::Display for IdToken {
     ghost output = { λ t. Some (compact_of (token_of t)) };
 

@@ -1,4 +1,4 @@
-//! Which issuers a client takes ID tokens of (OpenID Connect Core 1.0, section 3.1.3.7, 2).
+//! Which issuers a client accepts ID tokens from (OpenID Connect Core 1.0, section 3.1.3.7, 2).
 
 ghost use Rattle.std.specs.Prelude.{
   ◌≡◌,
@@ -19,20 +19,20 @@ ghost use Rattle.oauth2_openid.specs.Rules.{are_among, is_among, is_issuer};
 /// The issuers that a client expects. Texts are compared byte for byte.
 #[derive(Debug, Drop)]
 pub enum IssuerRule {
-    /// This one alone.
+    /// Only this issuer.
     Is(String),
     /// One of these, such as the two spellings of Google's, `https://accounts.google.com` and
     /// `accounts.google.com`.
     OneOf(Vec<String>),
-    /// Of a provider that has an issuer for each of its tenants, as Microsoft Entra has: what
-    /// stands before the tenant in its issuer, and after it. The tenant is the token's own, in its
-    /// claim `tid`. So `before` is `https://login.microsoftonline.com/`, and `after` is `/v2.0`.
-    /// A token of any tenant passes: see by `tid` which one it was, if that matters to you.
+    /// For a provider that has an issuer for each of its tenants, such as Microsoft Entra: the
+    /// parts of the issuer before and after the tenant. The tenant is in the token's claim `tid`.
+    /// For Entra `before` is `https://login.microsoftonline.com/`, and `after` is `/v2.0`. A token
+    /// of any tenant passes: look at `tid` if it matters to you which one it is.
     PerTenant { before: String, after: String },
 }
 
 impl IssuerRule {
-    // Whether this issuer of a token that names this tenant is expected.
+    // Whether the issuer is expected, for a token that names this tenant.
     pub(crate) fn names(&self, tenant: Option<&str>, issuer: &str) -> bool
         ensures { result
             ≡ is_issuer (named_issuers self.now) (option_copied tenant.entry) issuer.now }
@@ -48,7 +48,7 @@ impl IssuerRule {
     }
 }
 
-// What follows a text in one that begins with it.
+// The part of `text` after `front`; `None` if `text` does not begin with `front`.
 fn after<'a>(text: &'a str, front: &str) -> Option<&'a str>
     ensures { MatchOption result ((rest : List ℕ) → text.now ≢ front.now ++ rest)
         (λ rest. text.now ≡ front.now ++ rest.now) }
@@ -56,7 +56,7 @@ fn after<'a>(text: &'a str, front: &str) -> Option<&'a str>
     text.strip_prefix(front)
 }
 
-// Whether a text is these three, one after another.
+// Whether `text` is these three texts, one after another.
 #[tactic(auto, using(crate::proofs::Joined::joined, crate::proofs::Joined::no_second, crate::proofs::Joined::no_first))]
 fn is_joined(text: &str, first: &str, second: &str, third: &str) -> bool
     ensures { result ≡ bytes_eq text.now (first.now ++ second.now ++ third.now) }

@@ -13,9 +13,8 @@ use std::alloc::{AllocError, Global};
 use std::fmt;
 use std::marker::Model;
 
-/// The value by which a client knows that an ID token is for its own request, so that a token of
-/// another one cannot be used again (section 2). It is kept as secret as a state: a `CsrfToken`
-/// inside.
+/// The value that ties an ID token to the client's own request, so that a token of another request
+/// cannot be replayed (section 2). It is a secret, held in a `CsrfToken`.
 #[derive(PartialEq, Eq, Hash, Drop)]
 pub struct Nonce(CsrfToken);
 
@@ -28,7 +27,7 @@ impl Model for Nonce {
 }
 
 impl Nonce {
-    /// Takes any text, as it is: none is checked.
+    /// Takes any text. It is not checked.
     pub fn new(secret: String) -> Nonce
         ensures { result ≡ string_bytes secret }
     {
@@ -49,7 +48,7 @@ impl Nonce {
         self.0.into_secret()
     }
 
-    /// The text of 16 random bytes.
+    /// A nonce of 16 random bytes, in base64url without padding.
     pub fn new_random<R: Rng>(alloc: Global, rng: &mut R) -> Result<Nonce, AllocError>
         ensures random { IfOk result
             (λ nonce. IsRandomText 16 (R.stream rng.old) (R.stream rng.new) nonce) }

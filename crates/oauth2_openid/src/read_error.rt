@@ -11,19 +11,22 @@ use std::fmt;
 /// A part of a token in compact form (RFC 7515, section 7.1).
 #[derive(Clone, Copy, Debug, PartialEq, Eq, Drop)]
 pub enum TokenPart {
+    /// The first part: the header.
     Header,
+    /// The second part: the claims.
     Payload,
+    /// The third part: the signature.
     Signature,
 }
 
-/// Why nothing was read of a text.
+/// Why a text could not be read as an ID token.
 #[derive(Debug, PartialEq, Eq, Drop)]
 pub enum IdTokenReadError {
-    /// There are not just three parts.
+    /// The text does not have exactly three parts, with dots between them.
     NotThreeParts,
     /// That part is not base64url without padding (RFC 7515, section 2).
     NotBase64(TokenPart),
-    /// What that part decodes to is at fault.
+    /// That part decodes to what is not JSON, or to JSON with a wrong member.
     Fault(TokenPart, ParseFault),
     /// Memory ran out.
     Memory,

@@ -13,7 +13,7 @@ use serde_json::{Number, Value};
 use std::alloc::Global;
 use std::time::Duration;
 
-// A time, whole or not.
+// A time claim: a number of seconds, whole or not.
 #[derive(Drop)]
 pub(crate) struct Time(pub(crate) Timestamp);
 
@@ -35,7 +35,7 @@ impl FromJson for Time {
     }
 }
 
-// That many seconds after 1970 began, where `Timestamp` has the moment.
+// The moment that many seconds after 1970 began; `None` if `Timestamp` cannot hold it.
 pub(crate) fn moment_of(seconds: &Number) -> Option<Timestamp>
     ensures { option_map (λ t. t.nanosecond) result
         ≡ result_ok (number_time (number_view seconds.now)) }
@@ -62,8 +62,8 @@ fn moment_at(nanosecond: i128) -> Option<Timestamp>
     Timestamp::from_nanosecond(nanosecond).ok()
 }
 
-// How many nanoseconds that many seconds are, with or without their sign, where that is less than
-// 2^64 seconds. The doubles of this century are 238 nanoseconds apart.
+// The absolute value of the seconds in nanoseconds; `None` unless it is less than 2^64 seconds. The
+// doubles of this century are 238 nanoseconds apart.
 fn size_of(seconds: f64) -> Option<i128>
     ensures { MatchOption result (¬ FitsDurationSecs (float_with_sign false seconds))
         (λ size. FitsDurationSecs (float_with_sign false seconds)
@@ -76,7 +76,8 @@ fn size_of(seconds: f64) -> Option<i128>
     }
 }
 
-// To the nearest nanosecond.
+// The moment that many seconds after 1970 began, to the nearest nanosecond; `None` if `Timestamp`
+// cannot hold it.
 fn moment_of_float(seconds: f64) -> Option<Timestamp>
     ensures { option_map (λ t. t.nanosecond) result ≡ result_ok (float_time seconds) }
 {

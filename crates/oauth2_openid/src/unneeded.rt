@@ -1,4 +1,5 @@
-//! Claims that no rule needs: one of another kind costs no login, and is left among the others.
+//! Claims that no rule needs. If one cannot be read, that is no error: its value is kept among the
+//! other claims.
 
 ghost use Rattle.std.specs.Prelude.{◌≡◌, Ok, Some, IfOk, map, option_map, string_bytes};
 ghost use Rattle.serde_json.specs.Data.{array};
@@ -19,14 +20,14 @@ use oauth2_json::{ReadError, members};
 use serde_json::Value;
 use std::alloc::{AllocError, Global};
 
-// What such a claim says, or what stands there in its place.
+// The value of such a claim (`said`), or the JSON value that could not be read (`left`).
 #[derive(Drop)]
 pub(crate) struct Unneeded<T: Drop> {
     pub(crate) said: Option<T>,
     pub(crate) left: Option<Value>,
 }
 
-// Takes a text out.
+// Takes a claim that is a text out of the members.
 pub(crate) fn take_text(members: &mut Object<'_>, name: &str) -> Unneeded<String>
     ensures read { (option_map string_bytes result.said, option_map view result.left)
         ≡ unneeded text (get_member name.now (object_members members.old)) }
@@ -41,7 +42,7 @@ pub(crate) fn take_text(members: &mut Object<'_>, name: &str) -> Unneeded<String
     Unneeded { said, left }
 }
 
-// Takes a time out.
+// Takes a claim that is a time out of the members.
 pub(crate) fn take_time(members: &mut Object<'_>, name: &str) -> Unneeded<Timestamp>
     ensures read { (option_map (λ t. t.nanosecond) result.said, option_map view result.left)
         ≡ unneeded time (get_member name.now (object_members members.old)) }
@@ -59,7 +60,7 @@ pub(crate) fn take_time(members: &mut Object<'_>, name: &str) -> Unneeded<Timest
     Unneeded { said, left }
 }
 
-// Takes a list of texts out.
+// Takes a claim that is a list of texts out of the members.
 pub(crate) fn take_texts(
     alloc: Global,
     members: &mut Object<'_>,
@@ -117,7 +118,7 @@ fn are_texts(items: &[Value]) -> bool
     true
 }
 
-// Puts what is left back among the other members.
+// Puts a claim that could not be read back into the object of the other claims.
 pub(crate) fn put_back(
     alloc: Global,
     others: Value,

@@ -7,7 +7,7 @@ use Rattle.oauth2_json.specs.Reading.{Reading}
 use Rattle.oauth2_wire.specs.Request.{HttpRequest}
 use Rattle.oauth2_wire.specs.Reply.{HttpResponse}
 use Rattle.oauth2.specs.Settings.{Settings}
-use Rattle.oauth2_redirect.specs.Redirect.{RedirectRefusal}
+use Rattle.oauth2_redirect.specs.Redirect.{RedirectErrorView}
 use Rattle.oauth2_redirect.specs.declared.redirect.RedirectError.{RedirectError}
 use Rattle.std.proofs.lemmas.Option.{none-some}
 use Rattle.oauth2_openid.specs.declared.read_error.IdTokenReadError.{IdTokenReadError}
@@ -36,7 +36,7 @@ module _ {D RE T : Type 0} (access_token : D → List ℕ) (id_token : D → Opt
   JudgesIdToken-unread (read.Fault part fault) told unread same is errs = rw same (at_fault part (fault_of fault), refl, is ∙ ap Some errs)
   JudgesIdToken-unread read.Memory told unread same is errs = rw same (read_of_some (id_token response) told is)
 
-module _ {D A T E RE C : Type 0} (meaning : D → A) (error_meaning : T → E) (reading : Data → Reading A) (error_reading : Data → Reading E) (step : C → HttpRequest → Result HttpResponse RE → C → Type 0) (access_token token_type : D → List ℕ) (id_token : D → Option (List ℕ)) (client : Settings) (login : OpenIdKept) (expected : Expectation) (ToldByClock : Timestamp → Type 0) (told : Result (List ℕ) RedirectRefusal) (before after : C) where
+module _ {D A T E RE C : Type 0} (meaning : D → A) (error_meaning : T → E) (reading : Data → Reading A) (error_reading : Data → Reading E) (step : C → HttpRequest → Result HttpResponse RE → C → Type 0) (access_token token_type : D → List ℕ) (id_token : D → Option (List ℕ)) (client : Settings) (login : OpenIdKept) (expected : Expectation) (ToldByClock : Timestamp → Type 0) (told : Result (List ℕ) RedirectErrorView) (before after : C) where
   -- a login that is given back is the login, and nothing was sent
   pub openid_login-given_back : (result : Result (OpenIdLoginEnd D) (OpenIdLoginError RE T))
       → EndsOpenIdLogin meaning error_meaning reading error_reading step access_token token_type id_token client login expected ToldByClock told before result after

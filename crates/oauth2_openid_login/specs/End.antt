@@ -11,7 +11,7 @@ use Rattle.oauth2_wire.specs.declared.error.RequestTokenError.{RequestTokenError
 use Rattle.oauth2_wire.specs.Display.{fault_text}
 use Rattle.oauth2_redirect.specs.declared.redirect.RedirectError.{RedirectError}
 use Rattle.oauth2_redirect.specs.End.{ExchangesCode}
-use Rattle.oauth2_redirect.specs.Redirect.{RedirectRefusal, TellsRefusal, redirect_error_text}
+use Rattle.oauth2_redirect.specs.Redirect.{RedirectErrorView, ShowsRedirectError, redirect_error_text}
 use Rattle.oauth2_openid.specs.declared.read_error.IdTokenReadError.{IdTokenReadError}
 use Rattle.oauth2_openid.specs.declared.read_error.IdTokenReadError.TheVariants as read
 use Rattle.oauth2_openid.specs.Claims.{Expectation}
@@ -25,7 +25,7 @@ use Rattle.oauth2_openid_login.specs.declared.login_error.OpenIdLoginError.{Open
 use Rattle.oauth2_openid_login.specs.declared.login_error.OpenIdLoginError.TheVariants.{Redirect, Token, OtherTokenType, NoIdToken, Read, Claims, Memory}
 use Rattle.oauth2_openid_login.specs.Login.{OpenIdKept}
 
--- the text of an error
+-- the text that `Display` writes of an error, where `text` is that of the server's error
 abbrev pub openid_login_error_text : {RE T : Type 0} → (T → Option (List ℕ)) → OpenIdLoginError RE T → Option (List ℕ)
 openid_login_error_text text (Redirect error login) = redirect_error_text error
 openid_login_error_text text (Token error) = fault_text text error
@@ -45,14 +45,14 @@ openid_login_error_debug (Read error) = codes "Read([redacted])"
 openid_login_error_debug (Claims error) = codes "Claims([redacted])"
 openid_login_error_debug Memory = codes "Memory"
 
--- the fault that an error tells
+-- what is wrong with the ID token, by the error of reading it; `None` if memory ran out
 abbrev pub fault_told : IdTokenReadError → Option TokenFault
 fault_told read.NotThreeParts = Some not_three_parts
 fault_told (read.NotBase64 part) = Some (not_base64 part)
 fault_told (read.Fault part fault) = Some (at_fault part (fault_of fault))
 fault_told read.Memory = None
 
--- what the text of an ID token reads to, if there is one
+-- the ID token that the text is read as, or its fault, if there is a text
 abbrev pub id_token_reading : Option (List ℕ) → Option (TokenReading DecodedToken)
 id_token_reading text = option_map compact_token_reading text
 
@@ -61,9 +61,9 @@ abbrev pub IsBearer : List ℕ → Type 0
 IsBearer token_type = map to_ascii_lowercase token_type ≡ map to_ascii_lowercase (codes "Bearer")
 
 module _ {D RE T : Type 0} where
-  -- what comes of the ID token of a response: the response, with what its ID token reads to, if each
-  -- rule holds; or an error that tells the first thing that was wrong with the ID token, or that
-  -- memory for reading one ran out
+  -- the result for the ID token of a response: the response and its ID token, if the token can be
+  -- read and meets every rule; or an error that says what is wrong with the token first; or
+  -- `Memory`, if there is a token to read
   abbrev pub JudgesIdToken : (D → List ℕ) → (D → Option (List ℕ)) → Expectation → ℤ → D → Result (OpenIdLoginEnd D) (OpenIdLoginError RE T) → Type 0
   JudgesIdToken access_token id_token expected now response (Ok end) =
       (end.token_response ≡ response)
@@ -80,20 +80,21 @@ module _ {D RE T : Type 0} where
       × (token_checked expected (access_token response) now token ≡ Err error)
   JudgesIdToken access_token id_token expected now response (Err Memory) = IsSome (id_token response)
 
-  -- what comes of a token response: what comes of its ID token, if its token type is `Bearer`
+  -- the result for a token response: that for its ID token if its token type is `Bearer`
+  -- (3.1.3.3), and else `OtherTokenType`
   abbrev pub Judges : (D → List ℕ) → (D → List ℕ) → (D → Option (List ℕ)) → Expectation → ℤ → D → Result (OpenIdLoginEnd D) (OpenIdLoginError RE T) → Type 0
   Judges access_token token_type id_token expected now response result =
       (IsBearer (token_type response) × JudgesIdToken access_token id_token expected now response result)
       ⊎ ((IsBearer (token_type response) → ⊥) × (result ≡ Err OtherTokenType))
 
 module _ {D A T E RE C : Type 0} where
-  -- a login ends by a token response, which is what the one request for the code that the redirect
-  -- told was answered with, and by what comes of it at a moment that the clock told; or by the error
-  -- of that request; or the redirect tells no code, or memory ran out before one was sent, and the
-  -- HTTP client is as it was: the login is then given back
+  -- a login ends in one of three ways. The token request for the redirect's code returns a
+  -- response, which is judged at a time that the clock returned. Or that request fails. Or the
+  -- redirect has no code, or memory ran out before the request: the HTTP client is unchanged, and
+  -- the error holds the login.
   abbrev pub EndsOpenIdLogin : (D → A) → (T → E) → (Data → Reading A) → (Data → Reading E)
       → (C → HttpRequest → Result HttpResponse RE → C → Type 0) → (D → List ℕ) → (D → List ℕ) → (D → Option (List ℕ))
-      → Settings → OpenIdKept → Expectation → (Timestamp → Type 0) → Result (List ℕ) RedirectRefusal
+      → Settings → OpenIdKept → Expectation → (Timestamp → Type 0) → Result (List ℕ) RedirectErrorView
       → C → Result (OpenIdLoginEnd D) (OpenIdLoginError RE T) → C → Type 0
   EndsOpenIdLogin meaning error_meaning reading error_reading step access_token token_type id_token client login expected ToldByClock told before result after =
       ((code : List ℕ) × (told ≡ Ok code) × (response : D)
@@ -102,4 +103,4 @@ module _ {D A T E RE C : Type 0} where
       × Judges access_token token_type id_token expected now.nanosecond response result)
       ⊎ ((code : List ℕ) × (told ≡ Ok code) × (error : RequestTokenError RE T) × (result ≡ Err (Token error))
       × ExchangesCode meaning error_meaning reading error_reading step client login.login code before (Err error) after)
-      ⊎ ((error : RedirectError) × (result ≡ Err (Redirect error login)) × TellsRefusal error told × (after ≡ before))
+      ⊎ ((error : RedirectError) × (result ≡ Err (Redirect error login)) × ShowsRedirectError error told × (after ≡ before))

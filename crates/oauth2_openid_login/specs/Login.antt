@@ -7,19 +7,21 @@ use Rattle.oauth2_json.specs.Writing.{Writing}
 use Rattle.oauth2_json.specs.Members.{members_of_object, needed_member, optional_member}
 use Rattle.oauth2_json.specs.Puts.{Row, put_all}
 use Rattle.oauth2_json.specs.Values.{text, whole_number}
-use Rattle.oauth2_redirect.specs.Login.{Kept, login_row, login_rows}
+use Rattle.oauth2_redirect.specs.Login.{LoginView, login_row, login_rows}
 
--- the login by a code, the nonce that the ID token has to have, and the maximum age in seconds, if
--- one was asked for
+-- what is kept during a login: the login by a code, the nonce that the ID token must have, and the
+-- maximum age in seconds, if one was requested
 pub record OpenIdKept : Type 0 where
-  pub login : Kept
+  pub login : LoginView
   pub nonce : List ℕ
   pub max_age : Option ℕ
 
-abbrev pub openid_kept : Kept → List ℕ → Option ℕ → OpenIdKept
+-- the login with these parts; the maximum age is in seconds
+abbrev pub openid_kept : LoginView → List ℕ → Option ℕ → OpenIdKept
 openid_kept l n m = record { login = l; nonce = n; max_age = m }
 
--- the members of the login by a code, and two more; others are ignored
+-- a login, read from the members of its JSON object: those of the login by a code, `nonce` and
+-- `max_age`; other members are ignored
 abbrev pub openid_login_row : Members → Reading OpenIdKept
 openid_login_row ms =
     Ok openid_kept
@@ -27,14 +29,17 @@ openid_login_row ms =
     ⊛ needed_member text (codes "nonce") (get_member (codes "nonce") ms)
     ⊛ optional_member whole_number (codes "max_age") (get_member (codes "max_age") ms)
 
+-- a login, read from a JSON value, which must be an object
 abbrev pub openid_login_reading : Data → Reading OpenIdKept
 openid_login_reading d = read_then (members_of_object d) openid_login_row
 
+-- the members of a login's JSON object; `max_age` is in seconds
 abbrev pub openid_login_rows : OpenIdKept → List Row
 openid_login_rows l =
     (codes "nonce", Some (string l.nonce))
     ∷ (codes "max_age", option_map (λ n. number (unsigned n)) l.max_age)
     ∷ login_rows l.login
 
+-- the JSON object that a login is written as
 abbrev pub openid_login_writing : OpenIdKept → Writing
 openid_login_writing l = Ok (object (put_all (openid_login_rows l) no_members))

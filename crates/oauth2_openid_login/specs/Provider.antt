@@ -7,8 +7,9 @@ use Rattle.oauth2_openid.specs.Claims.{Expectation, NamedIssuers, is}
 use Rattle.oauth2_openid.specs.Issuers.{named_issuers}
 use Rattle.oauth2_openid_login.specs.Login.{OpenIdKept}
 
--- the issuer of its redirects, the issuers of its ID tokens, the audiences and the parties beside the
--- client, the algorithm, and the leeway in nanoseconds
+-- what a client knows of a provider: the issuer of its redirects and whether they must name it, the
+-- issuers of its ID tokens, the audiences and authorized parties (`azp`) that it accepts besides
+-- the client, the algorithm, and the leeway in nanoseconds
 pub record Provider : Type 0 where
   pub issuer : List ℕ
   pub tells_issuer_in_redirect : Bool
@@ -18,7 +19,8 @@ pub record Provider : Type 0 where
   pub algorithm : Option (List ℕ)
   pub leeway : ℕ
 
--- a provider with this issuer, which its ID tokens have too, and this leeway, and nothing else set
+-- the provider with this issuer, for redirects and ID tokens, and this leeway in nanoseconds;
+-- nothing else is set
 abbrev pub new_provider : List ℕ → ℕ → Provider
 new_provider issuer leeway =
     record {
@@ -31,17 +33,18 @@ new_provider issuer leeway =
       leeway = leeway;
     }
 
--- the issuers of its ID tokens: those of the rule, if one is set, and else its own issuer
+-- the issuers of a provider's ID tokens: those of the rule, if one is set, and else its own issuer
 abbrev pub token_issuers : List ℕ → Option IssuerRule → NamedIssuers
 token_issuers issuer None = is issuer
 token_issuers issuer (Some rule) = named_issuers rule
 
--- RFC 9207, 2.4: the issuer that a redirect is expected to come from, which each redirect has to
--- tell if the provider announces that
+-- the expected issuer of a redirect (RFC 9207, 2.4): required if the provider announces `iss` in
+-- its redirects, and else compared if a redirect has `iss`
 abbrev pub redirect_issuer : Provider → IssuerExpectation
 redirect_issuer provider = if provider.tells_issuer_in_redirect then required provider.issuer else compared provider.issuer
 
--- what is expected of an ID token for this client, this nonce and this maximum age in seconds
+-- what is expected of an ID token for this client identifier, this nonce and this maximum age in
+-- seconds; the expectation itself has the maximum age in nanoseconds
 abbrev pub login_expectation : Provider → List ℕ → List ℕ → Option ℕ → Expectation
 login_expectation provider client sent seconds =
     record {
@@ -55,7 +58,7 @@ login_expectation provider client sent seconds =
       greatest_age = option_map (λ n. n * 1_000_000_000) seconds;
     }
 
--- OpenID Connect Core 1.0, 3.1.3.7: what is expected of the ID token of a login: this client, and the
--- nonce and the maximum age of this login
+-- what is expected of the ID token of a login (OpenID Connect Core 1.0, 3.1.3.7): it is for this
+-- client, and has the nonce and meets the maximum age of this login
 abbrev pub expected_of : Provider → Settings → OpenIdKept → Expectation
 expected_of provider client login = login_expectation provider client.client_id login.nonce login.max_age

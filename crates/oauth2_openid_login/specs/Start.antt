@@ -11,15 +11,15 @@ use Rattle.oauth2.specs.Settings.{Settings}
 use Rattle.oauth2_openid_login.specs.declared.login_url_error.OpenIdLoginUrlFault.{OpenIdLoginUrlFault}
 use Rattle.oauth2_openid_login.specs.declared.login_url_error.OpenIdLoginUrlFault.TheVariants.{NoRedirectUri, TooLong, Memory}
 
--- the request for the login's URL, the verifier of its challenge, the nonce, and the maximum age in
--- seconds, if one was asked for
+-- a login being started: the request that its URL is made of, the verifier of its challenge, its
+-- nonce, and the maximum age in seconds, if one was requested
 pub record OpenIdStarting : Type 0 where
   pub request : Authorization
   pub verifier : List ℕ
   pub nonce : List ℕ
   pub max_age : Option ℕ
 
--- the request of a login by a code, with the scope `openid` and the nonce, and nothing else set
+-- the request of a login by a code, with the scope `openid` and the parameter `nonce` (3.1.2.1)
 abbrev pub openid_authorization : Settings → Addressed → List ℕ → List ℕ → List ℕ → Authorization
 openid_authorization client endpoint state verifier nonce =
     record (flow_authorization client endpoint state verifier) {
@@ -27,23 +27,23 @@ openid_authorization client endpoint state verifier nonce =
       extra_params = (codes "nonce", nonce) ∷ [];
     }
 
--- the maximum age in seconds
+-- the parameter `max_age`, in seconds (3.1.2.1)
 abbrev pub max_age_pair : ℕ → Pair
 max_age_pair seconds = (codes "max_age", decimal seconds)
 
--- why a request has no URL: it bears no redirect URI (3.1.2.1), or else it would be too long, or
--- it would not and memory ran out
+-- why a request has no URL: `NoRedirectUri` if it has no redirect URI (3.1.2.1), else `TooLong` if
+-- the URL would be too long, and else `Memory`
 abbrev pub IsUrlFault : Authorization → OpenIdLoginUrlFault → Type 0
 IsUrlFault request NoRedirectUri = request.redirect_url ≡ None
 IsUrlFault request TooLong = IsSome request.redirect_url × IsTooLong (asked_url request)
 IsUrlFault request Memory = IsSome request.redirect_url × ¬ (IsTooLong (asked_url request))
 
--- the error of a URL as such a fault
+-- the fault for an error of making the URL
 abbrev pub url_fault : ParseError → OpenIdLoginUrlFault
 url_fault Overflow = TooLong
 url_fault error = Memory
 
--- the text of a fault
+-- the text that `Display` writes of a fault
 abbrev pub url_fault_text : OpenIdLoginUrlFault → Option (List ℕ)
 url_fault_text NoRedirectUri = Some (codes "login has no redirect URI")
 url_fault_text TooLong = Some (codes "authorization URL is too long")

@@ -26,8 +26,8 @@ ghost use Rattle.oauth2_form.specs.Query.{query_form};
 ghost use Rattle.oauth2_redirect.specs.Query.{sole_text};
 ghost use Rattle.oauth2_redirect.specs.Redirect.{
   MayWantMemory,
-  RedirectRefusal,
-  TellsRefusal,
+  RedirectErrorView,
+  ShowsRedirectError,
   answer,
   is_state,
 };
@@ -68,8 +68,8 @@ use std::fmt;
 use std::marker::Model;
 use url::Url;
 
-/// What an application keeps with the session while its user is away: the login by a code, the
-/// nonce that the ID token has to have, and the maximum age that was asked for.
+/// What an application keeps in the session while its user is away: the login by a code, the nonce
+/// that the ID token must have, and the maximum age that was requested.
 #[derive(Drop)]
 pub struct OpenIdLogin {
     pub(crate) login: Login,
@@ -86,7 +86,7 @@ impl Model for OpenIdLogin {
 }
 
 impl OpenIdLogin {
-    // A login of these parts.
+    // A login with these parts.
     pub(crate) fn new(login: Login, nonce: Nonce, max_age: Option<u64>) -> OpenIdLogin
         ensures { result ≡ openid_kept login nonce max_age }
     {
@@ -98,7 +98,8 @@ impl OpenIdLogin {
     }
 
     /// Begins a login at this client's authorization endpoint: a state of 16 random bytes, a
-    /// verifier of 32 whose challenge is made by `S256`, and a nonce of 16, with the scope `openid`.
+    /// verifier of 32 whose challenge is made by `S256`, and a nonce of 16, with the scope
+    /// `openid`.
     pub fn start<'a, TE, TR, TIR, RT, TRE, D, I, R, T, G: Rng>(
         alloc: Global,
         client: &'a Client<TE, TR, TIR, RT, TRE, EndpointSet, D, I, R, T>,
@@ -129,17 +130,17 @@ impl OpenIdLogin {
         Ok(OpenIdLoginRequest::new(login, nonce))
     }
 
-    /// The state with which the user has to come back, to find the login that a redirect is for.
+    /// The state that the redirect must repeat: an application finds the login of a redirect by it.
     pub fn state(&self) -> &CsrfToken
         ensures { result.now ≡ self.now.login.state }
     {
         self.login.state()
     }
 
-    /// The tokens for the code that the redirect brings, and the ID token among them, if it meets
-    /// each rule at the moment that the clock tells, which is asked once, after the reply. On a
-    /// redirect that brings no code of this login the HTTP client is not called, and the error
-    /// gives the login back.
+    /// Requests the tokens for the redirect's code, and checks the claims of the ID token: each
+    /// rule must hold at the time that `clock` returns, which is called once, after the token
+    /// response. If the redirect has no code for this login, the HTTP client is not called, and the
+    /// login is in the error.
     pub fn finish<TE, TR, TIR, RT, TRE, A, D, I, R, C: SyncHttpClient, K>(
         self,
         alloc: Global,
@@ -165,20 +166,21 @@ impl OpenIdLogin {
             (answer self.login.state (redirect_issuer provider.now) (query_form redirect.now))
             http_client.old result http_client.new }
 
-        // In the plainest words: each rule holds at a moment that the clock told.
+        // In short: each rule holds at a time that the clock returned.
         ensures rules { IfOk result (λ end. (now : Timestamp) × K.post clock now
             × Holds (expected_of provider.now client.now self)
             (TR.access_token end.token_response) now.nanosecond (token_of end.id_token)) }
 
-        // A redirect that tells no code sends nothing, so none with another state does.
-        ensures no_code { (why : RedirectRefusal)
+        // Without a code nothing is sent, and so nothing is sent for another state.
+        ensures no_code { (why : RedirectErrorView)
             → answer self.login.state (redirect_issuer provider.now) (query_form redirect.now)
             ≡ Err why
             → http_client.new ≡ http_client.old }
         ensures other_state { let state = sole_text (codes "state") (query_form redirect.now) in
             is_state self.login.state state ≡ false → http_client.new ≡ http_client.old }
 
-        // What the token is checked against is made before, so want of memory for it sends nothing.
+        // What the token is checked against is made first: if memory runs out there, nothing is
+        // sent.
         ensures given_back { (error : _) (login : OpenIdKept)
             → result ≡ Err (OpenIdLoginError.Redirect error login)
             → (login ≡ self) × (http_client.new ≡ http_client.old) }
@@ -186,7 +188,7 @@ impl OpenIdLogin {
             → MayWantMemory self.login.state (redirect_issuer provider.now)
             (query_form redirect.now) }
 
-        // One that tells no state, or several, needs no memory.
+        // A redirect without a state, or with several, is refused without an allocation.
         ensures no_state { sole_text (codes "state") (query_form redirect.now) ≡ None
             → result ≡ Err (OpenIdLoginError.Redirect RedirectError.OtherState self) }
         ensures ready { C.is_ready http_client.new }
@@ -195,8 +197,8 @@ impl OpenIdLogin {
         self.finish_query(alloc, client, http_client, query, provider, clock)
     }
 
-    /// What `finish` returns for a redirect with this query, which stands without the `?`, or with
-    /// this form as its body (`response_mode=form_post`): for a handler that has no `Url`.
+    /// As `finish`, for a handler that has no `Url`. `query` is the redirect's query without the
+    /// `?`, or the form in the body of the request (`response_mode=form_post`).
     pub fn finish_query<TE, TR, TIR, RT, TRE, A, D, I, R, C: SyncHttpClient, K>(
         self,
         alloc: Global,
@@ -222,27 +224,28 @@ impl OpenIdLogin {
             (answer self.login.state (redirect_issuer provider.now) (form query.now))
             http_client.old result http_client.new }
 
-        // In the plainest words: each rule holds at a moment that the clock told.
+        // In short: each rule holds at a time that the clock returned.
         ensures rules { IfOk result (λ end. (now : Timestamp) × K.post clock now
             × Holds (expected_of provider.now client.now self)
             (TR.access_token end.token_response) now.nanosecond (token_of end.id_token)) }
 
-        // A redirect that tells no code sends nothing, so none with another state does.
-        ensures no_code { (why : RedirectRefusal)
+        // Without a code nothing is sent, and so nothing is sent for another state.
+        ensures no_code { (why : RedirectErrorView)
             → answer self.login.state (redirect_issuer provider.now) (form query.now)
             ≡ Err why
             → http_client.new ≡ http_client.old }
         ensures other_state { let state = sole_text (codes "state") (form query.now) in
             is_state self.login.state state ≡ false → http_client.new ≡ http_client.old }
 
-        // What the token is checked against is made before, so want of memory for it sends nothing.
+        // What the token is checked against is made first: if memory runs out there, nothing is
+        // sent.
         ensures given_back { (error : _) (login : OpenIdKept)
             → result ≡ Err (OpenIdLoginError.Redirect error login)
             → (login ≡ self) × (http_client.new ≡ http_client.old) }
         ensures memory { result ≡ Err (OpenIdLoginError.Redirect RedirectError.Memory self)
             → MayWantMemory self.login.state (redirect_issuer provider.now) (form query.now) }
 
-        // One that tells no state, or several, needs no memory.
+        // A redirect without a state, or with several, is refused without an allocation.
         ensures no_state { sole_text (codes "state") (form query.now) ≡ None
             → result ≡ Err (OpenIdLoginError.Redirect RedirectError.OtherState self) }
         ensures ready { C.is_ready http_client.new }
@@ -255,7 +258,7 @@ impl OpenIdLogin {
         }
     }
 
-    // The code that the redirect brings, and what the ID token is checked against.
+    // The redirect's code, and what the ID token is checked against.
     fn code_of(
         &self,
         alloc: Global,
@@ -268,7 +271,7 @@ impl OpenIdLogin {
             ≡ Ok code) }
         ensures expected { IfOk result (λ (_, expected). expected
             ≡ login_expectation provider.now client_id.now self.now.nonce self.now.max_age) }
-        ensures refusal { IfErr result (λ error. TellsRefusal error
+        ensures refusal { IfErr result (λ error. ShowsRedirectError error
             (answer self.now.login.state (redirect_issuer provider.now) (form query.now))) }
         ensures memory { result ≡ Err RedirectError.Memory → MayWantMemory self.now.login.state
             (redirect_issuer provider.now) (form query.now) }
@@ -277,12 +280,12 @@ impl OpenIdLogin {
     {
         let issuer = provider.redirect_issuer();
         let code = read_redirect_query(alloc, query, self.login.state(), issuer)?;
-        // Made before the code is sent, so that want of memory for it costs none.
-        let expected = self.expected(alloc, client_id, provider)?;
+        // Made before the code is sent, so that no code is spent if memory runs out here.
+        let expected = self.expected_id_token(alloc, client_id, provider)?;
         Ok((code, expected))
     }
 
-    // What comes of the request for this code.
+    // Sends the token request for this code, and checks the response.
     fn finish_with_code<TE, TR, TIR, RT, TRE, A, D, I, R, C: SyncHttpClient, K>(
         self,
         alloc: Global,
@@ -314,13 +317,13 @@ impl OpenIdLogin {
             .login
             .finish_with_code(alloc, client, http_client, code)
         {
-            Ok(response) => judged(alloc, response, expected, clock()),
+            Ok(response) => check_response(alloc, response, expected, clock()),
             Err(error) => Err(OpenIdLoginError::Token(error)),
         }
     }
 
     // What the ID token is checked against.
-    fn expected(
+    fn expected_id_token(
         &self,
         alloc: Global,
         client_id: &ClientId,
@@ -330,19 +333,19 @@ impl OpenIdLogin {
             ≡ login_expectation provider.now client_id.now self.now.nonce self.now.max_age) }
     {
         let nonce = self.nonce.try_clone(alloc)?;
-        provider.expected(alloc, client_id, nonce, self.max_age)
+        provider.expected_id_token(alloc, client_id, nonce, self.max_age)
     }
 }
 
-// The query of a redirect, without the `?`; none is as an empty one.
+// The query of a redirect, without the `?`; empty if there is none.
 fn query_of(redirect: &Url) -> &str
     ensures { form result.now ≡ query_form redirect.now }
 {
     redirect.query().unwrap_or("")
 }
 
-// What comes of a response.
-fn judged<TR: HasIdToken, RE, T>(
+// Checks the token type and the ID token of a response.
+fn check_response<TR: HasIdToken, RE, T>(
     alloc: Global,
     response: TR,
     expected: &Expected,
@@ -354,7 +357,7 @@ fn judged<TR: HasIdToken, RE, T>(
         now.nanosecond (token_of end.id_token)) }
 {
     if is_bearer(response.token_type_text()) {
-        identified(alloc, response, expected, now)
+        check_id_token(alloc, response, expected, now)
     } else {
         Err(OpenIdLoginError::OtherTokenType)
     }
@@ -367,8 +370,8 @@ fn is_bearer(token_type: &str) -> bool
     token_type.eq_ignore_ascii_case("Bearer")
 }
 
-// What comes of the ID token of a response.
-fn identified<TR: HasIdToken, RE, T>(
+// Reads and checks the ID token of a response.
+fn check_id_token<TR: HasIdToken, RE, T>(
     alloc: Global,
     response: TR,
     expected: &Expected,
@@ -380,12 +383,12 @@ fn identified<TR: HasIdToken, RE, T>(
         now.nanosecond (token_of end.id_token)) }
 {
     match read_id_token(alloc, &response) {
-        Ok(id_token) => checked(response, id_token, expected, now),
+        Ok(id_token) => check_claims(response, id_token, expected, now),
         Err(error) => Err(error),
     }
 }
 
-// The ID token of a response.
+// Reads the ID token of a response.
 fn read_id_token<TR: HasIdToken, RE, T>(
     alloc: Global,
     response: &TR,
@@ -404,8 +407,8 @@ fn read_id_token<TR: HasIdToken, RE, T>(
     }
 }
 
-// The error of a login whose ID token did not read. (Each arm is written out, so that a fault is
-// known not to be want of memory.)
+// The error of a login whose ID token could not be read. (Each arm is written out, so that the
+// checker knows that `Read` never holds `Memory`.)
 fn read_error<RE, T>(error: IdTokenReadError) -> OpenIdLoginError<RE, T>
     ensures { result ≡ told_as error }
 {
@@ -421,8 +424,8 @@ fn read_error<RE, T>(error: IdTokenReadError) -> OpenIdLoginError<RE, T>
     }
 }
 
-// What comes of a response with this ID token.
-fn checked<TR: HasIdToken, RE, T>(
+// Checks this ID token of a response.
+fn check_claims<TR: HasIdToken, RE, T>(
     response: TR,
     id_token: IdToken,
     expected: &Expected,
@@ -450,7 +453,7 @@ impl fmt::Debug for OpenIdLogin {
     fn fmt<W: fmt::Write>(&self, f: &mut fmt::Formatter<W>) -> fmt::Result
         ensures writes { DisplaysOnOk W.write_str_gives f.old result
             (Some (codes "OpenIdLogin([redacted])")) f.new }
-        // Whatever options the formatter has, as under `{:#?}`.
+        // The same for all options of the formatter, for example `{:#?}`.
         ensures styled { WritesStyledOnOk W.write_str_gives f.old result
             (codes "OpenIdLogin([redacted])") f.new }
     {

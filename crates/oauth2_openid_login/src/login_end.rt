@@ -1,16 +1,16 @@
-//! What a login with OpenID Connect gives.
+//! What a login with OpenID Connect returns.
 
 use oauth2_openid::{AccessTokenHash, IdToken};
 use std::fmt;
 
-/// What a login gave: the tokens, and who the user is.
+/// What a login returns: the tokens, and who the user is.
 #[derive(Drop)]
 pub struct OpenIdLoginEnd<TR> {
     /// The token response.
     pub token_response: TR,
-    /// Its ID token, whose claims are checked and whose signature is not: see the type.
+    /// Its ID token. The claims are checked, the signature is not: see `IdToken`.
     pub id_token: IdToken,
-    /// What the ID token's hash says of the access token.
+    /// What the ID token's hash (`at_hash`) says of the access token.
     pub access_token_hash: AccessTokenHash,
 }
 
@@ -23,7 +23,7 @@ impl<TR> fmt::Debug for OpenIdLoginEnd<TR> {
     fn fmt<W: fmt::Write>(&self, f: &mut fmt::Formatter<W>) -> fmt::Result
         ensures writes { DisplaysOnOk W.write_str_gives f.old result
             (Some (codes "OpenIdLoginEnd([redacted])")) f.new }
-        // Whatever options the formatter has, as under `{:#?}`.
+        // The same for all options of the formatter, for example `{:#?}`.
         ensures styled { WritesStyledOnOk W.write_str_gives f.old result
             (codes "OpenIdLoginEnd([redacted])") f.new }
     {

@@ -1,4 +1,4 @@
-//! Why a login with OpenID Connect gave no user.
+//! Why a login with OpenID Connect returned no user.
 
 use crate::login::OpenIdLogin;
 use oauth2_openid::{ClaimsError, IdTokenReadError};
@@ -7,24 +7,24 @@ use oauth2_types::display::write_display;
 use oauth2_wire::RequestTokenError;
 use std::fmt;
 
-/// Why a login gave no user. Where a token response was read, no error holds anything of it. The
-/// body of one that could not be read is in `Token`, as in each `RequestTokenError`.
+/// Why a login returned no user. If a token response was read, no error holds any part of it. The
+/// body of a response that could not be read is in `Token`, as in each `RequestTokenError`.
 #[derive(Drop)]
 pub enum OpenIdLoginError<RE, T> {
     /// The redirect has no code or is not this login's, or memory ran out before the code was sent.
     /// The HTTP client was not called.
     Redirect {
         error: RedirectError,
-        /// The login as it was, to finish by another redirect.
+        /// The login as it was, to be finished by another redirect.
         login: OpenIdLogin,
     },
-    /// The token endpoint gave no token.
+    /// The token request failed.
     Token(RequestTokenError<RE, T>),
     /// The token response has another token type than `Bearer` (section 3.1.3.3).
     OtherTokenType,
     /// The token response has no ID token.
     NoIdToken,
-    /// The text of the ID token is none. Want of memory is not told here.
+    /// The text is not that of an ID token. Out of memory is reported as `Memory` instead.
     Read(IdTokenReadError),
     /// The ID token does not meet this rule.
     Claims(ClaimsError),
@@ -68,7 +68,7 @@ impl<RE, T> fmt::Debug for OpenIdLoginError<RE, T> {
     fn fmt<W: fmt::Write>(&self, f: &mut fmt::Formatter<W>) -> fmt::Result
         ensures writes { DisplaysOnOk W.write_str_gives f.old result
             (Some (openid_login_error_debug self.now)) f.new }
-        // Whatever options the formatter has, as under `{:#?}`.
+        // The same for all options of the formatter, for example `{:#?}`.
         ensures styled { WritesStyledOnOk W.write_str_gives f.old result
             (openid_login_error_debug self.now) f.new }
     {

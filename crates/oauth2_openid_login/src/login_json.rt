@@ -48,8 +48,8 @@ fn read_login(alloc: Global, members: Map<String, Value>) -> Result<Login, ReadE
     Login::from_json(alloc, Value::Object(members))
 }
 
-// The members of a login.
-fn written(alloc: Global, login: &OpenIdLogin) -> Result<Value, WriteError>
+// The JSON object of a login.
+fn login_value(alloc: Global, login: &OpenIdLogin) -> Result<Value, WriteError>
     ensures { WritesAs result (openid_login_writing login.now) }
 {
     let nonce = Value::try_from_str(alloc, login.nonce.secret().as_str())?;
@@ -68,6 +68,6 @@ impl ToJson for OpenIdLogin {
         ensures reads_back { IfOk result (λ v. IsReadFromText self.now.login.redirect_uri
             → openid_login_reading (view v) ≡ Ok self.now) }
     {
-        written(alloc, self)
+        login_value(alloc, self)
     }
 }

@@ -1,5 +1,5 @@
-//! The start of a login with OpenID Connect: the URL that leads the user away, and what to keep
-//! meanwhile.
+//! The start of a login with OpenID Connect: the URL to send the user to, and what to keep until
+//! the user is back.
 
 ghost use Rattle.std.specs.Fmt.{DisplaysOnOk, WritesStyledOnOk, decimal};
 ghost use Rattle.std.specs.Iterator.{Drains, IsFinite};
@@ -25,7 +25,7 @@ ghost use Rattle.oauth2_form.specs.Query.{ExtendsQuery, query_form};
 ghost use Rattle.oauth2_wire.specs.ByName.{avoid_own_names};
 ghost use Rattle.oauth2_wire.specs.Texts.{param_bytes};
 ghost use Rattle.oauth2_requests.specs.Authorization.{query_pairs};
-ghost use Rattle.oauth2_redirect.specs.Login.{kept_login};
+ghost use Rattle.oauth2_redirect.specs.Login.{login_view_of};
 ghost use Rattle.oauth2_redirect.specs.Start.{ShowsLogin};
 ghost use Rattle.oauth2_openid_login.specs.Login.{openid_kept};
 ghost use Rattle.oauth2_openid_login.specs.Start.{IsUrlFault, max_age_pair, url_fault};
@@ -65,7 +65,7 @@ impl<'a> Model for OpenIdLoginRequest<'a> {
 }
 
 impl<'a> OpenIdLoginRequest<'a> {
-    // A login by this request, whose ID token has to have this nonce.
+    // A login by this request, whose ID token must have this nonce.
     pub(crate) fn new(login: LoginRequest<'a>, nonce: Nonce) -> Self
         ensures { result ≡ record {
           request = login.entry.request;
@@ -81,7 +81,7 @@ impl<'a> OpenIdLoginRequest<'a> {
         }
     }
 
-    /// Adds a scope to `openid`, as `email`.
+    /// Adds a scope besides `openid`, for example `email`.
     pub fn add_scope(self, scope: Scope) -> Result<Self, AllocError>
         ensures { IfOk result (λ l. l ≡ record self.entry {
           request = record self.entry.request {
@@ -115,8 +115,8 @@ impl<'a> OpenIdLoginRequest<'a> {
         })
     }
 
-    /// Adds a parameter, as `prompt` or `login_hint` (section 3.1.2.1). If the login itself sends a
-    /// parameter of that name, both are sent.
+    /// Adds a parameter, for example `prompt` or `login_hint` (section 3.1.2.1). If the login
+    /// itself sends one with that name, both are sent.
     pub fn add_extra_param(
         self,
         name: ParamText<'a>,
@@ -136,8 +136,8 @@ impl<'a> OpenIdLoginRequest<'a> {
         })
     }
 
-    /// Asks the provider to let the user log in again, if the last time is longer ago than so many
-    /// whole seconds (`max_age`). The ID token then has to tell when that was.
+    /// Asks the provider to let the user log in again, if the last login is longer ago than the
+    /// whole seconds of `max_age` (section 3.1.2.1). The ID token must then have `auth_time`.
     pub fn set_max_age(self, alloc: Global, max_age: Duration) -> Result<Self, AllocError>
         requires { self.max_age ≡ None }
         ensures { let seconds = as_nanos max_age / 1_000_000_000 in
@@ -157,8 +157,8 @@ impl<'a> OpenIdLoginRequest<'a> {
         })
     }
 
-    /// Sets the redirect URI, which is the client's unless set. The request for the token bears it
-    /// too (RFC 6749, section 4.1.3).
+    /// Sets the redirect URI, in place of the client's. The token request repeats it (RFC 6749,
+    /// section 4.1.3).
     pub fn set_redirect_uri(self, redirect_uri: &'a RedirectUrl) -> Self
         ensures { result ≡ record self.entry {
           request = record self.entry.request { redirect_url = Some redirect_uri.now };
@@ -171,20 +171,19 @@ impl<'a> OpenIdLoginRequest<'a> {
         }
     }
 
-    /// The URL to send the user to, and what to keep until the user is back. It has to bear a
-    /// redirect URI (section 3.1.2.1). Where there is no URL, this request is part of the error, so
-    /// `url` can be asked again.
+    /// The URL to send the user to, and what to keep until the user is back. A redirect URI is
+    /// required (section 3.1.2.1). An error holds this request, so that `url` can be called again.
     pub fn url(self, alloc: Global) -> Result<(Url, OpenIdLogin), OpenIdLoginUrlError<'a>>
         ensures url { IfOk result (λ (url, _).
             ExtendsQuery self.entry.request.auth_url.url url (query_pairs self.entry.request)) }
         ensures kept { IfOk result (λ (_, login). let request = self.entry.request in
-            login ≡ openid_kept (kept_login request.state self.entry.verifier request.redirect_url)
+            login ≡ openid_kept (login_view_of request.state self.entry.verifier request.redirect_url)
             self.entry.nonce self.entry.max_age) }
 
-        // What a server reads of the URL by name.
+        // The parameters that a server finds in the URL.
         ensures shows { IsTrue (avoid_own_names (query_form self.entry.request.auth_url.url))
             → IsTrue (avoid_own_names self.entry.request.extra_params)
-            → IfOk result (λ (url, kept_login). ShowsLogin kept_login.login (query_form url)) }
+            → IfOk result (λ (url, login_view_of). ShowsLogin login_view_of.login (query_form url)) }
         ensures redirect_uri { IfOk result (λ _. IsSome self.entry.request.redirect_url) }
         ensures refusal { IfErr result (λ refused. (refused.request ≡ self.entry)
             × IsUrlFault self.entry.request refused.error) }
@@ -209,7 +208,7 @@ impl<'a> OpenIdLoginRequest<'a> {
     }
 }
 
-// Why there is no URL.
+// The fault for an error of making the URL.
 fn fault_of(error: ParseError) -> OpenIdLoginUrlFault
     ensures { result ≡ url_fault error }
 {
@@ -225,7 +224,7 @@ impl fmt::Debug for OpenIdLoginRequest<'_> {
     fn fmt<W: fmt::Write>(&self, f: &mut fmt::Formatter<W>) -> fmt::Result
         ensures writes { DisplaysOnOk W.write_str_gives f.old result
             (Some (codes "OpenIdLoginRequest([redacted])")) f.new }
-        // Whatever options the formatter has, as under `{:#?}`.
+        // The same for all options of the formatter, for example `{:#?}`.
         ensures styled { WritesStyledOnOk W.write_str_gives f.old result
             (codes "OpenIdLoginRequest([redacted])") f.new }
     {

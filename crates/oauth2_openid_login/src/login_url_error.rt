@@ -5,11 +5,10 @@ use oauth2_types::display::write_display;
 use std::alloc::AllocError;
 use std::fmt;
 
-/// What keeps a login from having a URL.
+/// Why a login has no URL.
 #[derive(Clone, Copy, Debug, PartialEq, Eq)]
 pub enum OpenIdLoginUrlFault {
-    /// Neither the client nor the login has a redirect URI, which a request has to bear (section
-    /// 3.1.2.1).
+    /// Neither the client nor the login has a redirect URI, which is required (section 3.1.2.1).
     NoRedirectUri,
     /// The URL would be longer than a `Url` can be.
     TooLong,
@@ -51,6 +50,7 @@ impl From<AllocError> for OpenIdLoginUrlFault {
 /// Why a login has no URL, and the login itself.
 #[derive(Drop)]
 pub struct OpenIdLoginUrlError<'a> {
+    /// Why there is no URL.
     pub error: OpenIdLoginUrlFault,
     /// The login as it was.
     pub request: OpenIdLoginRequest<'a>,
@@ -89,7 +89,7 @@ impl fmt::Debug for OpenIdLoginUrlError<'_> {
     fn fmt<W: fmt::Write>(&self, f: &mut fmt::Formatter<W>) -> fmt::Result
         ensures writes { DisplaysOnOk W.write_str_gives f.old result
             (Some (codes "OpenIdLoginUrlError([redacted])")) f.new }
-        // Whatever options the formatter has, as under `{:#?}`.
+        // The same for all options of the formatter, for example `{:#?}`.
         ensures styled { WritesStyledOnOk W.write_str_gives f.old result
             (codes "OpenIdLoginUrlError([redacted])") f.new }
     {

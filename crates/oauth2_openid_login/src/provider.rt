@@ -1,4 +1,4 @@
-//! What a client knows of the provider that it logs its users in at.
+//! What a client knows of an OpenID provider.
 
 ghost use Rattle.std.specs.Duration.{as_nanos};
 ghost use Rattle.std.specs.Prelude.{◌≡◌, IfOk, Some, map, option_copied, option_map, string_bytes};
@@ -49,8 +49,8 @@ impl<'a> Model for OpenIdProvider<'a> {
 }
 
 impl<'a> OpenIdProvider<'a> {
-    /// The provider of this issuer, byte for byte as its redirects and its ID tokens tell it, whose
-    /// clock and the client's may be so far apart.
+    /// The provider with this issuer, which is compared byte for byte with `iss` in its redirects
+    /// and its ID tokens. `leeway` is the largest difference between its clock and the client's.
     pub fn new(issuer: &'a str, leeway: Duration) -> OpenIdProvider<'a>
         ensures { result ≡ new_provider issuer.now (as_nanos leeway) }
     {
@@ -65,9 +65,9 @@ impl<'a> OpenIdProvider<'a> {
         }
     }
 
-    /// Whether its redirects tell the issuer too (`authorization_response_iss_parameter_supported`
-    /// of its metadata). A redirect that then does not tell it is refused, and one that tells
-    /// another is refused always (RFC 9207, section 2.4).
+    /// Sets whether its redirects have `iss` (`authorization_response_iss_parameter_supported` of
+    /// its metadata). If they do, a redirect without it is refused. A redirect with another issuer
+    /// is always refused (RFC 9207, section 2.4).
     pub fn set_tells_issuer_in_redirect(self, tells: bool) -> OpenIdProvider<'a>
         ensures { result ≡ record self.entry { tells_issuer_in_redirect = tells } }
     {
@@ -77,9 +77,9 @@ impl<'a> OpenIdProvider<'a> {
         }
     }
 
-    /// The issuers of its ID tokens, where they are not the provider's own alone: one of several
-    /// spellings, or one for each tenant. Its redirects are left as they are: an `iss` is compared
-    /// with the provider's own issuer alone, since which tenant it is only the ID token tells.
+    /// Sets the issuers of its ID tokens, if they have other issuers than the provider's own: one
+    /// of several spellings, or one for each tenant. The `iss` of a redirect is still compared with
+    /// the provider's own issuer, since only the ID token says which tenant it is.
     pub fn set_issuer_rule(self, issuer_rule: &'a IssuerRule) -> OpenIdProvider<'a>
         ensures { result ≡ record self.entry { issuer_rule = named_issuers issuer_rule.now } }
     {
@@ -89,8 +89,8 @@ impl<'a> OpenIdProvider<'a> {
         }
     }
 
-    /// The audiences beside the client that it trusts, none unless set: a token that is also for
-    /// another one is refused (section 3.1.3.7, 3).
+    /// Sets the audiences that the client trusts besides itself; by default there are none. A token
+    /// with any other audience is refused (section 3.1.3.7, 3).
     pub fn set_other_audiences(self, other_audiences: &'a [&'a str]) -> OpenIdProvider<'a>
         ensures { result ≡ record self.entry {
           other_audiences = map (λ t. t.now) other_audiences.now;
@@ -102,8 +102,8 @@ impl<'a> OpenIdProvider<'a> {
         }
     }
 
-    /// The parties beside the client to which its tokens may be issued (`azp`), none unless set.
-    /// Such a party is an Android app whose tokens name its server as their audience.
+    /// Sets the parties besides the client that the tokens may be issued to (`azp`); by default
+    /// there are none. An example is an Android app whose tokens have its server as their audience.
     pub fn set_authorized_parties(self, authorized_parties: &'a [&'a str]) -> OpenIdProvider<'a>
         ensures { result ≡ record self.entry {
           authorized_parties = map (λ t. t.now) authorized_parties.now;
@@ -115,8 +115,8 @@ impl<'a> OpenIdProvider<'a> {
         }
     }
 
-    /// The algorithm that the client registered (`id_token_signed_response_alg`), such as `RS256`.
-    /// Without one any but `none` is accepted.
+    /// Sets the algorithm that the client registered (`id_token_signed_response_alg`), such as
+    /// `RS256`. By default any algorithm except `none` is accepted.
     pub fn set_algorithm(self, algorithm: &'a str) -> OpenIdProvider<'a>
         ensures { result ≡ record self.entry { algorithm = Some algorithm.now } }
     {
@@ -138,7 +138,7 @@ impl<'a> OpenIdProvider<'a> {
     }
 
     // What the ID token of a login is checked against.
-    pub(crate) fn expected(
+    pub(crate) fn expected_id_token(
         &self,
         alloc: Global,
         client_id: &ClientId,
@@ -153,7 +153,7 @@ impl<'a> OpenIdProvider<'a> {
             client_id: client_id.try_clone(alloc)?,
             other_audiences: owned_texts(alloc, self.other_audiences)?,
             authorized_parties: owned_texts(alloc, self.authorized_parties)?,
-            algorithm: owned(alloc, self.algorithm)?,
+            algorithm: copy_optional_text(alloc, self.algorithm)?,
             nonce: Some(nonce),
             leeway: self.leeway,
             max_age: max_age.map(Duration::from_secs),
@@ -161,7 +161,7 @@ impl<'a> OpenIdProvider<'a> {
     }
 }
 
-// The issuers of the ID tokens of a provider with this issuer.
+// A copy of the rule for the issuers of ID tokens. Without a rule they have this issuer.
 fn token_issuers(
     alloc: Global,
     issuer: &str,
@@ -200,7 +200,7 @@ fn owned_texts(alloc: Global, texts: &[&str]) -> Result<Vec<String>, AllocError>
     Ok(copies)
 }
 
-fn owned(alloc: Global, text: Option<&str>) -> Result<Option<String>, AllocError>
+fn copy_optional_text(alloc: Global, text: Option<&str>) -> Result<Option<String>, AllocError>
     ensures { IfOk result (λ copy. option_map string_bytes copy ≡ option_copied text.entry) }
 {
     match text {

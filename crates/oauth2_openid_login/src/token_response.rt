@@ -41,12 +41,11 @@ pub trait HasIdToken: TokenResponse + Drop {
     /// The text of the ID token.
     ghost id_token: { Self → Option (List ℕ) };
 
-    /// The text of the token type, in which the case of letters does not count (RFC 6749, section
-    /// 5.1).
+    /// The text of the token type. The case of its letters is ignored (RFC 6749, section 5.1).
     fn token_type_text(&self) -> &str
         ensures { result.now ≡ token_type_text self.now };
 
-    /// The text of the ID token, as it came, if there is one.
+    /// The text of the ID token, unchanged, if there is one.
     fn id_token(&self) -> Option<&IdTokenText>
         ensures { option_copied result ≡ id_token self.now };
 }

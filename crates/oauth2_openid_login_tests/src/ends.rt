@@ -1,4 +1,4 @@
-//! Logins from their redirect to their ID token.
+//! Tests of logins from their redirect to their ID token.
 
 use crate::support::{assert_stored_as, assert_text, client, login, url};
 use jiff::Timestamp;
@@ -10,7 +10,7 @@ use oauth2_openid_login::{OpenIdLoginEnd, OpenIdLoginError, OpenIdProvider, Open
 use std::process::Abort;
 use std::time::Duration;
 
-/// An HTTP client that keeps the bodies it was handed, one after the other.
+/// An HTTP client that keeps the bodies of its requests, one after the other.
 #[derive(Drop)]
 pub(crate) struct Canned {
     bodies: Vec<u8>,
@@ -41,7 +41,7 @@ pub(crate) fn answering(rt: &(impl Abort + AllocGlobal), body: &str) -> Canned {
     }
 }
 
-// The provider of the standard's examples, whose redirects tell the issuer or not.
+// The provider of the standard's examples, which adds its issuer to redirects or not.
 fn provider(tells_issuer_in_redirect: bool) -> OpenIdProvider<'static> {
     OpenIdProvider::new("http://server.example.com", Duration::from_secs(60))
         .set_tells_issuer_in_redirect(tells_issuer_in_redirect)
@@ -53,21 +53,21 @@ pub(crate) type Ended = Result<
     OpenIdLoginError<(), BasicErrorResponse>,
 >;
 
-/// A login of the standard's nonce.
+/// A stored login with the nonce of the standard's examples.
 pub(crate) const STORED: &str = r#"{"nonce":"n-0S6_WzA2Mj","state":"af0ifjsldkj","verifier":"v"}"#;
 
-// The same, which asked for a maximum age too.
+// The same login, which also requested a maximum age.
 const STORED_WITH_AGE: &str =
     r#"{"max_age":100,"nonce":"n-0S6_WzA2Mj","state":"af0ifjsldkj","verifier":"v"}"#;
 
-// The redirect of the standard's examples (3.1.2.5), and one that tells the issuer too.
+// The redirect of the standard's examples (3.1.2.5), and one that also has the issuer.
 const REDIRECT: &str =
     "https://client.example.org/cb?code=SplxlOBeZQQYbYS6WxSbIA&state=af0ifjsldkj";
 
 const REDIRECT_WITH_ISSUER: &str =
     "https://client.example.org/cb?code=SplxlOBeZQQYbYS6WxSbIA&state=af0ifjsldkj&iss=http%3A%2F%2Fserver.example.com";
 
-// What a login ends with that was stored as this, whose user comes back by this redirect.
+// The result of a login that was stored as this text, and whose user comes back with this redirect.
 fn ended(
     rt: &(impl Abort + AllocGlobal),
     http_client: &mut Canned,
@@ -151,7 +151,7 @@ pub(crate) fn response(rt: &(impl Abort + AllocGlobal), claims: &str) -> String 
     .expect(rt, "a response")
 }
 
-/// How a login ends, in a line.
+/// The result of a login, as one line.
 pub(crate) fn line(rt: &(impl Abort + AllocGlobal), ended: Ended) -> String {
     match ended {
         Ok(end) => {
@@ -162,7 +162,7 @@ pub(crate) fn line(rt: &(impl Abort + AllocGlobal), ended: Ended) -> String {
     }
 }
 
-// A login that was stored as this ends in this line, if this is replied.
+// Checks the result of a login that was stored as this text, if the reply has this body.
 fn assert_ended_as(rt: &(impl Abort + AllocGlobal), stored: &str, body: &str, expected: &str) {
     let ended = ended(rt, &mut answering(rt, body), stored, REDIRECT, false);
     assert_text(rt, line(rt, ended).as_str(), expected);
@@ -228,7 +228,8 @@ fn a_response_without_an_id_token(rt: HostRuntime) {
     }
 }
 
-// A login whose redirect is not its own, or is of another issuer, sends nothing and is given back.
+// Checks that a login sends nothing, and that the error of its redirect returns the login, if the
+// redirect has another state or another issuer.
 fn assert_given_back(
     rt: &(impl Abort + AllocGlobal),
     redirect: &str,
@@ -255,8 +256,8 @@ fn assert_given_back(
     }
 }
 
-// A provider's issuer is compared wherever a redirect tells one, also by a provider that is not
-// known to tell it (RFC 9207, section 2.4).
+// The issuer of a redirect is compared with the provider's, also if the provider is not known to
+// add it (RFC 9207, section 2.4).
 #[test]
 fn a_redirect_without_a_code_of_the_login(rt: HostRuntime) {
     let rows = [
@@ -285,8 +286,8 @@ fn a_redirect_without_a_code_of_the_login(rt: HostRuntime) {
     }
 }
 
-// The body of a form finishes a login as a query does, and the right issuer is taken of a provider
-// that is not known to tell it.
+// A login can be finished with the body of a form instead of a query. The right issuer is accepted
+// from a provider that is not known to add it.
 #[test]
 fn a_login_that_is_finished_by_a_form(rt: HostRuntime) {
     let now = Timestamp::from_second(1311281000)

@@ -1,4 +1,4 @@
-//! Providers whose ID tokens have several issuers, audiences or parties.
+//! Tests of providers whose ID tokens have several issuers, audiences or authorized parties.
 
 use crate::ends::{Ended, STORED, answering, line, response};
 use crate::support::{assert_text, client, login, text};
@@ -35,8 +35,8 @@ fn provider(issuer: &str) -> OpenIdProvider<'_> {
     OpenIdProvider::new(issuer, Duration::from_secs(60))
 }
 
-// What a login at this provider ends with, where these claims are replied and the redirect has this
-// query beside its state and its code.
+// The result of a login at this provider, if the reply has these claims, and the redirect has this
+// query next to its state and its code.
 fn ended(
     rt: &(impl Abort + AllocGlobal),
     provider: &OpenIdProvider<'_>,

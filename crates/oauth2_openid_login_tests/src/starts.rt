@@ -1,4 +1,4 @@
-//! The URL of a login, and what is kept of it.
+//! Tests of the URL of a login, and of what is stored of the login.
 
 ghost use Rattle.std.specs.Prelude.{◌≡◌, None};
 
@@ -16,7 +16,7 @@ fn started<'a>(rt: &(impl Abort + AllocGlobal), client: &'a OpenIdClient) -> Ope
     OpenIdLogin::start(rt.alloc(), client, &mut rng).expect(rt, "a login")
 }
 
-// A login has this URL, and is stored as this text.
+// Checks that a login has this URL, and is stored as this text.
 fn assert_login(
     rt: &(impl Abort + AllocGlobal),
     request: OpenIdLoginRequest<'_>,
@@ -48,7 +48,8 @@ fn a_login_is_started(rt: HostRuntime) {
     );
 }
 
-// A login without a redirect URI has no URL (3.1.2.1), and is not lost: here it is set in time.
+// A login without a redirect URI has no URL (3.1.2.1). The error returns the login, so a redirect
+// URI can be set after it.
 #[test]
 fn a_login_is_started_with_more(rt: HostRuntime) {
     let alloc = rt.alloc();
@@ -86,7 +87,7 @@ fn a_login_is_started_with_more(rt: HostRuntime) {
     );
 }
 
-// What is read of a text, and the member that is at fault.
+// Checks that a stored text is refused, with this member and this cause.
 fn assert_refused(rt: &(impl Abort + AllocGlobal), stored: &str, member: &str, cause: ParseCause) {
     let read: Result<OpenIdLogin, ReadError> = read_body(rt.alloc(), stored.as_bytes());
     match read {

@@ -1,4 +1,4 @@
-//! A client of a provider, and what tests compare.
+//! A client of a provider, and checks that tests call.
 
 use oauth2::url::Url;
 use oauth2::{AuthUrl, Client, ClientId, RedirectUrl, TokenUrl, compact, read_body};
@@ -10,7 +10,7 @@ pub(crate) fn text(rt: &(impl Abort + AllocGlobal), text: &str) -> String {
     String::from_str(rt.alloc(), text).expect(rt, "a text")
 }
 
-/// The texts are equal. (A call is much cheaper to prove than the assertion itself.)
+/// Checks that the texts are equal. (A call is much cheaper to prove than the assertion itself.)
 pub(crate) fn assert_text(rt: &impl Abort, found: &str, expected: &str) {
     assert_eq!(rt; found, expected);
 }
@@ -19,7 +19,7 @@ pub(crate) fn url(rt: &(impl Abort + AllocGlobal), url: &str) -> Url {
     Url::parse(rt.alloc(), url).ok().expect(rt, "a URL")
 }
 
-/// The client of the standard's examples, whose redirect URI is not set.
+/// The client of the standard's examples, without a redirect URI.
 pub(crate) fn client_without_redirect(rt: &(impl Abort + AllocGlobal)) -> OpenIdClient {
     let alloc = rt.alloc();
     let auth = AuthUrl::new(alloc, text(rt, "https://server.example.com/authorize"));
@@ -35,14 +35,14 @@ pub(crate) fn client(rt: &(impl Abort + AllocGlobal)) -> OpenIdClient {
     client_without_redirect(rt).set_redirect_uri(redirect.ok().expect(rt, "a URL"))
 }
 
-/// The login that was stored as this.
+/// The login that was stored as this text.
 pub(crate) fn login(rt: &(impl Abort + AllocGlobal), stored: &str) -> OpenIdLogin {
     read_body(rt.alloc(), stored.as_bytes())
         .ok()
         .expect(rt, "a login")
 }
 
-/// The login is stored as this.
+/// Checks that the login is stored as this text.
 pub(crate) fn assert_stored_as(rt: &(impl Abort + AllocGlobal), login: &OpenIdLogin, stored: &str) {
     let written = compact(rt.alloc(), login).ok().expect(rt, "a text");
     assert_text(rt, written.as_str(), stored);

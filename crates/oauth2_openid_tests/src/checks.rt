@@ -1,4 +1,4 @@
-//! Tokens that meet each rule, and tokens that do not meet one.
+//! Tests of ID tokens that meet each rule, and of ID tokens that break one.
 
 use crate::support::{ACCESS_TOKEN, APPENDIX_A2, assert_text_at, read, text, token};
 use jiff::Timestamp;
@@ -16,8 +16,8 @@ fn texts(rt: &(impl Abort + AllocGlobal), texts: &[&str]) -> Vec<String> {
     list
 }
 
-// What the client of the standard's examples expects. It trusts another audience too, and another
-// party.
+// What the client of the standard's examples expects. It also trusts another audience and another
+// authorized party.
 fn expected(rt: &(impl Abort + AllocGlobal)) -> Expected {
     Expected {
         issuer: IssuerRule::Is(text(rt, "https://server.example.com")),
@@ -31,7 +31,7 @@ fn expected(rt: &(impl Abort + AllocGlobal)) -> Expected {
     }
 }
 
-// The same of the client of appendix A, which sent no maximum age.
+// What the client of appendix A expects, which sent no maximum age.
 fn expected_in_appendix(rt: &(impl Abort + AllocGlobal)) -> Expected {
     let mut wanted = expected(rt);
     wanted.issuer = IssuerRule::Is(text(rt, "http://server.example.com"));
@@ -39,8 +39,8 @@ fn expected_in_appendix(rt: &(impl Abort + AllocGlobal)) -> Expected {
     wanted
 }
 
-// The claims of section 2's example, with the members that a row adds. Of a name that stands twice
-// the last counts.
+// The claims of the example in section 2, with the members that a row adds. If a name is there
+// twice, its last value is read.
 fn claims(rt: &(impl Abort + AllocGlobal), more: &str) -> String {
     format!(in rt.alloc(); "{{{SECTION_2}{more}}}").expect(rt, "claims")
 }
@@ -59,7 +59,7 @@ fn word(rt: &(impl Abort + AllocGlobal), token: &str, wanted: &Expected, second:
     }
 }
 
-// A check of the token at that second returns this.
+// Checks what a check of the token at that second returns.
 fn assert_checked_as(
     rt: &(impl Abort + AllocGlobal),
     token: &str,
@@ -75,7 +75,7 @@ fn assert_checked_as(
     );
 }
 
-// The same of section 2's claims, with this header and these members.
+// Checks what a check returns for the claims of section 2, with this header and these members.
 fn assert_row(
     rt: &(impl Abort + AllocGlobal),
     wanted: &Expected,
@@ -285,8 +285,8 @@ fn takes_the_registered_algorithm(rt: HostRuntime) {
 const BROKEN: &str = r#","iss":"x","aud":["x","y"],"exp":0,"iat":1311281001,"nonce":"x",
     "auth_time":0,"at_hash":"x""#;
 
-// The header, the members that are added to those before, and what the check returns: each row
-// mends what the row before it named.
+// The header, the members that are added to those of the rows before, and what the check returns.
+// Each row corrects what the row before it reported.
 const ORDER: [(&str, &str, &str); 11] = [
     (r#"{"alg":"none","crit":[]}"#, "", "NoSignature"),
     (r#"{"alg":"RS256","crit":[]}"#, "", "CriticalExtension"),

@@ -1,4 +1,4 @@
-//! Texts that are ID tokens, and texts that are none.
+//! Tests of texts that are ID tokens, and of texts that are not.
 
 use crate::support::{
     APPENDIX_A2, assert_debugged_as, assert_displayed_as, assert_text, assert_text_at, read, text,
@@ -18,7 +18,7 @@ const HEADER: &str = r#"{"alg":"RS256","kid":"k1","typ":"JWT"}"#;
 
 const CLAIMS: &str = r#"{"iss":"i","sub":"s","aud":"c","exp":20,"iat":10}"#;
 
-// What a text reads to, as one line: `read`, or the error.
+// What reading a text as an ID token returns, as one line: `read`, or the error.
 fn line(rt: &(impl Abort + AllocGlobal), token: &str) -> String {
     match IdToken::from_text(rt.alloc(), token) {
         Ok(_) => text(rt, "read"),
@@ -26,7 +26,7 @@ fn line(rt: &(impl Abort + AllocGlobal), token: &str) -> String {
     }
 }
 
-// A token reads to this line.
+// Checks what reading a token returns, as one line.
 fn assert_read_as(rt: &(impl Abort + AllocGlobal), token: &str, expected: &str, row: &str) {
     assert_text_at(rt, line(rt, token).as_str(), expected, row);
 }
@@ -51,7 +51,7 @@ fn assert_claims_of_the_standard(rt: &impl Abort, claims: &IdTokenClaims) {
     assert_eq!(rt; claims.issued_at().as_second(), 1311280970);
 }
 
-// The claims that the token of appendix A.2 does not have.
+// Checks that the claims are absent that the token of appendix A.2 does not have.
 fn assert_other_claims_absent(rt: &impl Abort, claims: &IdTokenClaims) {
     assert_text(rt, second_method_of(claims), "");
     assert_eq!(rt; claims.auth_time(), None);
@@ -124,7 +124,7 @@ fn reads_how_the_user_logged_in(rt: HostRuntime) {
     assert_claims_of_a_login(&rt, token.claims());
 }
 
-// Claims, and what the token that has them reads to.
+// Claims, and what reading a token with them returns.
 const PAYLOADS: [(&str, &str); 20] = [
     (
         r#"{"iss":"i","sub":"s","aud":"c","exp":20,"iat":10}"#,
@@ -203,7 +203,7 @@ fn reads_claims(rt: HostRuntime) {
     }
 }
 
-// A header, and what the token that has it reads to.
+// A header, and what reading a token with it returns.
 const HEADERS: [(&str, &str); 5] = [
     (HEADER, "read"),
     (r#"{"alg":"none"}"#, "read"),
@@ -222,7 +222,7 @@ fn reads_headers(rt: HostRuntime) {
     }
 }
 
-// A text, and what it reads to.
+// A text, and what reading it returns.
 const TEXTS: [(&str, &str); 13] = [
     ("", "not three parts"),
     ("e30", "not three parts"),
@@ -262,7 +262,7 @@ fn shows_why_a_token_is_refused(rt: HostRuntime) {
     );
 }
 
-// What stands among the other claims, where it is a text.
+// The text of a claim among the other claims.
 fn other_claim<'a>(token: &'a IdToken, name: &str) -> &'a str {
     match token.other_claims().get(name) {
         Some(Value::String(text)) => text.as_str(),

@@ -1,4 +1,4 @@
-//! Tokens made of the texts of their parts, and checks that tests call.
+//! Makes tokens from the texts of their parts, and checks that tests call.
 
 use base64::engine::general_purpose::URL_SAFE_NO_PAD;
 use oauth2_openid::IdToken;
@@ -40,24 +40,24 @@ pub(crate) fn token(rt: &(impl Abort + AllocGlobal), header: &str, claims: &str)
     format!(in rt.alloc(); "{header}.{claims}.c2ln").expect(rt, "a token")
 }
 
-/// Reads a token that is one.
+/// Reads a token, which has to be an ID token.
 pub(crate) fn read(rt: &(impl Abort + AllocGlobal), token: &str) -> IdToken {
     IdToken::from_text(rt.alloc(), token)
         .ok()
         .expect(rt, "a token")
 }
 
-/// The texts are equal. (A call is much cheaper to prove than the assertion itself.)
+/// Checks that the texts are equal. (A call is much cheaper to prove than the assertion itself.)
 pub(crate) fn assert_text(rt: &impl Abort, found: &str, expected: &str) {
     assert_eq!(rt; found, expected);
 }
 
-/// The texts are equal, for one row of a table.
+/// Checks that the texts are equal, for one row of a table.
 pub(crate) fn assert_text_at(rt: &impl Abort, found: &str, expected: &str, row: &str) {
     assert_eq!(rt; found, expected, "at {row}");
 }
 
-/// The value is shown as this text where it is debugged.
+/// Checks the text that the value prints by `{:?}`.
 pub(crate) fn assert_debugged_as<T: Debug>(
     rt: &(impl Abort + AllocGlobal),
     value: &T,
@@ -67,7 +67,7 @@ pub(crate) fn assert_debugged_as<T: Debug>(
     assert_text(rt, shown.as_str(), expected);
 }
 
-/// The value is shown as this text.
+/// Checks the text that the value displays.
 pub(crate) fn assert_displayed_as<T: Display>(
     rt: &(impl Abort + AllocGlobal),
     value: &T,

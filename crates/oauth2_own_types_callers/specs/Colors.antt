@@ -9,15 +9,19 @@ use Rattle.oauth2_codes.specs.Codes.{code_in}
 use Rattle.oauth2_own_types_callers.specs.declared.colorful_token_type.ColorfulTokenType.{ColorfulTokenType}
 use Rattle.oauth2_own_types_callers.specs.declared.colorful_token_type.ColorfulTokenType.TheVariants.{Green, Red}
 
+-- the text of a token type in JSON
 abbrev pub color_text : ColorfulTokenType → List ℕ
 color_text Green = codes "green"
 color_text Red = codes "red"
 
+-- a text read as a token type; any other text is refused
 abbrev pub color_of : List ℕ → Reading ColorfulTokenType
 color_of s = code_in ((codes "green", Ok Green) ∷ (codes "red", Ok Red) ∷ []) (Err (whole cause.Refused)) s
 
+-- a JSON value read as a token type; it has to be a text
 abbrev pub color_reading : Data → Reading ColorfulTokenType
 color_reading d = read_then (text d) color_of
 
+-- a token type written as JSON: its text
 abbrev pub color_writing : ColorfulTokenType → Writing
 color_writing color = Ok (string (color_text color))

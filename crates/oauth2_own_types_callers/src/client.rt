@@ -1,5 +1,5 @@
-//! A client of a server with a token type, extra fields, error codes and a kind of tokens of its
-//! own, and each of its requests.
+//! A client of a server that defines its own token types, extra fields, error codes and kind of
+//! revocable token, and a function for each of its requests.
 
 ghost use Rattle.std.specs.Prelude.{
   ◌≡◌,
@@ -58,19 +58,19 @@ use oauth2::{
 };
 use std::alloc::Global;
 
-/// A token response with these extra fields and token types.
+/// A token response with this server's extra fields and token types.
 pub type ColorfulTokenResponse = StandardTokenResponse<ColorfulFields, ColorfulTokenType>;
 
-/// An introspection response with the same.
+/// An introspection response with this server's extra fields and token types.
 pub type ColorfulIntrospectionResponse = StandardTokenIntrospectionResponse<
     ColorfulFields,
     ColorfulTokenType,
 >;
 
-/// The standard's error response with these codes.
+/// The standard's error response with this server's error codes.
 pub type ColorfulErrorResponse = StandardErrorResponse<ColorfulErrorResponseType>;
 
-/// A client of such a server, which sends no user to log in.
+/// A client of this server with every endpoint except the authorization endpoint.
 pub type ColorfulClient = Client<
     ColorfulErrorResponse,
     ColorfulTokenResponse,
@@ -84,7 +84,7 @@ pub type ColorfulClient = Client<
     EndpointSet,
 >;
 
-/// A client without a secret.
+/// Makes a client without a secret.
 pub fn colorful_client(
     id: ClientId,
     device_authorization: DeviceAuthorizationUrl,
@@ -112,7 +112,7 @@ pub fn colorful_client(
         .set_token_uri(token)
 }
 
-/// The token for a code.
+/// Exchanges a code for a token (RFC 6749, section 4.1.3).
 pub fn token_for_code<C: SyncHttpClient>(
     alloc: Global,
     client: &ColorfulClient,
@@ -131,7 +131,7 @@ pub fn token_for_code<C: SyncHttpClient>(
         .request(alloc, http_client)
 }
 
-/// The token for a refresh token.
+/// Requests a token with a refresh token (RFC 6749, section 6).
 pub fn token_for_refresh_token<C: SyncHttpClient>(
     alloc: Global,
     client: &ColorfulClient,
@@ -150,7 +150,7 @@ pub fn token_for_refresh_token<C: SyncHttpClient>(
         .request(alloc, http_client)
 }
 
-/// The token for a name and a password.
+/// Requests a token with a user's name and password (RFC 6749, section 4.3).
 pub fn token_for_password<C: SyncHttpClient>(
     alloc: Global,
     client: &ColorfulClient,
@@ -171,7 +171,7 @@ pub fn token_for_password<C: SyncHttpClient>(
         .request(alloc, http_client)
 }
 
-/// The client's own token.
+/// Requests a token with the client's own credentials (RFC 6749, section 4.4).
 pub fn token_of_its_own<C: SyncHttpClient>(
     alloc: Global,
     client: &ColorfulClient,
@@ -189,7 +189,7 @@ pub fn token_of_its_own<C: SyncHttpClient>(
         .request(alloc, http_client)
 }
 
-/// What a token is worth.
+/// Introspects a token (RFC 7662, section 2).
 pub fn introspection<C: SyncHttpClient>(
     alloc: Global,
     client: &ColorfulClient,
@@ -206,7 +206,8 @@ pub fn introspection<C: SyncHttpClient>(
     client.introspect(alloc, token).request(alloc, http_client)
 }
 
-/// The revocation of a token, which is sent with the hint `red_token`.
+/// Prepares the revocation of a token with the hint `red_token` (RFC 7009, section 2.1). It is an
+/// error if the revocation endpoint is not `https`.
 pub fn revocation(
     alloc: Global,
     client: &ColorfulClient,
@@ -225,7 +226,7 @@ pub fn revocation(
     client.revoke_token(alloc, token)
 }
 
-/// Revokes a token.
+/// Sends a revocation.
 pub fn revoke<C: SyncHttpClient>(
     alloc: Global,
     revocation: RevocationRequest<'_, ColorfulRevocableToken, ColorfulErrorResponse>,
@@ -239,7 +240,7 @@ pub fn revoke<C: SyncHttpClient>(
     revocation.request(alloc, http_client)
 }
 
-/// The codes for a device.
+/// Requests the codes for a device and its user (RFC 8628, section 3.1).
 pub fn device_codes<C: SyncHttpClient>(
     alloc: Global,
     client: &ColorfulClient,
@@ -260,7 +261,8 @@ pub fn device_codes<C: SyncHttpClient>(
         .request(alloc, http_client)
 }
 
-/// The token of a device, which is asked for in a world, ten times at most.
+/// Polls for the token of a device, with at most ten requests. `world` has the clock, the HTTP
+/// client and the sleep function.
 pub fn device_token<W: PollWorld>(
     alloc: Global,
     client: &ColorfulClient,

@@ -1,4 +1,4 @@
-//! Error codes that are an enum: the server tells these and no others.
+//! Error codes that are an enum: the server uses these and no others.
 
 ghost use Rattle.std.specs.Prelude.{Some};
 ghost use Rattle.oauth2_own_types_callers.specs.ColorErrors.{
@@ -16,7 +16,7 @@ use std::alloc::Global;
 use std::convert::AsStr;
 use std::fmt;
 
-/// Why a server of colors refuses; another text is refused.
+/// An error code of the server. A reply with any other error code is refused.
 #[derive(Clone, Copy, Debug, PartialEq, Eq, Drop)]
 pub enum ColorfulErrorResponseType {
     TooDark,

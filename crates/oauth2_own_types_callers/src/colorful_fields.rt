@@ -17,7 +17,7 @@ use oauth2::{
 use serde_json::{Map, Value};
 use std::alloc::Global;
 
-/// The extra fields of a response that tells the shape and the height of a token.
+/// The extra fields of a response: the members `shape`, which may be absent, and `height`.
 #[derive(Debug, Drop)]
 pub struct ColorfulFields {
     pub shape: Option<String>,

@@ -1,10 +1,10 @@
-//! Tokens to revoke, of a kind that the standard does not name.
+//! Revocable tokens of a kind that the standard does not name.
 
 ghost use Rattle.std.specs.Prelude.{Some, codes, string_bytes};
 
 use oauth2::RevocableToken;
 
-/// A token to revoke, which the server's registry calls a `red_token`.
+/// A token to revoke, sent with the hint `red_token` (RFC 7009, section 2.1).
 #[derive(Drop)]
 pub struct ColorfulRevocableToken(pub String);
 

@@ -10,7 +10,7 @@ use serde_json::Value;
 use std::alloc::{AllocError, Global};
 use std::convert::AsStr;
 
-/// A token type that is a color; another text is refused.
+/// A token type that is a color. A reply with any other token type is refused.
 #[derive(Clone, Copy, Debug, PartialEq, Eq, Drop)]
 pub enum ColorfulTokenType {
     Green,

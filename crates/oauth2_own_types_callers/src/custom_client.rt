@@ -1,4 +1,4 @@
-//! A client of a server whose error responses are not the standard's.
+//! A client of a server with custom error responses.
 
 ghost use Rattle.std.specs.Prelude.{◌≡◌, Some, None};
 ghost use Rattle.oauth2_urls.specs.Addressed.{Addressed};
@@ -16,7 +16,7 @@ use oauth2::{
 };
 use std::alloc::Global;
 
-/// A client of such a server.
+/// A client of this server, whose only endpoint is the token endpoint.
 pub type CustomErrorClient = Client<
     CustomErrorResponse,
     ColorfulTokenResponse,
@@ -30,7 +30,7 @@ pub type CustomErrorClient = Client<
     EndpointSet,
 >;
 
-/// A client without a secret.
+/// Makes a client without a secret.
 pub fn custom_error_client(id: ClientId, token: TokenUrl) -> CustomErrorClient
     ensures { result ≡ record {
       client_id = id;
@@ -48,7 +48,7 @@ pub fn custom_error_client(id: ClientId, token: TokenUrl) -> CustomErrorClient
     Client::new(id).set_token_uri(token)
 }
 
-/// The client's own token.
+/// Requests a token with the client's own credentials (RFC 6749, section 4.4).
 pub fn token_or_custom_error<C: SyncHttpClient>(
     alloc: Global,
     client: &CustomErrorClient,

@@ -1,4 +1,4 @@
-//! An error response that is not the standard's.
+//! A custom error response, in place of the standard's.
 
 ghost use Rattle.std.specs.Prelude.{Some, ℕ, List};
 ghost use Rattle.oauth2_own_types_callers.specs.CustomError.{
@@ -12,7 +12,7 @@ use serde_json::{Map, Value};
 use std::alloc::Global;
 use std::fmt;
 
-/// An error response of one text.
+/// An error response with one member, `custom_error`, which is a text.
 #[derive(Debug, Drop)]
 pub struct CustomErrorResponse {
     pub custom_error: String,

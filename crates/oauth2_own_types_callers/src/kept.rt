@@ -1,4 +1,4 @@
-//! Responses as a store keeps them: what is written reads back.
+//! Responses that are written as JSON for a store, and read back as the same values.
 
 ghost use Rattle.std.specs.Prelude.{◌≡◌, Ok, IfOk, IfErr, IfSome, string_bytes};
 ghost use Rattle.serde_json.specs.View.{view};
@@ -32,8 +32,8 @@ use oauth2::{
 use serde_json::Value;
 use std::alloc::Global;
 
-/// Writes a token response and reads it again. What is kept comes back as it was, whatever the
-/// types of its token and of its extra fields.
+/// Writes a token response as JSON and reads it again. The result has the same value, for every
+/// token type and all extra fields, if the response is one that reads back (`IsTokenKept`).
 pub fn reread<EF: ExtraTokenFields + Drop, TT: TokenType + Drop>(
     alloc: Global,
     token: &StandardTokenResponse<EF, TT>,
@@ -46,17 +46,17 @@ pub fn reread<EF: ExtraTokenFields + Drop, TT: TokenType + Drop>(
     Ok(StandardTokenResponse::from_json(alloc, value)?)
 }
 
-/// The fields are written as an object that reads back as them.
+/// Proves that the fields are written as an object that is read back as the same fields.
 pub fn fields_are_kept(fields: &ColorfulFields)
     ensures { AreFieldsKept fields_reading fields_seen
         (λ f. fields_writing (fields_seen f)) fields.now }
 {
-    // Read for the proof alone: a height is below 2^32.
+    // Only the proof needs this: a height is below 2^32.
     let _height = fields.height;
 }
 
-/// The text to keep for a token response. It reads back where no scope holds a space and a list of
-/// scopes is not empty.
+/// The text to store for a token response. It is read back as the same response, if no scope has a
+/// space and a list of scopes is not empty.
 pub fn stored_token(alloc: Global, token: &ColorfulTokenResponse) -> Result<String, WriteError>
     ensures text { IfOk result (λ text. AreScopesKept token.now.scopes
         → body_reading colorful_token_reading (string_bytes text)
@@ -68,15 +68,15 @@ pub fn stored_token(alloc: Global, token: &ColorfulTokenResponse) -> Result<Stri
     Ok(value.to_string(alloc)?)
 }
 
-/// The token response of a text that was kept.
+/// Reads a token response from a stored text.
 pub fn restored_token(alloc: Global, text: &str) -> Result<ColorfulTokenResponse, ReadError>
     ensures { ReadsAs colorful_token_seen result (body_reading colorful_token_reading text.now) }
 {
     read_body(alloc, text.as_bytes())
 }
 
-/// The value to keep for an introspection response. It reads back where its scopes are as above
-/// and its times are whole seconds.
+/// The value to store for an introspection response. It is read back as the same response, if its
+/// scopes are as in `stored_token` and its times are whole seconds.
 pub fn introspection_value(
     alloc: Global,
     response: &ColorfulIntrospectionResponse,
@@ -92,7 +92,7 @@ pub fn introspection_value(
     response.to_json(alloc)
 }
 
-/// The value to keep for the codes of a device, which reads back.
+/// The value to store for the codes of a device. It is read back as the same codes.
 pub fn codes_value(
     alloc: Global,
     codes: &DeviceAuthorizationResponse<ColorfulFields>,
@@ -105,7 +105,7 @@ pub fn codes_value(
     codes.to_json(alloc)
 }
 
-/// The value to keep for an error response, which reads back.
+/// The value to store for an error response. It is read back as the same response.
 pub fn error_value(alloc: Global, error: &ColorfulErrorResponse) -> Result<Value, WriteError>
     ensures value { IfOk result (λ value. colorful_error_reading (view value)
         ≡ Ok (colorful_error_seen error.now)) }

@@ -1,6 +1,7 @@
-//! Types of a user's own: a token type, extra fields, error codes, an error response and a token
-//! to revoke; a client that asks every endpoint with them, and its tests. The functions are
-//! compiled with the tests alone: a library would pass on all that its public names mention.
+//! Types that an application defines itself: a token type, extra fields, error codes, an error
+//! response and a revocable token. A client with these types calls every endpoint, and tests call
+//! the client. The functions are compiled only with the tests: a library would also have to export
+//! all that its public names mention.
 
 #![tactic(auto)]
 

@@ -1,5 +1,5 @@
-//! A client of a server with types of its own: token types, extra fields, error codes, an error
-//! response and a kind of tokens to revoke.
+//! Tests of a client whose server defines its own token types, extra fields, error codes, error
+//! response and revocable tokens.
 
 use crate::client::{
     ColorfulClient, ColorfulErrorResponse, ColorfulIntrospectionResponse, ColorfulTokenResponse,
@@ -30,11 +30,11 @@ use std::fmt::{Debug, Display};
 use std::process::Abort;
 use std::time::Duration;
 
-// The reply was handed out before.
+// The client was called before, and has no other reply.
 #[derive(Debug, Drop)]
 struct Spent;
 
-// An HTTP client that hands out one reply.
+// An HTTP client that returns one reply at its first call, and an error after that.
 #[derive(Drop)]
 struct Replying(Option<HttpResponse>);
 
@@ -54,7 +54,7 @@ fn text(rt: &(impl Abort + AllocGlobal), text: &str) -> String {
     String::from_str(rt.alloc(), text).expect(rt, "a text")
 }
 
-// The two are equal. (A call costs a proof far less than the assertion would in its place.)
+// Asserts that the two are equal. A call of this costs a proof far less than `assert_eq!`.
 fn assert_equal<T: PartialEq + Debug + Drop>(rt: &impl Abort, found: T, wanted: T) {
     assert_eq!(rt; found, wanted);
 }
@@ -82,8 +82,8 @@ fn client(rt: &(impl Abort + AllocGlobal)) -> ColorfulClient {
     .set_client_secret(ClientSecret::new(text(rt, "bbb")))
 }
 
-// What this asks for by the client above. (To drop a client costs the proof of a function far more
-// than a call of this.)
+// Calls `ask` with the client above. A call of this costs a proof far less than a test that drops
+// a client itself.
 fn asked<T, F: FnOnce(&ColorfulClient) -> T>(rt: &(impl Abort + AllocGlobal), ask: F) -> T
     requires { F.IsAlwaysCallable ask }
 {
@@ -97,7 +97,7 @@ fn reply(rt: &(impl Abort + AllocGlobal), status: u16, body: &str) -> HttpRespon
     Response::from_parts(head, body)
 }
 
-// A client that hands out this reply, of status 200.
+// A client that returns a reply with status 200 and this body.
 fn answering(rt: &(impl Abort + AllocGlobal), body: &str) -> Replying {
     Replying(Some(reply(rt, 200, body)))
 }
@@ -107,7 +107,7 @@ fn assert_displayed_as<T: Display>(rt: &(impl Abort + AllocGlobal), value: &T, w
     assert_text(rt, shown.as_str(), wanted);
 }
 
-// The token for a code, of a server that replies like this.
+// Exchanges a code at a server that replies with this status and body.
 fn answer(rt: &(impl Abort + AllocGlobal), status: u16, body: &str) -> TokenAnswer {
     let code = AuthorizationCode::new(text(rt, "ccc"));
     let mut http_client = Replying(Some(reply(rt, status, body)));
@@ -149,7 +149,7 @@ fn token_that_is_kept(rt: HostRuntime) {
     assert_token(&rt, &restored);
 }
 
-// The smallest response of the Rust crate's tests.
+// The smallest response in the Rust crate's tests.
 #[test]
 fn token_without_a_shape(rt: HostRuntime) {
     let body = r#"{"access_token":"12/34","height":10,"token_type":"green"}"#;
@@ -168,7 +168,7 @@ fn extra_fields_are_written_beside(rt: HostRuntime) {
     assert_text(&rt, kept.as_str(), TOKEN);
 }
 
-// The text of a token does not read: the member at fault, and the cause.
+// Asserts that a token response with this body is refused, with this member and this cause.
 fn assert_refused(rt: &(impl Abort + AllocGlobal), body: &str, member: &str, cause: ParseCause) {
     let Err(ReadError::Fault(fault)) = restored_token(rt.alloc(), body) else {
         panic!(rt; "no fault");
@@ -221,7 +221,7 @@ fn custom_client(rt: &(impl Abort + AllocGlobal)) -> CustomErrorClient {
     custom_error_client(ClientId::new(text(rt, "aaa")), token_url(rt))
 }
 
-// The answer of a server that replies with an error of its own.
+// Requests a token at a server that replies with a custom error response.
 fn custom_answer(
     rt: &(impl Abort + AllocGlobal),
     client: &CustomErrorClient,
@@ -267,7 +267,7 @@ fn revocation_of_a_red_token(rt: HostRuntime) {
     );
 }
 
-// The answer is the token above.
+// Asserts that the answer is the token above.
 fn assert_answer<E: Debug + Drop>(
     rt: &(impl Abort + AllocGlobal),
     answer: Result<ColorfulTokenResponse, E>,
@@ -276,7 +276,7 @@ fn assert_answer<E: Debug + Drop>(
     assert_token(rt, &token);
 }
 
-// The token for a refresh token, of a server that replies with the one above.
+// Refreshes at a server that replies with the token above.
 fn refreshed(
     rt: &(impl Abort + AllocGlobal),
     client: &ColorfulClient,
@@ -292,7 +292,7 @@ fn token_for_a_refresh_token(rt: HostRuntime) {
     assert_answer(&rt, answer);
 }
 
-// The token for a name and a password, of the same server.
+// Requests a token with a name and a password at a server that replies with the token above.
 fn logged_in(
     rt: &(impl Abort + AllocGlobal),
     client: &ColorfulClient,
@@ -316,7 +316,7 @@ fn token_for_a_name_and_a_password(rt: HostRuntime) {
     assert_answer(&rt, answer);
 }
 
-// The client's own token, of the same server.
+// Requests a token with the client's credentials at a server that replies with the token above.
 fn granted_to_the_client(rt: &(impl Abort + AllocGlobal), client: &ColorfulClient) -> TokenAnswer {
     token_of_its_own(rt.alloc(), client, &mut answering(rt, TOKEN))
 }
@@ -327,7 +327,7 @@ fn token_of_the_client(rt: HostRuntime) {
     assert_answer(&rt, answer);
 }
 
-// The value is written as this text.
+// Asserts that the value is written as this text.
 fn assert_written_as(rt: &(impl Abort + AllocGlobal), value: Value, wanted: &str) {
     let written = value.to_string(rt.alloc()).expect(rt, "a text");
     assert_text(rt, written.as_str(), wanted);
@@ -335,7 +335,7 @@ fn assert_written_as(rt: &(impl Abort + AllocGlobal), value: Value, wanted: &str
 
 const ACTIVE: &str = r#"{"active":true,"height":12,"shape":"round","token_type":"green"}"#;
 
-// What a server that replies like this tells of a token.
+// Introspects a token at a server that replies with `ACTIVE`.
 fn introspected_by(
     rt: &(impl Abort + AllocGlobal),
     client: &ColorfulClient,
@@ -369,7 +369,7 @@ const CODES: &str =
     "{\"device_code\":\"d\",\"expires_in\":300,\"height\":12,\"interval\":5,\"shape\":\"round\",\
      \"user_code\":\"abcde\",\"verification_uri\":\"https://v/\"}";
 
-// The codes of a server that replies like this.
+// Requests the codes of a device at a server that replies with `CODES`.
 fn codes_from(
     rt: &(impl Abort + AllocGlobal),
     client: &ColorfulClient,
@@ -396,7 +396,7 @@ fn codes_that_are_kept(rt: HostRuntime) {
     assert_written_as(&rt, value, CODES);
 }
 
-// A world whose clock stands still, and whose client hands out one reply.
+// A world whose clock always shows 1970-01-01 00:00, and whose client returns one reply.
 #[derive(Drop)]
 struct Still(Replying);
 
@@ -418,7 +418,7 @@ fn restored_codes(rt: &(impl Abort + AllocGlobal)) -> DeviceAuthorizationRespons
     read_body(rt.alloc(), CODES.as_bytes()).expect(rt, "the codes")
 }
 
-// The token for these codes, of a server that replies with the one above.
+// Polls with these codes at a server that replies with the token above.
 fn polled(
     rt: &(impl Abort + AllocGlobal),
     client: &ColorfulClient,
@@ -446,7 +446,7 @@ fn error_that_is_kept(rt: HostRuntime) {
     );
 }
 
-// The revocation of a token at a server that replies with status 200.
+// Revokes a token at a server that replies with status 200.
 fn revoked(
     rt: &(impl Abort + AllocGlobal),
     client: &ColorfulClient,

@@ -1,4 +1,4 @@
--- What a run over lists of moments and answers gives.
+-- What `DevicePoll::run` returns for lists of clock readings and answers.
 use Rattle.std.specs.Prelude.{◌≡◌, List, map, if◌then◌else◌}
 use Rattle.std.specs.declared.time.Duration.{Duration}
 use Rattle.std.specs.Duration.{as_nanos}
@@ -11,14 +11,14 @@ use Rattle.oauth2_poll.specs.declared.run.PollEnd.{PollEnd}
 use Rattle.oauth2_poll.specs.declared.run.PollEnd.TheVariants as end
 use Rattle.oauth2_poll.specs.Trace.{PollInput, TraceEvent, Reading, Asked, Answered, Slept, Ending, TooLong, OutOfRange, Late, Decided, Limited, IsEnding, poll_events, until_missing, is_whole}
 
--- an event by its numbers
+-- an event with its times as numbers (nanoseconds)
 abbrev pub event_of : PollEvent → TraceEvent
 event_of (event.Reading t) = Reading t.nanosecond
 event_of event.Request = Asked
 event_of (event.Answer a) = Answered a
 event_of (event.Sleep d) = Slept (as_nanos d)
 
--- a run's input by its numbers
+-- the input of a run with its times as numbers (nanoseconds)
 abbrev pub run_input : Duration → PollSettings → List Timestamp → List PollAnswer → PollInput
 run_input timeout settings readings answers =
     record {
@@ -30,6 +30,7 @@ run_input timeout settings readings answers =
       answers = answers;
     }
 
+-- the end that a run reports for an ending
 abbrev pub end_of : Ending → PollEnd
 end_of TooLong = end.TimeoutTooLong
 end_of OutOfRange = end.DeadlineOutOfRange
@@ -37,7 +38,8 @@ end_of (Late n) = end.Expired
 end_of (Decided n) = end.Done
 end_of (Limited n) = end.Limit
 
--- the trace is what the poll does as far as there is input for it, and the end is its own where there is enough
+-- the trace has the events of the poll, up to the first one that has no input; the end is that of
+-- the poll, or `OutOfInput` if an event has no input
 pub record IsRun (p : PollInput) (trace : List TraceEvent) (last : PollEnd) : Type 0 where
   pub ending : Ending
   pub is_ending : IsEnding p ending

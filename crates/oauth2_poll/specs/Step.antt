@@ -7,24 +7,24 @@ use Rattle.oauth2_poll.specs.declared.device_poll.PollStep.{PollStep}
 use Rattle.oauth2_poll.specs.declared.device_poll.PollStep.TheVariants as step
 use Rattle.oauth2_poll.specs.State.{PollState}
 
--- five seconds
+-- five seconds in nanoseconds: what a `slow_down` adds to the interval (RFC 8628, 3.5)
 abbrev pub slow_down : ℕ
 slow_down = 5_000_000_000
 
--- a timeout of so many nanoseconds has at most 2^63 - 1 whole seconds
+-- a timeout of this many nanoseconds has at most 2^63 - 1 whole seconds
 abbrev pub TimeoutFits : ℕ → Type 0
 TimeoutFits nanos = nanos / 1_000_000_000 ≤ 9_223_372_036_854_775_807
 
--- twice the interval, or the interval where twice is past the greatest duration
+-- twice the interval, or the interval itself if twice is longer than the greatest `Duration`
 abbrev pub double : ℕ → ℕ
 double interval = if nat_le (interval * 2) max_nanos then interval * 2 else interval
 
--- after a failed call, from the cap and the interval: twice the interval, at most the cap, and
--- never less than the interval was
+-- the interval after a failed call, given the cap and the interval before it: twice as long, but at
+-- most the cap, and never shorter than before
 abbrev pub backed_off : ℕ → ℕ → ℕ
 backed_off cap interval = max interval (min (double interval) cap)
 
--- the interval after an answer, from the cap and the interval before
+-- the interval after an answer, given the cap and the interval before it (RFC 8628, 3.5)
 abbrev pub next_interval : ℕ → ℕ → PollAnswer → ℕ
 next_interval cap interval Failed = backed_off cap interval
 next_interval cap interval Pending = interval
@@ -41,19 +41,19 @@ state_after poll answer =
       polls_left = poll.polls_left - 1;
     }
 
--- what is to be done, a sleep by its nanoseconds
+-- what to do after an answer; the length of a sleep is in nanoseconds
 pub data Action : Type 0 where
   SleepFor : ℕ → Action
   GiveUp : Action
   Finish : Action
 
--- a step as an action
+-- a `PollStep` as an action
 abbrev pub action_of : PollStep → Action
 action_of (step.Sleep duration) = SleepFor (as_nanos duration)
 action_of step.Limit = GiveUp
 action_of step.Done = Finish
 
--- what is to be done after an answer, from the state before it: the last poll isn't slept after
+-- what to do after an answer, given the state before it: after the last request there is no sleep
 abbrev pub action_after : PollState → PollAnswer → Action
 action_after poll Deciding = Finish
 action_after poll answer =

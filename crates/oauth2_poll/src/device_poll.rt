@@ -1,4 +1,4 @@
-//! A poll between two answers: its interval, its deadline and how many requests it still has.
+//! The state of a poll: its interval, its deadline and how many requests it may still send.
 
 ghost use Rattle.std.specs.Prelude.{
   ◌≡◌,
@@ -22,8 +22,8 @@ use jiff::Timestamp;
 use std::marker::Model;
 use std::time::Duration;
 
-/// What a poll is started with: the `interval` of the device authorization response, the cap of
-/// the back-off after a failed call, and how many requests are made at most.
+/// The settings of a poll: the `interval` of the device authorization response, the cap of the
+/// back-off after a failed call, and how many requests may be sent.
 #[derive(Clone, Copy, Debug)]
 pub struct PollSettings {
     pub interval: Duration,
@@ -31,15 +31,15 @@ pub struct PollSettings {
     pub max_polls: u64,
 }
 
-/// Whether a poll may still ask.
+/// Whether a poll may still send a request.
 #[derive(Clone, Copy, Debug, PartialEq, Eq)]
 pub enum PollReady {
     Ask,
     Expired,
 }
 
-/// What an answer means to the poll: the call failed, `authorization_pending`, `slow_down`, or
-/// anything else, which is the result (RFC 8628, 3.5).
+/// What the result of a request means to the poll: the call failed, `authorization_pending`,
+/// `slow_down`, or any other reply, which decides the poll (RFC 8628, 3.5).
 #[derive(Clone, Copy, Debug, PartialEq, Eq)]
 pub enum PollAnswer {
     Failed,
@@ -48,7 +48,8 @@ pub enum PollAnswer {
     Deciding,
 }
 
-/// What is to be done after an answer.
+/// What to do after an answer: sleep and send again, stop at the limit of requests, or stop because
+/// the answer decides.
 #[derive(Clone, Copy, Debug, PartialEq, Eq)]
 pub enum PollStep {
     Sleep(Duration),
@@ -56,7 +57,7 @@ pub enum PollStep {
     Done,
 }
 
-/// A poll of the token endpoint for the answer to a device authorization.
+/// A poll of the token endpoint after a device authorization (RFC 8628, 3.4).
 #[derive(Drop)]
 pub struct DevicePoll {
     interval: Duration,
@@ -80,15 +81,15 @@ impl Model for DevicePoll {
 }
 
 impl DevicePoll {
-    /// Whether a timeout's whole seconds are at most 2^63 - 1.
+    /// Whether a timeout has at most 2^63 - 1 whole seconds.
     pub fn timeout_fits(timeout: &Duration) -> bool
         ensures { IsTrue result ↔ TimeoutFits (as_nanos timeout.now) }
     {
         timeout.as_secs() <= 9_223_372_036_854_775_807
     }
 
-    /// A poll that may ask until `timeout` after `start`, the `expires_in` of RFC 8628, 3.2;
-    /// `None` where there is no such timestamp.
+    /// A poll that may send requests until `timeout` after `start`. `timeout` is the `expires_in`
+    /// of RFC 8628, 3.2, or your own. `None` if that moment is not a `Timestamp`.
     pub fn new(start: Timestamp, timeout: Duration, settings: PollSettings) -> Option<DevicePoll>
         requires { TimeoutFits (as_nanos timeout) }
         ensures variant { IsSome result
@@ -109,7 +110,7 @@ impl DevicePoll {
         })
     }
 
-    /// `Expired` after the deadline; at the deadline itself the poll still asks.
+    /// `Expired` if `now` is after the deadline. At the deadline itself the poll may still send.
     pub fn ready(&self, now: Timestamp) -> PollReady
         ensures { (result ≡ PollReady.Expired) ↔ (self.now.deadline <ℤ now.nanosecond) }
     {
@@ -120,14 +121,14 @@ impl DevicePoll {
         }
     }
 
-    /// How many answers the poll still takes.
+    /// How many requests the poll may still send.
     pub fn polls_left(&self) -> u64
         ensures { result ≡ self.now.polls_left }
     {
         self.polls_left
     }
 
-    /// Takes the answer to a request, and says what to do next.
+    /// Takes the answer to a request, and returns what to do next.
     pub fn answer(&mut self, answer: PollAnswer) -> PollStep
         requires { 0 < self.old.polls_left }
         ensures state { self.new ≡ state_after self.old answer }
@@ -156,7 +157,8 @@ fn next_interval(cap: Duration, interval: Duration, answer: PollAnswer) -> Durat
     }
 }
 
-// The interval after a failed call: twice the interval up to the cap, and never a shorter one.
+// The interval after a failed call: twice as long, but at most the cap, and never shorter than
+// before.
 fn backed_off(cap: Duration, interval: Duration) -> Duration
     ensures { as_nanos result ≡ step.backed_off (as_nanos cap) (as_nanos interval) }
 {

@@ -1,5 +1,5 @@
-//! The poll of RFC 8628, 3.4 and 3.5, as a machine over values: when a device asks the token
-//! endpoint again, how long it sleeps before, and when it gives up.
+//! The poll of RFC 8628, 3.4 and 3.5, as a state machine: when a device sends its next request to
+//! the token endpoint, how long it sleeps before that, and when it gives up.
 
 #![tactic(auto)]
 

@@ -1,4 +1,4 @@
-//! A whole poll over lists of readings and answers.
+//! A whole poll, run over lists of clock readings and answers.
 
 ghost use Rattle.std.specs.Prelude.{◌≡◌, ◌<◌, [], map, slice_get, IfOk};
 ghost use Rattle.std.specs.Duration.{as_nanos};
@@ -10,7 +10,7 @@ use jiff::Timestamp;
 use std::alloc::{AllocError, Global};
 use std::time::Duration;
 
-/// What a poll did: read the clock, sent a request, had its answer, slept.
+/// What a poll did: it read the clock, sent a request, got an answer or slept.
 #[derive(Clone, Copy, Debug, PartialEq, Eq)]
 pub enum PollEvent {
     Reading(Timestamp),
@@ -19,7 +19,8 @@ pub enum PollEvent {
     Sleep(Duration),
 }
 
-/// How a run of a poll ended; `OutOfInput` where a list ran out before that.
+/// How a run of a poll ended; `OutOfInput` if it needed more readings or answers than the lists
+/// have.
 #[derive(Clone, Copy, Debug, PartialEq, Eq)]
 pub enum PollEnd {
     TimeoutTooLong,
@@ -38,7 +39,8 @@ pub struct PollRun {
 }
 
 impl DevicePoll {
-    /// The poll whose clock shows these readings in turn, and whose requests get these answers.
+    /// Runs the poll whose clock shows these readings and whose requests get these answers, in
+    /// order. The first reading is the start of the poll.
     pub fn run(
         alloc: Global,
         timeout: Duration,
@@ -62,7 +64,7 @@ impl DevicePoll {
     }
 }
 
-// Writes what the poll does to the trace, up to its end.
+// Appends the events of the poll to the trace, and returns its end.
 fn follow(
     trace: &mut Vec<PollEvent>,
     timeout: Duration,
@@ -110,14 +112,14 @@ fn follow(
     }
 }
 
-// The reading at an index, if the list goes that far.
+// The clock reading at an index, if there is one.
 fn reading_at(readings: &[Timestamp], index: usize) -> Option<Timestamp>
     ensures { result ≡ slice_get readings.now index }
 {
     readings.get(index).copied()
 }
 
-// The answer at an index, if the list goes that far.
+// The answer at an index, if there is one.
 fn answer_at(answers: &[PollAnswer], index: usize) -> Option<PollAnswer>
     ensures { result ≡ slice_get answers.now index }
 {

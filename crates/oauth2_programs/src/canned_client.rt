@@ -1,12 +1,12 @@
-//! An HTTP client that opens no connection: it hands out replies that were written down before. A
-//! program of yours has a client here that sends requests.
+//! An HTTP client that opens no connection: it returns replies that are written in the program.
+//! Your own program uses a client that sends requests instead.
 
 use anyhow::anyhow;
 use oauth2::http::Response;
 use oauth2::{AlwaysReady, HttpRequest, HttpResponse, SyncHttpClient};
 use std::alloc::Global;
 
-/// Hands out one reply after the other: a status, and a body of JSON.
+/// Returns the replies in order, one for each call. A reply is a status and a body of JSON.
 #[derive(Drop)]
 pub struct CannedClient<'a> {
     alloc: Global,
@@ -15,6 +15,7 @@ pub struct CannedClient<'a> {
 }
 
 impl<'a> CannedClient<'a> {
+    /// A client with these replies. A call after the last one is an error.
     pub fn new(alloc: Global, replies: &'a [(u16, &'a str)]) -> CannedClient<'a> {
         CannedClient {
             alloc,

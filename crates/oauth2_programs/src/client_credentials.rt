@@ -18,7 +18,7 @@ fn client(alloc: Global) -> Result<BasicTokenClient, ParseError> {
     )
 }
 
-/// A token for the API, by an HTTP client of any type.
+/// Requests a token for the API. The HTTP client may be of any type that is always ready.
 fn token<C: AlwaysReady>(
     alloc: Global,
     client: &BasicTokenClient,
@@ -48,6 +48,7 @@ fn run(rt: &HostRuntime, client: &BasicTokenClient) -> anyhow::Result<()> {
     Ok(())
 }
 
+/// Requests a token, and prints it and its lifetime.
 pub fn main(rt: HostRuntime) -> anyhow::Result<()> {
     run(&rt, &client(rt.alloc())?)
 }

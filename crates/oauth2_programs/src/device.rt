@@ -28,7 +28,7 @@ type PollError = RequestTokenError<anyhow::Error, DeviceCodeErrorResponse>;
 const CODES: &str = r#"{"device_code":"d","user_code":"WDJB-MJHT","expires_in":60,"interval":1,
     "verification_uri":"https://as.example/go"}"#;
 
-/// A device code, and a code for the user.
+/// Requests a device code, and a code for the user (RFC 8628, section 3.1).
 fn codes(
     alloc: Global,
     client: &BasicDeviceClient,
@@ -94,6 +94,7 @@ fn run(rt: &HostRuntime, client: &BasicDeviceClient) -> anyhow::Result<()> {
     sign_in(rt, client, &mut http_client, &device)
 }
 
+/// Signs the user in, or prints what to tell the user.
 pub fn main(rt: HostRuntime) -> anyhow::Result<()> {
     run(&rt, &client(rt.alloc())?)
 }

@@ -45,6 +45,7 @@ fn start(rt: &HostRuntime, client: &FoundClient) -> anyhow::Result<(Url, Login)>
     Ok(Login::start(rt.alloc(), client, &mut rng)?.url(rt.alloc())?)
 }
 
+/// Finds the endpoints, and starts a login.
 pub fn main(rt: HostRuntime) -> anyhow::Result<()> {
     let alloc = rt.alloc();
     let replies = [(200, METADATA)];

@@ -1,4 +1,4 @@
-//! A server with error codes of its own, and the codes told apart.
+//! A server with error codes that are not in the standard, and how a program tells them apart.
 
 use crate::canned_client::CannedClient;
 use oauth2::basic::{
@@ -59,6 +59,7 @@ fn run(rt: &HostRuntime, client: &OwnClient) -> anyhow::Result<()> {
     Ok(())
 }
 
+/// Requests a token, and prints it or the error.
 pub fn main(rt: HostRuntime) -> anyhow::Result<()> {
     run(&rt, &client(rt.alloc())?)
 }

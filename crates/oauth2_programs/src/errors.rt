@@ -1,5 +1,5 @@
-//! What each error of a request means, and what the program does then. `anyhow` keeps the text of
-//! an error alone, so the errors that matter are told apart before the `?`.
+//! What each error of a request means, and what the program does then. `anyhow` keeps only the text
+//! of an error, so the program matches on the errors that matter before the `?`.
 
 use crate::canned_client::CannedClient;
 use oauth2::basic::{
@@ -63,6 +63,7 @@ fn run(rt: &HostRuntime, client: &BasicTokenClient) -> anyhow::Result<()> {
     Ok(())
 }
 
+/// Refreshes five times, and prints each token or what to tell the user.
 pub fn main(rt: HostRuntime) -> anyhow::Result<()> {
     run(&rt, &client(rt.alloc())?)
 }

@@ -39,6 +39,7 @@ fn run(rt: &HostRuntime, client: &BasicFullClient) -> anyhow::Result<()> {
     Ok(())
 }
 
+/// Makes the client, and prints its settings.
 pub fn main(rt: HostRuntime) -> anyhow::Result<()> {
     run(&rt, &client(rt.alloc())?)
 }

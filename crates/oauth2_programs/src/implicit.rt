@@ -1,5 +1,6 @@
-//! The implicit flow (RFC 6749, section 4.2), for servers that know no other. The token is in the
-//! fragment of the redirect's URL, which the browser sends to no server: a page reads it there.
+//! The implicit flow (RFC 6749, section 4.2), for servers that support no other flow. The token is
+//! in the fragment of the redirect's URL. A browser sends the fragment to no server, so a page has
+//! to read it.
 
 use oauth2::basic::BasicClient;
 use oauth2::url::{ParseError, Url};
@@ -18,7 +19,7 @@ fn url(alloc: Global, state: CsrfToken) -> Result<Url, ParseError> {
     Ok(request.use_implicit_flow().url(alloc)?.0)
 }
 
-/// The value of a parameter of the fragment.
+/// The value of a parameter in the redirect's fragment; the first one with this name.
 fn parameter(alloc: Global, redirect: &Url, name: &str) -> Result<Option<String>, AllocError> {
     let fragment = redirect.fragment().unwrap_or("");
     for pair in form_urlencoded::parse(alloc, fragment.as_bytes()) {
@@ -30,7 +31,7 @@ fn parameter(alloc: Global, redirect: &Url, name: &str) -> Result<Option<String>
     Ok(None)
 }
 
-/// The token of a redirect with this state.
+/// The token in the redirect's fragment, if the redirect has this state; otherwise `None`.
 fn token(alloc: Global, redirect: &Url, state: &str) -> Result<Option<String>, AllocError> {
     match parameter(alloc, redirect, "state")? {
         Some(found) if found.as_str() == state => parameter(alloc, redirect, "access_token"),
@@ -38,6 +39,7 @@ fn token(alloc: Global, redirect: &Url, state: &str) -> Result<Option<String>, A
     }
 }
 
+/// Prints the URL of a login, and the token of a redirect.
 pub fn main(rt: HostRuntime) -> anyhow::Result<()> {
     let alloc = rt.alloc();
     let state = CsrfToken::from_str(alloc, "xyz")?;

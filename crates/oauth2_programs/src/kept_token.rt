@@ -1,4 +1,4 @@
-//! A service that keeps its token between jobs, and asks for another when it is about to expire.
+//! A service that keeps its token between jobs, and requests another when it is about to expire.
 
 use crate::canned_client::CannedClient;
 use jiff::Timestamp;
@@ -42,6 +42,7 @@ fn run(rt: &HostRuntime, client: &BasicTokenClient) -> anyhow::Result<()> {
     Ok(())
 }
 
+/// Asks the keeper for its token at five times, and prints each.
 pub fn main(rt: HostRuntime) -> anyhow::Result<()> {
     run(&rt, &client(rt.alloc())?)
 }

@@ -22,7 +22,7 @@ fn client(alloc: Global) -> Result<BasicLoginClient, ParseError> {
     )
 }
 
-/// Sends the user away. The login is what to keep until the user is back.
+/// Prints the URL to send the user to. Keep the login until the user is back.
 fn start(rt: &HostRuntime, client: &BasicLoginClient) -> anyhow::Result<Login> {
     let alloc = rt.alloc();
     let mut rng: StdRng = rand::make_rng(rt)?;
@@ -34,8 +34,8 @@ fn start(rt: &HostRuntime, client: &BasicLoginClient) -> anyhow::Result<Login> {
     Ok(login)
 }
 
-/// Reads the redirect, and has its code exchanged for a token if its state is the login's and it
-/// tells no other issuer than the server's.
+/// Reads the redirect, and exchanges its code for a token. It is an error if the redirect has
+/// another state than the login, or an `iss` that is not the server's issuer (RFC 9207).
 fn finish(rt: &HostRuntime, client: &BasicLoginClient, login: Login) -> anyhow::Result<()> {
     let alloc = rt.alloc();
     let replies = [(200, r#"{"access_token":"abc","token_type":"bearer"}"#)];
@@ -54,6 +54,7 @@ fn run(rt: &HostRuntime, client: &BasicLoginClient) -> anyhow::Result<()> {
     finish(rt, client, login)
 }
 
+/// Logs a user in, and prints the token.
 pub fn main(rt: HostRuntime) -> anyhow::Result<()> {
     run(&rt, &client(rt.alloc())?)
 }

@@ -1,5 +1,5 @@
-//! Short programs to copy from. The argument names the one that runs. Without an argument all run
-//! that need nobody in front of them.
+//! Short programs to copy from. The argument names the program to run. Without an argument, all
+//! programs run that need no user.
 
 #![tactic(auto)]
 

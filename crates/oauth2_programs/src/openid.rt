@@ -10,8 +10,8 @@ use rand::rngs::StdRng;
 use std::alloc::Global;
 use std::time::Duration;
 
-// A login as the first handler keeps it, the redirect by which its user comes back, and the reply to
-// its code: those of the standard's examples.
+// A login as the first handler keeps it, the redirect with which its user comes back, and the reply
+// to its code, from the standard's examples.
 const KEPT: &str = r#"{"nonce":"n-0S6_WzA2Mj","redirect_uri":"https://client.example.org/cb",
     "state":"af0ifjsldkj","verifier":"dBjftJeZ4CVP-mB92K27uhbUJU1p1r_wW1gFWFOEjXk"}"#;
 
@@ -50,8 +50,8 @@ fn start(rt: &HostRuntime, client: &OpenIdClient) -> anyhow::Result<(Url, String
     Ok((url, compact(alloc, &login)?))
 }
 
-/// The second handler: who the user is that came back. Its clock is asked after the reply: that of
-/// a program of yours is `|| Timestamp::now(rt).unwrap_or(Timestamp::MAX)`.
+/// The second handler: returns who the user is. The clock is read after the reply. Your own program
+/// passes `|| Timestamp::now(rt).unwrap_or(Timestamp::MAX)` as the clock.
 fn finish(
     alloc: Global,
     client: &OpenIdClient,
@@ -85,6 +85,7 @@ fn run(rt: &HostRuntime, client: &OpenIdClient) -> anyhow::Result<()> {
     Ok(())
 }
 
+/// Starts a login, and finishes the kept one.
 pub fn main(rt: HostRuntime) -> anyhow::Result<()> {
     run(&rt, &client(rt.alloc())?)
 }

@@ -33,6 +33,7 @@ fn run(rt: &HostRuntime, client: &BasicTokenClient) -> anyhow::Result<()> {
     Ok(())
 }
 
+/// Requests a token, and prints it.
 pub fn main(rt: HostRuntime) -> anyhow::Result<()> {
     run(&rt, &client(rt.alloc())?)
 }

@@ -1,5 +1,5 @@
-//! Renews a stored token (RFC 6749, section 6): reads the token response that was stored, asks for
-//! another by its refresh token, and prints what to store in its place.
+//! Renews a stored token (RFC 6749, section 6): reads the token response that was stored, requests
+//! another with its refresh token, and prints the token response to store in its place.
 
 use crate::canned_client::CannedClient;
 use oauth2::basic::{BasicClient, BasicTokenClient, BasicTokenResponse};
@@ -16,7 +16,7 @@ fn client(alloc: Global) -> Result<BasicTokenClient, ParseError> {
     Ok(BasicClient::new(id).set_token_uri(token_url))
 }
 
-/// Keeps the old refresh token, if the reply has none: the server then keeps it as it was.
+/// Keeps the old refresh token if the reply has none: the old one then stays valid.
 fn keep(
     alloc: Global,
     token: &mut BasicTokenResponse,
@@ -28,7 +28,7 @@ fn keep(
     Ok(())
 }
 
-/// The token response that takes the place of a stored one.
+/// The token response that replaces the stored one.
 fn renewed(
     alloc: Global,
     client: &BasicTokenClient,
@@ -58,6 +58,7 @@ fn run(rt: &HostRuntime, client: &BasicTokenClient) -> anyhow::Result<()> {
     Ok(())
 }
 
+/// Renews the stored token.
 pub fn main(rt: HostRuntime) -> anyhow::Result<()> {
     run(&rt, &client(rt.alloc())?)
 }

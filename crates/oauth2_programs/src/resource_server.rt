@@ -1,5 +1,5 @@
-//! A resource server that asks what a token is worth (RFC 7662), and whose authorization server
-//! tells a tenant too, which the standard doesn't name.
+//! A resource server that introspects the tokens it receives (RFC 7662). Its authorization server
+//! adds the member `tenant` to the response, which the standard doesn't name.
 
 ghost use Rattle.std.specs.Prelude.{codes};
 
@@ -15,7 +15,7 @@ use oauth2::{
 };
 use std::alloc::Global;
 
-/// Whose data the token opens.
+/// The member `tenant`: whose data the token gives access to.
 struct Tenant;
 
 impl NamedMember for Tenant {
@@ -54,7 +54,8 @@ fn client(alloc: Global) -> Result<ResourceClient, ParseError> {
     )
 }
 
-/// The HTTP status for the bearer of such a token, and the tenant whose data it may read.
+/// The HTTP status of the reply for this introspection response, and the tenant whose data may be
+/// read.
 fn verdict(found: &Introspection) -> (u16, Option<&String>) {
     let may_read = found.scopes().is_some_and(|scopes| scopes
         .iter()
@@ -103,6 +104,7 @@ fn run(rt: &HostRuntime, client: &ResourceClient) -> anyhow::Result<()> {
     Ok(())
 }
 
+/// Answers four requests, and prints the status of each reply.
 pub fn main(rt: HostRuntime) -> anyhow::Result<()> {
     run(&rt, &client(rt.alloc())?)
 }

@@ -31,6 +31,7 @@ fn run(rt: &HostRuntime, client: &RevokingClient) -> anyhow::Result<()> {
     Ok(())
 }
 
+/// Revokes a refresh token.
 pub fn main(rt: HostRuntime) -> anyhow::Result<()> {
     run(&rt, &client(rt.alloc())?)
 }

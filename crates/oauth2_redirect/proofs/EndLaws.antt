@@ -13,7 +13,7 @@ use Rattle.oauth2_wire.specs.declared.request.AuthType.{AuthType}
 use Rattle.oauth2_wire.specs.declared.request.AuthType.TheVariants.{BasicAuth, RequestBody}
 use Rattle.oauth2.specs.CodeFlow.{PassesCheck, flow_exchange}
 use Rattle.oauth2.specs.Settings.{Settings}
-use Rattle.oauth2_redirect.specs.Login.{Kept}
+use Rattle.oauth2_redirect.specs.Login.{LoginView}
 use Rattle.oauth2_redirect.specs.Start.{ShowsLogin}
 use Rattle.oauth2.proofs.CodeFlowLaws.{exchange, verifier-read}
 use Rattle.oauth2_redirect.specs.End.{EndsLogin, ExchangesCode, RepeatsRedirectUri, login_exchange, with_redirect_uri}
@@ -29,7 +29,7 @@ use Rattle.oauth2_wire.specs.declared.error.RequestTokenError.{RequestTokenError
 use Rattle.oauth2_requests.specs.Base.{Base}
 use Rattle.oauth2_requests.specs.Code.{CodeRequest, code_configuration}
 use Rattle.oauth2_redirect.specs.Query.{sole_text}
-use Rattle.oauth2_redirect.specs.Redirect.{IssuerExpectation, RedirectRefusal, other_state, answer, is_state}
+use Rattle.oauth2_redirect.specs.Redirect.{IssuerExpectation, RedirectErrorView, other_state, answer, is_state}
 
 -- a redirect URI that is set leaves the rest
 with-base : (u : Option Addressed) (r : CodeRequest) → (with_redirect_uri u r).base ≡ r.base
@@ -42,7 +42,7 @@ with-token_url (Some uri) r = refl
 
 module _ {D A T E RE C : Type 0} {meaning : D → A} {error_meaning : T → E} (reading : Data → Reading A) (error_reading : Data → Reading E) (step : C → HttpRequest → Result HttpResponse RE → C → Type 0) {before after : C} {result : Result D (RequestTokenError RE T)} where
   -- what is asked with the request for a login's code is the login's exchange
-  pub ExchangesCode-of_request : (client : Settings) (url : Addressed) (login : Kept) (code : List ℕ) (r : CodeRequest) → client.token_url ≡ Some url → r ≡ login_exchange client url login code
+  pub ExchangesCode-of_request : (client : Settings) (url : Addressed) (login : LoginView) (code : List ℕ) (r : CodeRequest) → client.token_url ≡ Some url → r ≡ login_exchange client url login code
       → AsksOnce meaning error_meaning step (answer_of r.base.reply_rule reading error_reading) (IsRequestOf (code_configuration r)) (serialize r.token_url.url) before result after
       → ExchangesCode meaning error_meaning reading error_reading step client login code before result after
   ExchangesCode-of_request client url login code r there is asked =
@@ -57,7 +57,7 @@ module _ {D A T E RE C : Type 0} {meaning : D → A} {error_meaning : T → E} (
         subst (λ (u : Addressed). AsksOnce meaning error_meaning step (answer_of client.reply_rule reading error_reading) (IsRequestOf (code_configuration wanted)) (serialize u.url) before result after) (with-token_url login.redirect_uri plain) by_rule,
       )
 
-module _ {D A T E RE C : Type 0} (meaning : D → A) (error_meaning : T → E) (reading : Data → Reading A) (error_reading : Data → Reading E) (step : C → HttpRequest → Result HttpResponse RE → C → Type 0) (client : Settings) (login : Kept) (told : Result (List ℕ) RedirectRefusal) (before after : C) where
+module _ {D A T E RE C : Type 0} (meaning : D → A) (error_meaning : T → E) (reading : Data → Reading A) (error_reading : Data → Reading E) (step : C → HttpRequest → Result HttpResponse RE → C → Type 0) (client : Settings) (login : LoginView) (told : Result (List ℕ) RedirectErrorView) (before after : C) where
   -- a login that gave a token exchanged the code that the redirect told
   pub IfOk-from_EndsLogin : (result : Result D (LoginError RE T)) → EndsLogin meaning error_meaning reading error_reading step client login told before result after
       → IfOk result (λ token. (code : List ℕ) × (told ≡ Ok code) × ExchangesCode meaning error_meaning reading error_reading step client login code before (Ok token) after)
@@ -70,12 +70,12 @@ module _ {D A T E RE C : Type 0} (meaning : D → A) (error_meaning : T → E) (
 
   -- a login that is given back is the login
   pub login-given_back : (result : Result D (LoginError RE T)) → EndsLogin meaning error_meaning reading error_reading step client login told before result after
-      → (error : RedirectError) (kept : Kept) → result ≡ Err (Redirect error kept) → kept ≡ login
+      → (error : RedirectError) (kept : LoginView) → result ≡ Err (Redirect error kept) → kept ≡ login
   login-given_back result (inl (code, is, Ok token, same, asked)) error kept is_redirect = cc
   login-given_back result (inl (code, is, Err fault, same, asked)) error kept is_redirect = cc
   login-given_back result (inr (why, same, shown, stayed)) error kept is_redirect = cc
 
-only_with : (b : Bool) (told : Result (List ℕ) RedirectRefusal) (code : List ℕ) → (if b then told else Err other_state) ≡ Ok code → b ≡ true
+only_with : (b : Bool) (told : Result (List ℕ) RedirectErrorView) (code : List ℕ) → (if b then told else Err other_state) ≡ Ok code → b ≡ true
 only_with true told code is = refl
 only_with false told code is = cc
 
@@ -99,7 +99,7 @@ verifier-sent client endpoint verifier code None = verifier-read client.auth_typ
 verifier-sent client endpoint verifier code (Some uri) = verifier-read client.auth_type client.client_id client.client_secret code verifier (Some uri.text)
 
 -- a login that shows its challenge passes its check
-pub PassesCheck-of_login : (login : Kept) (query : List Pair) (client : Settings) (endpoint : Addressed) (code : List ℕ) (v : RequestView)
+pub PassesCheck-of_login : (login : LoginView) (query : List Pair) (client : Settings) (endpoint : Addressed) (code : List ℕ) (v : RequestView)
     → ShowsLogin login query → IsRequestOf (code_configuration (login_exchange client endpoint login code)) (serialize endpoint.url) v
     → PassesCheck login.verifier query (form v.body)
 PassesCheck-of_login login query client endpoint code v shown is = (
@@ -111,7 +111,7 @@ PassesCheck-of_login login query client endpoint code v shown is = (
 )
 
 -- a login that shows a redirect URI sends it again
-pub RepeatsRedirectUri-of_login : (login : Kept) (uri : Addressed) (query : List Pair) (client : Settings) (endpoint : Addressed) (code : List ℕ) (v : RequestView)
+pub RepeatsRedirectUri-of_login : (login : LoginView) (uri : Addressed) (query : List Pair) (client : Settings) (endpoint : Addressed) (code : List ℕ) (v : RequestView)
     → login.redirect_uri ≡ Some uri → ShowsLogin login query
     → IsRequestOf (code_configuration (login_exchange client endpoint login code)) (serialize endpoint.url) v
     → RepeatsRedirectUri uri.text query (form v.body)

@@ -13,7 +13,7 @@ use Rattle.oauth2_wire.specs.Texts.{given_text}
 use Rattle.oauth2_requests.specs.Authorization.{Authorization, challenge_pairs, scope_pairs, query_pairs}
 use Rattle.oauth2_form.specs.Query.{ExtendsQuery, query_form}
 use Rattle.oauth2.proofs.CodeFlowLaws.{none_of, read-behind}
-use Rattle.oauth2_redirect.specs.Login.{kept_login}
+use Rattle.oauth2_redirect.specs.Login.{login_view_of}
 use Rattle.oauth2_redirect.specs.Start.{ShowsLogin}
 
 -- before such pairs an own name is read as if they were not there
@@ -73,7 +73,7 @@ unfolding is_request_name is_shared_name
 redirect_uri-is_own = refl
 
 pub shows : (old new : Parts) (r : Authorization) (verifier : List ℕ) → ExtendsQuery old new (query_pairs r) → r.pkce_challenge ≡ Some (sha256_challenge verifier)
-    → avoid_own_names (query_form old) ≡ true → avoid_own_names r.extra_params ≡ true → ShowsLogin (kept_login r.state verifier r.redirect_url) (query_form new)
+    → avoid_own_names (query_form old) ≡ true → avoid_own_names r.extra_params ≡ true → ShowsLogin (login_view_of r.state verifier r.redirect_url) (query_form new)
 shows old new r verifier extends is avoid extra =
     let redirect = option_map given_text r.redirect_url in
     let scope = joined_words r.scopes in

@@ -17,10 +17,10 @@ use Rattle.oauth2.specs.Settings.{Settings}
 use Rattle.oauth2_redirect.specs.declared.redirect.RedirectError.{RedirectError}
 use Rattle.oauth2_redirect.specs.declared.login_error.LoginError.{LoginError}
 use Rattle.oauth2_redirect.specs.declared.login_error.LoginError.TheVariants.{Redirect, Token}
-use Rattle.oauth2_redirect.specs.Login.{Kept}
-use Rattle.oauth2_redirect.specs.Redirect.{RedirectRefusal, TellsRefusal, redirect_error_text}
+use Rattle.oauth2_redirect.specs.Login.{LoginView}
+use Rattle.oauth2_redirect.specs.Redirect.{RedirectErrorView, ShowsRedirectError, redirect_error_text}
 
--- the text of an error
+-- the text that `Display` writes of an error, where `text` is that of the server's error
 abbrev pub login_error_text : {RE T : Type 0} → (T → Option (List ℕ)) → LoginError RE T → Option (List ℕ)
 login_error_text text (Redirect error login) = redirect_error_text error
 login_error_text text (Token error) = fault_text text error
@@ -30,45 +30,46 @@ abbrev pub login_error_debug : {RE T : Type 0} → LoginError RE T → List ℕ
 login_error_debug (Redirect error login) = codes "Redirect([redacted])"
 login_error_debug (Token error) = codes "Token([redacted])"
 
+-- the request with this redirect URI, if there is one; else the request as it is
 abbrev pub with_redirect_uri : Option Addressed → CodeRequest → CodeRequest
 with_redirect_uri None r = r
 with_redirect_uri (Some uri) r = record r { redirect_url = Some uri }
 
--- the exchange of a login's code: with the login's verifier (RFC 7636, 4.5), and with the redirect
--- URI that the login's URL bears, or else the client's (RFC 6749, 4.1.3)
-abbrev pub login_exchange : Settings → Addressed → Kept → List ℕ → CodeRequest
+-- the token request for a login's code: with the login's verifier (RFC 7636, 4.5), and with the
+-- redirect URI of the login's URL, or the client's if the login has none (RFC 6749, 4.1.3)
+abbrev pub login_exchange : Settings → Addressed → LoginView → List ℕ → CodeRequest
 login_exchange client endpoint login code =
     with_redirect_uri login.redirect_uri (flow_exchange client endpoint login.verifier code)
 
--- a server that reads the query of the login's URL and the body of the request by name finds this
--- redirect URI in both, each once
+-- the query of the login's URL and the body of the token request each have exactly one parameter
+-- `redirect_uri`, and both have this value (RFC 6749, 4.1.3)
 abbrev pub RepeatsRedirectUri : List ℕ → List Pair → List Pair → Type 0
 RepeatsRedirectUri uri query body =
     (read_by_name (codes "redirect_uri") query ≡ Some uri) × (read_by_name (codes "redirect_uri") body ≡ Some uri)
 
 module _ {D T RE : Type 0} where
-  -- the result of a login whose code was exchanged
+  -- the result of a login, from the result of its token request
   abbrev pub of_exchange : Result D (RequestTokenError RE T) → Result D (LoginError RE T)
   of_exchange (Ok token) = Ok token
   of_exchange (Err error) = Err (Token error)
 
 module _ {D A T E RE C : Type 0} where
-  -- the exchange of this login's code is asked for at most once, and this is its result
+  -- the client sends at most one token request for this login's code, to its token endpoint, and
+  -- `result` is what comes of it
   abbrev pub ExchangesCode : (D → A) → (T → E) → (Data → Reading A) → (Data → Reading E)
-      → (C → HttpRequest → Result HttpResponse RE → C → Type 0) → Settings → Kept → List ℕ
+      → (C → HttpRequest → Result HttpResponse RE → C → Type 0) → Settings → LoginView → List ℕ
       → C → Result D (RequestTokenError RE T) → C → Type 0
   ExchangesCode meaning error_meaning reading error_reading step client login code before result after =
       (endpoint : Addressed) × (client.token_url ≡ Some endpoint)
       × AsksOnce meaning error_meaning step (answer_of client.reply_rule reading error_reading)
       (IsRequestOf (code_configuration (login_exchange client endpoint login code))) (serialize endpoint.url) before result after
 
-  -- a redirect that tells a code has that code exchanged for the login's token; another tells
-  -- why it gives none, and the HTTP client is as it was, as it is where memory ran out: the login
-  -- is then given back
+  -- if the redirect has a code, the token request for that code is made. Else, or if memory runs
+  -- out before that, the HTTP client is unchanged, and the error says why and holds the login.
   abbrev pub EndsLogin : (D → A) → (T → E) → (Data → Reading A) → (Data → Reading E)
-      → (C → HttpRequest → Result HttpResponse RE → C → Type 0) → Settings → Kept → Result (List ℕ) RedirectRefusal
+      → (C → HttpRequest → Result HttpResponse RE → C → Type 0) → Settings → LoginView → Result (List ℕ) RedirectErrorView
       → C → Result D (LoginError RE T) → C → Type 0
   EndsLogin meaning error_meaning reading error_reading step client login told before result after =
       ((code : List ℕ) × (told ≡ Ok code) × (outcome : Result D (RequestTokenError RE T)) × (result ≡ of_exchange outcome)
       × ExchangesCode meaning error_meaning reading error_reading step client login code before outcome after)
-      ⊎ ((error : RedirectError) × (result ≡ Err (Redirect error login)) × TellsRefusal error told × (after ≡ before))
+      ⊎ ((error : RedirectError) × (result ≡ Err (Redirect error login)) × ShowsRedirectError error told × (after ≡ before))

@@ -10,32 +10,33 @@ use Rattle.oauth2_codes.specs.AuthorizationCodes.{AuthorizationErrorCode, author
 use Rattle.oauth2_form.specs.Pairs.{Pair}
 use Rattle.oauth2_redirect.specs.Query.{sole_text, first_text, texts, is_visible}
 
--- why a redirect gives no code, without where its texts lie in memory
-pub data RedirectRefusal : Type 0 where
-  other_state : RedirectRefusal
-  other_issuer : RedirectRefusal
-  refused : ErrorParts AuthorizationErrorCode → RedirectRefusal
-  no_code : RedirectRefusal
+-- why a redirect has no code for the login: a `RedirectError` without its place in memory
+pub data RedirectErrorView : Type 0 where
+  other_state : RedirectErrorView
+  other_issuer : RedirectErrorView
+  refused : ErrorParts AuthorizationErrorCode → RedirectErrorView
+  no_code : RedirectErrorView
 
--- the state that is told is the login's: their digests are equal
+-- whether the redirect's `state` is the login's: their digests are equal
 abbrev pub is_state : List ℕ → Option (List ℕ) → Bool
 is_state state None = false
 is_state state (Some told) = digest_eq told state
 
--- the issuer that a client expects, without where its text lies in memory: one that each redirect
--- has to tell, one that a redirect may leave out, or none
+-- the issuer that a client expects: one that each redirect must name in `iss`, one that a redirect
+-- may leave out, or none (RFC 9207, 2.4)
 pub data IssuerExpectation : Type 0 where
   required : List ℕ → IssuerExpectation
   compared : List ℕ → IssuerExpectation
   unknown : IssuerExpectation
 
+-- the expectation that an `ExpectedIssuer` stands for, without its place in memory
 abbrev pub issuer_expectation : ExpectedIssuer → IssuerExpectation
 issuer_expectation (issuers.Required issuer) = required issuer.now
 issuer_expectation (issuers.Compared issuer) = compared issuer.now
 issuer_expectation issuers.Unknown = unknown
 
--- RFC 9207, 2.4: a redirect with these values of `iss` may come from the issuer that is expected.
--- One value has to be that issuer byte for byte, and two are none (RFC 6749, 3.1).
+-- whether a redirect with these values of `iss` may come from the expected issuer (RFC 9207, 2.4):
+-- a single value must equal it byte for byte, and several are refused (RFC 6749, 3.1)
 abbrev pub is_issuer : IssuerExpectation → List (List ℕ) → Bool
 is_issuer (required issuer) [] = false
 is_issuer (required issuer) (told ∷ []) = bytes_eq told issuer
@@ -45,27 +46,30 @@ is_issuer (compared issuer) (told ∷ []) = bytes_eq told issuer
 is_issuer (compared issuer) (told ∷ (other ∷ more)) = false
 is_issuer unknown told = true
 
--- the error that is told: its code is the first `error`, its description and page are told once
+-- the error response with this code, and with the redirect's `error_description` and `error_uri`,
+-- each if it is sent exactly once (RFC 6749, 4.1.2.1)
 abbrev pub error_parts : List ℕ → List Pair → ErrorParts AuthorizationErrorCode
 error_parts error pairs =
     parts_of_error (authorization_error_code_of error) (sole_text (codes "error_description") pairs) (sole_text (codes "error_uri") pairs)
 
+-- the redirect's error response, if it has an `error` (RFC 6749, 4.1.2.1)
 abbrev pub error_told : Option (List ℕ) → List Pair → Option (ErrorParts AuthorizationErrorCode)
 error_told None pairs = None
 error_told (Some error) pairs = Some (error_parts error pairs)
 
--- the code, if it is told once
-abbrev pub code_told : Option (List ℕ) → Result (List ℕ) RedirectRefusal
+-- the code, if the redirect has exactly one (RFC 6749, 4.1.2), and else `no_code`
+abbrev pub code_told : Option (List ℕ) → Result (List ℕ) RedirectErrorView
 code_told None = Err no_code
 code_told (Some code) = Ok code
 
--- an error that is told hides a code
-abbrev pub unless_error : Option (ErrorParts AuthorizationErrorCode) → Result (List ℕ) RedirectRefusal → Result (List ℕ) RedirectRefusal
+-- a redirect with an error is refused, even if it has a code too
+abbrev pub unless_error : Option (ErrorParts AuthorizationErrorCode) → Result (List ℕ) RedirectErrorView → Result (List ℕ) RedirectErrorView
 unless_error None code = code
 unless_error (Some error) code = Err (refused error)
 
--- what the pairs of a redirect say to a client whose login has this state and expects that issuer
-abbrev pub answer : List ℕ → IssuerExpectation → List Pair → Result (List ℕ) RedirectRefusal
+-- the code of a redirect with these parameters, or why it is refused, for a login with this state
+-- and a client that expects this issuer
+abbrev pub answer : List ℕ → IssuerExpectation → List Pair → Result (List ℕ) RedirectErrorView
 answer state issuer pairs =
     if is_state state (sole_text (codes "state") pairs)
     then (if is_issuer issuer (texts (codes "iss") pairs)
@@ -73,24 +77,24 @@ answer state issuer pairs =
     else Err other_issuer)
     else Err other_state
 
--- ---- want of memory
+-- ---- out of memory
 
--- the issuer that is expected, if one is, has visible characters alone
+-- the expected issuer, if there is one, has only visible ASCII characters
 abbrev pub IsVisibleIssuer : IssuerExpectation → Type 0
 IsVisibleIssuer (required issuer) = IsTrue (is_visible issuer)
 IsVisibleIssuer (compared issuer) = IsTrue (is_visible issuer)
 IsVisibleIssuer unknown = Unit {0}
 
--- an answer that holds texts: a code, or an error
-abbrev pub HoldsTexts : Result (List ℕ) RedirectRefusal → Type 0
+-- the answer holds texts: it is a code, or the server's error
+abbrev pub HoldsTexts : Result (List ℕ) RedirectErrorView → Type 0
 HoldsTexts (Ok code) = Unit {0}
 HoldsTexts (Err other_state) = ⊥
 HoldsTexts (Err other_issuer) = ⊥
 HoldsTexts (Err (refused error)) = Unit {0}
 HoldsTexts (Err no_code) = ⊥
 
--- memory may be wanted: for the texts of the answer alone, if the state that is told and the issuer
--- that is expected have visible characters alone
+-- reading the redirect may run out of memory. If its `state` and the expected issuer have only
+-- visible ASCII characters, it may do so only for an answer that holds texts.
 abbrev pub MayWantMemory : List ℕ → IssuerExpectation → List Pair → Type 0
 MayWantMemory state issuer pairs =
     IfSome (sole_text (codes "state") pairs) (λ told. IsTrue (is_visible told)) → IsVisibleIssuer issuer
@@ -98,20 +102,20 @@ MayWantMemory state issuer pairs =
 
 -- ---- what is returned
 
--- an error tells that refusal, unless memory ran out
-abbrev pub TellsRefusal : RedirectError → Result (List ℕ) RedirectRefusal → Type 0
-TellsRefusal errors.OtherState expected = expected ≡ Err other_state
-TellsRefusal errors.OtherIssuer expected = expected ≡ Err other_issuer
-TellsRefusal (errors.Refused error) expected = expected ≡ Err (refused (parts_of authorization_error_code error))
-TellsRefusal errors.NoCode expected = expected ≡ Err no_code
-TellsRefusal errors.Memory expected = Unit {0}
+-- the error says why `expected` is no code; `Memory` says nothing about it
+abbrev pub ShowsRedirectError : RedirectError → Result (List ℕ) RedirectErrorView → Type 0
+ShowsRedirectError errors.OtherState expected = expected ≡ Err other_state
+ShowsRedirectError errors.OtherIssuer expected = expected ≡ Err other_issuer
+ShowsRedirectError (errors.Refused error) expected = expected ≡ Err (refused (parts_of authorization_error_code error))
+ShowsRedirectError errors.NoCode expected = expected ≡ Err no_code
+ShowsRedirectError errors.Memory expected = Unit {0}
 
--- what was returned is that answer, unless memory ran out
-abbrev pub Tells : Result (List ℕ) RedirectError → Result (List ℕ) RedirectRefusal → Type 0
+-- the result is the expected one, unless memory ran out
+abbrev pub Tells : Result (List ℕ) RedirectError → Result (List ℕ) RedirectErrorView → Type 0
 Tells (Ok code) expected = expected ≡ Ok code
-Tells (Err error) expected = TellsRefusal error expected
+Tells (Err error) expected = ShowsRedirectError error expected
 
--- the text of an error
+-- the text that `Display` writes of an error
 abbrev pub redirect_error_text : RedirectError → Option (List ℕ)
 redirect_error_text errors.OtherState = Some (codes "redirect has another state")
 redirect_error_text errors.OtherIssuer = Some (codes "redirect has another issuer")

@@ -1,4 +1,4 @@
-//! What values decode to, compared without memory where it is visible.
+//! Compares encoded values of a query with texts; this allocates nothing for visible ASCII texts.
 
 ghost use Rattle.std.specs.Prelude.{
   ◌≡◌,
@@ -24,7 +24,7 @@ use percent_encoding::percent_decode;
 use sha2::{Digest, Sha256};
 use std::alloc::{AllocError, Global};
 
-// Whether a text has visible characters alone.
+// Whether a text has only visible ASCII characters.
 fn is_visible(text: &[u8]) -> bool
     ensures { result ≡ is_visible text.now }
 {
@@ -36,7 +36,7 @@ fn is_visible(text: &[u8]) -> bool
     true
 }
 
-// Whether a value is this text.
+// Whether an encoded value decodes to this text. Allocates nothing if the text is visible ASCII.
 pub(crate) fn is_value(alloc: Global, encoded: &[u8], text: &str) -> Result<bool, AllocError>
     ensures is { IfOk result
         (λ is. is ≡ bytes_eq (utf8_lossy (decoded encoded.now)) text.now) }
@@ -48,7 +48,7 @@ pub(crate) fn is_value(alloc: Global, encoded: &[u8], text: &str) -> Result<bool
     Ok(decode(alloc, encoded)?.as_str() == text)
 }
 
-// The digest of what the escapes of a text stand for, where that is visible.
+// The SHA-256 digest of the percent-decoded bytes, if they are all visible ASCII.
 fn unescaped_digest(encoded: &[u8]) -> Option<[u8; 32]>
     ensures { let bytes = unescaped encoded.now in
         result ≡ (if is_visible bytes then Some (sha256 bytes) else None) }
@@ -63,7 +63,7 @@ fn unescaped_digest(encoded: &[u8]) -> Option<[u8; 32]>
     Some(hasher.finalize())
 }
 
-// The digest of a value, where that is visible.
+// The SHA-256 digest of the decoded value, if it is all visible ASCII.
 fn visible_digest(encoded: &[u8]) -> Option<[u8; 32]>
     ensures { let bytes = decoded encoded.now in
         result ≡ (if is_visible bytes then Some (sha256 bytes) else None) }
@@ -74,7 +74,7 @@ fn visible_digest(encoded: &[u8]) -> Option<[u8; 32]>
     unescaped_digest(encoded)
 }
 
-// Whether a value has the digest of this text.
+// Whether the decoded value and this text have equal digests.
 pub(crate) fn has_digest(alloc: Global, encoded: &[u8], text: &str) -> Result<bool, AllocError>
     ensures has { IfOk result
         (λ has. has ≡ digest_eq (utf8_lossy (decoded encoded.now)) text.now) }

@@ -3,12 +3,12 @@
 /// What a client knows of the issuer of the redirects that it gets (RFC 9207, section 2.4).
 #[derive(Clone, Copy, Debug, PartialEq, Eq)]
 pub enum ExpectedIssuer<'a> {
-    /// The server announces that its redirects tell its issuer
-    /// (`authorization_response_iss_parameter_supported`): one that does not is refused.
+    /// The server announces that its redirects have `iss`
+    /// (`authorization_response_iss_parameter_supported`): a redirect without it is refused.
     Required(&'a str),
-    /// The issuer is known, and not whether redirects tell it: one that tells another is refused,
-    /// and one that tells none is let through.
+    /// The issuer is known, but not whether the redirects have `iss`: a redirect with another
+    /// issuer is refused, and one without `iss` is accepted.
     Compared(&'a str),
-    /// The issuer is not known, and `iss` is not looked at.
+    /// The issuer is not known, and `iss` is ignored.
     Unknown,
 }

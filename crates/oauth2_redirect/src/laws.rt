@@ -1,4 +1,4 @@
-//! What a server finds that compares a login's URL with the request for its token.
+//! Laws: a login's URL and its token request agree when a server compares them.
 
 ghost use Rattle.std.specs.Prelude.{◌≡◌, ℕ, List, Some};
 ghost use Rattle.url.specs.Parts.{serialize};
@@ -10,12 +10,12 @@ ghost use Rattle.oauth2.specs.CodeFlow.{PassesCheck};
 ghost use Rattle.oauth2.specs.Settings.{Settings};
 ghost use Rattle.oauth2_redirect.specs.Start.{ShowsLogin};
 ghost use Rattle.oauth2_redirect.specs.End.{RepeatsRedirectUri, login_exchange};
-ghost use Rattle.oauth2_redirect.specs.Login.{Kept};
+ghost use Rattle.oauth2_redirect.specs.Login.{LoginView};
 
-/// A server that reads the URL of a login and the request for its code by their names finds that
-/// the login's verifier passes the check of the login's challenge (RFC 7636, section 4.6).
+/// The verifier in a login's token request passes the server's check against the challenge in the
+/// login's URL (RFC 7636, section 4.6).
 pub fn login_passes_check()
-    ensures { (login : Kept) (query : List Pair) (client : Settings) (endpoint : Addressed)
+    ensures { (login : LoginView) (query : List Pair) (client : Settings) (endpoint : Addressed)
         (code : List ℕ) (v : RequestView)
         → ShowsLogin login query
         → IsRequestOf (code_configuration (login_exchange client endpoint login code))
@@ -23,10 +23,10 @@ pub fn login_passes_check()
         → PassesCheck login.verifier query (form v.body) }
 {}
 
-/// Such a server finds the redirect URI of the login's URL in the request too (RFC 6749, section
-/// 4.1.3), whatever redirect URI the client has by then.
+/// A login's token request repeats the redirect URI of the login's URL (RFC 6749, section 4.1.3),
+/// whatever redirect URI the client has by then.
 pub fn login_repeats_redirect_uri()
-    ensures { (login : Kept) (uri : Addressed) (query : List Pair) (client : Settings)
+    ensures { (login : LoginView) (uri : Addressed) (query : List Pair) (client : Settings)
         (endpoint : Addressed) (code : List ℕ) (v : RequestView)
         → login.redirect_uri ≡ Some uri
         → ShowsLogin login query

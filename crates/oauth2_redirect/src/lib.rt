@@ -1,5 +1,5 @@
 //! The redirect by which a user comes back from the authorization endpoint, and a login that reads
-//! it before it asks for a token.
+//! it before it requests a token.
 
 #![tactic(auto)]
 

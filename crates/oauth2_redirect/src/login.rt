@@ -1,4 +1,4 @@
-//! A login by a code from its start to its token (RFC 6749, section 4.1; RFC 7636).
+//! A login by an authorization code, from its start to its token (RFC 6749, section 4.1; RFC 7636).
 
 ghost use Rattle.std.specs.Fmt.{DisplaysOnOk, WritesStyledOnOk};
 ghost use Rattle.std.specs.Prelude.{◌≡◌, ℕ, List, Ok, Err, Some, None, IfOk, false, codes};
@@ -11,13 +11,13 @@ ghost use Rattle.oauth2.specs.CodeFlow.{flow_authorization};
 ghost use Rattle.oauth2_redirect.specs.Query.{sole_text};
 ghost use Rattle.oauth2_redirect.specs.Redirect.{
   MayWantMemory,
-  RedirectRefusal,
+  RedirectErrorView,
   answer,
   is_state,
   issuer_expectation,
 };
 ghost use Rattle.oauth2_redirect.specs.End.{EndsLogin, ExchangesCode, login_exchange};
-ghost use Rattle.oauth2_redirect.specs.Login.{Kept, kept_login};
+ghost use Rattle.oauth2_redirect.specs.Login.{LoginView, login_view_of};
 
 use crate::issuer::ExpectedIssuer;
 use crate::login_error::LoginError;
@@ -36,8 +36,8 @@ use std::fmt;
 use std::marker::Model;
 use url::Url;
 
-/// What an application keeps with the session while its user is away: the state, the verifier, and
-/// the redirect URI that the login's URL bears.
+/// What an application keeps in the session while its user is away: the state, the verifier, and
+/// the redirect URI of the login's URL.
 #[derive(Drop)]
 pub struct Login {
     pub(crate) state: CsrfToken,
@@ -46,9 +46,9 @@ pub struct Login {
 }
 
 impl Model for Login {
-    ghost use Rattle.oauth2_redirect.specs.Login.{Kept};
+    ghost use Rattle.oauth2_redirect.specs.Login.{LoginView};
 
-    ghost Value = { Kept };
+    ghost Value = { LoginView };
 
     ghost view = { λ l. record {
       state = l.state;
@@ -58,13 +58,13 @@ impl Model for Login {
 }
 
 impl Login {
-    // A login of these parts.
+    // A login with these parts.
     pub(crate) fn new(
         state: CsrfToken,
         verifier: PkceCodeVerifier,
         redirect_uri: Option<RedirectUrl>,
     ) -> Login
-        ensures { result ≡ kept_login state verifier redirect_uri }
+        ensures { result ≡ login_view_of state verifier redirect_uri }
     {
         Login {
             state,
@@ -102,16 +102,16 @@ impl Login {
         Ok(LoginRequest::new(request, state, verifier, client.redirect_uri()))
     }
 
-    /// The state with which the user has to come back, to find the login that a redirect is for.
+    /// The state that the redirect must repeat: an application finds the login of a redirect by it.
     pub fn state(&self) -> &CsrfToken
         ensures { result.now ≡ self.now.state }
     {
         &self.state
     }
 
-    /// The token for the code that the redirect brings, where its state is the login's and it may
-    /// come from the expected issuer. On any other redirect the HTTP client is not called, and the
-    /// error gives the login back.
+    /// Requests the token for the redirect's code, if its state is the login's and it may come from
+    /// the expected issuer. On any other redirect the HTTP client is not called, and the login is
+    /// in the error.
     pub fn finish<TE, TR, TIR, RT, TRE, A, D, I, R, C: SyncHttpClient>(
         self,
         alloc: Global,
@@ -137,19 +137,19 @@ impl Login {
             × ExchangesCode TR.meaning TE.meaning TR.reading TE.reading C.step client.now self code
             http_client.old (Ok token) http_client.new) }
 
-        // A redirect that tells no code sends nothing, so none with another state does.
-        ensures no_code { (why : RedirectRefusal)
+        // Without a code nothing is sent, and so nothing is sent for another state.
+        ensures no_code { (why : RedirectErrorView)
             → answer self.state (issuer_expectation issuer.entry) (query_form redirect.now)
             ≡ Err why
             → http_client.new ≡ http_client.old }
         ensures other_state { let state = sole_text (codes "state") (query_form redirect.now) in
             is_state self.state state ≡ false → http_client.new ≡ http_client.old }
-        ensures given_back { (error : _) (login : Kept)
+        ensures given_back { (error : _) (login : LoginView)
             → result ≡ Err (LoginError.Redirect error login) → login ≡ self }
         ensures memory { result ≡ Err (LoginError.Redirect RedirectError.Memory self)
             → MayWantMemory self.state (issuer_expectation issuer.entry) (query_form redirect.now) }
 
-        // One that tells no state, or several, needs no memory.
+        // A redirect without a state, or with several, is refused without an allocation.
         ensures no_state { sole_text (codes "state") (query_form redirect.now) ≡ None
             → result ≡ Err (LoginError.Redirect RedirectError.OtherState self) }
         ensures ready { C.is_ready http_client.new }
@@ -158,8 +158,8 @@ impl Login {
         self.finish_query(alloc, client, http_client, query, issuer)
     }
 
-    /// What `finish` returns for a redirect with this query, which stands without the `?`, or with
-    /// this form as its body (`response_mode=form_post`): for a handler that has no `Url`.
+    /// As `finish`, for a handler that has no `Url`. `query` is the redirect's query without the
+    /// `?`, or the form in the body of the request (`response_mode=form_post`).
     pub fn finish_query<TE, TR, TIR, RT, TRE, A, D, I, R, C: SyncHttpClient>(
         self,
         alloc: Global,
@@ -184,31 +184,31 @@ impl Login {
             × ExchangesCode TR.meaning TE.meaning TR.reading TE.reading C.step client.now self code
             http_client.old (Ok token) http_client.new) }
 
-        // A redirect that tells no code sends nothing, so none with another state does.
-        ensures no_code { (why : RedirectRefusal)
+        // Without a code nothing is sent, and so nothing is sent for another state.
+        ensures no_code { (why : RedirectErrorView)
             → answer self.state (issuer_expectation issuer.entry) (form query.now) ≡ Err why
             → http_client.new ≡ http_client.old }
         ensures other_state { let state = sole_text (codes "state") (form query.now) in
             is_state self.state state ≡ false → http_client.new ≡ http_client.old }
-        ensures given_back { (error : _) (login : Kept)
+        ensures given_back { (error : _) (login : LoginView)
             → result ≡ Err (LoginError.Redirect error login) → login ≡ self }
         ensures memory { result ≡ Err (LoginError.Redirect RedirectError.Memory self)
             → MayWantMemory self.state (issuer_expectation issuer.entry) (form query.now) }
 
-        // One that tells no state, or several, needs no memory.
+        // A redirect without a state, or with several, is refused without an allocation.
         ensures no_state { sole_text (codes "state") (form query.now) ≡ None
             → result ≡ Err (LoginError.Redirect RedirectError.OtherState self) }
         ensures ready { C.is_ready http_client.new }
     {
         match read_redirect_query(alloc, query, &self.state, issuer) {
-            Ok(code) => self.exchanged(alloc, client, http_client, code),
+            Ok(code) => self.exchange_for_login(alloc, client, http_client, code),
             Err(error) => Err(LoginError::Redirect { error, login: self }),
         }
     }
 
-    /// The token for this code, which is what `finish` returns where the redirect tells it: for a
-    /// caller that reads the redirect itself (`read_redirect`), since it has more to do before the
-    /// code is sent. That the redirect is this login's is not looked at here.
+    /// Requests the token for this code. It is for a caller that reads the redirect itself, by
+    /// `read_redirect`, and has more to do before the code is sent. Nothing is checked here: the
+    /// caller must have checked that the redirect is this login's.
     pub fn finish_with_code<TE, TR, TIR, RT, TRE, A, D, I, R, C: SyncHttpClient>(
         self,
         alloc: Global,
@@ -232,8 +232,8 @@ impl Login {
             .request(alloc, http_client)
     }
 
-    // The same, with the error as one of a login.
-    fn exchanged<TE, TR, TIR, RT, TRE, A, D, I, R, C: SyncHttpClient>(
+    // As `finish_with_code`, with the error as a `LoginError`.
+    fn exchange_for_login<TE, TR, TIR, RT, TRE, A, D, I, R, C: SyncHttpClient>(
         self,
         alloc: Global,
         client: &Client<TE, TR, TIR, RT, TRE, A, D, I, R, EndpointSet>,
@@ -258,7 +258,7 @@ impl Login {
         }
     }
 
-    // The request for the token. It bears the redirect URI that the login's URL bears.
+    // The token request. It has the redirect URI of the login's URL.
     fn exchange<TE, TR, TIR, RT, TRE, A, D, I, R>(
         self,
         alloc: Global,
@@ -294,7 +294,7 @@ impl fmt::Debug for Login {
     fn fmt<W: fmt::Write>(&self, f: &mut fmt::Formatter<W>) -> fmt::Result
         ensures writes { DisplaysOnOk W.write_str_gives f.old result
             (Some (codes "Login([redacted])")) f.new }
-        // Whatever options the formatter has, as under `{:#?}`.
+        // The same for all options of the formatter, for example `{:#?}`.
         ensures styled { WritesStyledOnOk W.write_str_gives f.old result
             (codes "Login([redacted])") f.new }
     {

@@ -1,4 +1,4 @@
-//! Why a login gave no token.
+//! Why a login returned no token.
 
 use crate::login::Login;
 use crate::redirect::RedirectError;
@@ -6,16 +6,17 @@ use oauth2_types::display::write_display;
 use oauth2_wire::RequestTokenError;
 use std::fmt;
 
-/// Why a login gave no token.
+/// Why a login returned no token.
 #[derive(Drop)]
 pub enum LoginError<RE, T> {
-    /// The redirect has no code, or is not this login's. The HTTP client was not called.
+    /// The redirect has no code or is not this login's, or memory ran out before the token request.
+    /// The HTTP client was not called.
     Redirect {
         error: RedirectError,
-        /// The login as it was, to finish by another redirect.
+        /// The login as it was, to be finished by another redirect.
         login: Login,
     },
-    /// The token endpoint gave no token.
+    /// The token request failed.
     Token(RequestTokenError<RE, T>),
 }
 
@@ -61,7 +62,7 @@ impl<RE, T> fmt::Debug for LoginError<RE, T> {
     fn fmt<W: fmt::Write>(&self, f: &mut fmt::Formatter<W>) -> fmt::Result
         ensures writes { DisplaysOnOk W.write_str_gives f.old result
             (Some (login_error_debug self.now)) f.new }
-        // Whatever options the formatter has, as under `{:#?}`.
+        // The same for all options of the formatter, for example `{:#?}`.
         ensures styled { WritesStyledOnOk W.write_str_gives f.old result
             (login_error_debug self.now) f.new }
     {

@@ -6,7 +6,7 @@ ghost use Rattle.serde_json.specs.View.{view};
 ghost use Rattle.oauth2_json.specs.Writing.{WritesAs};
 ghost use Rattle.oauth2_redirect.specs.Login.{
   IsReadFromText,
-  Kept,
+  LoginView,
   login_reading,
   login_writing,
 };
@@ -18,7 +18,7 @@ use serde_json::{Map, Value};
 use std::alloc::{AllocError, Global};
 
 impl FromJson for Login {
-    ghost Meaning = { Kept };
+    ghost Meaning = { LoginView };
 
     ghost meaning = { λ l. l };
 
@@ -37,7 +37,7 @@ impl FromJson for Login {
     }
 }
 
-// The text of a redirect URI.
+// The JSON string of a redirect URI, if there is one.
 fn uri_value(alloc: Global, uri: &Option<RedirectUrl>) -> Result<Option<Value>, AllocError>
     ensures { IfOk result (λ v.
         option_map view v ≡ option_map (λ u. string u.text) uri.now) }
@@ -48,8 +48,8 @@ fn uri_value(alloc: Global, uri: &Option<RedirectUrl>) -> Result<Option<Value>, 
     }
 }
 
-// The members of a login.
-fn written(alloc: Global, login: &Login) -> Result<Value, WriteError>
+// The JSON object of a login.
+fn login_value(alloc: Global, login: &Login) -> Result<Value, WriteError>
     ensures { WritesAs result (login_writing login.now) }
 {
     let state = Value::try_from_str(alloc, login.state.secret().as_str())?;
@@ -70,6 +70,6 @@ impl ToJson for Login {
         ensures reads_back { IfOk result (λ v.
             IsReadFromText self.now.redirect_uri → login_reading (view v) ≡ Ok self.now) }
     {
-        written(alloc, self)
+        login_value(alloc, self)
     }
 }

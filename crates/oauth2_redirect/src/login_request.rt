@@ -1,4 +1,4 @@
-//! The start of a login: the URL that leads the user away, and what to keep meanwhile.
+//! The start of a login: the URL to send the user to, and what to keep until the user is back.
 
 ghost use Rattle.std.specs.Iterator.{Drains, IsFinite};
 ghost use Rattle.std.specs.Prelude.{
@@ -22,7 +22,7 @@ ghost use Rattle.oauth2_wire.specs.Texts.{param_bytes};
 ghost use Rattle.oauth2_requests.specs.Authorization.{query_pairs};
 ghost use Rattle.oauth2_form.specs.Query.{ExtendsQuery, query_form};
 ghost use Rattle.oauth2_redirect.specs.Start.{IsUrlRefusal, ShowsLogin};
-ghost use Rattle.oauth2_redirect.specs.Login.{kept_login};
+ghost use Rattle.oauth2_redirect.specs.Login.{login_view_of};
 
 use crate::login::Login;
 use crate::login_url_error::LoginUrlError;
@@ -60,7 +60,8 @@ impl<'a> Model for LoginRequest<'a> {
 }
 
 impl<'a> LoginRequest<'a> {
-    // A login by this request, which sends the verifier's challenge, the state and the redirect URI.
+    // A login by this request, which sends the verifier's challenge, the state and the redirect
+    // URI.
     pub(crate) fn new(
         request: AuthorizationRequest<'a>,
         state: CsrfToken,
@@ -80,7 +81,7 @@ impl<'a> LoginRequest<'a> {
         }
     }
 
-    /// The redirect URI that the URL bears.
+    /// The redirect URI in the URL, if there is one.
     pub fn redirect_uri(&self) -> Option<&RedirectUrl>
         ensures { option_copied result ≡ self.now.request.redirect_url }
     {
@@ -123,7 +124,7 @@ impl<'a> LoginRequest<'a> {
         })
     }
 
-    /// Adds a parameter. It may bear a name that the login itself sends, and both are then sent.
+    /// Adds a parameter. If the login itself sends one with that name, both are sent.
     pub fn add_extra_param(
         self,
         name: ParamText<'a>,
@@ -144,8 +145,8 @@ impl<'a> LoginRequest<'a> {
         })
     }
 
-    /// Sets the redirect URI, which is the client's unless set. The request for the token bears it
-    /// too (RFC 6749, section 4.1.3).
+    /// Sets the redirect URI, in place of the client's. The token request repeats it (RFC 6749,
+    /// section 4.1.3).
     pub fn set_redirect_uri(self, redirect_uri: &'a RedirectUrl) -> Self
         ensures { result ≡ record self.entry {
           request = record self.entry.request { redirect_url = Some redirect_uri.now };
@@ -159,15 +160,15 @@ impl<'a> LoginRequest<'a> {
         }
     }
 
-    /// The URL to send the user to, and what to keep until the user is back. Where there is none,
-    /// this request is part of the error, so `url` can be asked again.
+    /// The URL to send the user to, and what to keep until the user is back. An error holds this
+    /// request, so that `url` can be called again.
     pub fn url(self, alloc: Global) -> Result<(Url, Login), LoginUrlError<'a>>
         ensures url { IfOk result (λ (url, _).
             ExtendsQuery self.entry.request.auth_url.url url (query_pairs self.entry.request)) }
         ensures kept { IfOk result (λ (_, login). let request = self.entry.request in
-            login ≡ kept_login request.state self.entry.verifier request.redirect_url) }
+            login ≡ login_view_of request.state self.entry.verifier request.redirect_url) }
 
-        // What a server reads of the URL by name.
+        // The parameters that a server finds in the URL.
         ensures shows { IsTrue (avoid_own_names (query_form self.entry.request.auth_url.url))
             → IsTrue (avoid_own_names self.entry.request.extra_params)
             → IfOk result (λ (url, login). ShowsLogin login (query_form url)) }
@@ -193,7 +194,7 @@ impl<'a> LoginRequest<'a> {
         ensures redirect_uri { IfOk result (λ (_, uri). uri ≡ self.now.request.redirect_url) }
         ensures refusal { IfErr result (IsUrlRefusal self.now.request) }
     {
-        // Made first, so that a URL that is too long is told whether or not the copy has room.
+        // Made first, so that a URL that is too long is reported even if the copy would fail.
         let url = self.request.authorization_url(alloc)?;
         match self.redirect_uri {
             Some(redirect_uri) => Ok((url, Some(redirect_uri.try_clone(alloc)?))),
@@ -208,7 +209,7 @@ impl fmt::Debug for LoginRequest<'_> {
     fn fmt<W: fmt::Write>(&self, f: &mut fmt::Formatter<W>) -> fmt::Result
         ensures writes { DisplaysOnOk W.write_str_gives f.old result
             (Some (codes "LoginRequest([redacted])")) f.new }
-        // Whatever options the formatter has, as under `{:#?}`.
+        // The same for all options of the formatter, for example `{:#?}`.
         ensures styled { WritesStyledOnOk W.write_str_gives f.old result
             (codes "LoginRequest([redacted])") f.new }
     {

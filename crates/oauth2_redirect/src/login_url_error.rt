@@ -7,7 +7,7 @@ use url::ParseError;
 /// Why a login has no URL, and the login itself.
 #[derive(Drop)]
 pub struct LoginUrlError<'a> {
-    /// `OutOfMemory`, or `Overflow` where the URL would be longer than a `Url` can be.
+    /// `Overflow` if the URL would be longer than a `Url` can be, and else `OutOfMemory`.
     pub error: ParseError,
     /// The login as it was.
     pub request: LoginRequest<'a>,
@@ -49,7 +49,7 @@ impl fmt::Debug for LoginUrlError<'_> {
     fn fmt<W: fmt::Write>(&self, f: &mut fmt::Formatter<W>) -> fmt::Result
         ensures writes { DisplaysOnOk W.write_str_gives f.old result
             (Some (codes "LoginUrlError([redacted])")) f.new }
-        // Whatever options the formatter has, as under `{:#?}`.
+        // The same for all options of the formatter, for example `{:#?}`.
         ensures styled { WritesStyledOnOk W.write_str_gives f.old result
             (codes "LoginUrlError([redacted])") f.new }
     {

@@ -1,4 +1,4 @@
-//! The parameters of a query, read by name.
+//! Looks up the parameters of a query by their names.
 
 ghost use Rattle.std.specs.Cow.{cow_str_bytes};
 ghost use Rattle.std.specs.Prelude.{
@@ -31,7 +31,7 @@ use form_urlencoded::{decode, raw_pairs};
 use percent_encoding::percent_decode;
 use std::alloc::{AllocError, Global};
 
-// Whether the escapes of a text stand for these bytes.
+// Whether a text percent-decodes to these bytes.
 fn unescapes_to(encoded: &[u8], bytes: &[u8]) -> bool
     ensures { result ≡ bytes_eq (unescaped encoded.now) bytes.now }
 {
@@ -45,7 +45,7 @@ fn unescapes_to(encoded: &[u8], bytes: &[u8]) -> bool
     left.is_empty()
 }
 
-// Whether a text decodes to this one, which is visible. It takes no memory.
+// Whether an encoded text decodes to `text`, which is visible ASCII. Allocates nothing.
 pub(crate) fn decodes_to(encoded: &[u8], text: &str) -> bool
     requires { is_visible text.now ≡ true }
     ensures { result ≡ bytes_eq (decoded encoded.now) text.now }
@@ -56,7 +56,7 @@ pub(crate) fn decodes_to(encoded: &[u8], text: &str) -> bool
     unescapes_to(encoded, text.as_bytes())
 }
 
-// Whether a pair is a parameter of this name that has a value.
+// Whether a pair is a parameter with this name and a value. `bearer` is its encoded name.
 fn is_sent(bearer: &[u8], value: &[u8], name: &str) -> bool
     requires { is_visible name.now ≡ true }
     ensures { let pair : Pair = (decoded bearer.now, decoded value.now) in
@@ -68,7 +68,7 @@ fn is_sent(bearer: &[u8], value: &[u8], name: &str) -> bool
     decodes_to(bearer, name)
 }
 
-// The value of the sole parameter of a name, as it is encoded.
+// The encoded value of the parameter with this name, if it is sent exactly once.
 pub(crate) fn sole_encoded<'a>(query: &'a str, name: &str) -> Option<&'a [u8]>
     requires { is_visible name.now ≡ true }
     ensures { option_map (λ value. decoded value.now) result
@@ -86,7 +86,7 @@ pub(crate) fn sole_encoded<'a>(query: &'a str, name: &str) -> Option<&'a [u8]>
     found
 }
 
-// The value of the first parameter of a name, as it is encoded.
+// The encoded value of the first parameter with this name.
 pub(crate) fn first_encoded<'a>(query: &'a str, name: &str) -> Option<&'a [u8]>
     requires { is_visible name.now ≡ true }
     ensures { option_map (λ value. decoded value.now) result
@@ -100,14 +100,14 @@ pub(crate) fn first_encoded<'a>(query: &'a str, name: &str) -> Option<&'a [u8]>
     None
 }
 
-// The decoded text of a value.
+// The decoded text of a value, with U+FFFD for what is not UTF-8.
 pub(crate) fn decoded_text(alloc: Global, encoded: &[u8]) -> Result<String, AllocError>
     ensures { IfOk result (λ text. string_bytes text ≡ utf8_lossy (decoded encoded.now)) }
 {
     decode(alloc, encoded)?.into_owned(alloc)
 }
 
-// The value of the sole parameter of a name.
+// The decoded value of the parameter with this name, if it is sent exactly once.
 pub(crate) fn sole_value(
     alloc: Global,
     query: &str,
@@ -124,7 +124,7 @@ pub(crate) fn sole_value(
     }
 }
 
-// The value of the first parameter of a name.
+// The decoded value of the first parameter with this name.
 pub(crate) fn first_value(
     alloc: Global,
     query: &str,

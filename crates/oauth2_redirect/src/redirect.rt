@@ -1,4 +1,4 @@
-//! The redirect by which the user comes back (RFC 6749, sections 4.1.2 and 4.1.2.1).
+//! The redirect back from the authorization endpoint (RFC 6749, sections 4.1.2 and 4.1.2.1).
 
 ghost use Rattle.std.specs.Prelude.{
   ◌≡◌,
@@ -44,15 +44,15 @@ use url::Url;
 /// The error response of the authorization endpoint.
 pub type AuthorizationErrorResponse = StandardErrorResponse<AuthorizationErrorResponseType>;
 
-/// Why a redirect gives no code.
+/// Why no code was read from a redirect.
 #[derive(Debug, PartialEq, Eq, Drop)]
 pub enum RedirectError {
-    /// The redirect's state is not the login's, so nothing of the redirect counts.
+    /// The redirect's `state` is not the login's, or is absent or repeated. Nothing else is read.
     OtherState,
-    /// The redirect tells another issuer than the expected one, or several, or none where it has to
-    /// tell it.
+    /// The redirect's `iss` is not the expected issuer, or is repeated, or is absent although it is
+    /// required (RFC 9207, section 2.4).
     OtherIssuer,
-    /// The authorization endpoint gave no code, and told why.
+    /// The authorization endpoint sent an error response instead of a code.
     Refused(AuthorizationErrorResponse),
     /// There is no code, or more than one.
     NoCode,
@@ -91,7 +91,7 @@ impl From<AllocError> for RedirectError {
     }
 }
 
-// Whether the query tells this state, by its digest.
+// Whether the query's `state` is this state, compared by their digests.
 fn has_state(alloc: Global, query: &str, state: &CsrfToken) -> Result<bool, AllocError>
     ensures has { IfOk result (λ has. has
         ≡ is_state state.now (sole_text (codes "state") (form query.now))) }
@@ -122,7 +122,7 @@ fn has_issuer(alloc: Global, query: &str, issuer: ExpectedIssuer<'_>) -> Result<
     }
 }
 
-// Whether the query tells this issuer and no other.
+// Whether the query has exactly one `iss`, and it is this issuer.
 fn tells_issuer(alloc: Global, query: &str, issuer: &str) -> Result<bool, AllocError>
     ensures tells { IfOk result (λ tells. tells
         ≡ is_issuer (required issuer.now) (texts (codes "iss") (form query.now))) }
@@ -134,14 +134,14 @@ fn tells_issuer(alloc: Global, query: &str, issuer: &str) -> Result<bool, AllocE
     }
 }
 
-// Whether the query tells no issuer.
+// Whether the query has no `iss`.
 fn tells_no_issuer(query: &str) -> bool
     ensures { result ≡ is_none (first_text (codes "iss") (form query.now)) }
 {
     first_encoded(query, "iss").is_none()
 }
 
-// The error that the query tells.
+// The error response of the query, if it has an `error`.
 fn error_of(alloc: Global, query: &str) -> Result<Option<AuthorizationErrorResponse>, AllocError>
     ensures told { IfOk result (λ error. option_map (parts_of authorization_error_code) error
         ≡ error_told (first_text (codes "error") (form query.now)) (form query.now)) }
@@ -157,11 +157,12 @@ fn error_of(alloc: Global, query: &str) -> Result<Option<AuthorizationErrorRespo
     )))
 }
 
-/// The code that a redirect brings, where its state is the login's and it may come from the
-/// expected issuer (RFC 9207, section 2.4).
+/// The `code` of a redirect, if its `state` is the login's and it may come from the expected issuer
+/// (RFC 9207, section 2.4).
 ///
-/// A parameter counts where it has a value and is sent once (RFC 6749, section 3.1). Nothing of a
-/// redirect with another state is told, and the fragment is not read.
+/// A parameter without a value is treated as omitted, and one that is sent twice is not used (RFC
+/// 6749, section 3.1), except that the first `error` counts. If the state is another one, nothing
+/// else is read. The fragment is never read.
 pub fn read_redirect(
     alloc: Global,
     redirect: &Url,
@@ -174,15 +175,15 @@ pub fn read_redirect(
     ensures memory { result ≡ Err RedirectError.Memory
         → MayWantMemory state.now (issuer_expectation issuer.entry) (query_form redirect.now) }
 
-    // One that tells no state, or several, needs no memory.
+    // A redirect without a state, or with several, is refused without an allocation.
     ensures no_state { sole_text (codes "state") (query_form redirect.now) ≡ None
         → result ≡ Err RedirectError.OtherState }
 {
     read_redirect_query(alloc, redirect.query().unwrap_or(""), state, issuer)
 }
 
-/// What `read_redirect` returns for a redirect with this query, which stands without the `?`, or
-/// with this form as its body (`response_mode=form_post`): for a handler that has no `Url`.
+/// As `read_redirect`, for a handler that has no `Url`. `query` is the redirect's query without the
+/// `?`, or the form in the body of the request (`response_mode=form_post`).
 pub fn read_redirect_query(
     alloc: Global,
     query: &str,
@@ -195,7 +196,7 @@ pub fn read_redirect_query(
     ensures memory { result ≡ Err RedirectError.Memory
         → MayWantMemory state.now (issuer_expectation issuer.entry) (form query.now) }
 
-    // One that tells no state, or several, needs no memory.
+    // A redirect without a state, or with several, is refused without an allocation.
     ensures no_state { sole_text (codes "state") (form query.now) ≡ None
         → result ≡ Err RedirectError.OtherState }
 {

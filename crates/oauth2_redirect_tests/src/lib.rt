@@ -1,4 +1,4 @@
-//! Queries of redirects, the codes of errors, and logins from their URL to their token.
+//! Tests of the queries of redirects, of error codes, and of logins from their URL to their token.
 
 #![tactic(auto)]
 

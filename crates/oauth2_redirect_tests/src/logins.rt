@@ -1,4 +1,4 @@
-//! Logins from their URL to their token.
+//! Tests of logins from their URL to their token.
 
 use oauth2::basic::{BasicClient, BasicErrorResponse, BasicTokenResponse};
 use oauth2::http::Response;
@@ -20,7 +20,7 @@ type LoginClient = BasicClient<
     EndpointSet,
 >;
 
-// A text of which proofs know nothing.
+// Makes a text whose bytes proofs do not see.
 fn text(rt: &(impl Abort + AllocGlobal), text: &str) -> String {
     String::from_str(rt.alloc(), text).expect(rt, "a text")
 }
@@ -38,7 +38,7 @@ fn client(rt: &(impl Abort + AllocGlobal)) -> LoginClient {
         .set_token_uri(token)
 }
 
-// An HTTP client that keeps the bodies it was handed, each on a line.
+// An HTTP client that keeps the bodies of its requests, each on a line.
 #[derive(Drop)]
 struct Canned {
     bodies: Vec<u8>,
@@ -69,21 +69,21 @@ fn answering(rt: &(impl Abort + AllocGlobal), body: &str) -> Canned {
     }
 }
 
-// A login that was stored as this.
+// The login that was stored as this text.
 fn login(rt: &(impl Abort + AllocGlobal), stored: &str) -> Login {
     read_body(rt.alloc(), stored.as_bytes())
         .ok()
         .expect(rt, "a login")
 }
 
-// A login whose URL bore no redirect URI, and one whose URL did. The verifier is that of RFC 7636,
-// appendix B.
+// A login whose URL had no redirect URI, and one whose URL had one. The verifier is that of RFC
+// 7636, appendix B.
 const STORED: &str = r#"{"state":"s7","verifier":"dBjftJeZ4CVP-mB92K27uhbUJU1p1r_wW1gFWFOEjXk"}"#;
 
 const STORED_WITH_A_REDIRECT: &str =
     r#"{"redirect_uri":"https://app.example/cb?a=1","state":"s7","verifier":"dBjftJeZ4CVP-mB92K27uhbUJU1p1r_wW1gFWFOEjXk"}"#;
 
-// What a login that was stored as this ends with, whose user comes back by this redirect.
+// The result of a login that was stored as this text, and whose user comes back with this redirect.
 fn stored_ends(
     rt: &(impl Abort + AllocGlobal),
     http_client: &mut Canned,
@@ -121,7 +121,7 @@ fn a_login_gets_its_token(rt: HostRuntime) {
     assert_eq!(rt; http_client.bodies.as_slice(), sent.as_bytes());
 }
 
-// RFC 6749, section 4.1.3: the redirect URI has to be the one of the login's URL.
+// RFC 6749, section 4.1.3: the token request has the redirect URI of the login's URL.
 #[test]
 fn a_login_sends_its_redirect_uri_again(rt: HostRuntime) {
     let mut http_client = answering(&rt, REPLY);
@@ -186,7 +186,7 @@ fn a_login_whose_code_is_refused(rt: HostRuntime) {
     assert!(rt; !http_client.bodies.is_empty());
 }
 
-// The login that a redirect with another state gives back.
+// The login that is returned with the error for a redirect with another state.
 fn given_back(rt: &(impl Abort + AllocGlobal), http_client: &mut Canned) -> Option<Login> {
     let redirect = "https://app.example/cb?code=c1&state=s8";
     match stored_ends(rt, http_client, STORED_WITH_A_REDIRECT, redirect) {
@@ -195,7 +195,8 @@ fn given_back(rt: &(impl Abort + AllocGlobal), http_client: &mut Canned) -> Opti
     }
 }
 
-// Whether the login gets its token by the body of a form (`response_mode=form_post`).
+// Whether the login gets its token if the redirect's parameters are the body of a form
+// (`response_mode=form_post`).
 fn gets_its_token(rt: &(impl Abort + AllocGlobal), http_client: &mut Canned, login: Login) -> bool {
     let body = "state=s7&code=c1&iss=https%3A%2F%2Fas.example";
     let issuer = ExpectedIssuer::Required("https://as.example");
@@ -204,8 +205,8 @@ fn gets_its_token(rt: &(impl Abort + AllocGlobal), http_client: &mut Canned, log
         .is_ok()
 }
 
-// RFC 6749, section 4.1.2.1: a stranger's redirect costs no login. It waits for the same state, and
-// its own redirect brings its token.
+// RFC 6749, section 4.1.2.1: a redirect with another state does not end a login. The error returns
+// the login, which still gets its token by its own redirect.
 #[test]
 fn a_login_is_given_back(rt: HostRuntime) {
     let mut http_client = answering(&rt, REPLY);
@@ -255,7 +256,7 @@ fn started<'a>(rt: &(impl Abort + AllocGlobal), client: &'a LoginClient) -> Logi
         .expect(rt, "room")
 }
 
-// A login has this URL, and is stored as this text.
+// Checks that a login has this URL, and is stored as this text.
 fn assert_login(
     rt: &(impl Abort + AllocGlobal),
     request: LoginRequest<'_>,

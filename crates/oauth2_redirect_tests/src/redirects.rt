@@ -1,4 +1,4 @@
-//! Queries without a URL, and the codes of errors. Scripts test what a whole URL says.
+//! Tests of queries without a URL, and of error codes. Scripts test whole URLs.
 
 use oauth2_codes::AuthorizationErrorResponseType;
 use oauth2_redirect::{ExpectedIssuer, RedirectError, read_redirect_query};
@@ -6,7 +6,7 @@ use oauth2_types::{AuthorizationCode, CsrfToken};
 use std::alloc::{AllocError, Global};
 use std::test::Fail;
 
-// What was read, as one line.
+// The result of reading a redirect, as one line.
 fn line(
     alloc: Global,
     read: Result<AuthorizationCode, RedirectError>,
@@ -17,14 +17,14 @@ fn line(
     }
 }
 
-// What a query says to a login with the state `s7`, as one line.
+// What a query is read as for a login with the state `s7`, as one line.
 fn told(alloc: Global, query: &str) -> Result<String, AllocError> {
     let state = CsrfToken::from_str(alloc, "s7")?;
     let read = read_redirect_query(alloc, query, &state, ExpectedIssuer::Unknown);
     line(alloc, read)
 }
 
-// A query, and what it says.
+// A query, and what it is read as.
 const QUERIES: [(&str, &str); 4] = [
     ("state=s7&code=a+b%20c%2Bd", "code a b c+d"),
     ("", "redirect has another state"),
@@ -44,7 +44,7 @@ fn reads_a_query(rt: HostRuntime) -> Result<(), Fail> {
     Ok(())
 }
 
-// The code of a text.
+// The error code with this text.
 fn code(alloc: Global, text: &str) -> Result<AuthorizationErrorResponseType, AllocError> {
     Ok(AuthorizationErrorResponseType::from_text(String::from_str(alloc, text)?))
 }

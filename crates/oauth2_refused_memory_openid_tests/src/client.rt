@@ -1,4 +1,4 @@
-//! The client of the rows, and an HTTP client that replies once.
+//! The client of the rows, and an HTTP client that returns one reply.
 
 use oauth2::http::Response;
 use oauth2::{AuthUrl, Client, ClientId, HttpRequest, HttpResponse, SyncHttpClient, TokenUrl};
@@ -21,8 +21,8 @@ pub fn client(alloc: Global) -> Result<OpenIdClient, Ended> {
 #[derive(Clone, Copy, Debug)]
 pub struct NoReply;
 
-/// An HTTP client that replies at its first call. The reply was made before, so a call takes no
-/// memory.
+/// An HTTP client that returns one reply, at its first call. The reply was made before, so a call
+/// does not allocate.
 #[derive(Drop)]
 pub struct OneReply {
     pub calls: u64,
@@ -32,7 +32,7 @@ pub struct OneReply {
 }
 
 impl OneReply {
-    /// A client with this body ready, under status 200.
+    /// A client that returns a reply with status 200 and this body.
     pub fn new(alloc: Global, body: &str) -> Result<OneReply, Ended> {
         let body = text(alloc, body)?.into_bytes();
         Ok(OneReply {

@@ -16,13 +16,13 @@ use std::alloc::Global;
 use std::io::Write;
 use std::time::Duration;
 
-// The redirect of the standard's example (3.1.2.5), which tells the issuer too (RFC 9207).
+// The redirect of the standard's example (3.1.2.5), with the issuer (RFC 9207).
 const REDIRECT: &str = "https://client.example.org/cb?code=SplxlOBeZQQYbYS6WxSbIA&state=af0ifjsldkj\
     &iss=http%3A%2F%2Fserver.example.com";
 
 // The token response of the standard's example (3.1.3.3). Its ID token was made and encoded by
-// Python: to the claims of the example it adds when the user logged in, and the hash of the access
-// token.
+// Python. It has the claims of the example, the time at which the user logged in, and the hash of
+// the access token.
 const TOKENS: &str = "{\"access_token\":\"SlAV32hkKG\",\"token_type\":\"Bearer\",\
     \"refresh_token\":\"8xLOxBtZp8\",\"expires_in\":3600,\"id_token\":\
     \"eyJhbGciOiJSUzI1NiJ9.eyJpc3MiOiJodHRwOi8vc2VydmVyLmV4YW1wbGUuY29tIiwic3ViIjoiMjQ4Mjg5NzY\
@@ -30,7 +30,7 @@ const TOKENS: &str = "{\"access_token\":\"SlAV32hkKG\",\"token_type\":\"Bearer\"
     pYXQiOjEzMTEyODA5NzAsImF1dGhfdGltZSI6MTMxMTI4MDk2OSwiYXRfaGFzaCI6InJYSDdRV1ZUWm5YWUNvdV8\
     2VmRwZmcifQ.c2ln\"}";
 
-// What a login ends with.
+// The result of a login.
 type End = Result<
     OpenIdLoginEnd<OpenIdTokenResponse>,
     OpenIdLoginError<NoReply, BasicErrorResponse>,
@@ -43,7 +43,7 @@ fn provider() -> OpenIdProvider<'static> {
         .set_algorithm("RS256")
 }
 
-/// Finishes the stored login.
+/// Finishes the stored login, and prints the result.
 pub fn show_login<W: Write>(alloc: Global, out: &mut W) -> Result<bool, Ended> {
     let client = client(alloc)?;
     let redirect = url(alloc, REDIRECT)?;
@@ -52,7 +52,7 @@ pub fn show_login<W: Write>(alloc: Global, out: &mut W) -> Result<bool, Ended> {
     show_finished(alloc, &client, login, &redirect, http_client, out)
 }
 
-// A URL of a text that proofs do not see, so that none parses it.
+// A URL made from a text that proofs do not see, so that no proof parses it.
 fn url(alloc: Global, url: &str) -> Result<Url, Ended> {
     Ok(Url::parse(alloc, url)?)
 }
@@ -78,7 +78,7 @@ fn show_finished<W: Write>(
     show_end(out, end)
 }
 
-// How often the HTTP client was called, and with what.
+// Prints how often the HTTP client was called, and the body of its request.
 fn show_request<W: Write>(out: &mut W, http_client: &OneReply) -> Result<(), Ended> {
     writeln!(out, "calls {}", http_client.calls)?;
     let Some(request) = &http_client.request else {
@@ -95,7 +95,7 @@ fn show_end<W: Write>(out: &mut W, end: End) -> Result<bool, Ended> {
     match end {
         Ok(end) => show_user(out, &end.id_token, end.access_token_hash),
         Err(OpenIdLoginError::Memory) => {
-            // It is told only after the token response came.
+            // This error is returned only after the token response has come.
             writeln!(out, "memory OpenIdLoginError {{ sent: true }}")?;
             Ok(false)
         }

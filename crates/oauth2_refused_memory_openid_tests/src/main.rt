@@ -1,10 +1,10 @@
 //! Tests of logins with OpenID Connect: runs the rows that standard input names, one on each line,
-//! and prints what comes of each. The file `stdout` has what it has to print:
+//! and prints the result of each. The file `stdout` has the expected output:
 //! `tools/tests/test_openid_rows.py` derives each line from the rows' inputs and the standards.
-//! `tools/refusals` refuses memory to each row.
+//! `tools/refusals` makes each row run out of memory.
 //!
-//! Printing takes no memory, so a growth that is refused belongs to a call of the row, or to what
-//! it is called with. The exit status is that of `run_rows`.
+//! Printing does not allocate, so an allocation that fails belongs to a call of the row, or to the
+//! values that it is called with. The exit status is that of `run_rows`.
 
 #![tactic(auto)]
 

@@ -1,4 +1,4 @@
-//! The rows by their names.
+//! Finds and runs the row of a name.
 
 use crate::ends::show_login;
 use crate::starts::{show_start, show_stored_login};
@@ -7,7 +7,7 @@ use oauth2_refused_memory_values_tests::{Ended, Rows};
 use std::alloc::Global;
 use std::io::Write;
 
-/// The calls of logins with OpenID Connect.
+/// The rows of logins with OpenID Connect.
 pub struct OpenIdRows;
 
 impl Rows for OpenIdRows {

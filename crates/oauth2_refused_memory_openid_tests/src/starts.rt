@@ -1,4 +1,4 @@
-//! The start of a login: its URL, and what is stored of it.
+//! The start of a login: its URL, and the stored login.
 
 use crate::client::client;
 use oauth2::url::Url;
@@ -10,13 +10,13 @@ use std::alloc::Global;
 use std::io::Write;
 use std::time::Duration;
 
-/// A login that was stored, with each of its members and one of another name.
+/// A stored login, with each of its members and one member with another name.
 pub const STORED: &str =
     "{\"state\":\"af0ifjsldkj\",\"verifier\":\"dBjftJeZ4CVP-mB92K27uhbUJU1p1r_wW1gFWFOEjXk\",\
     \"redirect_uri\":\"https://client.example.org/cb\",\"nonce\":\"n-0S6_WzA2Mj\",\
     \"max_age\":100,\"user\":null}";
 
-/// Starts a login of which everything is set, and shows its URL and what is stored of it.
+/// Starts a login with everything set, and prints its URL and the stored login.
 pub fn show_start<W: Write>(alloc: Global, out: &mut W) -> Result<bool, Ended> {
     let client = client(alloc)?;
     let redirect_uri = RedirectUrl::new(alloc, text(alloc, "https://client.example.org/cb")?)?;
@@ -24,7 +24,7 @@ pub fn show_start<W: Write>(alloc: Global, out: &mut W) -> Result<bool, Ended> {
     show_request(alloc, request, out)
 }
 
-// The state, the verifier and the nonce are what the generator draws.
+// Starts the login. Its state, its verifier and its nonce come from the generator.
 fn started<'a>(
     alloc: Global,
     client: &'a OpenIdClient,
@@ -55,7 +55,7 @@ fn show_request<W: Write>(
     show_stored(alloc, &login, out)
 }
 
-// The URL of a login. A refused one does not lose the login, so it is asked for again.
+// The URL of a login. An error returns the request too, so this tries once more.
 fn url_of(alloc: Global, request: OpenIdLoginRequest<'_>) -> Result<(Url, OpenIdLogin), Ended> {
     match request.url(alloc) {
         Ok(made) => Ok(made),
@@ -73,13 +73,13 @@ fn ended(fault: OpenIdLoginUrlFault) -> Ended {
     }
 }
 
-/// Reads the stored login, and shows how it is stored again.
+/// Reads the stored login, and prints how it is stored again.
 pub fn show_stored_login<W: Write>(alloc: Global, out: &mut W) -> Result<bool, Ended> {
     let login = stored_login(alloc, STORED)?;
     show_stored(alloc, &login, out)
 }
 
-/// The login that was stored as a text that proofs do not see, so that none reads it.
+/// The login that was stored as this text, which proofs do not see, so that no proof reads it.
 pub fn stored_login(alloc: Global, stored: &str) -> Result<OpenIdLogin, Ended> {
     Ok(read_body(alloc, stored.as_bytes())?)
 }

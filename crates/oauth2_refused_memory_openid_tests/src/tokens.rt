@@ -1,4 +1,4 @@
-//! ID tokens.
+//! Reads and checks ID tokens.
 
 use crate::client::CLIENT_ID;
 use jiff::Timestamp;
@@ -23,7 +23,7 @@ const TOKEN: &str =
      xcm-ChymrB4xLykpDj3lUivJt63eEGGN6DH5K6o33TcxkIjNrCD4XB1CKKumZvCedgHHF3IAK4dVEDSU\
      oGlH9z4pP_eWYNXvqQOjGs-rDaQzUHl6cQQWNiDpWOl_lxXjQEvQ";
 
-/// A moment at which the tokens of the standard's examples are good.
+/// A time at which the ID tokens of the standard's examples are valid.
 pub fn now() -> Result<Timestamp, Ended> {
     match Timestamp::from_second(1_311_281_000) {
         Ok(now) => Ok(now),
@@ -59,7 +59,7 @@ pub fn show_token<W: Write>(alloc: Global, out: &mut W) -> Result<bool, Ended> {
     }
 }
 
-// The ID token of a text that proofs do not see, so that none decodes it.
+// The ID token of this text, which proofs do not see, so that no proof decodes it.
 fn id_token(alloc: Global, token: &str) -> Result<IdToken, IdTokenReadError> {
     IdToken::from_text(alloc, token)
 }
@@ -76,7 +76,7 @@ fn show_checked<W: Write>(
     }
 }
 
-/// Who the user is, and what the ID token says of the access token.
+/// Prints who the user is, and the result of comparing the access token's hash with the ID token's.
 pub fn show_user<W: Write>(
     out: &mut W,
     id_token: &IdToken,

@@ -1,4 +1,4 @@
-//! A buffer of parameters that goes on where memory was refused.
+//! A buffer of request parameters that can be used after it ran out of memory.
 
 ghost use Rattle.std.specs.Prelude.{◌≡◌, OnErr, OnOk};
 ghost use Rattle.oauth2_refused_memory_tests.specs.Additions.{with_addition};
@@ -8,7 +8,7 @@ use oauth2::{HttpRequest, ParamBuffer, endpoint_request_encoded};
 use oauth2_refused_memory_values_tests::Ended;
 use std::alloc::{AllocError, Global};
 
-/// What a buffer is given.
+/// What is added to a buffer: a scope, or the name and the value of an extra parameter.
 #[derive(Clone, Copy)]
 pub enum Addition<'a> {
     Scope(&'a str),
@@ -36,7 +36,7 @@ pub fn add_at_last(buffer: &mut ParamBuffer, addition: Addition<'_>) -> Result<b
     Ok(true)
 }
 
-/// Adds all of them by `add_at_last`. Returns whether one had to be tried again.
+/// Adds all of them with `add_at_last`. Returns whether one had to be tried again.
 pub fn add_all(buffer: &mut ParamBuffer, additions: &[Addition<'_>]) -> Result<bool, AllocError> {
     let mut was_refused = false;
     for addition in additions {
@@ -47,7 +47,7 @@ pub fn add_all(buffer: &mut ParamBuffer, additions: &[Addition<'_>]) -> Result<b
     Ok(was_refused)
 }
 
-/// The request to the token endpoint with what the buffer holds.
+/// The request to the token endpoint with the buffer's parameters.
 pub fn request_of(
     alloc: Global,
     client: &RowClient,

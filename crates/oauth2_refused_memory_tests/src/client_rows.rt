@@ -1,4 +1,4 @@
-//! The rows that have a client.
+//! The rows that need a client.
 
 use crate::clients::{ClientTexts, RowClient, USUAL};
 use crate::exchanges::show_exchange;
@@ -18,7 +18,7 @@ const WITHOUT_A_SECRET: ClientTexts<'static> = ClientTexts {
     ..USUAL
 };
 
-// The clients that differ from the usual one, by the rows' names.
+// The clients that differ from the usual one, each with the name of its row.
 const CLIENTS: [(&str, ClientTexts<'static>); 9] = [
     (
         "basic_credentials",
@@ -69,7 +69,7 @@ const CLIENTS: [(&str, ClientTexts<'static>); 9] = [
     ),
 ];
 
-/// What the client of a row is made of.
+/// The texts that the client of a row is made of.
 pub fn texts_of(name: &str) -> ClientTexts<'static> {
     find(&CLIENTS, name).unwrap_or(USUAL)
 }
@@ -219,7 +219,7 @@ pub fn client_row(name: &str) -> Option<ClientRow> {
     find(&ROWS, name)
 }
 
-/// Runs a row with its client.
+/// Runs a row with its client, and prints the result.
 pub fn show_client_row<W: Write>(
     alloc: Global,
     client: &RowClient,

@@ -57,21 +57,21 @@ fn secret(alloc: Global, secret: Option<&str>) -> Result<Option<ClientSecret>, E
     }
 }
 
-// Where the client asks for codes and tokens.
+// The authorization endpoint and the token endpoint.
 fn token_endpoints(alloc: Global, texts: ClientTexts<'_>) -> Result<(AuthUrl, TokenUrl), Ended> {
     let auth = AuthUrl::new(alloc, text(alloc, texts.auth_url)?)?;
     let token = TokenUrl::new(alloc, text(alloc, texts.token_url)?)?;
     Ok((auth, token))
 }
 
-// Where a device asks for its codes, and where tokens are shown.
+// The device authorization endpoint and the introspection endpoint.
 fn other_endpoints(alloc: Global) -> Result<(DeviceAuthorizationUrl, IntrospectionUrl), Ended> {
     let device = DeviceAuthorizationUrl::new(alloc, text(alloc, "https://example.com/device")?)?;
     let introspection = IntrospectionUrl::new(alloc, text(alloc, "https://example.com/inspect")?)?;
     Ok((device, introspection))
 }
 
-// A client that asks for codes and tokens alone.
+// A client with only an authorization endpoint and a token endpoint.
 type CodeClient = BasicClient<
     EndpointSet,
     EndpointNotSet,
@@ -80,7 +80,7 @@ type CodeClient = BasicClient<
     EndpointSet,
 >;
 
-// A client of these texts without a secret, which asks for codes and tokens.
+// A client of these texts without a secret, with an authorization endpoint and a token endpoint.
 fn code_client(alloc: Global, texts: ClientTexts<'_>) -> Result<CodeClient, Ended>
     ensures id { IfOk result (λ client. client.client_id ≡ texts.entry.id.now) }
     ensures secret { IfOk result (λ client. client.client_secret ≡ None) }
@@ -90,7 +90,7 @@ fn code_client(alloc: Global, texts: ClientTexts<'_>) -> Result<CodeClient, Ende
     Ok(BasicClient::new(id).set_auth_uri(auth).set_token_uri(token))
 }
 
-// The same with the other endpoints.
+// A client of these texts without a secret, with the other endpoints too.
 fn public_client(alloc: Global, texts: ClientTexts<'_>) -> Result<RowClient, Ended>
     ensures id { IfOk result (λ client. client.client_id ≡ texts.entry.id.now) }
     ensures secret { IfOk result (λ client. client.client_secret ≡ None) }
@@ -106,7 +106,8 @@ fn public_client(alloc: Global, texts: ClientTexts<'_>) -> Result<RowClient, End
     )
 }
 
-/// A client of these texts.
+/// A client of these texts. It has every endpoint, except that the texts may have no revocation
+/// endpoint.
 pub fn client_of(alloc: Global, texts: ClientTexts<'_>) -> Result<RowClient, Ended>
     ensures id { IfOk result (λ client. client.client_id ≡ texts.entry.id.now) }
     ensures secret { IfOk result (λ client. client.client_secret
@@ -130,7 +131,7 @@ fn has_same_endpoints(client: &RowClient, copy: &RowClient) -> bool
         && client.revocation_url() == copy.revocation_url()
 }
 
-// The request that shows the client's credentials, if it has a target.
+// A request with the client's credentials. `None` if the token endpoint is no HTTP target.
 fn shown(alloc: Global, client: &RowClient) -> Result<Option<HttpRequest>, Ended> {
     let request = client.exchange_client_credentials(alloc);
     match request.prepare_request(alloc) {
@@ -140,7 +141,7 @@ fn shown(alloc: Global, client: &RowClient) -> Result<Option<HttpRequest>, Ended
     }
 }
 
-// Whether a client's request is the same as this one.
+// Whether a client's request has the same header and body as `post`.
 fn is_shown_by(alloc: Global, post: &HttpRequest, client: &RowClient) -> Result<bool, Ended> {
     match shown(alloc, client)? {
         Some(other) => Ok(post.headers() == other.headers() && post.body() == other.body()),

@@ -1,10 +1,10 @@
-//! A client that counts its calls.
+//! An HTTP client that counts its calls.
 
 ghost use Rattle.std.specs.Prelude.{◌≡◌, Some, None};
 
 use oauth2::{HttpRequest, HttpResponse, SyncHttpClient};
 
-/// The reply was returned before.
+/// The client has returned its reply in an earlier call.
 #[derive(Clone, Copy)]
 pub struct NoReply;
 
@@ -19,6 +19,7 @@ pub struct CountingClient {
 }
 
 impl CountingClient {
+    /// A client that was not called yet, and returns this reply at its first call.
     pub fn new(reply: HttpResponse) -> CountingClient
         ensures { result ≡ record { calls = 0; request = None; reply = Some reply } }
     {

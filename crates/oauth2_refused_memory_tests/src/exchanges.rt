@@ -1,4 +1,4 @@
-//! The exchange of a code, from the call to the answer.
+//! The exchange of a code, from the call to its result.
 
 ghost use Rattle.std.specs.Prelude.{◌≡◌, IfOk, Some};
 ghost use Rattle.oauth2_wire.specs.Reply.{HttpResponse, accepted, answer_of, reply_of};
@@ -14,7 +14,7 @@ use oauth2_refused_memory_values_tests::{Ended, text};
 use std::alloc::Global;
 use std::io::Write;
 
-/// The token for a code, by a client that was not called before.
+/// Exchanges a code for a token, by an HTTP client that was not called before.
 pub fn exchange(
     alloc: Global,
     client: &RowClient,
@@ -34,7 +34,7 @@ pub fn exchange(
         .request(alloc, http_client)
 }
 
-/// Exchanges the code `ccc`, by a client that has this reply ready.
+/// Exchanges the code `ccc` by an HTTP client that returns this reply, and prints the result.
 pub fn show_exchange<W: Write>(
     alloc: Global,
     client: &RowClient,
@@ -47,7 +47,7 @@ pub fn show_exchange<W: Write>(
     show_exchanged(out, http_client.calls, answer)
 }
 
-// How often the client was called, and the token.
+// Prints how often the HTTP client was called, and the token.
 fn show_exchanged<W: Write>(
     out: &mut W,
     calls: u64,

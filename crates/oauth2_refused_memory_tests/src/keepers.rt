@@ -1,4 +1,4 @@
-//! The calls of a keeper.
+//! The calls of a keeper, which keeps a token and renews it.
 
 ghost use Rattle.std.specs.Prelude.{◌≡◌, OnErr};
 ghost use Rattle.oauth2_refused_memory_tests.specs.Counted.{TellsCalls};
@@ -25,7 +25,7 @@ pub type RowKeeper<'a> = BasicTokenKeeper<
     EndpointMaybeSet,
 >;
 
-// The reply to a new keeper, whose token is good until 90.
+// The reply to a new keeper's request. Its token is used until second 90.
 const FIRST: ReplyTexts<'static> = ReplyTexts {
     status: 200,
     content_type: None,
@@ -33,14 +33,15 @@ const FIRST: ReplyTexts<'static> = ReplyTexts {
     \"refresh_token\":\"r1\"}",
 };
 
-// The reply after that.
+// The reply to the next request.
 const LATER: ReplyTexts<'static> = ReplyTexts {
     status: 200,
     content_type: None,
     body: "{\"access_token\":\"t2\",\"token_type\":\"bearer\"}",
 };
 
-// A call: the token that is kept before, its second, and the reply to its request.
+// A call: the token that is kept before it, its time in seconds since 1970, and the reply to its
+// request.
 #[derive(Clone, Copy)]
 struct Call<'a> {
     kept: Option<&'a str>,
@@ -68,7 +69,7 @@ fn new_keeper(client: &RowClient) -> RowKeeper<'_> {
     TokenKeeper::new(client, None, times)
 }
 
-/// A call at a moment, by a client that was not called before.
+/// Calls a keeper at a time, with an HTTP client that was not called before.
 pub fn keep(
     alloc: Global,
     keeper: &mut RowKeeper<'_>,
@@ -82,7 +83,7 @@ pub fn keep(
     keeper.keep_good(alloc, now, http_client)
 }
 
-/// The call of a new keeper.
+/// Calls a new keeper, and prints what it did.
 pub fn show_first_token<W: Write>(
     alloc: Global,
     client: &RowClient,
@@ -92,7 +93,7 @@ pub fn show_first_token<W: Write>(
     show_call(alloc, &mut keeper, FIRST_CALL, out)
 }
 
-/// The call of a keeper whose token is good no longer.
+/// Calls a keeper whose token is used no longer, and prints what it did.
 pub fn show_renewed_token<W: Write>(
     alloc: Global,
     client: &RowClient,
@@ -111,7 +112,7 @@ fn keep_first(alloc: Global, keeper: &mut RowKeeper<'_>) -> Result<(), Ended> {
     }
 }
 
-// Calls a keeper, and calls it again where memory was refused.
+// Calls a keeper, and calls it again if memory ran out.
 fn show_call<W: Write>(
     alloc: Global,
     keeper: &mut RowKeeper<'_>,
@@ -129,7 +130,8 @@ fn show_call<W: Write>(
     Err(Ended::Starved(want))
 }
 
-// What was sent and is kept, and how often the client was called; or what memory was refused to.
+// Calls the keeper. Prints how often the HTTP client was called, what was sent and what is kept.
+// Returns which error says that memory ran out, if it did.
 fn show_first_try<W: Write>(
     alloc: Global,
     keeper: &mut RowKeeper<'_>,
@@ -156,7 +158,7 @@ fn show_tried<W: Write>(
     Ok(want)
 }
 
-// What was sent and is kept by a call with memory.
+// Calls the keeper again, and prints what was sent and what is kept.
 fn show_second_try<W: Write>(
     alloc: Global,
     keeper: &mut RowKeeper<'_>,
@@ -186,7 +188,7 @@ fn kept_text<'a>(keeper: &'a RowKeeper<'_>) -> Option<&'a str> {
     }
 }
 
-// A line where another token is kept than this.
+// Prints a line if another token is kept than this.
 fn show_unless_kept<W: Write>(
     keeper: &RowKeeper<'_>,
     before: Option<&str>,
@@ -198,7 +200,7 @@ fn show_unless_kept<W: Write>(
     Ok(())
 }
 
-// What was sent for the token, and the token.
+// Prints the body of the request for the token, and the token.
 fn show_kept<W: Write>(
     keeper: &RowKeeper<'_>,
     http_client: &CountingClient,

@@ -1,4 +1,4 @@
-//! The two ends of a login at once.
+//! A login whose URL and token request are made in one call.
 
 ghost use Rattle.std.specs.Prelude.{◌≡◌, Some, IfOk};
 ghost use Rattle.url.specs.Parts.{serialize};
@@ -36,7 +36,7 @@ pub fn login(
     Ok(flow)
 }
 
-/// Makes a login for the verifier of RFC 7636, appendix B.
+/// Makes a login with the verifier of RFC 7636, appendix B, and prints it.
 pub fn show_login<W: Write>(alloc: Global, client: &RowClient, out: &mut W) -> Result<(), Ended> {
     let state = CsrfToken::new(text(alloc, "csrf_token")?);
     let verifier = verifier(alloc, VERIFIER)?;

@@ -23,10 +23,11 @@ use std::alloc::Global;
 use std::io::Write;
 use std::time::Duration;
 
-// Room for the events of a poll.
+// How many events of a poll can be recorded.
 const ROOM: usize = 32;
 
-/// A poll: how long, how often at most, by which clock, and by which reply, so many times.
+/// A poll: its timeout in seconds, the most requests that it makes, the times that its clock shows
+/// in seconds since 1970, and the reply to its first `replies` requests.
 #[derive(Clone, Copy)]
 pub struct Poll<'a> {
     pub timeout: Option<u64>,
@@ -36,12 +37,13 @@ pub struct Poll<'a> {
     pub replies: u32,
 }
 
+/// The result of a poll: the token, or the error that ended it.
 pub type PollResult = Result<
     BasicTokenResponse,
     RequestTokenError<NoReply, DeviceCodeErrorResponse>,
 >;
 
-/// A response to the device whose code is good for two seconds, with an interval of one.
+/// A device authorization response whose code expires in two seconds, with an interval of one.
 pub fn device(alloc: Global) -> Result<StandardDeviceAuthorizationResponse, Ended> {
     let body = "{\"device_code\":\"12345\",\"user_code\":\"abcde\",\
         \"verification_uri\":\"https://verify/here\",\"expires_in\":2,\"interval\":1}";
@@ -59,7 +61,7 @@ fn replies(alloc: Global, reply: ReplyTexts<'_>, number: u32) -> Result<Vec<Http
     Ok(replies)
 }
 
-/// The world of a poll.
+/// The world of a poll: its clock and its replies.
 pub fn world_of<'a>(alloc: Global, poll: &Poll<'a>) -> Result<Recorder<'a>, Ended> {
     let Ok(seen) = Vec::with_capacity(alloc, ROOM) else {
         return Err(Ended::Starved(Want::Row));
@@ -73,7 +75,7 @@ pub fn world_of<'a>(alloc: Global, poll: &Poll<'a>) -> Result<Recorder<'a>, Ende
     })
 }
 
-/// The result of a poll in its world, which keeps what the poll does.
+/// Polls in a world, which records what the poll does.
 pub fn polled(
     alloc: Global,
     client: &RowClient,
@@ -97,7 +99,7 @@ pub fn polled(
         .poll_with(alloc, world, timeout, max_polls)
 }
 
-/// Makes a world, polls in it, and shows what came of it.
+/// Makes a world, polls in it, and prints the recorded events and the result.
 pub fn show_poll<W: Write>(
     alloc: Global,
     client: &RowClient,

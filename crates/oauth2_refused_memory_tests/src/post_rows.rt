@@ -13,7 +13,7 @@ use oauth2_refused_memory_values_tests::{Ended, Want, show_text, text};
 use std::alloc::Global;
 use std::io::Write;
 
-/// Which request.
+/// Which request a row makes.
 #[derive(Clone, Copy)]
 pub enum PostRow {
     Credentials,
@@ -29,7 +29,7 @@ pub enum PostRow {
     Revocation,
 }
 
-/// Runs a row.
+/// Runs a row, and prints its request.
 pub fn show_post_row<W: Write>(
     alloc: Global,
     client: &RowClient,
@@ -82,7 +82,7 @@ const ADDITIONS: [Addition<'static>; 5] = [
     Addition::Extra("x y", "é&="),
 ];
 
-// A buffer that ran out of memory takes the same addition again.
+// Adds to a buffer, trying again if memory runs out, and prints the request with its parameters.
 fn show_buffer<W: Write>(alloc: Global, client: &RowClient, out: &mut W) -> Result<(), Ended> {
     let mut buffer = ParamBuffer::new(alloc);
     let was_refused = add_all(&mut buffer, &ADDITIONS)?;
@@ -103,7 +103,7 @@ fn show_buffered<W: Write>(
     show_post(alloc, &request, out)
 }
 
-// The request, or why there is none.
+// Prints the revocation request, or why there is none.
 fn show_revocation<W: Write>(alloc: Global, client: &RowClient, out: &mut W) -> Result<(), Ended> {
     let token = RefreshToken::new(text(alloc, "refresh_token_123")?);
     match client.revoke_token(alloc, StandardRevocableToken::from(token)) {

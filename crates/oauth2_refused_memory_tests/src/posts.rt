@@ -17,7 +17,7 @@ use oauth2::{
 use oauth2_refused_memory_values_tests::{Ended, text};
 use std::alloc::Global;
 
-/// A scope of this name.
+/// A scope with this name.
 pub fn scope(alloc: Global, name: &str) -> Result<Scope, Ended>
     ensures { IfOk result (λ scope. scope ≡ name.now) }
 {
@@ -67,7 +67,8 @@ pub fn extended_credentials(
     Ok(request.prepare_request(alloc)?)
 }
 
-/// The same with an empty extra parameter, a scope and a parameter of its name.
+/// The request for the client's own token, with an empty extra parameter, a scope, and an extra
+/// parameter whose name is the text of the scope.
 pub fn mixed_credentials<'a>(
     alloc: Global,
     client: &'a RowClient,
@@ -87,7 +88,7 @@ pub fn mixed_credentials<'a>(
     Ok(request.prepare_request(alloc)?)
 }
 
-/// The request for the token of a user, for two scopes.
+/// The request for a token with a user's name and password and with two scopes.
 pub fn password(
     alloc: Global,
     client: &RowClient,
@@ -151,7 +152,7 @@ pub fn device_token(
     Ok(request.prepare_request(alloc)?)
 }
 
-/// The introspection of a token with a hint.
+/// The request for the introspection of a token, with a token type hint (RFC 7662, section 2.1).
 pub fn introspection(
     alloc: Global,
     client: &RowClient,

@@ -1,4 +1,4 @@
-//! A world that keeps what a poll did in it.
+//! A clock, HTTP client and sleep function for polls (a world) that records the events of a poll.
 
 ghost use Rattle.std.specs.Prelude.{◌≡◌};
 ghost use Rattle.oauth2_refused_memory_tests.specs.Recorded.{Notes};
@@ -8,7 +8,7 @@ use jiff::Timestamp;
 use oauth2::{HttpRequest, HttpResponse, PollWorld};
 use std::time::Duration;
 
-/// What a world saw.
+/// An event of a poll, as a recorder keeps it.
 #[derive(Clone, Copy)]
 pub enum Seen {
     Reading(Timestamp),
@@ -16,21 +16,21 @@ pub enum Seen {
     Sleep(Duration),
 }
 
-/// A world whose clock shows these seconds one after the other, and then stops. Its client returns
-/// these replies, the last one first, and then fails. The replies, and the room for what it sees,
-/// are made before.
+/// A world whose clock shows these times in order, in seconds since 1970, and then stays at the
+/// last one. Its client returns these replies, the last one first, and then fails. The replies and
+/// the room for the events are allocated before the poll.
 #[derive(Drop)]
 pub struct Recorder<'a> {
     pub readings: &'a [i64],
     pub last: Timestamp,
     pub replies: Vec<HttpResponse>,
     pub seen: Vec<Seen>,
-    /// Whether there was room for all that it saw.
+    /// Whether there was room for all events.
     pub is_whole: bool,
 }
 
 impl Recorder<'_> {
-    // What the clock shows next.
+    // The next time that the clock shows.
     fn show_next(&mut self) -> Timestamp
         ensures seen { self.new.seen ≡ self.old.seen }
         ensures whole { self.new.is_whole ≡ self.old.is_whole }

@@ -1,4 +1,4 @@
-//! Replies that are made before a row's call.
+//! Replies that are allocated before a row's call.
 
 ghost use Rattle.std.specs.Prelude.{◌≡◌, IfOk};
 ghost use Rattle.oauth2_wire.specs.Reply.{reply_of};
@@ -10,7 +10,7 @@ use oauth2::http::{Response, StatusCode};
 use oauth2_refused_memory_values_tests::{Ended, Want, text};
 use std::alloc::Global;
 
-/// A reply as texts.
+/// The status, the Content-Type and the body of a reply.
 #[derive(Clone, Copy)]
 pub struct ReplyTexts<'a> {
     pub status: u16,
@@ -30,7 +30,7 @@ fn typed(alloc: Global, head: &mut Parts, content_type: &str) -> Result<(), Ende
     }
 }
 
-/// The reply of these texts.
+/// Makes the reply.
 pub fn ready_reply(alloc: Global, texts: ReplyTexts<'_>) -> Result<HttpResponse, Ended>
     ensures body { IfOk result (λ reply. (reply_of reply).body ≡ texts.entry.body.now) }
     ensures status { IfOk result (λ reply. (reply_of reply).status ≡ texts.entry.status) }

@@ -1,4 +1,4 @@
-//! The rows by their names.
+//! Finds and runs the row of a name.
 
 use crate::client_rows::{ClientRow, client_row, show_client_row, texts_of};
 use crate::clients::{ClientTexts, RowClient, client_of, is_as};
@@ -7,7 +7,7 @@ use oauth2_refused_memory_values_tests::{Ended, Rows, show_value_row, value_row}
 use std::alloc::Global;
 use std::io::Write;
 
-/// The calls that a client makes, and the values without one.
+/// The rows that need a client, and those that need none.
 pub struct MemoryRows;
 
 impl Rows for MemoryRows {
@@ -24,7 +24,7 @@ impl Rows for MemoryRows {
     }
 }
 
-// A row that has a client, and whether the client is as it was before.
+// Runs a row that needs a client, and prints whether the client is unchanged after it.
 fn show_with_client<W: Write>(
     alloc: Global,
     texts: ClientTexts<'_>,

@@ -1,4 +1,4 @@
-//! The lines of a row. What a server reads of a request takes memory, the rest none.
+//! Prints the lines of a row. Only decoding a request, as a server does, allocates.
 
 use crate::counting_client::NoReply;
 use crate::recorder::Seen;
@@ -11,7 +11,7 @@ use std::alloc::Global;
 use std::fmt::Display;
 use std::io::Write;
 
-/// A request, as it is sent and as a server reads it.
+/// Prints a request as it is sent, and as a server decodes it.
 pub fn show_post<W>(alloc: Global, request: &HttpRequest, out: &mut W) -> Result<(), Ended>
 where
     W: Write,
@@ -20,7 +20,7 @@ where
     show_request(out, request, &view)
 }
 
-// A request's own bytes, and what a server that decodes reads of it.
+// Prints a request's own bytes, and the credentials and pairs that a server decodes.
 fn show_request<W: Write>(
     out: &mut W,
     request: &HttpRequest,
@@ -40,7 +40,7 @@ fn show_request<W: Write>(
     Ok(())
 }
 
-/// Bytes that are a text.
+/// Prints bytes as a text, after the word `before`. Bytes that are not UTF-8 are refused.
 pub fn show_bytes<W: Write>(out: &mut W, before: &str, bytes: &[u8]) -> Result<(), Ended> {
     let Ok(text) = str::from_utf8(bytes) else {
         return Err(Ended::Refused);
@@ -49,13 +49,14 @@ pub fn show_bytes<W: Write>(out: &mut W, before: &str, bytes: &[u8]) -> Result<(
     Ok(())
 }
 
+/// Prints an authorization URL and its state.
 pub fn show_url<W: Write>(out: &mut W, url: &Url, state: &CsrfToken) -> Result<(), Ended> {
     writeln!(out, "url {}", url.as_str())?;
     writeln!(out, "state {:?}", state.secret().as_str())?;
     Ok(())
 }
 
-/// Shows a token, or why there is none. If memory ran out, the row ends.
+/// Prints a token, or why there is none. If memory ran out, the row ends.
 pub fn show_answer<W: Write, TE: Display + Drop>(
     out: &mut W,
     answer: Result<BasicTokenResponse, RequestTokenError<NoReply, TE>>,
@@ -85,7 +86,7 @@ fn show_error<W: Write, TE: Display + Drop>(
     Ok(())
 }
 
-/// What a world saw.
+/// Prints the events that a world recorded.
 pub fn show_seen<W: Write>(out: &mut W, seen: &[Seen]) -> Result<(), Ended> {
     for event in seen {
         match event {

@@ -10,7 +10,7 @@ use oauth2_refused_memory_values_tests::{Ended, text};
 use std::alloc::Global;
 use std::io::Write;
 
-/// What is set on the request.
+/// What a row sets on the authorization request.
 #[derive(Clone, Copy)]
 pub enum UrlRow {
     Plain,
@@ -19,7 +19,7 @@ pub enum UrlRow {
     ResponseType,
 }
 
-/// Runs a row.
+/// Runs a row, and prints its URL.
 pub fn show_url_row<W: Write>(
     alloc: Global,
     client: &RowClient,

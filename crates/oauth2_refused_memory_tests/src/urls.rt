@@ -1,4 +1,4 @@
-//! The URLs that a client leads its users to.
+//! The authorization URLs of a client.
 
 ghost use Rattle.std.specs.Prelude.{◌∷◌, [], Some, IfOk};
 ghost use Rattle.oauth2.specs.NewRequest.{new_authorization};

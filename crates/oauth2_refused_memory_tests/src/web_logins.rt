@@ -1,4 +1,4 @@
-//! A login in its steps: the URL, the redirect and the token.
+//! A login in three steps: the URL, the redirect and the token.
 
 use crate::clients::RowClient;
 use crate::counting_client::{CountingClient, NoReply};
@@ -12,16 +12,16 @@ use oauth2_refused_memory_values_tests::{Ended, Repeated, Want, text};
 use std::alloc::Global;
 use std::io::Write;
 
-// Where the user comes back, and by what.
+// The redirect URI, and the URL with which the user comes back.
 const REDIRECT: &str = "https://app.example/cb";
 
 const CALLBACK: &str = "https://app.example/cb?code=ccc&state=AAAAAAAAAAAAAAAAAAAAAA";
 
-// What a login ends with.
+// The result of a login.
 type Finished = Result<BasicTokenResponse, LoginError<NoReply, BasicErrorResponse>>;
 
-/// Starts a login with a redirect URI of its own, and finishes it, by a client that has this reply
-/// ready.
+/// Starts a login with its own redirect URI, finishes it by an HTTP client that returns this reply,
+/// and prints the result.
 pub fn show_web_login<W: Write>(
     alloc: Global,
     client: &RowClient,
@@ -43,7 +43,7 @@ fn started(alloc: Global, client: &RowClient) -> Result<LoginRequest<'_>, Ended>
     Ok(request.add_scope(scope)?)
 }
 
-// The URL of a login. A refused one does not lose the login, so it is asked for again.
+// The URL of a login. An error returns the request too, so this tries once more.
 fn url_of(alloc: Global, request: LoginRequest<'_>) -> Result<(Url, Login), Ended> {
     match request.url(alloc) {
         Ok(made) => Ok(made),

@@ -1,4 +1,4 @@
-//! Why a row ended without its answer.
+//! Why a row ended without a result.
 
 ghost use Rattle.std.specs.Prelude.{◌≡◌, string_bytes, IfErr, IfOk};
 ghost use Rattle.oauth2_refused_memory_values_tests.specs.Ended as spec;
@@ -16,7 +16,7 @@ use std::io;
 /// Which error says that memory ran out.
 #[derive(Clone, Copy, Debug)]
 pub enum Want {
-    /// Before the row's calls: memory ran out for what they are called with.
+    /// Memory ran out before the row's calls, for the values that they are called with.
     Row,
     AllocError,
     CodeFlowError,
@@ -29,7 +29,7 @@ pub enum Want {
     WriteError,
 }
 
-/// Why a row ended without its answer.
+/// Why a row ended without a result.
 #[derive(Clone, Copy)]
 pub enum Ended {
     Starved(Want),
@@ -123,7 +123,7 @@ impl From<ViewError> for Ended {
     }
 }
 
-/// Makes a text that the row owns.
+/// Copies a text for a row. If memory runs out, the error is `Starved` with `Want::Row`.
 pub fn text(alloc: Global, text: &str) -> Result<String, Ended>
     ensures made { IfOk result (λ s. string_bytes s ≡ text.now) }
     ensures starved { IfErr result (λ e. e ≡ Starved want.Row) }

@@ -1,6 +1,6 @@
-//! The rows without a client of the calls that are refused memory: challenges, JSON and the poll
-//! over lists; what every row is made of: its name, how it ends and its lines; and a generator of
-//! one word for all tests.
+//! Tests of calls that run out of memory. This crate has the rows that need no client (challenges,
+//! JSON and the poll over lists), what all rows share (names, ends and printed lines), and a random
+//! generator for all tests that repeats one word.
 
 #![tactic(auto)]
 

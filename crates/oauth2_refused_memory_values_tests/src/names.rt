@@ -5,7 +5,7 @@ ghost use Rattle.std.specs.Prelude.{◌≤◌, length, IfOk};
 use crate::ended::Ended;
 use std::io::Read;
 
-// How often the input is read at most.
+// The input is read at most this many times.
 const MOST_READS: u32 = 64;
 
 fn fill<R: Read>(reader: &mut R, bytes: &mut [u8]) -> Result<usize, Ended>
@@ -21,7 +21,8 @@ fn fill<R: Read>(reader: &mut R, bytes: &mut [u8]) -> Result<usize, Ended>
     Ok(filled)
 }
 
-// Reads the input, which is one text with a name a line.
+// Reads the names of the rows, one on each line, into `bytes`. Input that is not UTF-8 ends the run
+// with `Unknown`.
 pub(crate) fn read_names<'a, R: Read>(
     reader: &mut R,
     bytes: &'a mut [u8],

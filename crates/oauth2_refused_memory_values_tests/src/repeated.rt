@@ -1,4 +1,4 @@
-//! A generator of one word, again and again.
+//! A random generator for tests that returns the same word each time.
 
 ghost use Rattle.std.specs.Prelude.{ℕ};
 ghost use Rattle.rand_core.specs.Steps.{steps_u32, stream_of};
@@ -7,6 +7,7 @@ use rand_core::Rng;
 use rand_core::utils::{self, NextWord};
 use std::marker::Model;
 
+/// A generator whose every word of 32 bits is this one.
 #[derive(Drop)]
 pub struct Repeated(pub u32);
 

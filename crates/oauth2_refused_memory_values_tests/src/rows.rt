@@ -1,4 +1,4 @@
-//! The rows that a program runs: those that its input names.
+//! Runs the rows that a program's input names.
 
 use crate::ended::Ended;
 use crate::names::read_names;
@@ -6,17 +6,17 @@ use std::alloc::Global;
 use std::io::{Read, Write};
 use std::process::ExitCode;
 
-// How many bytes of names are taken.
+// At most this many bytes of names are read.
 const MOST_BYTES: usize = 4096;
 
 /// The rows of a program, by their names.
 pub trait Rows {
-    /// Runs the row of this name, and prints what comes of it. `Ok(false)`: memory ran out in a
-    /// call whose error `Want` lacks, and the row's last line says so.
+    /// Runs the row of this name, and prints its result. `Ok(false)`: memory ran out in a call
+    /// whose error `Want` lacks, and the row's last line says so.
     fn show_row<W: Write>(alloc: Global, name: &str, out: &mut W) -> Result<bool, Ended>;
 }
 
-/// Runs the rows that the input names, one on each line, and prints what comes of each.
+/// Runs the rows that the input names, one on each line, and prints the result of each.
 ///
 /// Exit status 0: every row has a result; 1: memory ran out in one; 2: there is no such row, or a
 /// call refused its arguments; 3: the input or the output failed.
@@ -33,7 +33,7 @@ pub fn run_rows<T: Rows, R: Read, W: Write>(
     }
 }
 
-// Whether none of the rows ran out of memory.
+// Runs the rows. Returns `true` if none of them ran out of memory.
 fn show_rows<T: Rows, R: Read, W: Write>(
     alloc: Global,
     reader: &mut R,
@@ -53,7 +53,8 @@ fn show_rows<T: Rows, R: Read, W: Write>(
     Ok(is_fed)
 }
 
-// A row that runs out of memory ends; any other error ends the run.
+// Prints the line for a row that ran out of memory, so that the next row runs; any other error ends
+// the run.
 fn show_want<W: Write>(ended: Result<bool, Ended>, out: &mut W) -> Result<bool, Ended> {
     match ended {
         Err(Ended::Starved(want)) => {

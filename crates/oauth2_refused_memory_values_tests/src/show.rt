@@ -1,4 +1,4 @@
-//! The lines of a row. None of them takes memory.
+//! Prints the lines of a row. Nothing here allocates.
 
 use crate::ended::Ended;
 use oauth2::{ParseFault, PkceCodeChallenge, PollEvent, PollRun};
@@ -15,19 +15,19 @@ pub(crate) fn show_challenge<W: Write>(
     Ok(())
 }
 
-/// A text as it is displayed.
+/// Prints a text by its `Display`.
 pub fn show_text<W: Write, T: Display>(out: &mut W, text: &T) -> Result<(), Ended> {
     writeln!(out, "text {text}")?;
     Ok(())
 }
 
-/// Why a body cannot be read.
+/// Prints why a body cannot be read: the member at fault, and the cause.
 pub fn show_fault<W: Write>(out: &mut W, fault: &ParseFault) -> Result<(), Ended> {
     writeln!(out, "fault {:?} {:?}", fault.member.as_str(), fault.cause)?;
     Ok(())
 }
 
-/// How long the poll sleeps.
+/// Prints how long the poll sleeps, in seconds with nine decimal places.
 pub fn show_sleep<W: Write>(out: &mut W, duration: Duration) -> Result<(), Ended> {
     writeln!(
         out,
@@ -38,7 +38,7 @@ pub fn show_sleep<W: Write>(out: &mut W, duration: Duration) -> Result<(), Ended
     Ok(())
 }
 
-// The events of a poll over lists, and its end.
+// Prints the events of a poll over lists, and its end.
 pub(crate) fn show_run<W: Write>(out: &mut W, run: &PollRun) -> Result<(), Ended> {
     for event in &run.trace {
         match event {

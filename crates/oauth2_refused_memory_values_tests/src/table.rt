@@ -1,4 +1,4 @@
-//! Tables of rows.
+//! Looks up a row in a table.
 
 /// The row of this name, if there is one.
 pub fn find<T: Copy>(table: &[(&str, T)], name: &str) -> Option<T> {

@@ -1,4 +1,4 @@
-//! The rows without a client.
+//! The rows that need no client.
 
 ghost use Rattle.std.specs.Prelude.{◌≡◌};
 
@@ -16,7 +16,7 @@ use std::alloc::Global;
 use std::io::Write;
 use std::time::Duration;
 
-/// What a row without a client runs.
+/// What a row runs that needs no client.
 #[derive(Clone, Copy)]
 pub enum ValueRow {
     Challenge,
@@ -88,7 +88,7 @@ pub fn value_row(name: &str) -> Option<ValueRow> {
     find(&ROWS, name)
 }
 
-/// Runs a row.
+/// Runs a row, and prints its result.
 pub fn show_value_row<W: Write>(alloc: Global, row: ValueRow, out: &mut W) -> Result<(), Ended> {
     match row {
         ValueRow::Challenge => show_challenge(out, &challenge(alloc)?),
@@ -142,7 +142,7 @@ fn show_poll_over_lists<W: Write>(alloc: Global, out: &mut W) -> Result<(), Ende
 
 const FAILED: PollAnswer = PollAnswer::Failed;
 
-// Intervals and answers.
+// Polls whose sleeps are printed: the interval in seconds, and the answers to the requests.
 const SLEEPS: [(u64, &[PollAnswer]); 5] = [
     (1, &[PollAnswer::SlowDown, FAILED]),
     (30, &[FAILED]),
@@ -158,7 +158,7 @@ fn show_every_sleep<W: Write>(out: &mut W) -> Result<(), Ended> {
     Ok(())
 }
 
-// The sleeps of a poll that is answered like this.
+// Prints the sleeps of a poll with this interval in seconds and these answers.
 fn show_sleeps<W: Write>(interval: u64, answers: &[PollAnswer], out: &mut W) -> Result<(), Ended> {
     let timeout = Duration::from_secs(1);
     let Some(mut poll) = DevicePoll::new(Timestamp::UNIX_EPOCH, timeout, seconds(interval, 100))

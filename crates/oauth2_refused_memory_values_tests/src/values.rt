@@ -1,4 +1,4 @@
-//! Values without a client: challenges, JSON, and the poll over lists.
+//! The calls that need no client: challenges, JSON, and the poll over lists.
 
 ghost use Rattle.std.specs.Prelude.{◌≡◌, ◌≤◌, ◌<◌, IfOk};
 ghost use Rattle.oauth2_types.specs.Pkce.{HasValidLength};
@@ -17,7 +17,8 @@ use std::time::Duration;
 /// The verifier of RFC 7636, appendix B.
 pub const VERIFIER: &str = "dBjftJeZ4CVP-mB92K27uhbUJU1p1r_wW1gFWFOEjXk";
 
-/// A verifier of this text.
+/// A verifier with this text. A text whose length is not 43 to 128 characters is refused (RFC 7636,
+/// section 4.1).
 pub fn verifier(alloc: Global, verifier: &str) -> Result<PkceCodeVerifier, Ended>
     ensures length { IfOk result HasValidLength }
     ensures text { IfOk result (λ made. made ≡ verifier.now) }
@@ -35,7 +36,7 @@ pub fn challenge(alloc: Global) -> Result<PkceCodeChallenge, Ended> {
     Ok(PkceCodeChallenge::from_code_verifier_sha256(alloc, &verifier)?)
 }
 
-/// The verifier of so many zero bytes.
+/// The verifier that is made from `number` zero bytes.
 pub fn verifier_of_zeros(alloc: Global, number: u32) -> Result<PkceCodeVerifier, AllocError>
     requires least { 32 ≤ number }
     requires most { number ≤ 96 }
@@ -45,13 +46,13 @@ pub fn verifier_of_zeros(alloc: Global, number: u32) -> Result<PkceCodeVerifier,
     Ok(verifier)
 }
 
-/// Reads a body, and writes it again.
+/// Reads a JSON body, and writes the value as JSON again.
 pub fn rewritten<T: FromJson + ToJson + Drop>(alloc: Global, body: &str) -> Result<String, Ended> {
     let value = read_body::<T>(alloc, body.as_bytes())?;
     Ok(compact(alloc, &value)?)
 }
 
-/// Why a body cannot be read.
+/// Returns why a body cannot be read. A body that can be read is an error (`Refused`).
 pub fn fault_in<T: FromJson + Drop>(alloc: Global, body: &str) -> Result<ParseFault, Ended> {
     match read_body::<T>(alloc, body.as_bytes()) {
         Ok(_) => Err(Ended::Refused),
@@ -60,7 +61,7 @@ pub fn fault_in<T: FromJson + Drop>(alloc: Global, body: &str) -> Result<ParseFa
     }
 }
 
-/// An error response with each of its members.
+/// An error response with all of its members (RFC 6749, section 5.2).
 pub fn error_response(alloc: Global) -> Result<BasicErrorResponse, Ended> {
     Ok(StandardErrorResponse::new(
         BasicErrorResponseType::InvalidClient,
@@ -69,7 +70,8 @@ pub fn error_response(alloc: Global) -> Result<BasicErrorResponse, Ended> {
     ))
 }
 
-/// A poll over readings of these seconds.
+/// Runs a poll over lists: the clock shows these seconds since 1970 in order, and the requests get
+/// these answers in order.
 pub fn run(
     alloc: Global,
     timeout: Duration,

@@ -24,13 +24,13 @@ pub trait ExtraDeviceAuthorizationFields: FromJson + ToJson + fmt::Debug {
     ghost use Rattle.std.specs.Prelude.{◌≡◌, Ok};
     ghost use Rattle.serde_json.specs.Data.{Data, Members, object};
 
-    /// What is written is an object.
+    /// What `to_json` writes is an object.
     ghost writes_object: { (x : Self) (d : Data) → Self.ToJson.writing x ≡ Ok d
         → (ms : Members) × (d ≡ object ms) };
 }
 
-/// The device authorization response of the standard, with extra fields `EF`. It is made by
-/// reading one.
+/// The device authorization response of RFC 8628, section 3.2, with extra fields `EF`. There is no
+/// constructor: it is read from JSON.
 #[derive(Debug)]
 pub struct DeviceAuthorizationResponse<EF> {
     pub(crate) device_code: DeviceCode,
@@ -69,7 +69,7 @@ impl<EF> Model for DeviceAuthorizationResponse<EF> {
 }
 
 impl<EF> DeviceAuthorizationResponse<EF> {
-    /// The code that the device asks for its token with.
+    /// The code with which the device requests its token.
     pub fn device_code(&self) -> &DeviceCode
         ensures { result.now ≡ self.now.device_code }
     {
@@ -83,29 +83,29 @@ impl<EF> DeviceAuthorizationResponse<EF> {
         &self.user_code
     }
 
-    /// Where the user types in the code.
+    /// The URL of the page where the user types in the code.
     pub fn verification_uri(&self) -> &EndUserVerificationUrl
         ensures { result.now ≡ self.now.verification_uri }
     {
         &self.verification_uri
     }
 
-    /// The same with the code in it.
+    /// The verification URI with the user code in it, if the server sent one. It is not parsed.
     pub fn verification_uri_complete(&self) -> Option<&VerificationUriComplete>
         ensures { option_copied result ≡ self.now.verification_uri_complete }
     {
         self.verification_uri_complete.as_ref()
     }
 
-    /// How long the codes are good.
+    /// The lifetime of the device code and of the user code.
     pub fn expires_in(&self) -> Duration
         ensures { as_nanos result ≡ self.now.expires_in * 1_000_000_000 }
     {
         Duration::from_secs(self.expires_in)
     }
 
-    /// How long the device waits between two requests, at least: 5 seconds where the server tells
-    /// nothing (RFC 8628, section 3.2).
+    /// The least time that the device waits between two requests: 5 seconds if the server sent none
+    /// (RFC 8628, section 3.2).
     pub fn interval(&self) -> Duration
         ensures { as_nanos result ≡ self.now.interval * 1_000_000_000 }
     {
@@ -120,21 +120,21 @@ impl<EF> DeviceAuthorizationResponse<EF> {
     }
 }
 
-// What the device and the user hold of an authorization.
+// The code of the device and the code of the user.
 #[derive(Drop)]
 pub(crate) struct Codes {
     pub(crate) device_code: DeviceCode,
     pub(crate) user_code: UserCode,
 }
 
-// Where the user goes.
+// Where the user types in the code, and the URI that has the code in it.
 #[derive(Drop)]
 pub(crate) struct Addresses {
     pub(crate) verification_uri: EndUserVerificationUrl,
     pub(crate) verification_uri_complete: Option<VerificationUriComplete>,
 }
 
-// How long the codes are good, and the wait between two requests, in seconds.
+// The lifetime of the codes and the wait between two requests, in seconds.
 #[derive(Drop)]
 pub(crate) struct Times {
     pub(crate) expires_in: u64,

@@ -42,7 +42,7 @@ use serde_json::{Map, Value};
 use std::alloc::{AllocError, Global};
 use std::ops::Deref;
 
-/// The own members; the fourth is another name of the third.
+/// The members of RFC 8628, section 3.2, and a second name of `verification_uri`.
 const NAMES: [&str; 7] = [
     "device_code",
     "user_code",
@@ -77,7 +77,7 @@ impl<EF: ExtraDeviceAuthorizationFields + Drop> FromJson for DeviceAuthorization
     }
 }
 
-// A URL under either of two names.
+// The URL under one of two names. A value under both is an error.
 fn take_address(
     alloc: Global,
     members: &mut Object<'_>,
@@ -134,7 +134,7 @@ fn take_times(alloc: Global, members: &mut Object<'_>) -> Result<Times, ReadErro
     })
 }
 
-// The own members, group by group, and what is left of the others.
+// Reads the members group by group, and then the extra fields from the members that are left.
 fn from_members<EF: ExtraDeviceAuthorizationFields + Drop>(
     alloc: Global,
     mut members: Object<'_>,
@@ -173,7 +173,7 @@ fn uri_complete_value(
 }
 
 impl<EF: ExtraDeviceAuthorizationFields> DeviceAuthorizationResponse<EF> {
-    fn written(&self, alloc: Global) -> Result<Value, WriteError>
+    fn to_value(&self, alloc: Global) -> Result<Value, WriteError>
         ensures written { WritesAs result (device_writing EF.writing self.now) }
         ensures address { IsAddress self.now.verification_uri }
     {
@@ -211,11 +211,11 @@ impl<EF: ExtraDeviceAuthorizationFields> ToJson for DeviceAuthorizationResponse<
 
     fn to_json(&self, alloc: Global) -> Result<Value, WriteError>
         ensures written { WritesAs result (device_writing EF.writing self.now) }
-        // Where its extra fields are kept, it reads back as the same response.
+        // What is written reads back as the same response, if its extra fields read back.
         ensures reads_back { IfOk result (λ v.
             AreFieldsKept EF.reading EF.meaning EF.writing self.now.extra_fields
             → device_reading EF.reading (view v) ≡ Ok (device_seen EF.meaning self.now)) }
     {
-        self.written(alloc)
+        self.to_value(alloc)
     }
 }

@@ -1,4 +1,4 @@
-//! Extra fields as the members that are left.
+//! Extra fields as a map of the members that the standard does not name.
 
 ghost use Rattle.std.specs.Prelude.{◌≡◌, true, Ok, option_map, option_copied, option_and_then};
 ghost use Rattle.serde_json.specs.Data.{Members, object};
@@ -15,7 +15,7 @@ use oauth2_types::TryClone;
 use serde_json::{Map, Value};
 use std::alloc::{AllocError, Global};
 
-/// The members of a response that the standard does not name, as the server told them.
+/// The members of a response that the standard does not name, as the server sent them.
 #[derive(Debug, Drop)]
 pub struct ExtraFields {
     value: Value,
@@ -25,7 +25,7 @@ pub struct ExtraFields {
 impl ExtraFields {
     ghost use Rattle.oauth2_replies.specs.Extra.{extra_members};
 
-    /// These members, with whatever names and values.
+    /// Extra fields that hold these members. Names and values are not checked here.
     pub fn new(members: Map<String, Value>) -> ExtraFields
         ensures { extra_members result ≡ members_view members.entries }
     {
@@ -34,7 +34,7 @@ impl ExtraFields {
         }
     }
 
-    /// The value of the member of that name.
+    /// The value of the member with that name.
     #[tactic(auto, using(crate::proofs::ExtraLaws::get_of))]
     pub fn get(&self, name: &str) -> Option<&Value>
         ensures { option_map (λ value. view value.now) result
@@ -43,7 +43,7 @@ impl ExtraFields {
         self.value.get(name)
     }
 
-    /// The text of the member of that name, where its value is one.
+    /// The text of the member with that name; `None` if it is absent or not a string.
     pub fn text(&self, name: &str) -> Option<&str>
         ensures { option_copied result
             ≡ option_and_then as_str (get_member name.now (extra_members self.now)) }
@@ -77,7 +77,7 @@ impl ToJson for ExtraFields {
     #[tactic(auto, using(crate::proofs::ExtraLaws::of_members))]
     fn to_json(&self, _alloc: Global) -> Result<Value, WriteError>
         ensures written { WritesAs result (Ok (object (extra_members self.now))) }
-        // So a response that holds them reads back.
+        // So these extra fields meet the condition under which a response reads back.
         ensures kept { AreFieldsKept members_of_object extra_members
             (λ fields. Ok (object (extra_members fields))) self.now }
     {

@@ -25,15 +25,16 @@ pub trait RevocableToken {
 
     ghost type_hint: { Self → Option (List ℕ) };
 
+    /// The text of the token.
     fn secret(&self) -> &str
         ensures { result.now ≡ secret self.now };
 
-    /// The hint that helps the server to find the token, as its registry names it.
+    /// The hint that helps the server to find the token (`token_type_hint`; RFC 7009, section 2.1).
     fn type_hint(&self) -> Option<&str>
         ensures { option_copied result ≡ type_hint self.now };
 }
 
-/// A token of one of the two kinds that the standard names.
+/// A token of one of the two kinds that RFC 7009, section 2.1, names.
 #[derive(Debug, Drop)]
 pub enum StandardRevocableToken {
     AccessToken(AccessToken),
@@ -45,7 +46,7 @@ impl StandardRevocableToken {
       StandardRevocableToken,
     };
 
-    /// The token of a copy.
+    /// A token to revoke, which holds a copy of `token`. An error means out of memory.
     pub fn from_access_token_ref(
         alloc: Global,
         token: &AccessToken,
@@ -56,7 +57,7 @@ impl StandardRevocableToken {
         Ok(StandardRevocableToken::AccessToken(token.try_clone(alloc)?))
     }
 
-    /// The token of a copy.
+    /// A token to revoke, which holds a copy of `token`. An error means out of memory.
     pub fn from_refresh_token_ref(
         alloc: Global,
         token: &RefreshToken,
@@ -152,7 +153,7 @@ fn has_any(members: &Map<String, Value>) -> bool
     !members.is_empty()
 }
 
-// The token under one of the two names, where there is no other member.
+// The token, if exactly one of the two names has a value and there is no other member.
 fn sole_token(
     alloc: Global,
     access_token: Option<Value>,
@@ -202,7 +203,7 @@ impl FromJson for StandardRevocableToken {
 }
 
 impl StandardRevocableToken {
-    fn written(&self, alloc: Global) -> Result<Value, WriteError>
+    fn to_value(&self, alloc: Global) -> Result<Value, WriteError>
         ensures { WritesAs result (revocable_writing self.now) }
     {
         let mut members = Map::new(alloc);
@@ -217,9 +218,9 @@ impl ToJson for StandardRevocableToken {
 
     fn to_json(&self, alloc: Global) -> Result<Value, WriteError>
         ensures written { WritesAs result (revocable_writing self.now) }
-        // It reads back as the same token.
+        // What is written reads back as the same token.
         ensures reads_back { IfOk result (λ v. revocable_reading (view v) ≡ Ok self.now) }
     {
-        self.written(alloc)
+        self.to_value(alloc)
     }
 }

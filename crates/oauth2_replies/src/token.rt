@@ -21,23 +21,24 @@ pub trait ExtraTokenFields: FromJson + ToJson + fmt::Debug {
     ghost use Rattle.std.specs.Prelude.{◌≡◌, Ok};
     ghost use Rattle.serde_json.specs.Data.{Data, Members, object};
 
-    /// What is written is an object.
+    /// What `to_json` writes is an object.
     ghost writes_object: { (x : Self) (d : Data) → Self.ToJson.writing x ≡ Ok d
         → (ms : Members) × (d ≡ object ms) };
 }
 
-/// What every token response tells.
+/// What every token response holds, whatever its extra fields are (RFC 6749, section 5.1).
 pub trait TokenResponse: FromJson + ToJson + fmt::Debug {
     ghost use Rattle.std.specs.Prelude.{◌≡◌, ℕ, List, Option, option_map, option_copied};
     ghost use Rattle.std.specs.Duration.{as_nanos};
 
+    /// The type that `token_type` returns.
     type TokenType: TokenType;
 
     ghost access_token: { Self → List ℕ };
 
     ghost token_type: { Self → Self.TokenType };
 
-    /// In nanoseconds.
+    /// The lifetime of the access token, in nanoseconds.
     ghost lifetime: { Self → Option ℕ };
 
     ghost refresh_token: { Self → Option (List ℕ) };
@@ -52,21 +53,21 @@ pub trait TokenResponse: FromJson + ToJson + fmt::Debug {
     fn token_type(&self) -> &Self::TokenType
         ensures { result.now ≡ token_type self.now };
 
-    /// The lifetime of the access token, where the server tells one.
+    /// The lifetime of the access token; `None` if the server sent none.
     fn expires_in(&self) -> Option<Duration>
         ensures { option_map as_nanos result ≡ lifetime self.now };
 
-    /// The token to get new access tokens with.
+    /// The token to get new access tokens with; `None` if the server sent none.
     fn refresh_token(&self) -> Option<&RefreshToken>
         ensures { option_copied result ≡ refresh_token self.now };
 
-    /// The scope of the access token, where the server tells it, as it has to where it is not the
-    /// one that was asked for (RFC 6749, section 5.1).
+    /// The scope of the access token. The server may omit it (`None`) only if it is the requested
+    /// scope (RFC 6749, section 5.1).
     fn scopes(&self) -> Option<&Vec<Scope>>
         ensures { option_map (λ list. list.now.items) result ≡ scopes self.now };
 }
 
-/// The token response of the standard, with extra fields `EF` and token types `TT`.
+/// The token response of RFC 6749, section 5.1, with extra fields `EF` and token type `TT`.
 #[derive(Debug)]
 pub struct StandardTokenResponse<EF, TT> {
     pub(crate) access_token: AccessToken,
@@ -103,7 +104,7 @@ impl<EF, TT> Model for StandardTokenResponse<EF, TT> {
 impl<EF: Drop, TT: Drop> StandardTokenResponse<EF, TT> {
     ghost use Rattle.oauth2_replies.specs.Token.{token};
 
-    /// A response of no lifetime, no refresh token and no scopes.
+    /// A response without a lifetime, a refresh token and scopes.
     pub fn new(access_token: AccessToken, token_type: TT, extra_fields: EF) -> Self
         ensures { result ≡ token access_token token_type None None None extra_fields }
     {
@@ -117,19 +118,21 @@ impl<EF: Drop, TT: Drop> StandardTokenResponse<EF, TT> {
         }
     }
 
+    /// Replaces the access token.
     pub fn set_access_token(&mut self, access_token: AccessToken)
         ensures { self.new ≡ record self.old { access_token = access_token } }
     {
         self.access_token = access_token;
     }
 
+    /// Replaces the token type.
     pub fn set_token_type(&mut self, token_type: TT)
         ensures { self.new ≡ record self.old { token_type = token_type } }
     {
         self.token_type = token_type;
     }
 
-    /// Keeps the whole seconds.
+    /// Replaces the lifetime, rounded down to whole seconds.
     pub fn set_expires_in(&mut self, expires_in: Option<&Duration>)
         ensures { self.new ≡ record self.old {
           expires_in =
@@ -142,12 +145,15 @@ impl<EF: Drop, TT: Drop> StandardTokenResponse<EF, TT> {
         };
     }
 
+    /// Replaces the refresh token.
     pub fn set_refresh_token(&mut self, refresh_token: Option<RefreshToken>)
         ensures { self.new ≡ record self.old { refresh_token = refresh_token } }
     {
         self.refresh_token = refresh_token;
     }
 
+    /// Replaces the scopes. An empty list is written as an empty string, which does not read back
+    /// as an empty list.
     pub fn set_scopes(&mut self, scopes: Option<Vec<Scope>>)
         ensures { self.new ≡ record self.old { scopes = option_map (λ list. list.items) scopes } }
     {
@@ -161,6 +167,7 @@ impl<EF: Drop, TT: Drop> StandardTokenResponse<EF, TT> {
         &self.extra_fields
     }
 
+    /// Replaces the members that the standard does not name.
     pub fn set_extra_fields(&mut self, extra_fields: EF)
         ensures { self.new ≡ record self.old { extra_fields = extra_fields } }
     {
@@ -206,7 +213,7 @@ impl<EF: ExtraTokenFields + Drop, TT: TokenType + Drop> TokenResponse
     }
 }
 
-// For how long and for what the token is good, and how to get the next one.
+// The members that may be absent: the lifetime in seconds, the refresh token and the scopes.
 #[derive(Drop)]
 pub(crate) struct Terms {
     pub(crate) expires_in: Option<u64>,

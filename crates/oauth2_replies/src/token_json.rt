@@ -34,7 +34,7 @@ use oauth2_types::{AccessToken, RefreshToken};
 use serde_json::{Map, Value};
 use std::alloc::{AllocError, Global};
 
-/// The own members.
+/// The members of RFC 6749, section 5.1.
 const NAMES: [&str; 5] = [
     "access_token",
     "token_type",
@@ -65,7 +65,7 @@ where
     }
 }
 
-// The token, and how it is used.
+// The access token and its type.
 #[derive(Drop)]
 struct Credential<TT> {
     access_token: AccessToken,
@@ -103,7 +103,7 @@ fn take_terms(alloc: Global, members: &mut Object<'_>) -> Result<Terms, ReadErro
     })
 }
 
-// The own members, group by group, and what is left of the others.
+// Reads the members group by group, and then the extra fields from the members that are left.
 fn from_members<EF: ExtraTokenFields + Drop, TT: TokenType + Drop>(
     alloc: Global,
     mut members: Object<'_>,
@@ -125,7 +125,7 @@ fn from_members<EF: ExtraTokenFields + Drop, TT: TokenType + Drop>(
 }
 
 impl<EF: ExtraTokenFields, TT: TokenType> StandardTokenResponse<EF, TT> {
-    fn written(&self, alloc: Global) -> Result<Value, WriteError>
+    fn to_value(&self, alloc: Global) -> Result<Value, WriteError>
         ensures { WritesAs result (token_writing EF.writing TT.writing self.now) }
     {
         let token_type = self.token_type.to_json(alloc)?;
@@ -162,12 +162,12 @@ impl<EF: ExtraTokenFields, TT: TokenType> ToJson for StandardTokenResponse<EF, T
 
     fn to_json(&self, alloc: Global) -> Result<Value, WriteError>
         ensures written { WritesAs result (token_writing EF.writing TT.writing self.now) }
-        // What is kept reads back as the same response.
+        // What is written reads back as the same response, if `IsTokenKept` holds of it.
         ensures reads_back { IfOk result (λ v.
             IsTokenKept EF.reading EF.meaning EF.writing TT.reading TT.meaning TT.writing self.now
             → token_reading EF.reading TT.reading (view v)
             ≡ Ok (token_seen EF.meaning TT.meaning self.now)) }
     {
-        self.written(alloc)
+        self.to_value(alloc)
     }
 }

@@ -11,7 +11,8 @@ use Rattle.oauth2_world.specs.Lines.{line, quotation}
 use Rattle.oauth2_request_commands.specs.Out.{Output, success_output, after}
 use Rattle.oauth2_script.specs.AuthorizeParams.{AuthorizeParams}
 
--- a nonce goes before the extra parameters (OpenID Connect Core 1.0, 3.1.2.1)
+-- the authorization request of the parameters; `response_type` is `code` if absent; the nonce goes
+-- before the extra parameters (OpenID Connect Core 1.0, 3.1.2.1)
 abbrev pub authorization : Settings → AuthorizeParams → Addressed → Authorization
 authorization client p url = record {
   auth_url = url;
@@ -24,14 +25,16 @@ authorization client p url = record {
   extra_params = optional_pair (codes "nonce") p.nonce ++ p.extra_params;
 }
 
+-- the line `url "U"`, with the URL that the user is sent to
 unfoldable pub url_line : List ℕ → List ℕ
 url_line text = line (codes "url " ++ quotation text)
 
--- the endpoint's URL with these pairs, and the state
+-- the output is the URL of the authorization endpoint with the parameters, and then the state
 abbrev pub IsUrlShown : Authorization → Output → Type 0
 IsUrlShown r o =
     (url : Parts) × ExtendsQuery r.auth_url.url url (query_pairs r) × (o ≡ after (url_line (serialize url)) (success_output (quotation r.state)))
 
+-- the output of `authorize`: the URL and the state, or that the authorization endpoint is missing
 abbrev pub IsAuthorizeOutput : Settings → AuthorizeParams → Output → Type 0
 IsAuthorizeOutput client p o =
     WithEndpoint (codes "authorization") (λ url o. IsUrlShown (authorization client p url) o) client.auth_url o

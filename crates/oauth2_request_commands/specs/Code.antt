@@ -10,6 +10,7 @@ use Rattle.oauth2_request_commands.specs.Out.{Output}
 use Rattle.oauth2_script.specs.CodeParams.{CodeParams}
 use Rattle.oauth2_script.specs.Replies.{Reply}
 
+-- the token request with the code, redirect URI (RFC 6749, 4.1.3) and verifier (RFC 7636, 4.5)
 abbrev pub code_request : Settings → CodeParams → Addressed → CodeRequest
 code_request client p url = record {
   base = record (base_of client) { extra_params = p.extra_params };
@@ -19,6 +20,7 @@ code_request client p url = record {
   redirect_url = given_or p.redirect client.redirect_url;
 }
 
+-- the output of `code`: the request and the token or the fault, or that no token endpoint is set
 abbrev pub IsCodeOutput : Settings → CodeParams → List Reply → Output → Type 0
 IsCodeOutput client p replies o =
     WithToken (λ url o. IsTokenShown client.reply_rule (code_configuration (code_request client p url)) url replies o) client.token_url o

@@ -21,15 +21,18 @@ use Rattle.oauth2_request_commands.specs.Out.{Output}
 use Rattle.oauth2_script.specs.DeviceAuthorizationParams.{DeviceAuthorizationParams}
 use Rattle.oauth2_script.specs.Replies.{Reply}
 
+-- the device authorization request with the scopes and the extra parameters (RFC 8628, 3.1)
 abbrev pub device_request : Settings → DeviceAuthorizationParams → Addressed → DeviceRequest
 device_request client p url = record {
   base = record (base_of client) { scope = with_scopes None p.scopes; extra_params = p.extra_params };
   device_authorization_url = url;
 }
 
+-- a device authorization response without extension members (RFC 8628, 3.2)
 abbrev pub BasicDevice : Type 0
 BasicDevice = DeviceAuthorization (Unit {0})
 
+-- a device authorization response as a JSON object; absent members are left out
 unfoldable pub device_data : BasicDevice → Data
 device_data r = object (put_all (device_rows r) no_members)
 
@@ -37,12 +40,15 @@ device_data r = object (put_all (device_rows r) no_members)
 unfoldable pub device_json : BasicDevice → List ℕ
 device_json r = compact_text (device_data r)
 
+-- what a reply to a device authorization request says: codes, or an error (RFC 6749, 5.2)
 abbrev pub device_authorization_answer : ReplyRule → ReplyView → Answer BasicDevice (ErrorParts ErrorCode)
 device_authorization_answer rule = answer_of rule (device_reading any_object) (error_reading error_code_reading)
 
+-- the output of a device authorization request: its lines, and the response or the fault
 abbrev pub IsDeviceAuthorized : ReplyRule → Configuration → Addressed → List Reply → Output → Type 0
 IsDeviceAuthorized rule = IsPostShown device_json (error_display error_code_text) (device_authorization_answer rule)
 
+-- the output of `device_authorization`: that of its request, or that the endpoint is missing
 abbrev pub IsDeviceAuthorizationOutput : Settings → DeviceAuthorizationParams → List Reply → Output → Type 0
 IsDeviceAuthorizationOutput client p replies o =
     WithEndpoint (codes "device authorization")

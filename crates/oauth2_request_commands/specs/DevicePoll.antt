@@ -1,4 +1,5 @@
--- The command `device_poll`: a device asks for its token until that is decided (RFC 8628, 3.4 and 3.5).
+-- The command `device_poll`: a device polls for its token until the user decides (RFC 8628, 3.4
+-- and 3.5).
 use Rattle.std.specs.Prelude.{◌≡◌, ◌⊎◌, ℕ, zero, suc, ℤ, List, [], ◌∷◌, ◌++◌, length, map, Option, Some, None, unwrap_or, codes}
 use Rattle.http_uri.specs.Uri.{SpellsNone}
 use Rattle.url.specs.Parts.{serialize}
@@ -29,7 +30,7 @@ use Rattle.oauth2_world.specs.Replies.{next_reply, later_replies}
 use Rattle.oauth2_script.specs.DevicePollParams.{DevicePollParams}
 use Rattle.oauth2_script.specs.Replies.{Reply}
 
--- the cap is ten seconds where none is given
+-- the poll of the parameters; times are in nanoseconds, and the cap is 10 seconds if absent
 abbrev pub device_token : Settings → DevicePollParams → Addressed → DeviceToken
 device_token client p url = record {
   base = record (base_of client) { extra_params = p.extra_params };
@@ -40,34 +41,35 @@ device_token client p url = record {
   max_backoff_interval = unwrap_or p.cap (nanos_of_seconds 10);
 }
 
--- for how long the device polls: as long as its code is good, where nothing else is given
+-- how long the device polls, in nanoseconds: the `expires_in` of its codes if no timeout is given
 abbrev pub timeout : DevicePollParams → ℕ
 timeout p = unwrap_or p.timeout (nanos_of_seconds p.device.expires_in)
 
 -- ---- the calls of the client
 
--- what the first calls answer, so many
+-- what the first `n` calls of the client return; `None` is a failed call
 abbrev pub calls_of : List Reply → ℕ → List (Option ReplyView)
 calls_of replies zero = []
 calls_of replies (suc n) = next_reply replies ∷ calls_of (later_replies replies) n
 
--- the last of them, or this where there is none
+-- the last of these calls, or `before` if there is none
 abbrev pub last_call : Option ReplyView → List (Option ReplyView) → Option ReplyView
 last_call before [] = before
 last_call before (call ∷ calls) = last_call call calls
 
--- what a reply says to a device that waits for a token
+-- what a reply to a device says: a token, or an error (RFC 8628, 3.5)
 abbrev pub poll_answer : ReplyRule → ReplyView → Answer BasicToken (ErrorParts DeviceErrorCode)
 poll_answer rule = answer_of rule (token_reading any_object token_code_reading) (error_reading device_error_code_reading)
 
--- what a call means to it
+-- what a call means to the poll; a failed call is `Failed`
 abbrev pub class_of_call : ReplyRule → Option ReplyView → PollAnswer
 class_of_call rule None = Failed
 class_of_call rule (Some reply) = class_of_answer (poll_answer rule reply)
 
 -- ---- what is shown
 
--- the lines of these events: each request goes to a target of the URL's text
+-- the lines of the events of a poll: those of each request, and one for each sleep; the target of a
+-- request is the one that the text of the URL has
 abbrev pub AreLinesOf : Configuration → List ℕ → List TraceEvent → List ℕ → Type 0
 AreLinesOf c url [] lines = lines ≡ []
 AreLinesOf c url (Reading t ∷ events) lines = AreLinesOf c url events lines
@@ -77,10 +79,11 @@ AreLinesOf c url (Answered a ∷ events) lines = AreLinesOf c url events lines
 AreLinesOf c url (Slept d ∷ events) lines =
     (rest : List ℕ) × AreLinesOf c url events rest × (lines ≡ sleep_line d ++ rest)
 
+-- the text of an error response to a device (RFC 8628, 3.5)
 abbrev pub device_error_display : ErrorParts DeviceErrorCode → List ℕ
 device_error_display e = error_display device_error_code_text e
 
--- the answer at an end, after these calls
+-- the last line of a poll with this ending, after these calls of the client
 abbrev pub shown_at : ReplyRule → Ending → List (Option ReplyView) → Output
 shown_at rule TooLong calls = failure_output (other_text (codes "failed to convert the timeout"))
 shown_at rule OutOfRange calls = failure_output (other_text (codes "failed to calculate timeout"))
@@ -89,8 +92,8 @@ shown_at rule (Late n) calls =
 shown_at rule (Decided n) calls = reply_output (λ token. success_output (token_json token)) device_error_display (poll_answer rule) (last_call None calls)
 shown_at rule (Limited n) calls = failure_output (other_text (codes "polling limit reached"))
 
--- a poll with a clock and the replies of a client: its events are those of the poll with what the
--- clock showed and the client answered
+-- the output of a poll: the library polls with what the clock shows and what the client returns,
+-- and the lines are those of the events of this poll
 pub record IsPolled (r : DeviceToken) (timeout max_polls : ℕ) (clock : Clock) (replies : List Reply) (o : Output) : Type 0 where
   pub events : List TraceEvent
   pub shows : readings_in events ≡ readings_of clock (length (readings_in events))
@@ -100,8 +103,8 @@ pub record IsPolled (r : DeviceToken) (timeout max_polls : ℕ) (clock : Clock) 
   pub done : IsTraceOf (input_of r timeout max_polls events) events
   pub lines : List ℕ
   pub are_lines : AreLinesOf (device_token_configuration r) (serialize r.token_url.url) events lines
-  -- they are the whole poll, which its answer ends; or memory ran out behind a beginning of it; or
-  -- the endpoint is no HTTP target, which shows at the first request
+  -- the events are a whole poll, and its answer comes last; or they are the start of a poll, where
+  -- memory ran out; or the endpoint is no HTTP target, which is noticed at the first request
   pub end : (
       ((done.rest ≡ []) × (o ≡ after lines (shown_at r.base.reply_rule done.ending calls)))
       ⊎ ((o ≡ after lines no_memory_output)
@@ -111,6 +114,7 @@ pub record IsPolled (r : DeviceToken) (timeout max_polls : ℕ) (clock : Clock) 
       × (o ≡ after lines (failure_output (other_text not_http_text)))))
       )
 
+-- the output of `device_poll`: that of its poll, or that no token endpoint is set
 abbrev pub IsDevicePollOutput : Settings → DevicePollParams → Clock → List Reply → Output → Type 0
 IsDevicePollOutput client p clock replies o =
     WithToken (λ url o. IsPolled (device_token client p url) (timeout p) p.max_polls clock replies o) client.token_url o

@@ -1,4 +1,4 @@
--- A request to an endpoint, as a run shows it.
+-- What the output shows of a request to an endpoint.
 use Rattle.std.specs.Prelude.{◌≡◌, ◌⊎◌, ℕ, List, ◌++◌, Option, Some, None, MatchOption, codes}
 use Rattle.http_uri.specs.declared.uri.Uri.{Uri}
 use Rattle.http_uri.specs.Uri.{Spells, SpellsNone, uri_text}
@@ -25,14 +25,16 @@ use Rattle.oauth2_script.specs.Replies.{Reply}
 use Rattle.oauth2_world.specs.Replies.{next_reply}
 use Rattle.oauth2_request_commands.specs.declared.status.RunStatus.TheVariants as status
 
--- ---- the target of a URL's text, in the forms of RFC 9112, 3.2, where it has one
+-- ---- the request target of a URL (RFC 9112, 3.2)
 
+-- `Some` is the request target that the text of a URL has; `None` if it has none
 abbrev pub IsTarget : List ℕ → Option (List ℕ) → Type 0
 IsTarget text None = SpellsNone text
 IsTarget text (Some shown) = (target : Uri) × Spells text target × (shown ≡ uri_text target)
 
 -- ---- what a reply says
 
+-- the name of the cause why a body could not be read, as the output shows it
 abbrev pub cause_name : ParseCause → List ℕ
 cause_name cause.NotJson = codes "NotJson"
 cause_name cause.NotObject = codes "NotObject"
@@ -44,34 +46,38 @@ cause_name cause.BadUrl = codes "BadUrl"
 cause_name cause.BothNames = codes "BothNames"
 cause_name cause.Refused = codes "Refused"
 
--- the member at fault and its cause, behind the display
+-- the line of a body that could not be read: the display, the member at fault and the cause
 unfoldable pub unread_line : List ℕ → List ℕ → List ℕ
 unread_line member cause =
     line (codes "answer fault" ++ codes " " ++ quotation (codes "Failed to parse server response") ++ codes " " ++ quotation member ++ codes " " ++ cause)
 
+-- the output for a body that could not be read
 abbrev pub not_read : Fault → Output
 not_read fault = record { lines = unread_line fault.member (cause_name fault.cause); status = status.Fault }
 
+-- the text of a fault: the error response of the server, displayed as `text`
 abbrev pub refused_text : List ℕ → List ℕ
 refused_text text = codes "Server returned error response: " ++ text
 
+-- the text of a fault that is `Other`, which has only a text
 abbrev pub other_text : List ℕ → List ℕ
 other_text text = codes "Other error: " ++ text
 
 module _ {A E : Type 0} (shown : A → Output) (text : E → List ℕ) where
+  -- what is shown of an answer: `shown` of a success, `text` of an error response, or another fault
   abbrev pub answer_output : Answer A E → Output
   answer_output (accepted a) = shown a
   answer_output (refused e) = failure_output (refused_text (text e))
   answer_output (unread fault body) = not_read fault
   answer_output (other said) = failure_output (other_text said)
 
-  -- a failure of the client, or what its reply says
+  -- what is shown of a call: that it failed, or what its reply says
   abbrev pub reply_output : (ReplyView → Answer A E) → Option ReplyView → Output
   reply_output says None = failure_output (codes "Request failed")
   reply_output says (Some reply) = answer_output (says reply)
 
-  -- of a request to the URL's target: its lines, and what the reply says or that memory ran out
-  -- behind the request; none is made where the URL has no target, or where memory ran out before
+  -- what is shown of a request: its lines, and then what the reply says, or that memory ran out; no
+  -- request is made if the URL has no HTTP target, or if memory ran out before
   abbrev pub IsRequestShown : (ReplyView → Answer A E) → (List ℕ → List ℕ) → Parts → List Reply → Output → Type 0
   IsRequestShown says lines url replies o =
       (o ≡ no_memory_output)
@@ -79,19 +85,21 @@ module _ {A E : Type 0} (shown : A → Output) (text : E → List ℕ) where
       × MatchOption target (o ≡ failure_output (other_text not_http_text))
       (λ place. (o ≡ after (lines place) (reply_output says (next_reply replies))) ⊎ (o ≡ after (lines place) no_memory_output)))
 
--- a request that a configuration asks for, and its answer as JSON
+-- what is shown of the POST request of a configuration; a success is shown as `json`
 abbrev pub IsPostShown : {A E : Type 0} → (A → List ℕ) → (E → List ℕ) → (ReplyView → Answer A E) → Configuration → Addressed → List Reply → Output → Type 0
 IsPostShown json text says c endpoint = IsRequestShown (λ a. success_output (json a)) text says (expected_lines c) endpoint.url
 
--- the text of an error response whose code is written as `code`
+-- the text of an error response (RFC 6749, 5.2); `code` writes its error code
 unfoldable pub error_display : {C : Type 0} → (C → List ℕ) → ErrorParts C → List ℕ
 error_display code r = (code r.error ++ after_colon r.description) ++ in_brackets r.uri
 
 -- ---- tokens
 
+-- a token response without extension members (RFC 6749, 5.1)
 abbrev pub BasicToken : Type 0
 BasicToken = Token (Unit {0}) TokenCode
 
+-- a token response as a JSON object; absent members are left out
 unfoldable pub token_data : BasicToken → Data
 token_data r = object (put_all (token_rows (string (token_code_text r.token_type)) r) no_members)
 
@@ -99,9 +107,10 @@ token_data r = object (put_all (token_rows (string (token_code_text r.token_type
 unfoldable pub token_json : BasicToken → List ℕ
 token_json r = compact_text (token_data r)
 
+-- what a reply to a token request says: a token (RFC 6749, 5.1), or an error (RFC 6749, 5.2)
 abbrev pub token_answer : ReplyRule → ReplyView → Answer BasicToken (ErrorParts ErrorCode)
 token_answer rule = answer_of rule (token_reading any_object token_code_reading) (error_reading error_code_reading)
 
--- a request for a token
+-- what is shown of a token request: its lines, and the token or the fault
 abbrev pub IsTokenShown : ReplyRule → Configuration → Addressed → List Reply → Output → Type 0
 IsTokenShown rule = IsPostShown token_json (error_display error_code_text) (token_answer rule)

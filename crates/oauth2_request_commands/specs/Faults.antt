@@ -1,4 +1,4 @@
--- What a run shows where a request has no answer.
+-- What the output shows of a request that failed.
 use Rattle.std.specs.Prelude.{ℕ, List, string_bytes, codes}
 use Rattle.oauth2_json.specs.Reading.{fault_of}
 use Rattle.oauth2_wire.specs.declared.error.ConfigurationError.{ConfigurationError}
@@ -12,7 +12,7 @@ use Rattle.oauth2_request_commands.specs.Out.{Output, failure_output, no_memory_
 use Rattle.oauth2_request_commands.specs.Revoke.{insecure}
 
 module _ {T : Type 0} (text : T → List ℕ) where
-  -- the fault of a request, where the server's error is shown as `text`
+  -- what is shown of the error of a request; `text` displays the error response of the server
   abbrev pub fault_output : RequestTokenError NoReply T → Output
   fault_output (ServerResponse e) = failure_output (refused_text (text e))
   fault_output (Request e) = failure_output (codes "Request failed")
@@ -20,7 +20,7 @@ module _ {T : Type 0} (text : T → List ℕ) where
   fault_output (Other given) = failure_output (other_text (string_bytes given))
   fault_output (Memory sent) = no_memory_output
 
--- the client lacks an endpoint, or has one that is no `https` URL; its name is shown
+-- what is shown if the client lacks an endpoint, or if the URL of one is not `https`
 abbrev pub configuration_output : ConfigurationError → Output
 configuration_output (MissingUrl name) = missing name.now
 configuration_output (InsecureUrl name) = insecure name.now

@@ -16,11 +16,12 @@ use Rattle.oauth2_script.specs.Replies.{Reply}
 use Rattle.oauth2_script.specs.declared.revoke_params.TokenKind.{TokenKind}
 use Rattle.oauth2_script.specs.declared.revoke_params.TokenKind.TheVariants.{Access, Refresh}
 
--- the hint that the server is given (RFC 7009, 2.1)
+-- the `token_type_hint` of a kind of token (RFC 7009, 2.1)
 abbrev pub hint_text : TokenKind → List ℕ
 hint_text Access = codes "access_token"
 hint_text Refresh = codes "refresh_token"
 
+-- the revocation request with the token, its type hint and the extra parameters (RFC 7009, 2.1)
 abbrev pub revocation_request : Settings → RevokeParams → Addressed → TokenRevocation
 revocation_request client p url = record {
   base = record (base_of client) { extra_params = p.extra_params };
@@ -29,20 +30,23 @@ revocation_request client p url = record {
   token_type_hint = Some (hint_text p.kind);
 }
 
+-- what a reply to a revocation request says: status 200 is a success (RFC 7009, 2.2), else an error
 abbrev pub revocation_answer : ReplyView → Answer Unit (ErrorParts RevocationErrorCode)
 revocation_answer = status_answer_of (error_reading revocation_error_code_reading)
 
--- a success says nothing more
+-- what is shown of a revocation request: its lines, and `null` for a success, or the fault
 abbrev pub IsRevoked : Configuration → Addressed → List Reply → Output → Type 0
 IsRevoked = IsPostShown (λ done. codes "null") (error_display revocation_error_code_text) revocation_answer
 
+-- the output of a command whose endpoint has a URL that is not `https`
 abbrev pub insecure : List ℕ → Output
 insecure name = failure_output (codes "Scheme for " ++ name ++ codes " endpoint URL must be HTTPS")
 
--- what is shown with an `https` endpoint, or that the one of this name is none
+-- the output that `IsOutput` says for an `https` URL, or that the endpoint is not `https`
 abbrev pub WithHttps : List ℕ → (Addressed → Output → Type 0) → Addressed → Output → Type 0
 WithHttps name IsOutput url o = (IsHttps url × IsOutput url o) ⊎ (¬ (IsHttps url) × (o ≡ insecure name))
 
+-- the output of `revoke`: that of its request, or that the endpoint is missing or not `https`
 abbrev pub IsRevokeOutput : Settings → RevokeParams → List Reply → Output → Type 0
 IsRevokeOutput client p replies o =
     WithEndpoint (codes "revocation")

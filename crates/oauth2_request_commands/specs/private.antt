@@ -1,3 +1,3 @@
--- What only private clauses cite.
+-- Definitions for contracts of functions that are not exported.
 pub mod Extra
 pub mod Results

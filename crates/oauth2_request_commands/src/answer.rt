@@ -1,4 +1,4 @@
-//! What a run shows of the end of a request.
+//! What the output shows of the result of a request.
 
 ghost use Rattle.std.specs.Prelude.{◌≡◌, ◌++◌, ℕ, List, Some, false, string_bytes, codes};
 ghost use Rattle.std.specs.Prelude.{IfOk, OnOk, IsOkAnd, IfSome};
@@ -20,10 +20,10 @@ use oauth2_world::{NoReply, print_answer, print_fault, quoted};
 use std::alloc::{AllocError, Global};
 use std::fmt::Display;
 
-/// Why a run has no answer of the server.
+/// The error of a request of the scripted client.
 pub type Fault = RequestTokenError<NoReply, BasicErrorResponse>;
 
-/// Why a token is not revoked.
+/// The error of a revocation request of the scripted client.
 pub type RevocationFault = RequestTokenError<NoReply, BasicRevocationErrorResponse>;
 
 fn cause_name(cause: ParseCause) -> &'static str
@@ -42,7 +42,7 @@ fn cause_name(cause: ParseCause) -> &'static str
     }
 }
 
-// Four words in a line.
+// Adds a line of four words with spaces between them.
 fn print_words(
     lines: &mut String,
     first: &str,
@@ -91,7 +91,7 @@ fn print_parse_fault(
     print_unread(alloc, lines, fault.member.as_str(), cause)
 }
 
-/// Shows an error by its text, and that the run ended in a fault.
+/// Adds the line of a fault with the text of this error. The status is `Fault`.
 pub fn show_error_text<E: Display>(
     alloc: Global,
     lines: &mut String,
@@ -106,8 +106,8 @@ pub fn show_error_text<E: Display>(
     Ok(RunStatus::Fault)
 }
 
-/// Shows the fault of a request: a body that could not be read by its member and the cause, and any
-/// other fault by its text.
+/// Adds the line of the error of a request. If the body could not be read, the line names the
+/// member and the cause; else it has the text of the error. The status is `Fault`.
 pub fn show_fault<T: Display>(
     alloc: Global,
     lines: &mut String,
@@ -125,7 +125,7 @@ pub fn show_fault<T: Display>(
     }
 }
 
-// The compact JSON of what is written without a fault and holds no float.
+// The compact JSON of a value that can be written as JSON and has no float.
 fn json_of<T: ToJson>(alloc: Global, value: &T) -> Result<String, AllocError>
     requires { IsOkAnd (T.writing value.now) (λ d. has_float d ≡ false) }
     ensures { IfOk result (λ s. (d : Data) → T.writing value.now ≡ Ok d
@@ -139,8 +139,8 @@ fn json_of<T: ToJson>(alloc: Global, value: &T) -> Result<String, AllocError>
     }
 }
 
-/// Shows an answer as compact JSON, and that the run was answered. The answer has to be written
-/// without a fault and to hold no float.
+/// Adds the line of an answer, as compact JSON. The status is `Answered`. The value must be one
+/// that can be written as JSON, and have no float.
 pub fn show_answer<A: ToJson>(
     alloc: Global,
     lines: &mut String,
@@ -156,7 +156,8 @@ pub fn show_answer<A: ToJson>(
     Ok(RunStatus::Answered)
 }
 
-/// The end of a request, whose answer is written without a fault and holds no float.
+/// Adds the line of the result of a request. Each value of `A` must be one that can be written as
+/// JSON, and have no float.
 pub fn show_end<A: ToJson, T: Display>(
     alloc: Global,
     lines: &mut String,
@@ -174,7 +175,7 @@ pub fn show_end<A: ToJson, T: Display>(
     }
 }
 
-/// The end of a revocation.
+/// Adds the line of the result of a revocation: `answer ok null` for a success.
 pub fn show_revocation(
     alloc: Global,
     lines: &mut String,
@@ -192,7 +193,7 @@ pub fn show_revocation(
     }
 }
 
-/// Shows that the client lacks an endpoint, or that its URL is not an `https` URL.
+/// Adds the line that the client lacks an endpoint, or that the URL of one is not `https`.
 pub fn show_configuration_error(
     alloc: Global,
     lines: &mut String,

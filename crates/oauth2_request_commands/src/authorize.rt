@@ -1,4 +1,4 @@
-//! The command `authorize`: the URL to send a user to.
+//! The command `authorize`: the URL that the user is sent to.
 
 ghost use Rattle.std.specs.Prelude.{◌≡◌, ◌++◌, Some, codes, option_copied, unwrap_or, string_bytes};
 ghost use Rattle.std.specs.Prelude.{IfSome, IfNone, IsOkAnd, IsErrAnd, OnOk, IfOk};
@@ -127,7 +127,7 @@ fn print_url(alloc: Global, lines: &mut String, url: &str) -> Result<(), AllocEr
     writeln!(lines, "url {url}")
 }
 
-// The URL of the request, and its state.
+// Adds the line of the URL of the request, and the line of its state.
 fn show_url(
     alloc: Global,
     lines: &mut String,
@@ -147,7 +147,7 @@ fn show_url(
     }
 }
 
-/// Shows the URL to send a user to, and the state.
+/// Shows the URL that the user is sent to, and the state (RFC 6749, section 4.1.1).
 pub fn run_authorize(
     alloc: Global,
     client: &ScriptClient,

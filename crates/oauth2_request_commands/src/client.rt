@@ -4,11 +4,11 @@ ghost use Rattle.std.specs.Prelude.{◌≡◌};
 ghost use Rattle.oauth2_request_commands.specs.Client.{settings_of};
 ghost use Rattle.oauth2_script.specs.Views.{client_view};
 
-use oauth2::basic::BasicClient;
 use oauth2::EndpointMaybeSet;
-use oauth2_script::{ClientPart, ClientEndpoints};
+use oauth2::basic::BasicClient;
+use oauth2_script::{ClientEndpoints, ClientPart};
 
-/// A client, any of whose endpoints may have a URL.
+/// A client of a script: each of its endpoints may be set or not.
 pub type ScriptClient = BasicClient<
     EndpointMaybeSet,
     EndpointMaybeSet,
@@ -17,7 +17,7 @@ pub type ScriptClient = BasicClient<
     EndpointMaybeSet,
 >;
 
-/// The client that a script names.
+/// The client that the member `client` of a script describes.
 pub fn client_of(part: ClientPart) -> ScriptClient
     ensures { result ≡ settings_of (client_view part) }
 {

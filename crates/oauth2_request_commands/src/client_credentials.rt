@@ -1,4 +1,4 @@
-//! The command `client_credentials`: the client asks for a token of its own.
+//! The command `client_credentials`: the client asks for a token for itself.
 
 ghost use Rattle.std.specs.Prelude.{◌≡◌, false, string_bytes, IfOk};
 ghost use Rattle.oauth2_request_commands.specs.ClientCredentials as spec;
@@ -63,7 +63,7 @@ impl TokenRequest for ClientCredentialsRequest<'_> {
     }
 }
 
-/// Asks for a token, and shows what came of it.
+/// Asks for a token, and shows the request and its result (RFC 6749, section 4.4.2).
 pub fn run_client_credentials(
     alloc: Global,
     client: &ScriptClient,

@@ -81,7 +81,7 @@ fn with_redirect<'a>(request: CodeRequest<'a>, redirect: Option<RedirectUrl>) ->
     }
 }
 
-/// Exchanges a code, and shows what came of it.
+/// Exchanges a code for a token, and shows the request and its result (RFC 6749, section 4.1.3).
 pub fn run_code(
     alloc: Global,
     client: &ScriptClient,

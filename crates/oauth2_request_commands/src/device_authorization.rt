@@ -41,7 +41,7 @@ impl<'a> Extensible<'a> for DeviceAuthorization<'a> {
     }
 }
 
-// Sends the request, and shows what came of it.
+// Sends the request, and shows it and its result.
 fn ask(
     alloc: Global,
     request: DeviceAuthorization<'_>,
@@ -60,7 +60,7 @@ fn ask(
     show_end(alloc, &mut http_client.lines, &end)
 }
 
-/// Asks for a device's codes, and shows what came of it.
+/// Asks for a device's codes, and shows the request and its result (RFC 8628, section 3.1).
 pub fn run_device_authorization(
     alloc: Global,
     client: &ScriptClient,

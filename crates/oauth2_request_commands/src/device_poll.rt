@@ -1,4 +1,4 @@
-//! The command `device_poll`: a device asks for its token until that is decided.
+//! The command `device_poll`: a device polls for its token until the user decides.
 
 ghost use Rattle.std.specs.Prelude.{◌≡◌, false, unwrap_or, option_map, string_bytes, IfOk};
 ghost use Rattle.std.specs.Duration.{as_nanos};
@@ -60,7 +60,7 @@ fn with_cap<'a>(request: DeviceRequest<'a>, cap: Option<Duration>) -> DeviceRequ
     }
 }
 
-// Polls, and shows what came of it.
+// Polls, and shows each request, each sleep and the result.
 fn poll(
     alloc: Global,
     request: DeviceRequest<'_>,
@@ -78,7 +78,8 @@ fn poll(
     show_end(alloc, &mut world.http_client.lines, &end)
 }
 
-/// Polls for a device's token, and shows what came of it.
+/// Polls for a device's token, and shows each request, each sleep and the result (RFC 8628,
+/// section 3.4).
 pub fn run_device_poll(
     alloc: Global,
     client: &ScriptClient,

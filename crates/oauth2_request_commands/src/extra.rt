@@ -1,18 +1,19 @@
-//! Requests that take parameters of the caller's own.
+//! Requests that extra parameters can be added to.
 
 ghost use Rattle.std.specs.Prelude.{◌≡◌, map, IfOk};
 ghost use Rattle.oauth2_wire.specs.ServerView.{pair_texts};
 
 use std::alloc::AllocError;
 
-/// A request that more pairs can be added to.
+/// A request that extra parameters can be added to.
 pub trait Extensible<'a>: Sized {
     ghost use Rattle.std.specs.Prelude.{◌≡◌, ◌++◌, ◌∷◌, [], List, IfOk};
     ghost use Rattle.oauth2_form.specs.Pairs.{Pair};
 
-    /// With these pairs after those that are there.
+    /// The request with these parameters added after its own.
     ghost extended: { Self → List Pair → Self };
 
+    /// Adds one extra parameter after the others.
     fn with_pair(self, name: &'a str, value: &'a str) -> Result<Self, AllocError>
         ensures { IfOk result (λ r. r ≡ extended self ((name.now, value.now) ∷ [])) };
 
@@ -21,7 +22,7 @@ pub trait Extensible<'a>: Sized {
     ghost more: { (r : Self) (p q : List Pair) → extended (extended r p) q ≡ extended r (p ++ q) };
 }
 
-/// Adds each of these pairs.
+/// Adds each of these extra parameters, in order.
 pub fn with_extra<'a, T: Extensible<'a> + Drop>(
     request: T,
     extra_params: &'a [(String, String)],

@@ -1,4 +1,4 @@
-//! The command `introspect`: the server is asked what a token is worth.
+//! The command `introspect`: the client asks the server whether a token is active.
 
 ghost use Rattle.std.specs.Prelude.{◌≡◌, false, option_map, string_bytes, IfOk};
 ghost use Rattle.oauth2_requests.specs.TokenIntrospection.{introspection_configuration};
@@ -53,7 +53,7 @@ fn with_hint<'a>(request: Introspection<'a>, hint: Option<String>) -> Introspect
     }
 }
 
-// Sends the request, and shows what came of it.
+// Sends the request, and shows it and its result.
 fn ask(
     alloc: Global,
     request: Introspection<'_>,
@@ -69,7 +69,7 @@ fn ask(
     show_end(alloc, &mut http_client.lines, &end)
 }
 
-/// Asks what a token is worth, and shows what came of it.
+/// Asks whether a token is active, and shows the request and its result (RFC 7662, section 2.1).
 pub fn run_introspect(
     alloc: Global,
     client: &ScriptClient,

@@ -2,7 +2,7 @@
 //! shown.
 //!
 //! Each function that shows something appends it to the lines of the run. Its only error is that
-//! memory ran out, and then some of it may be there.
+//! memory ran out; then a part of the lines may be there.
 
 #![tactic(auto)]
 

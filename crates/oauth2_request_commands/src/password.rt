@@ -56,7 +56,7 @@ impl TokenRequest for PasswordRequest<'_> {
     }
 }
 
-/// Asks for a token, and shows what came of it.
+/// Asks for a token, and shows the request and its result (RFC 6749, section 4.3.2).
 pub fn run_password(
     alloc: Global,
     client: &ScriptClient,

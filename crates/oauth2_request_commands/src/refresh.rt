@@ -55,7 +55,7 @@ impl TokenRequest for RefreshRequest<'_> {
     }
 }
 
-/// Asks for a token, and shows what came of it.
+/// Asks for a token, and shows the request and its result (RFC 6749, section 6).
 pub fn run_refresh(
     alloc: Global,
     client: &ScriptClient,

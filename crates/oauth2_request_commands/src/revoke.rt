@@ -48,7 +48,7 @@ fn token_of(text: String, kind: TokenKind) -> StandardRevocableToken
     }
 }
 
-// Sends the request, and shows what came of it.
+// Sends the request, and shows it and its result.
 fn ask(
     alloc: Global,
     request: Revocation<'_>,
@@ -63,7 +63,7 @@ fn ask(
     show_revocation(alloc, &mut http_client.lines, &end)
 }
 
-/// Revokes a token, and shows what came of it.
+/// Revokes a token, and shows the request and its result (RFC 7009, section 2.1).
 pub fn run_revoke(
     alloc: Global,
     client: &ScriptClient,

@@ -1,12 +1,12 @@
 //! How a run ends.
 
-/// How a run ended whose lines were written.
+/// How a run ended, if its lines were written.
 #[derive(Clone, Copy, Debug, PartialEq, Eq)]
 pub enum RunStatus {
-    /// The command has an answer; a keeper's has one for each reading.
+    /// The command has an answer; `keeper` has one for each reading.
     Answered,
-    /// The last line, or of a keeper one of the lines, names a fault or a wait.
+    /// The last line is a fault; for `keeper`, one of the lines is a fault or a wait.
     Fault,
-    /// The input is no script.
+    /// The input is not a script.
     BadScript,
 }

@@ -1,4 +1,4 @@
-//! The requests for a token, whatever their grant.
+//! What the token requests of all grants have in common.
 
 ghost use Rattle.std.specs.Prelude.{◌≡◌, false, string_bytes, IfOk};
 ghost use Rattle.oauth2_request_commands.specs.Exchange.{IsTokenShown};
@@ -11,7 +11,7 @@ use oauth2::basic::BasicTokenResponse;
 use oauth2_world::ScriptedClient;
 use std::alloc::{AllocError, Global};
 
-/// A request for a token.
+/// A token request of any grant.
 pub trait TokenRequest: Sized {
     ghost use Rattle.url.specs.Parts.{serialize};
     ghost use Rattle.oauth2_codes.specs.ErrorCodes.{error_code};
@@ -31,6 +31,7 @@ pub trait TokenRequest: Sized {
 
     ghost endpoint: { Self → Addressed };
 
+    /// Sends the request by the scripted client, and reads its reply.
     fn send(
         self,
         alloc: Global,
@@ -41,7 +42,7 @@ pub trait TokenRequest: Sized {
             (serialize (endpoint self).url) http_client.old result http_client.new };
 }
 
-/// Sends the request, and shows what came of it.
+/// Sends the request, and shows it and its result.
 pub fn exchange<T: TokenRequest + Drop>(
     alloc: Global,
     request: T,

@@ -9,6 +9,7 @@ use Rattle.oauth2_form.specs.Pairs.{Pair}
 use Rattle.oauth2_wire.specs.Expected.{optional_pair}
 use Rattle.oauth2_wire.specs.Texts.{given_text}
 
+-- an authorization request and its endpoint (RFC 6749, 4.1.1)
 pub record Authorization : Type 0 where
   pub auth_url : Addressed
   pub client_id : List ℕ
@@ -25,12 +26,12 @@ challenge_pairs None = []
 challenge_pairs (Some challenge) =
     (codes "code_challenge", challenge.text) ∷ (codes "code_challenge_method", challenge.method) ∷ []
 
--- the scopes as one text, where that is not empty (RFC 6749, section 3.3)
+-- the parameter `scope`, unless the joined text of the scopes is empty (RFC 6749, 3.3)
 abbrev pub scope_pairs : List ℕ → List Pair
 scope_pairs [] = []
 scope_pairs (byte ∷ bytes) = (codes "scope", byte ∷ bytes) ∷ []
 
--- what each request sends
+-- the parameters that every authorization request sends
 abbrev pub required_pairs : Authorization → List Pair
 required_pairs r =
     (codes "response_type", r.response_type)
@@ -38,7 +39,7 @@ required_pairs r =
     ∷ (codes "state", r.state)
     ∷ []
 
--- what a request sends where it was set
+-- the parameters that an authorization request sends only if they were set
 abbrev pub optional_pairs : Authorization → List Pair
 optional_pairs r =
     challenge_pairs r.pkce_challenge
@@ -46,14 +47,14 @@ optional_pairs r =
     ++ scope_pairs (joined_words r.scopes)
     ++ r.extra_params
 
--- the pairs that follow those of the endpoint's own query, in order
+-- all parameters of the request, in order; they follow those in the URL of the endpoint
 abbrev pub query_pairs : Authorization → List Pair
 query_pairs r = required_pairs r ++ optional_pairs r
 
--- the URL that a request asks for: the endpoint's, with these pairs after those of its query
+-- the authorization URL: the URL of the endpoint, with these parameters appended to its query
 abbrev pub asked_url : Authorization → Parts
 asked_url r = append_query_pairs r.auth_url.url (query_pairs r)
 
--- the text of the URL has 4 GB or more, and a `Url` holds less
+-- the text of the URL has 2^32 bytes or more, which is longer than a `Url` can be
 abbrev pub IsTooLong : Parts → Type 0
 IsTooLong url = 2 ^ 32 ≤ length (serialize url)

@@ -1,4 +1,4 @@
--- What contracts see of every request to an endpoint.
+-- What contracts see of every request except the authorization request.
 use Rattle.std.specs.Prelude.{ℕ, List, Option, option_map}
 use Rattle.oauth2_urls.specs.Addressed.{Addressed}
 use Rattle.oauth2_wire.specs.declared.content_type.ReplyRule.{ReplyRule}
@@ -7,8 +7,8 @@ use Rattle.oauth2_form.specs.Pairs.{Pair}
 use Rattle.oauth2_wire.specs.Expected.{Configuration}
 use Rattle.oauth2_wire.specs.Texts.{given_text}
 
--- who asks, the text of the scopes, if there are any, the extra parameters, and the rule for the
--- Content-Type of the reply
+-- what all requests have: the client and how it authenticates, the scopes as one text (if any), the
+-- extra parameters, and the rule for the Content-Type of the reply
 pub record Base : Type 0 where
   pub auth_type : AuthType
   pub client_id : List ℕ
@@ -17,7 +17,7 @@ pub record Base : Type 0 where
   pub extra_params : List Pair
   pub reply_rule : ReplyRule
 
--- the configuration of a request that has these pairs of its own, and this redirect
+-- the configuration of a request with these own pairs and this redirect URL
 abbrev pub configuration_of : Base → List Pair → Option Addressed → Configuration
 configuration_of base own_pairs redirect_url = record {
   auth_type = base.auth_type;

@@ -5,11 +5,14 @@ use Rattle.oauth2_wire.specs.Expected.{Configuration}
 use Rattle.oauth2_requests.specs.Base.{Base, configuration_of}
 use Rattle.oauth2_requests.specs.HintedToken.{hinted_token_pairs}
 
+-- an introspection request, its endpoint, the token and the hint of its type, if any (RFC 7662,
+-- 2.1)
 pub record TokenIntrospection : Type 0 where
   pub base : Base
   pub introspection_url : Addressed
   pub token : List ℕ
   pub token_type_hint : Option (List ℕ)
 
+-- what this request sends
 abbrev pub introspection_configuration : TokenIntrospection → Configuration
 introspection_configuration r = configuration_of r.base (hinted_token_pairs r.token r.token_type_hint) None

@@ -5,12 +5,13 @@ use Rattle.oauth2_wire.specs.Expected.{Configuration}
 use Rattle.oauth2_requests.specs.Base.{Base, configuration_of}
 use Rattle.oauth2_requests.specs.HintedToken.{hinted_token_pairs}
 
--- the token's text and its hint are what the token itself tells
+-- a revocation request, its endpoint, the token and the hint of its type, if any (RFC 7009, 2.1)
 pub record TokenRevocation : Type 0 where
   pub base : Base
   pub revocation_url : Addressed
   pub token : List ℕ
   pub token_type_hint : Option (List ℕ)
 
+-- what this request sends
 abbrev pub revocation_configuration : TokenRevocation → Configuration
 revocation_configuration r = configuration_of r.base (hinted_token_pairs r.token r.token_type_hint) None

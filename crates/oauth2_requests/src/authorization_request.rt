@@ -60,8 +60,8 @@ impl<'a> Model for AuthorizationRequest<'a> {
 }
 
 impl<'a> AuthorizationRequest<'a> {
-    /// A request for a code, with this state. `oauth2::Client` makes it; a caller with endpoints
-    /// of its own can too.
+    /// A request for a code, with this state. `oauth2::Client` builds it; call `new` yourself if
+    /// you keep your endpoints without a `Client`.
     pub fn new(
         alloc: Global,
         auth_url: &'a AuthUrl,
@@ -102,7 +102,7 @@ impl<'a> AuthorizationRequest<'a> {
         Ok(self)
     }
 
-    /// Adds scopes, in order, from an iterator that ends.
+    /// Adds scopes, in order. The iterator must end.
     pub fn add_scopes<I: IntoIterator<Item = Scope>>(
         mut self,
         scopes: I,
@@ -117,7 +117,8 @@ impl<'a> AuthorizationRequest<'a> {
         Ok(self)
     }
 
-    /// Adds a parameter. If the request itself sends a parameter of that name, both are sent.
+    /// Adds an extra parameter. If the request itself sends a parameter with that name, both are
+    /// sent.
     pub fn add_extra_param(
         mut self,
         name: ParamText<'a>,
@@ -132,7 +133,7 @@ impl<'a> AuthorizationRequest<'a> {
         Ok(self)
     }
 
-    /// Asks for a token in place of a code: the implicit flow (RFC 6749, section 4.2.1).
+    /// Requests a token instead of a code: the implicit flow (RFC 6749, section 4.2.1).
     pub fn use_implicit_flow(mut self) -> Self
         ensures { result ≡ record self.entry { response_type = codes "token" } }
     {
@@ -140,7 +141,7 @@ impl<'a> AuthorizationRequest<'a> {
         self
     }
 
-    /// Sets the response type, which is `code` unless set.
+    /// Sets the response type. Without this call, it is `code`.
     pub fn set_response_type(
         mut self,
         alloc: Global,
@@ -160,7 +161,7 @@ impl<'a> AuthorizationRequest<'a> {
         self
     }
 
-    /// Sets the redirect, which is the client's unless set.
+    /// Sets the redirect URL. Without this call, it is that of the client, if the client has one.
     pub fn set_redirect_uri(mut self, redirect_url: RedirectRef<'a>) -> Self
         ensures { result ≡ record self.entry {
           redirect_url = Some (redirect_of redirect_url.entry);
@@ -170,8 +171,8 @@ impl<'a> AuthorizationRequest<'a> {
         self
     }
 
-    /// The URL to send a user to, and the state. An error is `OutOfMemory`, or `Overflow` where
-    /// the URL would be longer than a `Url` can be.
+    /// The URL to send the user to, and the state. The error is `OutOfMemory`, or `Overflow` if the
+    /// URL would be longer than a `Url` can be.
     pub fn url(self, alloc: Global) -> Result<(Url, CsrfToken), ParseError>
         ensures ok { IfOk result (λ r.
             ExtendsQuery self.entry.auth_url.url r.0 (query_pairs self.entry)) }
@@ -183,7 +184,8 @@ impl<'a> AuthorizationRequest<'a> {
         Ok((url, self.state))
     }
 
-    /// The URL alone. The request stays as it is, so it can be asked again where memory ran out.
+    /// The URL without the state. It borrows the request, so you can call it again if memory ran
+    /// out. The errors are those of `url`.
     pub fn authorization_url(&self, alloc: Global) -> Result<Url, ParseError>
         ensures ok { IfOk result (λ url.
             ExtendsQuery self.now.auth_url.url url (query_pairs self.now)) }
@@ -194,7 +196,8 @@ impl<'a> AuthorizationRequest<'a> {
         let Ok(form) = self.extended_query(alloc) else {
             return Err(self.refusal());
         };
-        // Tested first, since `with_query` leaves open which of its two errors tells what.
+        // This is tested first, because the contract of `with_query` does not say which of its two
+        // errors is returned when.
         if is_too_long(url, form.len()) {
             return Err(ParseError::Overflow);
         }
@@ -204,8 +207,8 @@ impl<'a> AuthorizationRequest<'a> {
         }
     }
 
-    // Why there is no URL where memory ran out for its query. The query is counted, which takes no
-    // memory, so that a URL that is too long is told as that.
+    // The error if memory ran out for the query: `Overflow` if the URL would be too long anyway.
+    // The length is computed pair by pair, which allocates nothing.
     fn refusal(&self) -> ParseError
         ensures room { IsOutOfRoom result }
         ensures overflow { result ≡ ParseError.Overflow ↔ IsTooLong (asked_url self.now) }
@@ -217,7 +220,7 @@ impl<'a> AuthorizationRequest<'a> {
         }
     }
 
-    // How many bytes the query has that is asked for; `usize::MAX` stands for more.
+    // The length in bytes of the query of the authorization URL, or `usize::MAX` if it is longer.
     fn query_len(&self) -> usize
         ensures { let query = unwrap_or self.now.auth_url.url.query [] in
             result ≡ counted (extend_pairs query (query_pairs self.now)) }
@@ -230,7 +233,7 @@ impl<'a> AuthorizationRequest<'a> {
         with_extra_params(len, &self.extra_params)
     }
 
-    // The count of a query's bytes with the pairs that each request sends.
+    // The length of a query of `own` bytes with the parameters that every request sends.
     fn required_len(&self, own: usize) -> usize
         ensures { (query : List ℕ) → own ≡ counted query
             → result ≡ counted (extend_pairs query (required_pairs self.now)) }
@@ -240,7 +243,7 @@ impl<'a> AuthorizationRequest<'a> {
         with_pair(len, "state", self.state.secret().as_str())
     }
 
-    // The text of the endpoint's query, with the request's pairs after its own.
+    // The query of the endpoint with the parameters of the request appended.
     fn extended_query(&self, alloc: Global) -> Result<Vec<u8>, AllocError>
         ensures { let query = unwrap_or self.now.auth_url.url.query [] in
             IfOk result (λ form. ExtendsForm query form.items (query_pairs self.now)) }
@@ -251,7 +254,7 @@ impl<'a> AuthorizationRequest<'a> {
         Ok(form)
     }
 
-    // Appends the pairs that each request sends.
+    // Appends the parameters that every request sends.
     fn push_required(&self, form: &mut Vec<u8>) -> Result<(), AllocError>
         ensures { OnOk result
             (ExtendsForm form.old.items form.new.items (required_pairs self.now)) }
@@ -262,7 +265,7 @@ impl<'a> AuthorizationRequest<'a> {
         Ok(())
     }
 
-    // Appends the pairs that a request sends only where they were set.
+    // Appends the parameters that a request sends only if they were set.
     fn push_optional(&self, alloc: Global, form: &mut Vec<u8>) -> Result<(), AllocError>
         ensures { OnOk result
             (ExtendsForm form.old.items form.new.items (optional_pairs self.now)) }
@@ -275,14 +278,14 @@ impl<'a> AuthorizationRequest<'a> {
     }
 }
 
-// The text of a URL's query, empty where there is none.
+// The query of a URL, or the empty text if it has none.
 fn own_query(url: &Url) -> &str
     ensures { result.now ≡ unwrap_or url.now.query [] }
 {
     url.query().unwrap_or("")
 }
 
-// Whether the URL with a query of so many bytes would be longer than a `Url` can be.
+// Whether the URL with a query of `query_len` bytes would be longer than a `Url` can be.
 fn is_too_long(url: &Url, query_len: usize) -> bool
     ensures longer { (query : List ℕ) → query_len ≡ counted query
         → (IsTrue result ↔ IsTooLong (record url.now { query = Some query })) }
@@ -322,7 +325,7 @@ fn push_scopes(alloc: Global, form: &mut Vec<u8>, scopes: &[Scope]) -> Result<()
     ensures { let scope = joined_words scopes.now in
         OnOk result (ExtendsForm form.old.items form.new.items (scope_pairs scope)) }
 {
-    let scope = members::joined(alloc, scopes)?;
+    let scope = members::join_with_spaces(alloc, scopes)?;
     push_scope(form, scope.as_str())?;
     Ok(())
 }

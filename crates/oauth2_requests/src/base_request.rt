@@ -25,8 +25,8 @@ use std::alloc::{AllocError, Global};
 use std::marker::Model;
 use url::Url;
 
-/// What each request to an endpoint holds: who asks, the scopes and the extra parameters that were
-/// added, and the rule by which its reply is read. Contracts see it as a `Base`.
+/// What every request to an endpoint holds: the client, the added scopes and extra parameters, and
+/// the rule for the Content-Type of its reply. Contracts see it as a `Base`.
 #[derive(Debug)]
 pub struct BaseRequest<'a> {
     auth_type: &'a AuthType,
@@ -65,8 +65,8 @@ impl<'a> Model for BaseRequest<'a> {
 }
 
 impl<'a> BaseRequest<'a> {
-    /// What each request of this client holds, with no scope and no extra parameter yet.
-    /// `oauth2::Client` makes it; you can make it too, if you keep your endpoints without a
+    /// What every request of this client holds, with no scope and no extra parameter yet.
+    /// `oauth2::Client` builds it; call `new` yourself if you keep your endpoints without a
     /// `Client`.
     pub fn new(
         alloc: Global,
@@ -125,8 +125,8 @@ impl<'a> BaseRequest<'a> {
         Ok(())
     }
 
-    /// Adds a parameter. If the request itself sends a parameter of that name, both are sent. If
-    /// memory runs out, the request is as it was.
+    /// Adds an extra parameter. If the request itself sends a parameter with that name, both are
+    /// sent. If memory runs out, the request is unchanged.
     pub fn add_extra_param(
         &mut self,
         name: ParamText<'_>,
@@ -142,7 +142,8 @@ impl<'a> BaseRequest<'a> {
         Ok(())
     }
 
-    /// The POST to an endpoint, with the request's own pairs and its redirect.
+    /// Builds the POST to an endpoint, with the own pairs of the request and its redirect URL. The
+    /// error is `NotHttp` if the endpoint URL is not an HTTP target.
     pub fn prepare(
         &self,
         alloc: Global,
@@ -168,7 +169,7 @@ impl<'a> BaseRequest<'a> {
         )
     }
 
-    // Sends a request that was prepared from this, once, and reads its reply by the rule.
+    // Sends a prepared request once, and reads its reply by the rule of this request.
     pub(crate) fn send_once<C: SyncHttpClient, TE: FromJson, DO: FromJson>(
         &self,
         alloc: Global,

@@ -41,8 +41,8 @@ impl<'a, TE, TR> Model for ClientCredentialsTokenRequest<'a, TE, TR> {
 }
 
 impl<'a, TE, TR> ClientCredentialsTokenRequest<'a, TE, TR> {
-    /// A request at this endpoint. `oauth2::Client` makes it; a caller with endpoints of its own
-    /// can too.
+    /// A request to this endpoint. `oauth2::Client` builds it; call `new` yourself if you keep your
+    /// endpoints without a `Client`.
     pub fn new(base: BaseRequest<'a>, token_url: &'a TokenUrl) -> Self
         ensures { result ≡ record { base = base.entry; token_url = token_url.now } }
     {
@@ -64,7 +64,7 @@ impl<'a, TE, TR> ClientCredentialsTokenRequest<'a, TE, TR> {
         Ok(self)
     }
 
-    /// Adds scopes, in order, from an iterator that ends.
+    /// Adds scopes, in order. The iterator must end.
     pub fn add_scopes<I: IntoIterator<Item = Scope>>(
         mut self,
         scopes: I,
@@ -82,7 +82,8 @@ impl<'a, TE, TR> ClientCredentialsTokenRequest<'a, TE, TR> {
         Ok(self)
     }
 
-    /// Adds a parameter. If the request itself sends a parameter of that name, both are sent.
+    /// Adds an extra parameter. If the request itself sends a parameter with that name, both are
+    /// sent.
     pub fn add_extra_param(
         mut self,
         name: ParamText<'a>,
@@ -98,7 +99,8 @@ impl<'a, TE, TR> ClientCredentialsTokenRequest<'a, TE, TR> {
         Ok(self)
     }
 
-    /// The POST that `request` sends. `NotHttp` if the endpoint's URL is not an HTTP target.
+    /// The POST that `request` sends. The error is `NotHttp` if the endpoint URL is not an HTTP
+    /// target.
     pub fn prepare_request(&self, alloc: Global) -> Result<HttpRequest, RequestFault>
         ensures ok { IfOk result (λ r. IsRequestOf (client_credentials_configuration self.now)
             (serialize self.now.token_url.url) (view_of r)) }
@@ -115,7 +117,7 @@ impl<'a, TE, TR> ClientCredentialsTokenRequest<'a, TE, TR> {
 }
 
 impl<'a, TE: ErrorResponse, TR: TokenResponse> ClientCredentialsTokenRequest<'a, TE, TR> {
-    /// Sends the request, once, and reads its reply.
+    /// Sends the request once, and reads its reply.
     pub fn request<C: SyncHttpClient>(
         self,
         alloc: Global,

@@ -49,8 +49,8 @@ impl<'a, TE, TR> Model for CodeTokenRequest<'a, TE, TR> {
 }
 
 impl<'a, TE, TR> CodeTokenRequest<'a, TE, TR> {
-    /// A request with no verifier yet. `oauth2::Client` makes it; a caller with endpoints of its
-    /// own can too.
+    /// A request with no code verifier yet. `oauth2::Client` builds it; call `new` yourself if you
+    /// keep your endpoints without a `Client`.
     pub fn new(
         base: BaseRequest<'a>,
         token_url: &'a TokenUrl,
@@ -75,7 +75,8 @@ impl<'a, TE, TR> CodeTokenRequest<'a, TE, TR> {
         }
     }
 
-    /// Adds a parameter. If the request itself sends a parameter of that name, both are sent.
+    /// Adds an extra parameter. If the request itself sends a parameter with that name, both are
+    /// sent.
     pub fn add_extra_param(
         mut self,
         name: ParamText<'a>,
@@ -99,7 +100,7 @@ impl<'a, TE, TR> CodeTokenRequest<'a, TE, TR> {
         self
     }
 
-    /// Sets the redirect, which is the client's unless set.
+    /// Sets the redirect URL. Without this call, it is that of the client, if the client has one.
     pub fn set_redirect_uri(mut self, redirect_url: RedirectRef<'a>) -> Self
         ensures { result ≡ record self.entry {
           redirect_url = Some (redirect_of redirect_url.entry);
@@ -109,7 +110,8 @@ impl<'a, TE, TR> CodeTokenRequest<'a, TE, TR> {
         self
     }
 
-    /// The POST that `request` sends. `NotHttp` if the endpoint's URL is not an HTTP target.
+    /// The POST that `request` sends. The error is `NotHttp` if the endpoint URL is not an HTTP
+    /// target.
     pub fn prepare_request(&self, alloc: Global) -> Result<HttpRequest, RequestFault>
         ensures ok { IfOk result (λ r. IsRequestOf (code_configuration self.now)
             (serialize self.now.token_url.url) (view_of r)) }
@@ -149,7 +151,7 @@ impl<'a, TE, TR> CodeTokenRequest<'a, TE, TR> {
 }
 
 impl<'a, TE: ErrorResponse, TR: TokenResponse> CodeTokenRequest<'a, TE, TR> {
-    /// Sends the request, once, and reads its reply.
+    /// Sends the request once, and reads its reply.
     pub fn request<C: SyncHttpClient>(
         self,
         alloc: Global,

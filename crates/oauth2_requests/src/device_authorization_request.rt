@@ -1,4 +1,4 @@
-//! The request of a device for its codes (RFC 8628, section 3.1).
+//! The device authorization request (RFC 8628, section 3.1).
 
 ghost use Rattle.std.specs.Prelude.{◌≡◌, ◌++◌, ◌∷◌, [], Some, IfOk, Err, List, ℕ};
 ghost use Rattle.std.specs.Iterator.{Drains, IsFinite};
@@ -42,8 +42,8 @@ impl<'a, TE> Model for DeviceAuthorizationRequest<'a, TE> {
 }
 
 impl<'a, TE> DeviceAuthorizationRequest<'a, TE> {
-    /// A request at this endpoint. `oauth2::Client` makes it; a caller with endpoints of its own
-    /// can too.
+    /// A request to this endpoint. `oauth2::Client` builds it; call `new` yourself if you keep your
+    /// endpoints without a `Client`.
     pub fn new(base: BaseRequest<'a>, device_authorization_url: &'a DeviceAuthorizationUrl) -> Self
         ensures { result ≡ record {
           base = base.entry;
@@ -68,7 +68,7 @@ impl<'a, TE> DeviceAuthorizationRequest<'a, TE> {
         Ok(self)
     }
 
-    /// Adds scopes, in order, from an iterator that ends.
+    /// Adds scopes, in order. The iterator must end.
     pub fn add_scopes<I: IntoIterator<Item = Scope>>(
         mut self,
         scopes: I,
@@ -86,7 +86,8 @@ impl<'a, TE> DeviceAuthorizationRequest<'a, TE> {
         Ok(self)
     }
 
-    /// Adds a parameter. If the request itself sends a parameter of that name, both are sent.
+    /// Adds an extra parameter. If the request itself sends a parameter with that name, both are
+    /// sent.
     pub fn add_extra_param(
         mut self,
         name: ParamText<'a>,
@@ -102,7 +103,8 @@ impl<'a, TE> DeviceAuthorizationRequest<'a, TE> {
         Ok(self)
     }
 
-    /// The POST that `request` sends. `NotHttp` if the endpoint's URL is not an HTTP target.
+    /// The POST that `request` sends. The error is `NotHttp` if the endpoint URL is not an HTTP
+    /// target.
     pub fn prepare_request(&self, alloc: Global) -> Result<HttpRequest, RequestFault>
         ensures ok { IfOk result (λ r. IsRequestOf (device_authorization_configuration self.now)
             (serialize self.now.device_authorization_url.url) (view_of r)) }
@@ -115,7 +117,8 @@ impl<'a, TE> DeviceAuthorizationRequest<'a, TE> {
 }
 
 impl<'a, TE: ErrorResponse> DeviceAuthorizationRequest<'a, TE> {
-    /// Sends the request, once, and reads its reply, whose extra fields are of the caller's type.
+    /// Sends the request once, and reads its reply. `EF` is your type for the extra fields of the
+    /// reply.
     pub fn request<C: SyncHttpClient, EF: ExtraDeviceAuthorizationFields + Drop>(
         self,
         alloc: Global,

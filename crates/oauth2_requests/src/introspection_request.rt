@@ -1,4 +1,4 @@
-//! Asking what a token is worth (RFC 7662, section 2).
+//! The introspection of a token (RFC 7662, section 2).
 
 ghost use Rattle.std.specs.Prelude.{◌≡◌, ◌++◌, ◌∷◌, [], Some, None, IfOk, Err};
 ghost use Rattle.http_uri.specs.Uri.{SpellsNone};
@@ -18,7 +18,8 @@ use oauth2_wire::{HttpRequest, ParamText, RequestFault, RequestTokenError, SyncH
 use std::alloc::{AllocError, Global};
 use std::marker::{Model, PhantomData};
 
-/// A request to learn what a token is worth.
+/// A request to the introspection endpoint: whether a token is active, and what the server knows of
+/// it.
 #[derive(Drop)]
 #[derive_where(Debug)]
 pub struct IntrospectionRequest<'a, TE, TIR> {
@@ -45,8 +46,8 @@ impl<'a, TE, TIR> Model for IntrospectionRequest<'a, TE, TIR> {
 }
 
 impl<'a, TE, TIR> IntrospectionRequest<'a, TE, TIR> {
-    /// A request with no hint yet. `oauth2::Client` makes it; a caller with endpoints of its own
-    /// can too.
+    /// A request with no token type hint yet. `oauth2::Client` builds it; call `new` yourself if
+    /// you keep your endpoints without a `Client`.
     pub fn new(
         base: BaseRequest<'a>,
         introspection_url: &'a IntrospectionUrl,
@@ -68,8 +69,8 @@ impl<'a, TE, TIR> IntrospectionRequest<'a, TE, TIR> {
         }
     }
 
-    /// Sets the hint of the token's type, such as `access_token` or `refresh_token`
-    /// (RFC 7662, section 2.1). Any text is sent as given, the empty one too.
+    /// Sets the hint of the token's type, such as `access_token` or `refresh_token` (RFC 7662,
+    /// section 2.1). Any text is sent unchanged, even an empty one.
     pub fn set_token_type_hint(mut self, token_type_hint: ParamText<'a>) -> Self
         ensures { result ≡ record self.entry {
           token_type_hint = Some (param_bytes token_type_hint.entry);
@@ -79,7 +80,8 @@ impl<'a, TE, TIR> IntrospectionRequest<'a, TE, TIR> {
         self
     }
 
-    /// Adds a parameter. If the request itself sends a parameter of that name, both are sent.
+    /// Adds an extra parameter. If the request itself sends a parameter with that name, both are
+    /// sent.
     pub fn add_extra_param(
         mut self,
         name: ParamText<'a>,
@@ -95,7 +97,8 @@ impl<'a, TE, TIR> IntrospectionRequest<'a, TE, TIR> {
         Ok(self)
     }
 
-    /// The POST that `request` sends. `NotHttp` if the endpoint's URL is not an HTTP target.
+    /// The POST that `request` sends. The error is `NotHttp` if the endpoint URL is not an HTTP
+    /// target.
     pub fn prepare_request(&self, alloc: Global) -> Result<HttpRequest, RequestFault>
         ensures ok { IfOk result (λ r. IsRequestOf (introspection_configuration self.now)
             (serialize self.now.introspection_url.url) (view_of r)) }
@@ -117,8 +120,7 @@ impl<'a, TE, TIR> IntrospectionRequest<'a, TE, TIR> {
 }
 
 impl<'a, TE: ErrorResponse, TIR: FromJson> IntrospectionRequest<'a, TE, TIR> {
-    /// Sends the request, once, and reads its reply, which may be of any type that is read from
-    /// JSON.
+    /// Sends the request once, and reads its reply as a `TIR`: any type that implements `FromJson`.
     pub fn request<C: SyncHttpClient>(
         self,
         alloc: Global,

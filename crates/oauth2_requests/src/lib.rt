@@ -1,5 +1,5 @@
-//! The requests of an OAuth 2.0 client (RFC 6749): what each holds, the HTTP request or the URL
-//! that it makes, and how it is sent.
+//! The requests of an OAuth 2.0 client (RFC 6749): what each one holds, the HTTP request or the URL
+//! that it becomes, and how it is sent.
 
 #![tactic(auto)]
 

@@ -1,5 +1,5 @@
-//! How long the query of an authorization URL is, counted pair by pair, which takes no memory. A
-//! count of `usize::MAX` stands for more bytes.
+//! The length of the query of an authorization URL, counted pair by pair without allocating. All
+//! lengths are in bytes; `usize::MAX` means that or more.
 
 ghost use Rattle.std.specs.Prelude.{◌≡◌, ◌≢◌, ◌∷◌, [], ◌++◌, List, ℕ, None, IfSome, codes};
 ghost use Rattle.std.specs.Prelude.{◌↔◌, IsTrue, length, map, option_map};
@@ -15,7 +15,7 @@ use oauth2_form::{encoded_len, len_with_pair};
 use oauth2_types::{PkceCodeChallenge, Scope};
 use oauth2_wire::{ParamText, RedirectRef};
 
-/// The count with the pairs of a challenge.
+/// The length `len` with the parameters of a code challenge added.
 pub fn with_challenge(len: usize, challenge: &Option<PkceCodeChallenge>) -> usize
     ensures { (query : List ℕ) → len ≡ counted query
         → result ≡ counted (extend_pairs query (challenge_pairs challenge.now)) }
@@ -29,7 +29,7 @@ pub fn with_challenge(len: usize, challenge: &Option<PkceCodeChallenge>) -> usiz
     }
 }
 
-/// The count with the pair of a redirect URI.
+/// The length `len` with the parameter `redirect_uri` added.
 pub fn with_redirect(len: usize, redirect: &Option<RedirectRef<'_>>) -> usize
     ensures { let text = option_map given_text (option_map redirect_of redirect.now) in
         (query : List ℕ) → len ≡ counted query
@@ -41,7 +41,7 @@ pub fn with_redirect(len: usize, redirect: &Option<RedirectRef<'_>>) -> usize
     }
 }
 
-/// The count with the pair of the scopes.
+/// The length `len` with the parameter `scope` added.
 pub fn with_scopes(len: usize, scopes: &[Scope]) -> usize
     ensures { (query : List ℕ) → len ≡ counted query
         → result ≡ counted (extend_pairs query (scope_pairs (joined_words scopes.now))) }
@@ -52,7 +52,7 @@ pub fn with_scopes(len: usize, scopes: &[Scope]) -> usize
     }
 }
 
-// How many bytes the scopes have, joined and encoded, where that text is not empty.
+// The length of the scopes, joined and encoded; `None` if the joined text is empty.
 fn joined_len(scopes: &[Scope]) -> Option<usize>
     ensures some { IfSome result (λ len. (joined_words scopes.now ≢ [])
         × (len ≡ counted (byte_serialize (joined_words scopes.now)))) }
@@ -65,14 +65,14 @@ fn joined_len(scopes: &[Scope]) -> Option<usize>
     Some(with_further(encoded_len(first.as_str()), others))
 }
 
-// Whether there is one scope, and it is empty.
+// Whether there is only one scope, and it is empty.
 fn is_one_empty(first: &Scope, others: &[Scope]) -> bool
     ensures { IsTrue result ↔ ((length first.now ≡ 0) × (length others.now ≡ 0)) }
 {
     first.as_str().is_empty() && others.is_empty()
 }
 
-// The count of an encoded text with further words, a space before each.
+// The length of an encoded text of length `len` with further words, each after a space.
 fn with_further(mut len: usize, words: &[Scope]) -> usize
     ensures { let further = flat_map (λ word. codes " " ++ word) words.now in
         (text : List ℕ) → len ≡ counted (byte_serialize text)
@@ -86,7 +86,7 @@ fn with_further(mut len: usize, words: &[Scope]) -> usize
     len
 }
 
-/// The count with the pairs of the extra parameters.
+/// The length `len` with the extra parameters added.
 pub fn with_extra_params(mut len: usize, extra_params: &[(ParamText<'_>, ParamText<'_>)]) -> usize
     ensures { (query : List ℕ) → len ≡ counted query
         → result ≡ counted (extend_pairs query (map param_pair extra_params.now)) }
@@ -97,7 +97,7 @@ pub fn with_extra_params(mut len: usize, extra_params: &[(ParamText<'_>, ParamTe
     len
 }
 
-/// The count with one more pair.
+/// The length `len` with one more pair.
 pub fn with_pair(len: usize, name: &str, value: &str) -> usize
     ensures { (query : List ℕ) → len ≡ counted query
         → result ≡ counted (extend_pairs query ((name.now, value.now) ∷ [])) }

@@ -49,8 +49,8 @@ where
 }
 
 impl<'a, RT: RevocableToken, TRE> RevocationRequest<'a, RT, TRE> {
-    /// A request at this endpoint, whose scheme is not tested. `oauth2::Client` makes it, where
-    /// the endpoint is an `https` URL; a caller with endpoints of its own can too.
+    /// A request to this endpoint. It is not tested that its URL is an `https` URL:
+    /// `oauth2::Client` tests that before it calls `new`.
     pub fn new(base: BaseRequest<'a>, revocation_url: &'a RevocationUrl, token: RT) -> Self
         ensures { result ≡ record {
           base = base.entry;
@@ -67,7 +67,8 @@ impl<'a, RT: RevocableToken, TRE> RevocationRequest<'a, RT, TRE> {
         }
     }
 
-    /// The POST that `request` sends. `NotHttp` if the endpoint's URL is not an HTTP target.
+    /// The POST that `request` sends. The error is `NotHttp` if the endpoint URL is not an HTTP
+    /// target.
     pub fn prepare_request(&self, alloc: Global) -> Result<HttpRequest, RequestFault>
         ensures ok { IfOk result (λ r. IsRequestOf (revocation_configuration self.now)
             (serialize self.now.revocation_url.url) (view_of r)) }
@@ -86,7 +87,8 @@ impl<'a, RT: RevocableToken, TRE> RevocationRequest<'a, RT, TRE> {
 }
 
 impl<'a, RT: RevocableToken + Drop, TRE> RevocationRequest<'a, RT, TRE> {
-    /// Adds a parameter. If the request itself sends a parameter of that name, both are sent.
+    /// Adds an extra parameter. If the request itself sends a parameter with that name, both are
+    /// sent.
     pub fn add_extra_param(
         mut self,
         name: ParamText<'a>,
@@ -104,8 +106,8 @@ impl<'a, RT: RevocableToken + Drop, TRE> RevocationRequest<'a, RT, TRE> {
 }
 
 impl<'a, RT: RevocableToken + Drop, TRE: ErrorResponse> RevocationRequest<'a, RT, TRE> {
-    /// Sends the request, once. Status 200 says that the token is revoked, or that the server
-    /// knows none such (RFC 7009, section 2.2).
+    /// Sends the request once. `Ok` means that the token is revoked, or that the server does not
+    /// know such a token (RFC 7009, section 2.2).
     pub fn request<C: SyncHttpClient>(
         self,
         alloc: Global,

@@ -4,7 +4,7 @@ use crate::support::{assert_equal, text, url};
 use oauth2::{AuthType, ClientId, HttpRequest, ParamBuffer, endpoint_request_encoded};
 use std::process::Abort;
 
-// What a buffer is given.
+// What is added to a buffer: a scope, or an extra parameter.
 #[derive(Clone, Copy)]
 enum Addition<'a> {
     Scope(&'a str),
@@ -50,7 +50,7 @@ fn assert_sent(
     assert_equal(rt, request.body().as_slice(), body.as_bytes());
 }
 
-// What is added, whether there is a scope then, and the body.
+// What is added, whether the buffer has a scope after that, and the body of the request.
 const ROWS: [(&[Addition<'static>], bool, &str); 4] = [
     (&[], false, "grant_type=client_credentials&client_id=aaa"),
     (

@@ -1,4 +1,4 @@
-//! Each kind of request, and what it says of replies that no script can hold.
+//! Tests of each kind of request, with replies that no script can have.
 
 use crate::replies::reply_of;
 use crate::support::{Replying, assert_displayed_as, assert_equal, assert_text, text};
@@ -15,7 +15,7 @@ use std::fmt::Display;
 use std::process::Abort;
 use std::time::Duration;
 
-// A client with every endpoint but that of authorizations.
+// A client with every endpoint except the authorization endpoint.
 type PostClient = BasicClient<EndpointNotSet, EndpointSet, EndpointSet, EndpointSet, EndpointSet>;
 
 type TokenClient = BasicClient<
@@ -43,12 +43,12 @@ fn client(rt: &(impl Abort + AllocGlobal)) -> PostClient {
         .set_revocation_url(revocation.expect(rt, "a URL"))
 }
 
-// A body that reads to each kind of response.
+// A body that can be read as each kind of response.
 const WHOLE: &str =
     "{\"access_token\":\"t\",\"token_type\":\"bearer\",\"active\":true,\"device_code\":\"d\",\
     \"user_code\":\"u\",\"verification_uri\":\"https://v/\",\"expires_in\":2}";
 
-// The response to a device whose code is `d` and is good for two seconds.
+// The device authorization response with the code `d`, which expires in two seconds.
 fn device(rt: &(impl Abort + AllocGlobal)) -> StandardDeviceAuthorizationResponse {
     read_body(rt.alloc(), WHOLE.as_bytes()).expect(rt, "a response")
 }
@@ -61,7 +61,7 @@ fn access_token(rt: &(impl Abort + AllocGlobal)) -> AccessToken {
     AccessToken::new(text(rt, "t"))
 }
 
-// The request of a refresh for one scope.
+// The refresh request with one scope.
 fn scoped_refresh(
     rt: &(impl Abort + AllocGlobal),
     client: &PostClient,
@@ -95,7 +95,7 @@ struct Reply<'a> {
     body: &'a [u8],
 }
 
-// What a request answers.
+// The result of a request.
 #[derive(Clone, Copy)]
 enum Outcome<'a> {
     Accepted,
@@ -115,7 +115,7 @@ fn handing_out(rt: &(impl Abort + AllocGlobal), reply: Reply<'_>) -> Replying {
     }
 }
 
-// The answer is the wanted one; one that does not read holds the body's bytes.
+// Checks that the result is the wanted one. An error of reading has to have the body's bytes.
 fn assert_answer<T: Drop, E: Display + Drop>(
     rt: &(impl Abort + AllocGlobal),
     answer: Result<T, RequestTokenError<u8, E>>,
@@ -206,7 +206,7 @@ fn assert_device_codes(
     assert_answer(rt, answer, reply.body, wanted);
 }
 
-// A poll of one request, whose clock stands still.
+// Checks a poll with one request, whose clock always shows the same time.
 fn assert_one_poll(
     rt: &(impl Abort + AllocGlobal),
     client: &PostClient,
@@ -227,7 +227,7 @@ fn assert_one_poll(
     assert_answer(rt, answer, reply.body, wanted);
 }
 
-// Only status 200 is a success, whatever else the reply says.
+// Checks a revocation: only status 200 is a success, whatever the body and the Content-Type are.
 fn assert_revocation(
     rt: &(impl Abort + AllocGlobal),
     client: &PostClient,
@@ -246,7 +246,7 @@ fn assert_revocation(
     assert_answer(rt, answer, reply.body, wanted);
 }
 
-// What the reply says where a caller sent the request.
+// Checks what the reply is read as if the caller sends the request itself.
 fn assert_read(rt: &(impl Abort + AllocGlobal), reply: Reply<'_>, wanted: Outcome<'_>) {
     let answer: Result<BasicTokenResponse, BasicRequestTokenError<u8>> = endpoint_response(
         rt.alloc(),
@@ -255,7 +255,8 @@ fn assert_read(rt: &(impl Abort + AllocGlobal), reply: Reply<'_>, wanted: Outcom
     assert_answer(rt, answer, reply.body, wanted);
 }
 
-// Each kind of request answers so, and the same is read where a caller sent the request.
+// Checks the result of each kind of request, and that the reply is read as the same if the caller
+// sends the request itself.
 fn assert_answers(
     rt: &(impl Abort + AllocGlobal),
     client: &PostClient,
@@ -282,7 +283,7 @@ fn untyped(status: u16, body: &[u8]) -> Reply<'_> {
     }
 }
 
-// A success of these types.
+// A successful reply with these values of Content-Type.
 fn success<'a>(types: &'a [&'a [u8]]) -> Reply<'a> {
     Reply {
         status: 200,
@@ -291,7 +292,7 @@ fn success<'a>(types: &'a [&'a [u8]]) -> Reply<'a> {
     }
 }
 
-// A failure of these types.
+// A failed reply with these values of Content-Type.
 fn failure<'a>(types: &'a [&'a [u8]]) -> Reply<'a> {
     Reply {
         status: 400,
@@ -304,7 +305,7 @@ const INVALID_GRANT: Outcome<'static> = Outcome::Shown(
     "Server returned error response: invalid_grant",
 );
 
-// Several values of Content-Type, or one that is no text, and what is said of a success.
+// Several values of Content-Type, or one that is no text, and the result of a success with them.
 const TYPES: [(&[&[u8]], Outcome<'static>); 3] = [
     (&[b"application/json", b"text/html"], Outcome::Accepted),
     (

@@ -18,12 +18,12 @@ fn two_scopes(rt: &(impl Abort + AllocGlobal)) -> Vec<Scope> {
     scopes.expect(rt, "a list")
 }
 
-// A name that is borrowed, and a value that is owned.
+// An extra parameter whose name is borrowed, and whose value is owned.
 fn extra_param(rt: &(impl Abort + AllocGlobal)) -> (ParamText<'static>, ParamText<'static>) {
     (ParamText::from("x y"), ParamText::from(text(rt, "é&=")))
 }
 
-// The request of the client `aaa`, with the secret or none.
+// The request of the client `aaa`, with or without a secret.
 fn request_of(
     rt: &(impl Abort + AllocGlobal),
     auth_type: AuthType,
@@ -48,7 +48,7 @@ fn request_of(
     .expect(rt, "a request")
 }
 
-// What the body has of the client, and how many headers there are.
+// Checks the client's credentials in the body, and the number of headers.
 fn assert_sent(
     rt: &(impl Abort + AllocGlobal),
     auth_type: AuthType,

@@ -1,4 +1,4 @@
-//! The texts of errors.
+//! Tests of the texts of errors.
 
 use crate::support::{assert_text, text};
 use oauth2::{ConfigurationError, HttpClientError, RequestFault, RequestTokenError, ViewError};
@@ -7,7 +7,7 @@ use std::error::Error;
 use std::io;
 use std::process::Abort;
 
-// What a caller that knows no more than the bound shows.
+// Checks what a generic caller prints that knows only this trait.
 fn assert_error<E: Error + Drop>(rt: &(impl Abort + AllocGlobal), error: E, wanted: &str) {
     let shown = format!(in rt.alloc(); "{error}").expect(rt, "a text");
     assert_text(rt, shown.as_str(), wanted);

@@ -1,4 +1,4 @@
-//! What a form writes for each byte (URL Standard, section 5.2).
+//! Tests of how a form encodes each byte (URL Standard, section 5.2).
 
 use crate::support::{assert_equal, text, url};
 use oauth2::{AuthType, ClientId, HttpRequest, ParamText, endpoint_request};
@@ -25,14 +25,14 @@ fn request_of(
     .expect(rt, "a request")
 }
 
-// A request with one extra parameter, of which the name is the text, sends this body.
+// Checks the body of a request with one extra parameter, whose name is the text.
 fn assert_sent(rt: &(impl Abort + AllocGlobal), name: &str, body: &[u8]) {
     let extra = [(ParamText::from(name), ParamText::from(""))];
     let request = request_of(rt, extra.as_slice());
     assert_equal(rt, request.body().as_slice(), body);
 }
 
-// The bytes that are no escapes: the ASCII letters and digits, `*`, `-`, `.` and `_`.
+// Whether a byte is written as it is: the ASCII letters and digits, `*`, `-`, `.` and `_` are.
 fn is_unescaped(byte: u8) -> bool {
     byte.is_ascii_alphanumeric() || matches!(byte, b'*' | b'-' | b'.' | b'_')
 }

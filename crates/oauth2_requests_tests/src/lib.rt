@@ -1,6 +1,6 @@
-//! Tests of what a request is made of, what a server reads of it, how it is sent and what its
-//! reply says, through the names of `oauth2`. They have what the stored scripts of
-//! `oauth2_scripts_tests` cannot say.
+//! Tests of the content of a request, how a server decodes it, how it is sent and how its reply is
+//! read, through the names of `oauth2`. They test what the stored scripts of `oauth2_scripts_tests`
+//! cannot.
 
 #![tactic(auto)]
 

@@ -1,4 +1,4 @@
-//! The sending of one request by a client, which is called once at most.
+//! Tests of sending one request by an HTTP client, which is called at most once.
 
 use crate::replies::{JSON_FOO_REFUSED, RevocationError, TextResult, assert_text_result, json_foo};
 use crate::support::{Replying, assert_equal};
@@ -8,13 +8,13 @@ use oauth2::{
 };
 use std::process::Abort;
 
-// A request with nothing in it.
+// A request without headers and with an empty body.
 fn empty_request(rt: &impl AllocGlobal) -> HttpRequest {
     Request::new(rt.alloc(), Vec::new(rt.alloc()))
 }
 
-// What is said of one request by a rule, and how often the client is called, whose reply is a
-// token of the type `application/jsonfoo`.
+// Checks the result of one request under a reply rule, and how often the client is called. The
+// reply has the Content-Type `application/jsonfoo`.
 fn assert_sent_once(
     rt: &(impl Abort + AllocGlobal),
     rule: ReplyRule,

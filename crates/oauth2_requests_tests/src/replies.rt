@@ -1,4 +1,4 @@
-//! What replies say (RFC 6749, sections 5.1 and 5.2; RFC 7009, section 2.2).
+//! Tests of how replies are read (RFC 6749, sections 5.1 and 5.2; RFC 7009, section 2.2).
 
 use crate::support::{assert_displayed_as, assert_text};
 use http_header::{CONTENT_TYPE, HeaderValue};
@@ -11,8 +11,10 @@ use oauth2::{
 };
 use std::process::Abort;
 
+/// The result of a request whose response is a text.
 pub type TextResult = Result<String, BasicRequestTokenError<u8>>;
 
+/// The error of a revocation.
 pub type RevocationError = RequestTokenError<
     u8,
     StandardErrorResponse<RevocationErrorResponseType>,
@@ -59,13 +61,13 @@ pub fn assert_text_result(rt: &(impl Abort + AllocGlobal), answer: TextResult, w
     }
 }
 
-// What is said of a reply whose body is a text.
+// Checks how a reply is read whose response is a text.
 fn assert_reply(rt: &(impl Abort + AllocGlobal), status: u16, types: &[&[u8]], wanted: &str) {
     let reply = reply_of(rt, status, types, b"\"a token\"");
     assert_text_result(rt, endpoint_response(rt.alloc(), reply), wanted);
 }
 
-/// A text, with the type `application/jsonfoo`.
+/// A reply whose body is a text, with the Content-Type `application/jsonfoo`.
 pub fn json_foo(rt: &(impl Abort + AllocGlobal)) -> HttpResponse {
     let types = [b"application/jsonfoo".as_slice()];
     reply_of(rt, 200, &types, b"\"a token\"")

@@ -1,11 +1,11 @@
-//! What the tests of several subjects share.
+//! Functions that several test files share.
 
 use oauth2::url::Url;
 use oauth2::{HttpRequest, HttpResponse, SyncHttpClient};
 use std::fmt::{Debug, Display};
 use std::process::Abort;
 
-/// An HTTP client that hands out one reply, and counts its calls.
+/// An HTTP client that returns one reply, and counts its calls.
 #[derive(Drop)]
 pub struct Replying {
     pub reply: Option<HttpResponse>,
@@ -21,6 +21,7 @@ impl SyncHttpClient for Replying {
     }
 }
 
+/// Makes a text whose bytes proofs do not see.
 pub fn text(rt: &(impl Abort + AllocGlobal), text: &str) -> String {
     String::from_str(rt.alloc(), text).expect(rt, "a text")
 }
@@ -46,6 +47,7 @@ pub fn assert_displayed_as<T: Display>(rt: &(impl Abort + AllocGlobal), value: &
     assert_text(rt, text.as_str(), wanted);
 }
 
+/// Checks that the texts are equal.
 pub fn assert_text(rt: &impl Abort, found: &str, wanted: &str) {
     assert_eq!(rt; found, wanted);
 }

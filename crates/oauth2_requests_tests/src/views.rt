@@ -1,4 +1,5 @@
-//! What a server that only decodes reads of a request (RFC 6749, section 2.3.1).
+//! Tests of what a server gets that does nothing but decode a request's form and header (RFC 6749,
+//! section 2.3.1).
 
 use crate::support::{assert_at, assert_equal, assert_text, text};
 use http_header::{AUTHORIZATION, HeaderValue};
@@ -20,7 +21,7 @@ fn request_with(rt: &(impl Abort + AllocGlobal), value: HeaderValue) -> HttpRequ
     request
 }
 
-// A server reads the two texts of a request with this header.
+// Checks the identifier and the secret that a server decodes from a request with this header.
 fn assert_credentials(rt: &(impl Abort + AllocGlobal), value: HeaderValue, id: &str, secret: &str) {
     let request = request_with(rt, value);
     let view = server_view(rt.alloc(), &request).expect(rt, "a view");
@@ -52,7 +53,7 @@ fn bad_credentials(rt: HostRuntime) {
     }
 }
 
-// A line for each pair.
+// The pairs of a form, each as a line.
 fn lines(rt: &(impl Abort + AllocGlobal), form: &[(String, String)]) -> String {
     let mut shown = String::new(rt.alloc());
     for (name, value) in form {

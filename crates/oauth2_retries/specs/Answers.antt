@@ -3,15 +3,17 @@ use Rattle.std.specs.Prelude.{ℕ, List, Bool, ◌&&◌, ◌||◌, ◌==◌, byt
 use Rattle.http.specs.Response.{head_of}
 use Rattle.oauth2_wire.specs.Reply.{HttpResponse}
 
--- the method is safe and idempotent: to send it twice does no harm (RFC 9110, sections 9.2.1 and 9.2.2)
+-- the method is GET, which is safe and idempotent: sending it twice does no harm (RFC 9110, 9.2.1
+-- and 9.2.2)
 abbrev pub is_get : List ℕ → Bool
 is_get method = bytes_eq method (codes "GET")
 
--- the server asks to come back later: 429 (RFC 6585, section 4) or 503 (RFC 9110, section 15.6.4)
+-- the server asks the client to try again later: 429 (RFC 6585, 4) or 503 (RFC 9110, 15.6.4)
 abbrev pub is_busy : ℕ → Bool
 is_busy status = status == 429 || status == 503
 
--- a GET after such a reply and after each error; any other request only after an error that says that nothing was sent
+-- a GET is sent again after such a reply and after any error; any other request only after an error
+-- that says that nothing was sent
 abbrev pub is_repeatable : {E : Type 0} → (E → Bool) → List ℕ → Result HttpResponse E → Bool
 is_repeatable unsent method (Ok reply) = is_get method && is_busy (head_of reply).status
 is_repeatable unsent method (Err error) = is_get method || unsent error

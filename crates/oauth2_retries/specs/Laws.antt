@@ -1,4 +1,4 @@
--- What follows for the requests that are sent.
+-- Laws about the requests that are sent.
 use Rattle.std.specs.Prelude.{◌≡◌, ℕ, ⊤, ◌⊎◌, Bool, true, false, IsTrue, IsErrAnd, All, List, Vec, Option, Result, Err}
 use Rattle.std.specs.declared.alloc.Global.{Global}
 use Rattle.std.specs.declared.io.Error as Io
@@ -17,8 +17,8 @@ use Rattle.oauth2_retries.specs.Limits.{Limits}
 use Rattle.oauth2_retries.specs.Repeats.{Repeats}
 use Rattle.oauth2_retries.specs.Unsent.{is_unsent_http1}
 
--- a request that is no GET, as a token request, is sent once at most: each call before the last ended in an error that
--- says that nothing was sent
+-- a request that is not a GET, such as a token request, is sent at most once: each call before the
+-- last ended in an error that says that nothing was sent
 module _ {C E : Type 0} (step : C → HttpRequest → Result HttpResponse E → C → Type 0) (sleeps : C → Duration → C → Type 0) (unsent : E → Bool) where
   abbrev pub EachOtherRequestIsSentOnce : Type 0
   EachOtherRequestIsSentOnce =
@@ -27,14 +27,15 @@ module _ {C E : Type 0} (step : C → HttpRequest → Result HttpResponse E → 
       → (all : Repeats step sleeps unsent limits before request result after is_cut_short)
       → All (λ answer. IsErrAnd answer (λ error. IsTrue (unsent error))) all.earlier
 
--- a copy is the request of each configuration that the other is
+-- a copy of a request is the request of every configuration that the original is the request of
 abbrev pub EachCopyIsTheRequest : Type 0
 EachCopyIsTheRequest =
     (configuration : Configuration) (text : List ℕ) (request sent : HttpRequest)
     → IsCopyOf (view_of request) (view_of sent) → IsRequestOf configuration text (view_of request)
     → IsRequestOf configuration text (view_of sent)
 
--- an error of the HTTP/1.1 client that says that nothing was sent: no connection was asked for, or none was opened
+-- if an error of the HTTP/1.1 client says that nothing was sent, the connector was not called, or
+-- it opened no connection
 module _ {C S E : Type 0} (opens : C → Place → Result S E → C → Type 0) (contents remaining : S → Option (List ℕ))
     (reads writes : S → Result ℕ Io.Error → S → Type 0) (flushes : S → Result ⊤ Io.Error → S → Type 0) where
   abbrev pub OpensNone : Http1Client C → Request (Vec ℕ Global) → Http1Client C → Type 0

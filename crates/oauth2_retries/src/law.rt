@@ -1,4 +1,4 @@
-//! What follows for the requests that are sent.
+//! Laws about the requests that are sent.
 
 ghost use Rattle.oauth2_retries.specs.Laws.{EachCopyIsTheRequest, EachOtherRequestIsSentOnce};
 ghost use Rattle.oauth2_retries.specs.Laws.{EachUnsentErrorOpenedNothing};
@@ -7,8 +7,8 @@ use crate::sleeping_client::SleepingClient;
 use crate::tells_unsent::TellsUnsent;
 use oauth2_http1::Connect;
 
-/// Of a request that is no GET, nothing was sent before the last call: the error of each earlier
-/// one says so.
+/// Nothing of a request that is not a GET was sent before the last call: the error of each earlier
+/// call says so.
 pub fn each_other_request_is_sent_once<C>()
 where
     C: SleepingClient,
@@ -16,7 +16,7 @@ where
     ensures { EachOtherRequestIsSentOnce C.step C.sleeps C.Error.unsent }
 {}
 
-/// What is sent in place of a request is the request of the same configuration.
+/// A copy that is sent in place of a request is the request of the same configuration.
 pub fn each_copy_is_the_request()
     ensures { EachCopyIsTheRequest }
 {}

@@ -1,4 +1,4 @@
-//! An HTTP client that sends a request again where that is safe.
+//! An HTTP client that sends a request again if that is safe.
 
 #![tactic(auto)]
 

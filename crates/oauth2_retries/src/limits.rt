@@ -1,14 +1,14 @@
-//! How often a request is sent again, and how long is waited before.
+//! How often a request is sent again, and how long the client waits before that.
 
 use std::time::Duration;
 
-/// How often a request is sent again, and how long is waited before.
+/// How often a request is sent again, and how long the client waits before that.
 #[derive(Clone, Copy, Debug, PartialEq, Eq)]
 pub struct RetryLimits {
-    /// After the first time, a request is sent at most so often.
+    /// How often a request is sent again at most.
     pub most_repeats: u32,
-    /// The wait before the first repeat, where the server asks for none. It doubles with each repeat.
+    /// The wait before the first repeat, if the server asks for none. It doubles with each repeat.
     pub first_wait: Duration,
-    /// No wait is longer, whatever the server asks for.
+    /// The longest wait, whatever the server asks for.
     pub most_wait: Duration,
 }

@@ -1,4 +1,4 @@
-//! How long is waited before a request is sent again.
+//! How long the client waits before it sends a request again.
 
 ghost use Rattle.std.specs.Prelude.{◌≡◌, ◌*◌, min, IsTrue};
 ghost use Rattle.std.specs.Char.{is_ascii_digit};
@@ -11,7 +11,7 @@ use http_header::{HeaderValue, RETRY_AFTER};
 use oauth2_wire::HttpResponse;
 use std::time::Duration;
 
-// The wait after an answer, which is `wait` where the server asks for none.
+// The wait after an answer: `wait` if the server asks for none, and never more than `most`.
 pub(crate) fn pause_after<E>(
     answer: &Result<HttpResponse, E>,
     wait: Duration,
@@ -55,7 +55,7 @@ fn are_digits(text: &str) -> bool
     text.as_bytes().iter().all(|b| b.is_ascii_digit())
 }
 
-// So many seconds, or less.
+// The delay in seconds that the text says, but at most `most`.
 fn delay_within(text: &str, most: Duration) -> Duration
     requires { IsTrue (is_delay text.now) }
     ensures { as_nanos result ≡ min (as_nanos most) (digits_value 10 text.now * 1000000000) }

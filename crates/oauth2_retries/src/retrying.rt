@@ -1,4 +1,4 @@
-//! A client that sends a request again where that is safe.
+//! A client that sends a request again if that is safe.
 
 ghost use Rattle.std.specs.Prelude.{◌≡◌, false, MatchOption};
 ghost use Rattle.std.specs.Duration.{as_nanos};
@@ -16,8 +16,8 @@ use std::alloc::Global;
 use std::marker::Model;
 use std::time::Duration;
 
-/// A client that sends a request again where that is safe: a GET whose call failed, or that was
-/// answered by 429 or 503, and any request of which the error says that nothing was sent.
+/// A client that sends a request again if that is safe: a GET whose call failed or whose reply had
+/// status 429 or 503, and any request whose error says that nothing was sent.
 ///
 /// Contracts see it as a `Repeater`.
 #[derive(Drop)]
@@ -42,7 +42,7 @@ impl<C> Model for Retrying<C> {
 }
 
 impl<C> Retrying<C> {
-    /// The client that calls and sleeps by this one, within these limits.
+    /// Wraps a client, which is used for calls and sleeps, with these limits.
     pub fn new(alloc: Global, client: C, limits: RetryLimits) -> Retrying<C>
         ensures { result ≡ record {
           client = client;
@@ -58,14 +58,14 @@ impl<C> Retrying<C> {
         }
     }
 
-    /// Whether the last call made no further try since memory for a copy of the request ran out.
+    /// Whether the last call stopped early because there was no memory for a copy of the request.
     pub fn is_cut_short(&self) -> bool
         ensures { result ≡ self.now.is_cut_short }
     {
         self.is_cut_short
     }
 
-    /// The client that is called.
+    /// The wrapped client.
     pub fn into_inner(self) -> C
         ensures { result ≡ self.client }
     {
@@ -88,7 +88,12 @@ where
     ghost step = { CallsRepeating C.step C.sleeps C.Error.unsent };
 
     fn call(&mut self, request: HttpRequest) -> Result<HttpResponse, C::Error> {
-        let (answer, is_cut_short) = repeated(self.alloc, &mut self.client, self.limits, request);
+        let (answer, is_cut_short) = call_repeatedly(
+            self.alloc,
+            &mut self.client,
+            self.limits,
+            request,
+        );
         self.is_cut_short = is_cut_short;
         answer
     }
@@ -102,8 +107,9 @@ where
     ghost always_ready = { λ r. C.always_ready r.client };
 }
 
-// The last answer to a request that is sent again, and whether there was no memory for a copy.
-fn repeated<C>(
+// Sends a request until no repeat is due. Returns the last answer, and whether memory for a copy
+// ran out.
+fn call_repeatedly<C>(
     alloc: Global,
     client: &mut C,
     limits: RetryLimits,
@@ -132,7 +138,8 @@ where
     (client.call(request), false)
 }
 
-// The answer to a copy of a request, unless that is to be sent again: then it was waited for.
+// Sends a copy of a request. Returns the answer; or sleeps and returns `None` if the request is to
+// be sent again.
 fn last_answer<C>(
     client: &mut C,
     request: &HttpRequest,

@@ -8,22 +8,22 @@ use std::time::Duration;
 
 /// An HTTP client that can also sleep.
 ///
-/// Without `sleeps`, contracts say nothing of what a sleep does.
+/// If you do not define `sleeps`, contracts say nothing about what a sleep does.
 pub trait SleepingClient: SyncHttpClient {
     ghost use Rattle.std.specs.Prelude.{⊤};
     ghost use Rattle.std.specs.declared.time.Duration.{Duration};
 
-    // What a sleep may do: the state before, its length, the state after.
+    // What a sleep may do, as a relation: the state before, its length, the state after.
     ghost sleeps: { Self → Duration → Self → Type 0 } = { λ _ _ _. ⊤ };
 
-    /// Sleeps.
+    /// Sleeps for `duration`.
     fn sleep(&mut self, duration: Duration)
         requires { Self.is_ready self.old }
         ensures sleeps { sleeps self.old duration self.new }
         ensures ready { Self.is_ready self.new };
 }
 
-/// A client and a sleep function as one. Contracts see the two.
+/// A client and a sleep function joined into one. Contracts see the pair.
 #[derive(Drop)]
 pub struct WithSleep<C, F> {
     client: C,
@@ -37,7 +37,7 @@ impl<C, F> Model for WithSleep<C, F> {
 }
 
 impl<C, F> WithSleep<C, F> {
-    /// The client that sleeps by this function.
+    /// Joins a client and a sleep function.
     pub fn new(client: C, sleep_fn: F) -> WithSleep<C, F>
         ensures { result ≡ (client, sleep_fn) }
     {

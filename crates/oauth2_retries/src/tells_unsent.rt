@@ -7,10 +7,11 @@ use oauth2_http1::Http1Error;
 pub trait TellsUnsent {
     ghost use Rattle.std.specs.Prelude.{◌≡◌, Bool};
 
-    /// Nothing of the request was sent.
+    /// The error says that nothing of the request was sent.
     ghost unsent: { Self → Bool };
 
-    /// Whether nothing of the request was sent, for sure. Where that is not known, this is false.
+    /// Whether it is certain that nothing of the request was sent. If that is not known, this is
+    /// false.
     fn is_unsent(&self) -> bool
         ensures { result ≡ unsent self.now };
 }

@@ -1,4 +1,4 @@
-//! Runs one command of a JSON script, with a client that answers from the script.
+//! Runs the command of a JSON script, with a client that returns the replies of the script.
 
 #![tactic(auto)]
 
@@ -11,7 +11,7 @@ use oauth2_commands::{ScriptSource, run_script};
 use std::io;
 use std::process::ExitCode;
 
-// Nothing goes to standard error: a failure shows in the exit status alone.
+// Nothing is written to standard error: a `RunFault` shows only in the exit status.
 fn main(rt: HostRuntime) -> ExitCode {
     let mut reader = ScriptSource::new(rt.reader());
     let mut writer = io::writer(&rt);

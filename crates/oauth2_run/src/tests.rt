@@ -1,4 +1,4 @@
-//! The status that the process ends with.
+//! Tests of the exit status of the process.
 
 use crate::exit::exit_of;
 use oauth2_commands::{RunFault, RunStatus};

@@ -6,6 +6,8 @@ use Rattle.oauth2_types.specs.Pkce.{Challenge}
 use Rattle.oauth2_urls.specs.Addressed.{Addressed}
 use Rattle.oauth2_script.specs.Part.{◌>>=◌, address, list_part, needed_part, present_part, pair_part, challenge_part}
 
+-- the parameters of an authorization URL (RFC 6749, 4.1.1; RFC 7636, 4.3); the nonce is that of
+-- OpenID Connect Core 1.0, 3.1.2.1
 pub record AuthorizeParams : Type 0 where
   pub state : List ℕ
   pub challenge : Option Challenge
@@ -15,6 +17,7 @@ pub record AuthorizeParams : Type 0 where
   pub scopes : List (List ℕ)
   pub extra_params : List (List ℕ × List ℕ)
 
+-- reads `params`; the member `verifier` becomes its S256 challenge (RFC 7636, 4.2)
 unfoldable pub authorize_params : Data → Option AuthorizeParams
 authorize_params d = do
   state ← needed_part as_str (codes "state") d

@@ -10,6 +10,7 @@ use Rattle.oauth2_wire.specs.declared.content_type.ReplyRule.{ReplyRule}
 use Rattle.oauth2_wire.specs.declared.content_type.ReplyRule.TheVariants.{Prefix, MediaType}
 use Rattle.oauth2_script.specs.Part.{◌>>=◌, needed_part, present_part, address}
 
+-- the endpoints of the client that the script sets: members `auth_url`, `token_url` and so on
 pub record ClientEndpoints : Type 0 where
   pub auth : Option Addressed
   pub token : Option Addressed
@@ -17,6 +18,7 @@ pub record ClientEndpoints : Type 0 where
   pub introspection : Option Addressed
   pub revocation : Option Addressed
 
+-- the member `client` of a script; its identifier and its secret are bytes
 pub record Client : Type 0 where
   pub id : List ℕ
   pub secret : Option (List ℕ)
@@ -25,22 +27,27 @@ pub record Client : Type 0 where
   pub redirect : Option Addressed
   pub endpoints : ClientEndpoints
 
+-- where the client sends its secret (RFC 6749, 2.3.1): `basic` or `body`; `None` for other texts
 unfoldable pub auth_type_of : List ℕ → Option AuthType
 auth_type_of text =
     if bytes_eq text (codes "basic") then Some BasicAuth
     else (if bytes_eq text (codes "body") then Some RequestBody else None)
 
+-- the value of the member `auth`: the text `basic` or `body`
 abbrev pub auth_type_part : Data → Option AuthType
 auth_type_part d = as_str d >>= auth_type_of
 
+-- which Content-Type a success may have: `prefix` or `media_type`; `None` for other texts
 unfoldable pub reply_rule_of : List ℕ → Option ReplyRule
 reply_rule_of text =
     if bytes_eq text (codes "prefix") then Some Prefix
     else (if bytes_eq text (codes "media_type") then Some MediaType else None)
 
+-- the value of the member `reply_rule`: the text `prefix` or `media_type`
 abbrev pub reply_rule_part : Data → Option ReplyRule
 reply_rule_part d = as_str d >>= reply_rule_of
 
+-- reads the endpoints from the object `client`: each may be absent, or has to be a URL
 unfoldable pub endpoints : Data → Option ClientEndpoints
 endpoints d = do
   auth ← present_part address (codes "auth_url") d
@@ -50,6 +57,7 @@ endpoints d = do
   revocation ← present_part address (codes "revocation_url") d
   Some (record { auth = auth; token = token; device = device; introspection = introspection; revocation = revocation })
 
+-- reads the object `client`; `auth` is `basic` and `reply_rule` is `prefix` if absent
 unfoldable pub client : Data → Option Client
 client d = do
   id ← needed_part as_str (codes "id") d

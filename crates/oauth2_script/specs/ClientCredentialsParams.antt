@@ -4,10 +4,12 @@ use Rattle.serde_json.specs.Data.{Data}
 use Rattle.serde_json.specs.Find.{as_str}
 use Rattle.oauth2_script.specs.Part.{◌>>=◌, list_part, pair_part}
 
+-- the scopes and the further parameters of a request (RFC 6749, 4.4.2)
 pub record ClientCredentialsParams : Type 0 where
   pub scopes : List (List ℕ)
   pub extra_params : List (List ℕ × List ℕ)
 
+-- reads `params`; an absent list is empty
 unfoldable pub client_credentials_params : Data → Option ClientCredentialsParams
 client_credentials_params d = do
   scopes ← list_part as_str (codes "scopes") d

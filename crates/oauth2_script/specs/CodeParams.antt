@@ -5,12 +5,15 @@ use Rattle.serde_json.specs.Find.{as_str}
 use Rattle.oauth2_urls.specs.Addressed.{Addressed}
 use Rattle.oauth2_script.specs.Part.{◌>>=◌, needed_part, present_part, list_part, verifier, address, pair_part}
 
+-- the code, the code verifier, the redirect URI and the further parameters of a request (RFC 6749,
+-- 4.1.3; RFC 7636, 4.5)
 pub record CodeParams : Type 0 where
   pub code : List ℕ
   pub verifier : Option (List ℕ)
   pub redirect : Option Addressed
   pub extra_params : List (List ℕ × List ℕ)
 
+-- reads `params`; `code` has to be present
 unfoldable pub code_params : Data → Option CodeParams
 code_params d = do
   code ← needed_part as_str (codes "code") d

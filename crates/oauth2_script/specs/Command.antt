@@ -1,4 +1,4 @@
--- The commands of a script, by their names.
+-- The commands of a script, and their names.
 use Rattle.std.specs.Prelude.{ℕ, List, Option, None, option_map, if◌then◌else◌, codes}
 use Rattle.std.specs.Str.{bytes_eq}
 use Rattle.serde_json.specs.Data.{Data}
@@ -16,6 +16,7 @@ use Rattle.oauth2_script.specs.RedirectParams.{RedirectParams, redirect_params}
 use Rattle.oauth2_script.specs.RefreshParams.{RefreshParams, refresh_params}
 use Rattle.oauth2_script.specs.RevokeParams.{RevokeParams, revoke_params}
 
+-- a command with its parameters
 pub data Command : Type 0 where
   code : CodeParams → Command
   refresh : RefreshParams → Command
@@ -31,6 +32,7 @@ pub data Command : Type 0 where
   metadata : MetadataParams → Command
   id_token : IdTokenParams → Command
 
+-- the command of this name, with its parameters read from `params`; `None` for other names
 unfoldable pub command_of : List ℕ → Data → Option Command
 command_of name params =
     if bytes_eq name (codes "code") then option_map code (code_params params)

@@ -4,10 +4,12 @@ use Rattle.serde_json.specs.Data.{Data}
 use Rattle.serde_json.specs.Find.{as_str}
 use Rattle.oauth2_script.specs.Part.{◌>>=◌, list_part, pair_part}
 
+-- the scopes and the further parameters of a device authorization request (RFC 8628, 3.1)
 pub record DeviceAuthorizationParams : Type 0 where
   pub scopes : List (List ℕ)
   pub extra_params : List (List ℕ × List ℕ)
 
+-- reads `params`; an absent list is empty
 unfoldable pub device_authorization_params : Data → Option DeviceAuthorizationParams
 device_authorization_params d = do
   scopes ← list_part as_str (codes "scopes") d

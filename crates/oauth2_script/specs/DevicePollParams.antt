@@ -6,24 +6,28 @@ use Rattle.oauth2_replies.specs.Device.{DeviceAuthorization, device_reading}
 use Rattle.oauth2_replies.specs.Kept.{any_object}
 use Rattle.oauth2_script.specs.Part.{◌>>=◌, needed_part, present_part, list_part, pair_part, duration, count}
 
--- the response that the device got, how many requests it makes at most, for how long it polls, and
--- up to where a failed call doubles the wait; lengths in nanoseconds
+-- the parameters of a poll for a token (RFC 8628, 3.4); lengths of time in nanoseconds
 pub record DevicePollParams : Type 0 where
+  -- the response that the device got
   pub device : DeviceAuthorization (Unit {0})
+  -- how many requests the poll makes at most
   pub max_polls : ℕ
+  -- how long the poll goes on
   pub timeout : Option ℕ
+  -- the longest wait to which failed calls double it
   pub cap : Option ℕ
   pub extra_params : List (List ℕ × List ℕ)
 
--- what was read, where nothing was at fault
+-- the value that was read, if there was no fault
 abbrev pub if_read : {A : Type 0} → Reading A → Option A
 if_read (Ok a) = Some a
 if_read (Err fault) = None
 
--- a device authorization response of the standard (RFC 8628, 3.2)
+-- a device authorization response (RFC 8628, 3.2); other members are ignored
 abbrev pub device : Data → Option (DeviceAuthorization (Unit {0}))
 device d = if_read (device_reading any_object d)
 
+-- reads `params`; `device` and `max_polls` have to be present
 unfoldable pub device_poll_params : Data → Option DevicePollParams
 device_poll_params d = do
   device ← needed_part device (codes "device") d

@@ -4,19 +4,21 @@ use Rattle.serde_json.specs.Data.{Data, null, boolean, number, string, array, ob
 use Rattle.serde_json.specs.Find.{as_str}
 use Rattle.oauth2_script.specs.Part.{◌>>=◌, needed_part, present_part, list_part, each_item, duration}
 
--- the issuers that are expected: one; or one of these; or what stands before a tenant's name and after it
+-- the issuers that are expected: one; any of a list; or a text that goes before the name of the
+-- tenant (claim `tid`) and a text that goes after it
 pub data IssuerPart : Type 0 where
   is : List ℕ → IssuerPart
   one_of : List (List ℕ) → IssuerPart
   per_tenant : List ℕ → List ℕ → IssuerPart
 
+-- reads an object with the texts `before` and `after`
 unfoldable pub tenants : Data → Option IssuerPart
 tenants d = do
   before ← needed_part as_str (codes "before") d
   after ← needed_part as_str (codes "after") d
   Some (per_tenant before after)
 
--- a text; a list of texts; or an object with two texts
+-- the value of the member `issuer`: a text, a list of texts, or an object with two texts
 abbrev pub issuer_part : Data → Option IssuerPart
 issuer_part null = None
 issuer_part (boolean b) = None
@@ -25,21 +27,29 @@ issuer_part (string s) = Some (is s)
 issuer_part (array ds) = option_map one_of (each_item as_str ds)
 issuer_part (object ms) = tenants (object ms)
 
--- the text of the ID token, the access token that came with it, the issuers that are expected, the
--- algorithm that the client registered, the nonce that was sent, how far the clocks may be apart, the
--- maximum age that was sent, the audiences beside the client that it trusts, and the parties beside it to
--- which the token may be issued; lengths in nanoseconds
+-- the parameters of the check of an ID token (OpenID Connect Core 1.0, 3.1.3.7); lengths of time in
+-- nanoseconds
 pub record IdTokenParams : Type 0 where
+  -- the text of the ID token
   pub id_token : List ℕ
+  -- the access token that came with it
   pub access_token : List ℕ
+  -- the issuers that are expected
   pub issuer : IssuerPart
+  -- the algorithm that the client registered
   pub algorithm : Option (List ℕ)
+  -- the nonce that was sent
   pub nonce : Option (List ℕ)
+  -- how far the clocks may be apart
   pub leeway : ℕ
+  -- the maximum age that was sent
   pub greatest_age : Option ℕ
+  -- the audiences other than the client that the client trusts
   pub other_audiences : List (List ℕ)
+  -- the parties other than the client to which the token may be issued
   pub authorized_parties : List (List ℕ)
 
+-- reads `params`; `leeway` is 0 if absent
 unfoldable pub id_token_params : Data → Option IdTokenParams
 id_token_params d = do
   id_token ← needed_part as_str (codes "id_token") d

@@ -4,11 +4,13 @@ use Rattle.serde_json.specs.Data.{Data}
 use Rattle.serde_json.specs.Find.{as_str}
 use Rattle.oauth2_script.specs.Part.{◌>>=◌, needed_part, present_part, list_part, pair_part}
 
+-- the token, its type hint and the further parameters of an introspection request (RFC 7662, 2.1)
 pub record IntrospectParams : Type 0 where
   pub token : List ℕ
   pub hint : Option (List ℕ)
   pub extra_params : List (List ℕ × List ℕ)
 
+-- reads `params`; `token` has to be present
 unfoldable pub introspect_params : Data → Option IntrospectParams
 introspect_params d = do
   token ← needed_part as_str (codes "token") d

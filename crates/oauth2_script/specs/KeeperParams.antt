@@ -4,17 +4,22 @@ use Rattle.serde_json.specs.Data.{Data}
 use Rattle.serde_json.specs.Find.{as_str}
 use Rattle.oauth2_script.specs.Part.{◌>>=◌, needed_part, present_part, list_part, pair_part, duration}
 
--- how long before its end a lifetime is over, the lifetime where a reply tells none, the refresh
--- token at first, what it asks for by the client's own credentials, what it sends with every request,
--- and for how long it makes none after one that failed; lengths in nanoseconds
+-- the parameters of a new keeper; lengths of time in nanoseconds
 pub record KeeperParams : Type 0 where
+  -- how long before its end a token counts as expired
   pub margin : ℕ
+  -- the lifetime of a token whose reply has no `expires_in`
   pub life : ℕ
+  -- the refresh token that the keeper starts with
   pub refresh : Option (List ℕ)
+  -- the scopes of requests with the client's own credentials
   pub scopes : List (List ℕ)
+  -- the further parameters of each request
   pub extra_params : List (List ℕ × List ℕ)
+  -- how long the keeper makes no request after a failed one
   pub retry_after : Option ℕ
 
+-- reads `params`; `margin` and `life` have to be present
 unfoldable pub keeper_params : Data → Option KeeperParams
 keeper_params d = do
   margin ← needed_part duration (codes "margin") d

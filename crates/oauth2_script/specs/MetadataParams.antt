@@ -7,6 +7,8 @@ use Rattle.oauth2_script.specs.Part.{◌>>=◌, needed_part, present_part}
 use Rattle.oauth2_script.specs.declared.metadata_params.WellKnown.{WellKnown}
 use Rattle.oauth2_script.specs.declared.metadata_params.WellKnown.TheVariants.{OauthAuthorizationServer, OpenidConfiguration}
 
+-- the issuer whose metadata the command gets, which well-known URI it uses, and the issuer that
+-- the metadata has to name instead of that issuer, if one is given
 pub record MetadataParams : Type 0 where
   pub issuer : List ℕ
   pub well_known : WellKnown
@@ -18,9 +20,11 @@ well_known_of text =
     if bytes_eq text (codes "oauth-authorization-server") then Some OauthAuthorizationServer
     else (if bytes_eq text (codes "openid-configuration") then Some OpenidConfiguration else None)
 
+-- the value of the member `well_known`: one of these two names, as a text
 abbrev pub well_known : Data → Option WellKnown
 well_known d = as_str d >>= well_known_of
 
+-- reads `params`; `well_known` is `oauth-authorization-server` if absent
 unfoldable pub metadata_params : Data → Option MetadataParams
 metadata_params d = do
   issuer ← needed_part as_str (codes "issuer") d

@@ -4,12 +4,14 @@ use Rattle.serde_json.specs.Data.{Data}
 use Rattle.serde_json.specs.Find.{as_str}
 use Rattle.oauth2_script.specs.Part.{◌>>=◌, needed_part, list_part, pair_part}
 
+-- the name, the password, the scopes and the further parameters of a request (RFC 6749, 4.3.2)
 pub record PasswordParams : Type 0 where
   pub username : List ℕ
   pub password : List ℕ
   pub scopes : List (List ℕ)
   pub extra_params : List (List ℕ × List ℕ)
 
+-- reads `params`; `username` and `password` have to be present
 unfoldable pub password_params : Data → Option PasswordParams
 password_params d = do
   username ← needed_part as_str (codes "username") d

@@ -5,24 +5,27 @@ use Rattle.serde_json.specs.Find.{as_str}
 use Rattle.oauth2_urls.specs.Addressed.{Addressed}
 use Rattle.oauth2_script.specs.Part.{◌>>=◌, needed_part, present_part, address}
 
--- the issuer that is expected: one that the redirect has to tell, one that it may leave out, or none
+-- the issuer that is expected: one that the redirect has to name, one that it may leave out, or
+-- none (RFC 9207, 2.4)
 pub data Issuer : Type 0 where
   required : List ℕ → Issuer
   compared : List ℕ → Issuer
   unknown : Issuer
 
--- one of the two may be given
+-- the members `issuer` and `issuer_compared`; a script with both is bad
 abbrev pub issuer_of : Option (List ℕ) → Option (List ℕ) → Option Issuer
 issuer_of None None = Some unknown
 issuer_of (Some text) None = Some (required text)
 issuer_of None (Some text) = Some (compared text)
 issuer_of (Some text) (Some other) = None
 
+-- the state that was sent, the URL that the user was sent back to, and the issuer that is expected
 pub record RedirectParams : Type 0 where
   pub state : List ℕ
   pub redirect : Addressed
   pub issuer : Issuer
 
+-- reads `params`; `state` and `redirect` have to be present
 unfoldable pub redirect_params : Data → Option RedirectParams
 redirect_params d = do
   state ← needed_part as_str (codes "state") d

@@ -4,11 +4,13 @@ use Rattle.serde_json.specs.Data.{Data}
 use Rattle.serde_json.specs.Find.{as_str}
 use Rattle.oauth2_script.specs.Part.{◌>>=◌, needed_part, list_part, pair_part}
 
+-- the refresh token, the scopes and the further parameters of a request (RFC 6749, 6)
 pub record RefreshParams : Type 0 where
   pub refresh_token : List ℕ
   pub scopes : List (List ℕ)
   pub extra_params : List (List ℕ × List ℕ)
 
+-- reads `params`; `refresh_token` has to be present
 unfoldable pub refresh_params : Data → Option RefreshParams
 refresh_params d = do
   refresh_token ← needed_part as_str (codes "refresh_token") d

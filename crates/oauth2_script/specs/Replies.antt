@@ -4,17 +4,18 @@ use Rattle.serde_json.specs.Data.{Data}
 use Rattle.serde_json.specs.Find.{get, as_str, as_bool}
 use Rattle.oauth2_script.specs.Part.{◌>>=◌, needed_part, present_part, status, field}
 
--- a reply as values
+-- an HTTP reply of the script: its status, the value of its Content-Type and the bytes of its body
 pub record HttpReply : Type 0 where
   pub status : ℕ
   pub content_type : Option (List ℕ)
   pub body : List ℕ
 
--- what the scripted client does at one call
+-- what one call of the scripted client returns: a reply, or a failure
 pub data Reply : Type 0 where
   replied : HttpReply → Reply
   failed : Reply
 
+-- reads `status`, `content_type` (optional) and `body` from an entry of `replies`
 unfoldable pub http_reply : Data → Option HttpReply
 http_reply d = do
   status ← needed_part status (codes "status") d
@@ -22,14 +23,16 @@ http_reply d = do
   body ← needed_part as_str (codes "body") d
   Some (record { status = status; content_type = content_type; body = body })
 
+-- the value of the member `fail`: `true` is a failed call, and `false` makes the script bad
 abbrev pub failed_if : Bool → Option Reply
 failed_if true = Some failed
 failed_if false = None
 
--- a member `fail` makes the reply a failure, whatever else is there
+-- if the member `fail` is present, the other members of the entry are ignored
 abbrev pub reply_by : Option Data → Option HttpReply → Option Reply
 reply_by None given = option_map replied given
 reply_by (Some d) given = as_bool d >>= failed_if
 
+-- reads one entry of `replies`
 abbrev pub reply : Data → Option Reply
 reply d = reply_by (get (codes "fail") d) (http_reply d)

@@ -7,19 +7,23 @@ use Rattle.oauth2_script.specs.Part.{◌>>=◌, needed_part, present_part, list_
 use Rattle.oauth2_script.specs.declared.revoke_params.TokenKind.{TokenKind}
 use Rattle.oauth2_script.specs.declared.revoke_params.TokenKind.TheVariants.{Access, Refresh}
 
+-- the token that is revoked, its kind, and the further parameters of the request (RFC 7009, 2.1)
 pub record RevokeParams : Type 0 where
   pub token : List ℕ
   pub kind : TokenKind
   pub extra_params : List (List ℕ × List ℕ)
 
+-- the kind of the token that is revoked: `access` or `refresh`; `None` for other texts
 unfoldable pub kind_of : List ℕ → Option TokenKind
 kind_of text =
     if bytes_eq text (codes "access") then Some Access
     else (if bytes_eq text (codes "refresh") then Some Refresh else None)
 
+-- the value of the member `kind`: the text `access` or `refresh`
 abbrev pub kind : Data → Option TokenKind
 kind d = as_str d >>= kind_of
 
+-- reads `params`; `kind` is `access` if absent
 unfoldable pub revoke_params : Data → Option RevokeParams
 revoke_params d = do
   token ← needed_part as_str (codes "token") d

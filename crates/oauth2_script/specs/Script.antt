@@ -1,4 +1,4 @@
--- What a script says, and which JSON value says it.
+-- A script, and how it is read from the bytes of the input.
 use Rattle.std.specs.Prelude.{ℕ, ℤ, List, Option, Some, None, option_map, if◌then◌else◌, codes}
 use Rattle.std.specs.Str.{is_utf8}
 use Rattle.serde_json.specs.Data.{Data, object, no_members}
@@ -9,18 +9,20 @@ use Rattle.oauth2_script.specs.Client.{Client, client}
 use Rattle.oauth2_script.specs.Command.{Command, command_of}
 use Rattle.oauth2_script.specs.Replies.{Reply, reply}
 
--- the readings of its clock in nanoseconds since 1970
+-- the client, its command, the replies of the server, and the readings of the clock in nanoseconds
+-- since 1970
 pub record Script : Type 0 where
   pub client : Client
   pub command : Command
   pub replies : List Reply
   pub readings : List ℤ
 
--- an object, empty where it is absent
+-- an object; an absent one is empty
 abbrev pub object_or_empty : Option Data → Option Data
 object_or_empty None = Some (object no_members)
 object_or_empty (Some d) = option_map (λ _. d) (as_object d)
 
+-- reads a script from a JSON value; `None` if any part of it is bad
 unfoldable pub script_of : Data → Option Script
 script_of d = do
   name ← needed_part as_str (codes "command") d
@@ -31,6 +33,6 @@ script_of d = do
   client ← needed_part client (codes "client") d
   Some (record { client = client; command = command; replies = replies; readings = readings })
 
--- the script that an input is, where it is one
+-- the script that the bytes of an input are; `None` for a bad script
 unfoldable pub script_in : List ℕ → Option Script
 script_in input = if is_utf8 input then (read input >>= script_of) else None

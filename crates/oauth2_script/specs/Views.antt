@@ -1,4 +1,4 @@
--- What contracts see of the values that the code holds.
+-- The views of the types of the code: what contracts see of them, with texts as bytes.
 use Rattle.std.specs.Prelude.{map, option_map, string_bytes}
 use Rattle.std.specs.Duration.{as_nanos}
 use Rattle.std.specs.Int.NonZero.{non_zero_u64_get}
@@ -46,6 +46,7 @@ use Rattle.oauth2_script.specs.declared.reply.Reply.{Reply}
 use Rattle.oauth2_script.specs.declared.reply.Reply.TheVariants.{Replied, Failed}
 use Rattle.oauth2_script.specs.declared.script.Script.{Script}
 
+-- the parameters of the command `code` as contracts see them
 abbrev pub code_view : CodeParams → code_spec.CodeParams
 code_view p = record {
   code = p.code;
@@ -54,6 +55,7 @@ code_view p = record {
   extra_params = map (λ e. (string_bytes e.0, string_bytes e.1)) p.extra_params.items;
 }
 
+-- the parameters of the command `refresh` as contracts see them
 abbrev pub refresh_view : RefreshParams → refresh_spec.RefreshParams
 refresh_view p = record {
   refresh_token = p.refresh_token;
@@ -61,6 +63,7 @@ refresh_view p = record {
   extra_params = map (λ e. (string_bytes e.0, string_bytes e.1)) p.extra_params.items;
 }
 
+-- the parameters of the command `password` as contracts see them
 abbrev pub password_view : PasswordParams → password_spec.PasswordParams
 password_view p = record {
   username = p.username;
@@ -69,18 +72,21 @@ password_view p = record {
   extra_params = map (λ e. (string_bytes e.0, string_bytes e.1)) p.extra_params.items;
 }
 
+-- the parameters of the command `client_credentials` as contracts see them
 abbrev pub client_credentials_view : ClientCredentialsParams → client_credentials_spec.ClientCredentialsParams
 client_credentials_view p = record {
   scopes = p.scopes.items;
   extra_params = map (λ e. (string_bytes e.0, string_bytes e.1)) p.extra_params.items;
 }
 
+-- the parameters of the command `device_authorization` as contracts see them
 abbrev pub device_authorization_view : DeviceAuthorizationParams → device_authorization_spec.DeviceAuthorizationParams
 device_authorization_view p = record {
   scopes = p.scopes.items;
   extra_params = map (λ e. (string_bytes e.0, string_bytes e.1)) p.extra_params.items;
 }
 
+-- the parameters of `device_poll` as contracts see them; `timeout` and `cap` in nanoseconds
 abbrev pub device_poll_view : DevicePollParams → device_poll_spec.DevicePollParams
 device_poll_view p = record {
   device = device_seen (λ _. tt) p.device;
@@ -90,6 +96,7 @@ device_poll_view p = record {
   extra_params = map (λ e. (string_bytes e.0, string_bytes e.1)) p.extra_params.items;
 }
 
+-- the parameters of the command `introspect` as contracts see them
 abbrev pub introspect_view : IntrospectParams → introspect_spec.IntrospectParams
 introspect_view p = record {
   token = p.token;
@@ -97,6 +104,7 @@ introspect_view p = record {
   extra_params = map (λ e. (string_bytes e.0, string_bytes e.1)) p.extra_params.items;
 }
 
+-- the parameters of the command `revoke` as contracts see them
 abbrev pub revoke_view : RevokeParams → revoke_spec.RevokeParams
 revoke_view p = record {
   token = string_bytes p.token;
@@ -104,6 +112,7 @@ revoke_view p = record {
   extra_params = map (λ e. (string_bytes e.0, string_bytes e.1)) p.extra_params.items;
 }
 
+-- the parameters of the command `authorize` as contracts see them
 abbrev pub authorize_view : AuthorizeParams → authorize_spec.AuthorizeParams
 authorize_view p = record {
   state = p.state;
@@ -115,11 +124,13 @@ authorize_view p = record {
   extra_params = map (λ e. (string_bytes e.0, string_bytes e.1)) p.extra_params.items;
 }
 
+-- the issuer that a redirect has to name, may name, or none, as contracts see it (RFC 9207, 2.4)
 abbrev pub expected_issuer_view : ExpectedIssuerParam → redirect_spec.Issuer
 expected_issuer_view (issuer_param.Required text) = redirect_spec.required (string_bytes text)
 expected_issuer_view (issuer_param.Compared text) = redirect_spec.compared (string_bytes text)
 expected_issuer_view issuer_param.Unknown = redirect_spec.unknown
 
+-- the parameters of the command `redirect` as contracts see them
 abbrev pub redirect_view : RedirectParams → redirect_spec.RedirectParams
 redirect_view p = record {
   state = p.state;
@@ -127,6 +138,7 @@ redirect_view p = record {
   issuer = expected_issuer_view p.issuer;
 }
 
+-- the parameters of `keeper` as contracts see them; margin, life and `retry_after` in nanoseconds
 abbrev pub keeper_view : KeeperParams → keeper_spec.KeeperParams
 keeper_view p = record {
   margin = as_nanos p.margin;
@@ -137,6 +149,7 @@ keeper_view p = record {
   retry_after = option_map as_nanos p.retry_after;
 }
 
+-- the parameters of the command `metadata` as contracts see them
 abbrev pub metadata_view : MetadataParams → metadata_spec.MetadataParams
 metadata_view p = record {
   issuer = string_bytes p.issuer;
@@ -144,11 +157,13 @@ metadata_view p = record {
   expected_issuer = option_map string_bytes p.expected_issuer;
 }
 
+-- the issuers that an ID token may name, as contracts see them
 abbrev pub issuer_view : IssuerParam → id_token_spec.IssuerPart
 issuer_view (Is issuer) = id_token_spec.is (string_bytes issuer)
 issuer_view (OneOf issuers) = id_token_spec.one_of (map string_bytes issuers.items)
 issuer_view (PerTenant before after) = id_token_spec.per_tenant (string_bytes before) (string_bytes after)
 
+-- the parameters of `id_token` as contracts see them; `leeway` and `max_age` in nanoseconds
 abbrev pub id_token_view : IdTokenParams → id_token_spec.IdTokenParams
 id_token_view p = record {
   id_token = string_bytes p.id_token;
@@ -162,9 +177,11 @@ id_token_view p = record {
   authorized_parties = map string_bytes p.authorized_parties.items;
 }
 
+-- the endpoints of the client as contracts see them
 abbrev pub endpoints_view : ClientEndpoints → client_spec.ClientEndpoints
 endpoints_view e = record { auth = e.auth; token = e.token; device = e.device; introspection = e.introspection; revocation = e.revocation }
 
+-- the client of the script as contracts see it
 abbrev pub client_view : ClientPart → client_spec.Client
 client_view c = record {
   id = c.id;
@@ -175,6 +192,7 @@ client_view c = record {
   endpoints = endpoints_view c.endpoints;
 }
 
+-- an HTTP reply of the script as contracts see it
 abbrev pub http_reply_view : HttpReply → replies_spec.HttpReply
 http_reply_view r = record {
   status = r.status;
@@ -182,10 +200,12 @@ http_reply_view r = record {
   body = string_bytes r.body;
 }
 
+-- an entry of `replies` as contracts see it: a reply, or a failed call
 abbrev pub stored_reply : Reply → replies_spec.Reply
 stored_reply (Replied r) = replies_spec.replied (http_reply_view r)
 stored_reply Failed = replies_spec.failed
 
+-- the command of the script, with its parameters, as contracts see it
 abbrev pub command_view : Command → command_spec.Command
 command_view (Code p) = command_spec.code (code_view p)
 command_view (Refresh p) = command_spec.refresh (refresh_view p)
@@ -201,6 +221,7 @@ command_view (Keeper p) = command_spec.keeper (keeper_view p)
 command_view (Metadata p) = command_spec.metadata (metadata_view p)
 command_view (IdToken p) = command_spec.id_token (id_token_view p)
 
+-- the whole script as contracts see it; the readings in nanoseconds since 1970
 abbrev pub script_view : Script → script_spec.Script
 script_view s = record {
   client = client_view s.client;

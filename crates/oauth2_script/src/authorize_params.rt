@@ -9,14 +9,14 @@ use oauth2_urls::RedirectUrl;
 use serde_json::Value;
 use std::alloc::Global;
 
-/// What an authorization URL takes.
+/// The parameters of an authorization URL (RFC 6749, section 4.1.1).
 #[derive(Drop)]
 pub struct AuthorizeParams {
     pub state: CsrfToken,
     pub challenge: Option<PkceCodeChallenge>,
     pub redirect: Option<RedirectUrl>,
     pub response_type: Option<ResponseType>,
-    /// What an ID token has to name (OpenID Connect Core 1.0, section 3.1.2.1).
+    /// The nonce that is sent (OpenID Connect Core 1.0, section 3.1.2.1).
     pub nonce: Option<String>,
     pub scopes: Vec<Scope>,
     pub extra_params: Vec<(String, String)>,

@@ -8,7 +8,7 @@ use oauth2_types::Scope;
 use serde_json::Value;
 use std::alloc::Global;
 
-/// What a request for the client's own token takes.
+/// The parameters of a request with the client's own credentials (RFC 6749, section 4.4.2).
 #[derive(Drop)]
 pub struct ClientCredentialsParams {
     pub scopes: Vec<Scope>,

@@ -12,7 +12,7 @@ use oauth2_wire::{AuthType, ReplyRule};
 use serde_json::Value;
 use std::alloc::Global;
 
-/// The client, with those of its endpoints that are set.
+/// The client of a script; endpoints that the script does not set are `None`.
 #[derive(Drop)]
 pub struct ClientPart {
     pub id: ClientId,
@@ -23,7 +23,7 @@ pub struct ClientPart {
     pub endpoints: ClientEndpoints,
 }
 
-/// The endpoints of a client that a script sets.
+/// The endpoints that a script sets.
 #[derive(Drop)]
 pub struct ClientEndpoints {
     pub auth: Option<AuthUrl>,

@@ -9,7 +9,7 @@ use oauth2_urls::RedirectUrl;
 use serde_json::Value;
 use std::alloc::Global;
 
-/// What the exchange of a code takes.
+/// The parameters of the exchange of a code (RFC 6749, section 4.1.3).
 #[derive(Drop)]
 pub struct CodeParams {
     pub code: AuthorizationCode,

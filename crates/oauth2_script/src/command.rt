@@ -41,7 +41,7 @@ pub enum Command {
     IdToken(IdTokenParams),
 }
 
-/// The command of this name, with these parameters.
+/// Reads the command of this name from the object `params`; another name is `Bad`.
 #[tactic(auto, unfolding(crate::specs::Command::command_of))]
 pub fn command_of(alloc: Global, name: &str, params: &Value) -> Result<Command, ScriptError>
     ensures { Gives command_view result (spec.command_of name.now (view params.now)) }

@@ -10,7 +10,7 @@ use oauth2_types::Scope;
 use serde_json::Value;
 use std::alloc::Global;
 
-/// What a device's request for its codes takes.
+/// The parameters of a device authorization request (RFC 8628, section 3.1).
 #[derive(Drop)]
 pub struct DeviceAuthorizationParams {
     pub scopes: Vec<Scope>,

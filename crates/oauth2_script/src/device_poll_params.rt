@@ -11,7 +11,7 @@ use std::alloc::Global;
 use std::num::NonZeroU64;
 use std::time::Duration;
 
-/// What a poll for a device's token takes.
+/// The parameters of a poll for a device's token (RFC 8628, section 3.4).
 #[derive(Drop)]
 pub struct DevicePollParams {
     /// The response that the device got.
@@ -19,7 +19,7 @@ pub struct DevicePollParams {
     /// How many requests the poll makes at most.
     pub max_polls: NonZeroU64,
     pub timeout: Option<Duration>,
-    /// Up to where a failed call doubles the wait.
+    /// The longest wait to which failed calls double it.
     pub cap: Option<Duration>,
     pub extra_params: Vec<(String, String)>,
 }

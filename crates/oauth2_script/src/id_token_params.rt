@@ -12,16 +12,16 @@ use serde_json::Value;
 use std::alloc::Global;
 use std::time::Duration;
 
-/// The issuers that are expected of an ID token.
+/// The issuers that an ID token may name.
 #[derive(Drop)]
 pub enum IssuerParam {
     Is(String),
     OneOf(Vec<String>),
-    /// What stands before the tenant that the token names, and after it.
+    /// The texts before and after the claim `tid`, the name of the tenant.
     PerTenant { before: String, after: String },
 }
 
-/// What the check of an ID token takes.
+/// The parameters of the check of an ID token (OpenID Connect Core 1.0, section 3.1.3.7).
 #[derive(Drop)]
 pub struct IdTokenParams {
     /// The text of the ID token.
@@ -38,9 +38,9 @@ pub struct IdTokenParams {
     pub leeway: Duration,
     /// The maximum age that was sent.
     pub max_age: Option<Duration>,
-    /// The audiences beside the client that it trusts.
+    /// The audiences other than the client that the client trusts.
     pub other_audiences: Vec<String>,
-    /// The parties beside the client to which the token may be issued.
+    /// The parties other than the client to which the token may be issued.
     pub authorized_parties: Vec<String>,
 }
 

@@ -8,11 +8,11 @@ use oauth2_types::AccessToken;
 use serde_json::Value;
 use std::alloc::Global;
 
-/// What the introspection of a token takes.
+/// The parameters of an introspection request (RFC 7662, section 2.1).
 #[derive(Drop)]
 pub struct IntrospectParams {
     pub token: AccessToken,
-    /// What the server is told of the token's type.
+    /// The `token_type_hint` that is sent.
     pub hint: Option<String>,
     pub extra_params: Vec<(String, String)>,
 }

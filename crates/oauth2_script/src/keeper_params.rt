@@ -9,18 +9,18 @@ use serde_json::Value;
 use std::alloc::Global;
 use std::time::Duration;
 
-/// What a keeper of a token is made with.
+/// The parameters of a new keeper.
 #[derive(Drop)]
 pub struct KeeperParams {
-    /// How long before its end a lifetime is over.
+    /// How long before its end a token counts as expired.
     pub margin: Duration,
-    /// The lifetime where a reply tells none.
+    /// The lifetime of a token whose reply has no `expires_in`.
     pub life: Duration,
     pub refresh: Option<RefreshToken>,
-    /// What it asks for by the client's own credentials.
+    /// The scopes of requests with the client's own credentials.
     pub scopes: Vec<Scope>,
     pub extra_params: Vec<(String, String)>,
-    /// For how long it makes no request after one that failed.
+    /// How long the keeper makes no request after one that failed.
     pub retry_after: Option<Duration>,
 }
 

@@ -1,4 +1,4 @@
-//! The other kinds of values that stand in scripts.
+//! How the values of scripts are read that are neither texts nor URLs.
 
 ghost use Rattle.std.specs.Prelude.{◌≡◌, ℕ, ℤ, pos, ◌*ℤ◌, List, string_bytes, option_map};
 ghost use Rattle.std.specs.Prelude.{IfErr, false};
@@ -32,7 +32,7 @@ fn two_texts(alloc: Global, values: &[Value]) -> Result<(String, String), Script
     Ok((name, value))
 }
 
-/// A name and a value.
+/// A name and a value, from a list of exactly two texts.
 impl Part for (String, String) {
     ghost Meaning = { List ℕ × List ℕ };
 
@@ -64,7 +64,7 @@ impl Part for PkceCodeVerifier {
     }
 }
 
-/// The S256 challenge of a verifier.
+/// The S256 challenge of a code verifier (RFC 7636, section 4.2).
 impl Part for PkceCodeChallenge {
     ghost Meaning = { Challenge };
 
@@ -78,7 +78,7 @@ impl Part for PkceCodeChallenge {
     }
 }
 
-/// The value of a header field.
+/// The value of a header field: a text without control characters other than a tab.
 impl Part for HeaderValue {
     ghost Meaning = { List ℕ };
 
@@ -125,7 +125,7 @@ fn moment_at(second: i64) -> Result<Timestamp, ScriptError>
     }
 }
 
-/// Whole seconds since 1970, inside the range of `jiff`, whose plain value this is.
+/// A moment from whole seconds since 1970, inside the range of a `jiff` timestamp.
 impl Part for Timestamp {
     ghost Meaning = { ℤ };
 
@@ -141,7 +141,7 @@ impl Part for Timestamp {
     }
 }
 
-/// Whole seconds.
+/// A length of time from whole seconds, 0 to 2^64 - 1.
 impl Part for Duration {
     ghost Meaning = { ℕ };
 
@@ -157,7 +157,7 @@ impl Part for Duration {
     }
 }
 
-/// How many, at least one.
+/// A whole number, 1 to 2^64 - 1.
 impl Part for NonZeroU64 {
     ghost Meaning = { ℕ };
 

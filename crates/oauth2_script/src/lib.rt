@@ -1,4 +1,4 @@
-//! The JSON scripts of the program: which bytes say which script.
+//! The JSON scripts of the program, read from bytes.
 
 #![tactic(auto)]
 
@@ -27,7 +27,7 @@ mod urls;
 
 pub use authorize_params::AuthorizeParams;
 pub use client_credentials_params::ClientCredentialsParams;
-pub use client_part::{ClientPart, ClientEndpoints};
+pub use client_part::{ClientEndpoints, ClientPart};
 pub use code_params::CodeParams;
 pub use command::Command;
 pub use device_authorization_params::DeviceAuthorizationParams;

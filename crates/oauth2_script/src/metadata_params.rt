@@ -7,7 +7,7 @@ use crate::script_error::ScriptError;
 use serde_json::Value;
 use std::alloc::Global;
 
-/// Which well-known URI an issuer's metadata has, by its registered name (RFC 8414, section 7.3;
+/// The registered name of the well-known URI of an issuer's metadata (RFC 8414, section 7.3;
 /// OpenID Connect Discovery 1.0, section 4).
 #[derive(Clone, Copy, Debug, PartialEq, Eq)]
 pub enum WellKnown {
@@ -15,12 +15,12 @@ pub enum WellKnown {
     OpenidConfiguration,
 }
 
-/// What a request for an issuer's metadata takes.
+/// The parameters of a request for an issuer's metadata (RFC 8414, section 3.1).
 #[derive(Drop)]
 pub struct MetadataParams {
     pub issuer: String,
     pub well_known: WellKnown,
-    /// The issuer that the metadata has to name in place of that one.
+    /// The issuer that the metadata has to name, if it is another one than `issuer`.
     pub expected_issuer: Option<String>,
 }
 

@@ -1,4 +1,4 @@
-//! The parts that scripts are made of, each read from a JSON value.
+//! How the parts of a script are read from a JSON value.
 
 ghost use Rattle.std.specs.Prelude.{◌≡◌, map, option_map, IfErr, false};
 ghost use Rattle.serde_json.specs.Find.{get};
@@ -10,31 +10,31 @@ use crate::script_error::ScriptError;
 use serde_json::Value;
 use std::alloc::Global;
 
-/// What a value of a script may say.
+/// A type that is read from a JSON value of a script.
 pub trait Part: Sized {
     ghost use Rattle.std.specs.Prelude.{◌≡◌, Bool, true, false, Option, IfErr};
     ghost use Rattle.serde_json.specs.Data.{Data};
     ghost use Rattle.serde_json.specs.View.{view};
     ghost use Rattle.oauth2_script.specs.Gives.{Gives};
 
-    /// What contracts see of it.
+    /// The view of a value of this type: what contracts see of it.
     ghost Meaning: { Type 0 };
 
     ghost meaning: { Self → Meaning };
 
-    /// What a value says.
+    /// The part that a JSON value is read as; `None` if it is bad.
     ghost reading: { Data → Option Meaning };
 
-    /// Whether reading one takes memory.
+    /// Whether reading a value may run out of memory.
     ghost allocates: { Bool } = { true };
 
-    /// Reads a value: `Bad` if it says none, and only then, unless reading takes memory.
+    /// Reads a value. `Bad` is returned only for a bad value, `Memory` only if reading allocates.
     fn from_value(alloc: Global, value: &Value) -> Result<Self, ScriptError>
         ensures read { Gives meaning result (reading (view value.now)) }
         ensures fed { allocates ≡ false → IfErr result (λ e. e ≡ ScriptError.Bad) };
 }
 
-/// The member of this name; without it the object is `Bad`.
+/// Reads the member of this name; `Bad` if it is missing.
 #[tactic(auto, unfolding(crate::specs::Part::needed_part))]
 pub fn needed<T: Part>(alloc: Global, object: &Value, name: &str) -> Result<T, ScriptError>
     ensures read { Gives T.meaning result (spec.needed_part T.reading name.now (view object.now)) }
@@ -45,7 +45,7 @@ pub fn needed<T: Part>(alloc: Global, object: &Value, name: &str) -> Result<T, S
     T::from_value(alloc, value)
 }
 
-/// The member of this name, which may be absent and may not be null.
+/// Reads the member of this name; `None` if it is absent. A null is read as a value.
 #[tactic(auto, unfolding(crate::specs::Part::present_part))]
 pub fn optional<T: Part>(
     alloc: Global,
@@ -73,7 +73,7 @@ pub(crate) fn each<T: Part + Drop>(alloc: Global, values: &[Value]) -> Result<Ve
     Ok(parts)
 }
 
-/// The list under this name; an absent one is empty.
+/// Reads the list of this name; an absent one is empty.
 #[tactic(auto, unfolding(crate::specs::Part::list_part))]
 pub fn listed<T: Part + Drop>(
     alloc: Global,

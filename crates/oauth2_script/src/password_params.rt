@@ -8,7 +8,7 @@ use oauth2_types::{ResourceOwnerPassword, ResourceOwnerUsername, Scope};
 use serde_json::Value;
 use std::alloc::Global;
 
-/// What a request by a resource owner's name and password takes.
+/// The parameters of a request with the resource owner's password (RFC 6749, section 4.3.2).
 #[derive(Drop)]
 pub struct PasswordParams {
     pub username: ResourceOwnerUsername,

@@ -12,22 +12,22 @@ use oauth2_urls::RedirectUrl;
 use serde_json::Value;
 use std::alloc::Global;
 
-/// The issuer that is expected of a redirect.
+/// The issuer that is expected in a redirect (RFC 9207, section 2.4).
 #[derive(Drop)]
 pub enum ExpectedIssuerParam {
-    /// It has to be told.
+    /// The redirect has to name this issuer.
     Required(String),
-    /// It may be left out.
+    /// The redirect may leave the issuer out, but may name no other one.
     Compared(String),
-    /// None is expected.
+    /// The issuer of the redirect is ignored.
     Unknown,
 }
 
-/// What the reading of a redirect takes.
+/// The parameters of the command `redirect`.
 #[derive(Drop)]
 pub struct RedirectParams {
     pub state: CsrfToken,
-    /// The URL by which the user came back.
+    /// The URL that the user was sent back to.
     pub redirect: RedirectUrl,
     pub issuer: ExpectedIssuerParam,
 }
@@ -55,7 +55,7 @@ impl Part for RedirectParams {
     }
 }
 
-// The issuer that the two members say, of which one may be given.
+// The expected issuer of the two members; `Bad` if both are given.
 fn issuer_of(
     required: Option<String>,
     compared: Option<String>,

@@ -8,7 +8,7 @@ use oauth2_types::{RefreshToken, Scope};
 use serde_json::Value;
 use std::alloc::Global;
 
-/// What the exchange of a refresh token takes.
+/// The parameters of the exchange of a refresh token (RFC 6749, section 6).
 #[derive(Drop)]
 pub struct RefreshParams {
     pub refresh_token: RefreshToken,

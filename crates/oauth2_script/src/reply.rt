@@ -9,7 +9,7 @@ use http_header::HeaderValue;
 use serde_json::Value;
 use std::alloc::Global;
 
-/// A reply of the server.
+/// An HTTP reply of the server.
 #[derive(Drop)]
 pub struct HttpReply {
     pub status: StatusCode,
@@ -17,7 +17,7 @@ pub struct HttpReply {
     pub body: String,
 }
 
-/// What the scripted client does at one call.
+/// What one call of the scripted client returns.
 #[derive(Drop)]
 pub enum Reply {
     Replied(HttpReply),

@@ -7,14 +7,14 @@ use crate::script_error::ScriptError;
 use serde_json::Value;
 use std::alloc::Global;
 
-/// Which kind of token a text is (RFC 7009, section 2.1).
+/// The kind of the token that is revoked, sent as `token_type_hint` (RFC 7009, section 2.1).
 #[derive(Clone, Copy, Debug, PartialEq, Eq)]
 pub enum TokenKind {
     Access,
     Refresh,
 }
 
-/// What the revocation of a token takes.
+/// The parameters of a revocation request (RFC 7009, section 2.1).
 #[derive(Drop)]
 pub struct RevokeParams {
     pub token: String,

@@ -1,4 +1,4 @@
-//! What a script says, and the script that an input is.
+//! A script, and how it is read from the input.
 
 ghost use Rattle.std.specs.Prelude.{◌≡◌, option_map, IfErr};
 ghost use Rattle.serde_json.specs.View.{view};
@@ -17,14 +17,14 @@ use serde_json::{Map, Value};
 use std::alloc::Global;
 use std::collections::VecDeque;
 
-/// One command, and what its run stands on.
+/// A script: the client, one command, the replies of the server and the readings of the clock.
 #[derive(Drop)]
 pub struct Script {
     pub client: ClientPart,
     pub command: Command,
-    /// One for each call, in order; after the last the client fails.
+    /// One reply for each call, in order; after the last one a call fails.
     pub replies: VecDeque<Reply>,
-    /// What the clock shows, in turn.
+    /// What the clock shows, one after the other.
     pub readings: Vec<Timestamp>,
 }
 
@@ -65,7 +65,7 @@ fn script_of(alloc: Global, value: &Value) -> Result<Script, ScriptError>
     })
 }
 
-/// The script that the input is. Judges the whole of it.
+/// Reads the whole input as a script; `Bad` if any part of it is bad.
 #[tactic(auto, unfolding(crate::specs::Script::script_in))]
 pub fn script_in(alloc: Global, input: &[u8]) -> Result<Script, ScriptError>
     ensures { Gives script_view result (spec.script_in input.now) }

@@ -1,4 +1,4 @@
-//! Why an input is no script.
+//! The errors of reading a script.
 
 ghost use Rattle.std.specs.Prelude.{◌≡◌, ◌⊎◌};
 ghost use Rattle.http_header.specs.declared.value.HeaderValueError.TheVariants as header;
@@ -9,12 +9,12 @@ use http_header::HeaderValueError;
 use std::alloc::{AllocError, AllocFailed};
 use url::ParseError;
 
-/// Why bytes gave no script.
+/// Why no script was read.
 #[derive(Clone, Copy, Debug, PartialEq, Eq)]
 pub enum ScriptError {
-    /// They are none.
+    /// The bytes are not a script.
     Bad,
-    /// Memory ran out before this was known.
+    /// Memory ran out, or a URL is 4 GB or longer.
     Memory,
 }
 
@@ -35,7 +35,7 @@ impl<T: Drop> From<AllocFailed<T>> for ScriptError {
 }
 
 impl From<ParseError> for ScriptError {
-    // `Overflow` is a URL of 4 GB or more. What is a URL has no such bound, so that is not `Bad`.
+    // `Overflow` is a URL of 4 GB or more. It may be a URL by the standard, so it is not `Bad`.
     ghost from_gives = { λ given e. (IsOutOfRoom given × (e ≡ Memory))
         ⊎ ((IsOutOfRoom given → ⊥) × (e ≡ Bad)) };
 

@@ -1,4 +1,4 @@
-//! Texts, and the types of `oauth2_types` that any text makes.
+//! How texts are read, and the types of `oauth2_types` that accept any text.
 
 ghost use Rattle.std.specs.Prelude.{ℕ, List, string_bytes};
 ghost use Rattle.serde_json.specs.Find.{as_str};

@@ -1,4 +1,4 @@
-//! URLs, each from its text.
+//! How each type of URL is read from its text.
 
 ghost use Rattle.oauth2_script.specs.Part as spec;
 

@@ -1,5 +1,5 @@
-//! Runs the scripts on standard input, one on each line, and prints for each script the lines that
-//! its run writes and how it ends.
+//! Runs the scripts on standard input, one on each line. Prints the lines that each script writes,
+//! and how it ends.
 //!
 //! A line that begins with `#` is a heading, and is printed as it is. The scripts are in the file
 //! `stdin` next to `src`, and the expected output is in the file `stdout`.

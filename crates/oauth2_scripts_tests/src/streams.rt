@@ -1,4 +1,5 @@
-//! Bytes that are no text, readers and writers that fail, and a reader without an end.
+//! Tests of bytes that are no text, of readers and writers that fail, and of a reader that never
+//! ends.
 
 use oauth2_commands::{RunFault, RunStatus, ScriptSource, run_script};
 use std::io;
@@ -106,7 +107,11 @@ fn reads_fail(rt: HostRuntime) -> Result<(), Fail> {
             fails_at: at,
         };
         let mut written = Vec::new(rt.alloc());
-        let result = run_script(rt.alloc(), &mut ScriptSource::new(&mut reader), &mut written);
+        let result = run_script(
+            rt.alloc(),
+            &mut ScriptSource::new(&mut reader),
+            &mut written,
+        );
         if reader.reads < at {
             assert_ended(&rt, result, Ok(RunStatus::Answered));
             return Ok(());
@@ -137,7 +142,7 @@ fn writes_fail(rt: HostRuntime) -> Result<(), Fail> {
     Ok(())
 }
 
-// A writer that fails at the first write after the last, so at none.
+// A writer that fails at the write after the last one, so no write fails.
 #[test]
 fn writes_end(rt: HostRuntime) -> Result<(), Fail> {
     let whole = LINES.len();
@@ -153,7 +158,7 @@ fn writes_end(rt: HostRuntime) -> Result<(), Fail> {
     Ok(())
 }
 
-// Takes no byte, however often it is called.
+// Takes no byte at any call.
 #[derive(Drop)]
 struct FullWriter;
 
@@ -210,7 +215,11 @@ fn flush_fails(rt: HostRuntime) -> Result<(), Fail> {
 fn endless_input(rt: HostRuntime) -> Result<(), Fail> {
     let mut reader = EndlessReader { reads: 0 };
     let mut written = Vec::new(rt.alloc());
-    let result = run_script(rt.alloc(), &mut ScriptSource::new(&mut reader), &mut written);
+    let result = run_script(
+        rt.alloc(),
+        &mut ScriptSource::new(&mut reader),
+        &mut written,
+    );
     assert_ended(&rt, result, Err(RunFault::Read));
     assert!(rt; reader.reads == 1_048_576);
     assert!(rt; written.is_empty());

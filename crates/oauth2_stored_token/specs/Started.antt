@@ -1,23 +1,23 @@
--- Which keeper goes on from what was stored.
+-- Which keeper may start from a stored token.
 use Rattle.std.specs.Prelude.{◌≡◌, ℕ, Bool, true, false, IsTrue, bytes_eq, List, Option, Some, None, Result, Ok, Err}
 use Rattle.oauth2_keeper.specs.Keeper.{Keeper, starting_from}
 use Rattle.oauth2_stored_token.specs.Stored.{Stored, endpoint_of}
 use Rattle.oauth2_stored_token.specs.declared.stored_token_error.StoredTokenError.{StoredTokenError}
 use Rattle.oauth2_stored_token.specs.declared.stored_token_error.StoredTokenError.TheVariants.{OtherClient, OtherEndpoint}
 
--- what was stored is of this client or endpoint; it may be where that was not stored
+-- what was stored belongs to this client or endpoint (`own`), or does not name any
 abbrev pub is_of : Option (List ℕ) → Option (List ℕ) → Bool
 is_of None own = true
 is_of (Some text) None = false
 is_of (Some text) (Some own) = bytes_eq text own
 
--- what was stored, in an error
+-- the stored token that an error holds
 abbrev pub stored_in : StoredTokenError → Stored
 stored_in (OtherClient it) = it
 stored_in (OtherEndpoint it) = it
 
--- a keeper takes what was stored, unless that is of another client or of another endpoint; then it
--- is as it was, and what was stored comes back
+-- a keeper takes a stored token, unless that belongs to another client or token endpoint; then the
+-- keeper is unchanged, and the error holds the stored token
 abbrev pub Takes : Keeper → Stored → Result Unit StoredTokenError → Keeper → Type 0
 Takes before it (Ok done) after =
     IsTrue (is_of it.client_id (Some before.client.client_id)) × IsTrue (is_of it.token_url (endpoint_of before))

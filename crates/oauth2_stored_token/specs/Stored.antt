@@ -1,4 +1,4 @@
--- What a keeper keeps, as a value and as the members of an object.
+-- A stored token, as a value and as the members of a JSON object.
 use Rattle.std.specs.Prelude.{ℕ, ℤ, pos, ◌+ℤ◌, ◌+◌, ◌*◌, ◌/◌, ◌%◌, ◌^◌, nat_lt, unsigned_abs, List, [], ◌∷◌, Option, Some, option_map, Ok, Err, codes, if◌then◌else◌}
 use Rattle.std.specs.Int.{int_rem_euclid}
 use Rattle.url.specs.Parts.{serialize}
@@ -13,14 +13,16 @@ use Rattle.oauth2_json.specs.declared.read.ParseCause.TheVariants as cause
 use Rattle.oauth2_times.specs.Instants.{instant, is_instant, second_data}
 use Rattle.oauth2_keeper.specs.Keeper.{AcceptedToken, Keeper}
 
--- a token, the refresh token that is kept with it, and the client's identifier and the URL of the
--- token endpoint that they are of, where they were stored too
+-- a stored token: the token, the refresh token that was kept with it, and the identifier of the
+-- client and the URL of the token endpoint that they belong to, if those were stored too
 pub record Stored : Type 0 where
   pub token : AcceptedToken
   pub refresh_token : Option (List ℕ)
   pub client_id : Option (List ℕ)
   pub token_url : Option (List ℕ)
 
+-- the stored token with these parts; the time is in nanoseconds since 1970, the lifetime in
+-- nanoseconds
 abbrev pub stored : List ℕ → ℤ → ℕ → Option (List ℕ) → Option (List ℕ) → Option (List ℕ) → Stored
 stored access_token accepted_at lifetime refresh_token client_id token_url = record {
   token = record { access_token = access_token; accepted_at = accepted_at; lifetime = lifetime };
@@ -29,11 +31,11 @@ stored access_token accepted_at lifetime refresh_token client_id token_url = rec
   token_url = token_url;
 }
 
--- the URL of a keeper's token endpoint, as its requests go to it
+-- the URL that a keeper's requests go to, if its token endpoint is set
 abbrev pub endpoint_of : Keeper → Option (List ℕ)
 endpoint_of keeper = option_map (λ endpoint. serialize endpoint.url) keeper.client.token_url
 
--- what a keeper keeps, where there is a token
+-- the stored token that is made of what a keeper keeps, if it keeps a token
 abbrev pub stored_of : Keeper → Option Stored
 stored_of keeper = option_map
     (λ token. record {
@@ -44,28 +46,33 @@ stored_of keeper = option_map
     })
     keeper.token
 
--- a moment: whole seconds since 1970, and nanoseconds to add
+-- the time `nanos` nanoseconds after `second`, if it is in range; both times are in nanoseconds
+-- since 1970
 abbrev pub moment_from : ℤ → ℕ → Reading ℤ
 moment_from second nanos =
     if is_instant (second +ℤ pos nanos) then Ok (second +ℤ pos nanos) else Err (record { member = codes "accepted_at"; cause = cause.OutOfRange })
 
+-- the time in `accepted_at` (seconds since 1970) and `accepted_at_nanoseconds`, in nanoseconds
+-- since 1970
 abbrev pub moment_reading : Option Data → Option Data → Reading ℤ
 moment_reading seconds nanoseconds =
     read_then (needed_member instant (codes "accepted_at") seconds) (λ second.
     read_then (needed_member whole_number (codes "accepted_at_nanoseconds") nanoseconds) (λ nanos. moment_from second nanos))
 
--- a lifetime: whole seconds, and nanoseconds to add
+-- a lifetime in nanoseconds, of whole seconds and nanoseconds to add; it must be less than 2^64
+-- seconds
 abbrev pub lifetime_from : ℕ → ℕ → Reading ℕ
 lifetime_from seconds nanos =
     if nat_lt (seconds * 1_000_000_000 + nanos) (2 ^ 64 * 1_000_000_000) then Ok (seconds * 1_000_000_000 + nanos)
     else Err (record { member = codes "lifetime"; cause = cause.OutOfRange })
 
+-- the lifetime in `lifetime` (seconds) and `lifetime_nanoseconds`, in nanoseconds
 abbrev pub lifetime_reading : Option Data → Option Data → Reading ℕ
 lifetime_reading seconds nanoseconds =
     read_then (needed_member whole_number (codes "lifetime") seconds) (λ whole.
     read_then (needed_member whole_number (codes "lifetime_nanoseconds") nanoseconds) (λ nanos. lifetime_from whole nanos))
 
--- other members are ignored
+-- a stored token, read from the members of its JSON object; other members are ignored
 abbrev pub stored_row : Members → Reading Stored
 stored_row ms =
     Ok stored
@@ -76,16 +83,21 @@ stored_row ms =
     ⊛ optional_member text (codes "client_id") (get_member (codes "client_id") ms)
     ⊛ optional_member text (codes "token_url") (get_member (codes "token_url") ms)
 
+-- a stored token, read from a JSON value, which must be an object
 abbrev pub stored_reading : Data → Reading Stored
 stored_reading d = read_then (members_of_object d) stored_row
 
--- the nanoseconds after the whole seconds of a moment, which are rounded down
+-- the nanoseconds of a time (in nanoseconds since 1970) after its whole seconds, which are rounded
+-- down
 abbrev pub nanoseconds_of : ℤ → ℕ
 nanoseconds_of n = unsigned_abs (int_rem_euclid n (pos 1_000_000_000))
 
+-- a whole number as a JSON number
 abbrev pub whole_data : ℕ → Data
 whole_data n = number (unsigned n)
 
+-- the members of a stored token's JSON object: times in whole seconds, and nanoseconds to add to
+-- them
 abbrev pub stored_rows : Stored → List Row
 stored_rows s =
     (codes "access_token", Some (string s.token.access_token))
@@ -98,5 +110,6 @@ stored_rows s =
     ∷ (codes "token_url", option_map string s.token_url)
     ∷ []
 
+-- the JSON object that a stored token is written as
 abbrev pub stored_writing : Stored → Writing
 stored_writing s = Ok (object (put_all (stored_rows s) no_members))

@@ -1,4 +1,4 @@
-//! A keeper's token, taken to the store and back.
+//! Makes a stored token of what a keeper keeps, and starts a keeper from a stored token.
 
 ghost use Rattle.std.specs.Prelude.{◌≡◌, IfOk, Some, option_copied, string_bytes};
 ghost use Rattle.url.specs.Parts.{serialize};
@@ -11,7 +11,7 @@ use oauth2::{ClientId, EndpointState, RefreshToken, TokenUrl, TryClone};
 use oauth2_keeper::TokenKeeper;
 use std::alloc::{AllocError, Global};
 
-// A copy of a refresh token, where there is one.
+// A copy of a refresh token, if there is one.
 fn copied_refresh_token(
     alloc: Global,
     refresh_token: Option<&RefreshToken>,
@@ -31,8 +31,8 @@ fn request_url(alloc: Global, token_url: &TokenUrl) -> Result<String, AllocError
     String::from_str(alloc, token_url.url().as_str())
 }
 
-/// A copy of what a keeper keeps, with the client and the token endpoint that it is of; `None` if it
-/// has no token.
+/// A copy of the token and the refresh token of a keeper, with the client and the token endpoint
+/// that they belong to; `None` if the keeper has no token.
 pub fn to_stored<TE, TR, TIR, RT, TRE, A, D, I, R>(
     alloc: Global,
     keeper: &TokenKeeper<'_, TE, TR, TIR, RT, TRE, A, D, I, R>,
@@ -57,7 +57,7 @@ where
     }
 }
 
-// Whether what was stored is of this client, or does not say of which.
+// Whether a stored token belongs to this client, or names no client.
 fn is_of_client(stored: &StoredToken, client_id: &ClientId) -> bool
     ensures { result ≡ is_of stored.now.client_id (Some client_id.now) }
 {
@@ -67,7 +67,7 @@ fn is_of_client(stored: &StoredToken, client_id: &ClientId) -> bool
     }
 }
 
-// Whether what was stored is of this endpoint, or does not say of which.
+// Whether a stored token belongs to this token endpoint, or names no endpoint.
 fn is_of_endpoint(stored: &StoredToken, token_url: &TokenUrl) -> bool
     ensures { result ≡ is_of stored.now.token_url (Some (serialize token_url.now.url)) }
 {
@@ -77,10 +77,10 @@ fn is_of_endpoint(stored: &StoredToken, token_url: &TokenUrl) -> bool
     }
 }
 
-/// Goes on from what was stored: the keeper has its token and its refresh token then, in place of
-/// those that it had. Its client, margin and settings are its own. It does not take what is of
-/// another client or of another token endpoint; URLs are compared as requests go to them. What was
-/// stored by an earlier version names neither, and is taken.
+/// Starts a keeper from a stored token: its token and its refresh token replace those of the
+/// keeper, whose client, margin and settings do not change. A stored token of another client or of
+/// another token endpoint is refused; the URLs are compared as requests go to them. A token that
+/// was stored by an earlier version names neither, and is taken.
 pub fn start_from_stored<TE, TR, TIR, RT, TRE, A, D, I, R>(
     keeper: &mut TokenKeeper<'_, TE, TR, TIR, RT, TRE, A, D, I, R>,
     stored: StoredToken,

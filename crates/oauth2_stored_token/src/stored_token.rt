@@ -10,8 +10,8 @@ use std::marker::Model;
 use std::time::Duration;
 
 /// A token that was accepted, the moment of the call that got it, its lifetime, the refresh token
-/// that is kept with it, and the client and the token endpoint that they are of. Contracts see it as
-/// a `Stored`.
+/// that is kept with it, and the client and the token endpoint that they belong to. Contracts see
+/// it as a `Stored`.
 ///
 /// As JSON it is an object with the members `access_token`, `accepted_at` in seconds since 1970 and
 /// `lifetime` in seconds, `accepted_at_nanoseconds` and `lifetime_nanoseconds` to add to them, and
@@ -43,7 +43,7 @@ impl fmt::Debug for StoredToken {
     fn fmt<W: fmt::Write>(&self, f: &mut fmt::Formatter<W>) -> fmt::Result
         ensures writes { DisplaysOnOk W.write_str_gives f.old result
             (Some (codes "StoredToken([redacted])")) f.new }
-        // Whatever options the formatter has, as under `{:#?}`.
+        // The same for all options of the formatter, for example `{:#?}`.
         ensures styled { WritesStyledOnOk W.write_str_gives f.old result
             (codes "StoredToken([redacted])") f.new }
     {

@@ -7,12 +7,12 @@ ghost use Rattle.oauth2_stored_token.specs.Started.{stored_in};
 use crate::stored_token::StoredToken;
 use std::fmt;
 
-/// Why a keeper did not take a stored token, which it gives back.
+/// Why a keeper did not take a stored token. The error holds that token.
 #[derive(Debug, Drop)]
 pub enum StoredTokenError {
-    /// It is of another client.
+    /// The stored token belongs to another client.
     OtherClient(StoredToken),
-    /// It is of another token endpoint.
+    /// The stored token belongs to another token endpoint.
     OtherEndpoint(StoredToken),
 }
 

@@ -20,15 +20,15 @@ ghost use Rattle.oauth2_stored_token.specs.Stored.{
 
 use crate::stored_token::StoredToken;
 use jiff::Timestamp;
-use oauth2_times::{optional_time, time_value};
 use oauth2_json::{FromJson, ParseCause, ReadError, ToJson, WriteError, members};
+use oauth2_times::{optional_time, time_value};
 use oauth2_types::{ClientId, RefreshToken};
 use serde_json::{Map, Value};
 use std::alloc::{AllocError, Global};
 use std::ops::Deref;
 use std::time::Duration;
 
-// The instant of these whole seconds.
+// Reads the time in `accepted_at`, which is in whole seconds since 1970.
 fn second(alloc: Global, seconds: Option<Value>) -> Result<Timestamp, ReadError>
     ensures { ReadsAs (λ t. t.nanosecond) result
         (needed_member instant (codes "accepted_at") (option_map view seconds)) }
@@ -42,7 +42,7 @@ fn second(alloc: Global, seconds: Option<Value>) -> Result<Timestamp, ReadError>
     }
 }
 
-// The moment of these seconds and nanoseconds.
+// Reads the time in `accepted_at` and `accepted_at_nanoseconds`.
 fn moment(
     alloc: Global,
     seconds: Option<Value>,
@@ -59,7 +59,7 @@ fn moment(
     }
 }
 
-// The lifetime of these seconds and nanoseconds.
+// Reads the lifetime in `lifetime` and `lifetime_nanoseconds`.
 fn lifetime(
     alloc: Global,
     seconds: Option<Value>,
@@ -78,7 +78,7 @@ fn lifetime(
     }
 }
 
-// The nanoseconds after the whole seconds of a moment.
+// The nanoseconds of a moment after its whole seconds, which are rounded down.
 fn nanoseconds_of(moment: Timestamp) -> u64
     ensures { result ≡ nanoseconds_of moment.nanosecond }
 {
@@ -130,7 +130,7 @@ fn seconds_of(lifetime: Duration) -> u64
     lifetime.as_secs()
 }
 
-// Puts in the members of what is stored that may be absent.
+// Adds the members that may be absent: `refresh_token`, `client_id` and `token_url`.
 fn with_optional_members(
     alloc: Global,
     stored: &StoredToken,
@@ -153,7 +153,7 @@ fn with_optional_members(
     Ok(members)
 }
 
-// The members of what is stored, whose lifetime has these whole seconds.
+// The members of a stored token, whose lifetime has these whole seconds.
 fn stored_members(
     alloc: Global,
     stored: &StoredToken,
@@ -182,8 +182,8 @@ fn stored_members(
     Ok(members)
 }
 
-// What is stored, whose lifetime has these whole seconds.
-fn written(alloc: Global, stored: &StoredToken, seconds: u64) -> Result<Value, WriteError>
+// The JSON object of a stored token, whose lifetime has these whole seconds.
+fn stored_value(alloc: Global, stored: &StoredToken, seconds: u64) -> Result<Value, WriteError>
     requires { seconds ≡ stored.now.token.lifetime / 1_000_000_000 }
     ensures { WritesAs result (stored_writing stored.now) }
 {
@@ -199,6 +199,6 @@ impl ToJson for StoredToken {
         ensures reads_back { IfOk result (λ v. stored_reading (view v) ≡ Ok self.now) }
     {
         let seconds = seconds_of(self.lifetime);
-        written(alloc, self, seconds)
+        stored_value(alloc, self, seconds)
     }
 }

@@ -1,4 +1,4 @@
-//! Instants as members: whole seconds since 1970-01-01T00:00:00Z.
+//! Times as JSON members: whole seconds since 1970-01-01T00:00:00Z (RFC 7662, section 2.2).
 
 ghost use Rattle.std.specs.Prelude.{◌≡◌, ℕ, ℤ, List, Ok, IfSome, option_map};
 ghost use Rattle.serde_json.specs.Find.{get_member};
@@ -20,7 +20,7 @@ use oauth2_json::{FromJson, ParseCause, ReadError, members};
 use serde_json::Value;
 use std::alloc::Global;
 
-// An instant of whole seconds.
+// A time that was read from whole seconds.
 #[derive(Drop)]
 struct Instant(Timestamp);
 
@@ -56,8 +56,9 @@ impl FromJson for Instant {
     }
 }
 
-/// An instant in whole seconds since 1970 that may be absent or null. A fraction is `NotWhole`, an
-/// instant outside the range of `Timestamp` `OutOfRange`.
+/// Reads a time in whole seconds since 1970; absent and null are `None`. A number that `serde_json`
+/// holds as a float, such as 1.5, is `NotWhole`. A time outside the range of `Timestamp` is
+/// `OutOfRange`, and a value that is not a number is `WrongType`.
 pub fn optional_time(
     alloc: Global,
     name: &str,
@@ -72,8 +73,8 @@ pub fn optional_time(
     }
 }
 
-/// An instant in whole seconds since 1970 that has to be there. Its faults are those of
-/// `optional_time`, and `Missing` and `WrongType` where it is absent or null.
+/// Reads a time in whole seconds since 1970 that must be present. It has the faults of
+/// `optional_time`; an absent time is `Missing`, and null is `WrongType`.
 pub fn needed_time(alloc: Global, name: &str, found: Option<Value>) -> Result<Timestamp, ReadError>
     ensures { ReadsAs (λ t. t.nanosecond) result
         (needed_member instant name.now (option_map view found)) }
@@ -82,7 +83,7 @@ pub fn needed_time(alloc: Global, name: &str, found: Option<Value>) -> Result<Ti
     Ok(at)
 }
 
-/// `optional_time` of a member that it takes out.
+/// Takes the member `name` out of `members` and reads it as `optional_time` does.
 pub fn take_optional_time(
     alloc: Global,
     members: &mut Object<'_>,
@@ -96,7 +97,7 @@ pub fn take_optional_time(
     optional_time(alloc, name, found)
 }
 
-/// `needed_time` of a member that it takes out.
+/// Takes the member `name` out of `members` and reads it as `needed_time` does.
 pub fn take_needed_time(
     alloc: Global,
     members: &mut Object<'_>,
@@ -110,14 +111,14 @@ pub fn take_needed_time(
     needed_time(alloc, name, found)
 }
 
-// The whole seconds of an instant, rounded down.
+// The whole seconds of a time since 1970, rounded down.
 fn second_of(at: Timestamp) -> i64
     ensures { result ≡ second_of at.nanosecond }
 {
     at.as_nanosecond().div_euclid(1_000_000_000) as i64
 }
 
-/// The value of an instant that may be absent: its whole seconds, rounded down.
+/// The JSON number of a time: its whole seconds since 1970, rounded down. `None` stays `None`.
 pub fn time_value(at: Option<Timestamp>) -> Option<Value>
     ensures value { option_map view result
         ≡ option_map second_data (option_map (λ t. t.nanosecond) at) }

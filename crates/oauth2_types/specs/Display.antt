@@ -4,12 +4,12 @@ use Rattle.std.specs.declared.fmt.Formatter.{Formatter}
 use Rattle.std.specs.declared.fmt.Error.{Error}
 use Rattle.std.specs.Fmt.{DisplaysStyledOnOk, ◌++?◌, debug_str, debug_variant, formatter_spec, spec_alternate}
 
--- the name, and the text in quotes and parentheses; under `{:#?}` the text in a line of its own
+-- `name("text")`, the text escaped as by `{:?}`; under `{:#?}` (true) the text has a separate line
 abbrev pub debug_text : List ℕ → List ℕ → Bool → Option (List ℕ)
 debug_text name text true = Some name ++? Some (codes "(\n    ") ++? debug_str text ++? Some (codes ",\n)")
 debug_text name text false = debug_variant name (debug_str text)
 
--- that text is written, whatever options the formatter has
+-- if the result is `Ok`, the debug text was written, whatever options the formatter has
 abbrev pub WritesDebugText : {W : Type 0} → (W → List ℕ → W → Type 0) → Formatter W → Result (Unit {0}) Error → List ℕ → List ℕ → Formatter W → Type 0
 WritesDebugText took f r name text g =
     DisplaysStyledOnOk took f r (debug_text name text (spec_alternate (formatter_spec f))) g

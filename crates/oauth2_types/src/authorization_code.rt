@@ -9,7 +9,7 @@ use std::alloc::{AllocError, Global};
 use std::fmt;
 use std::marker::Model;
 
-/// The code that the authorization server gave for the resource owner (RFC 6749, section 4.1.2).
+/// The code that the authorization server issues to the client (RFC 6749, section 4.1.2).
 #[derive(PartialEq, Eq, Hash, Drop)]
 pub struct AuthorizationCode(Secret);
 
@@ -22,7 +22,7 @@ impl Model for AuthorizationCode {
 }
 
 impl AuthorizationCode {
-    /// Takes any text, as it is: none is checked.
+    /// Takes any text unchanged; nothing is checked.
     pub fn new(secret: String) -> AuthorizationCode
         ensures { result ≡ string_bytes secret }
     {
@@ -67,7 +67,7 @@ impl fmt::Debug for AuthorizationCode {
     fn fmt<W: fmt::Write>(&self, f: &mut fmt::Formatter<W>) -> fmt::Result
         ensures writes { DisplaysOnOk W.write_str_gives f.old result
             (Some (codes "AuthorizationCode([redacted])")) f.new }
-        // Whatever options the formatter has, as under `{:#?}`.
+        // Holds for all formatter options, also for `{:#?}`.
         ensures styled { WritesStyledOnOk W.write_str_gives f.old result
             (codes "AuthorizationCode([redacted])") f.new }
     {

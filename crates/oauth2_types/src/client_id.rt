@@ -11,7 +11,7 @@ use std::fmt;
 use std::marker::Model;
 use std::ops::Deref;
 
-/// The identifier that the authorization server gave the client (RFC 6749, section 2.2).
+/// The identifier that the authorization server issued to the client (RFC 6749, section 2.2).
 #[derive(PartialEq, Eq, Hash, Drop)]
 pub struct ClientId(PlainText);
 
@@ -24,7 +24,7 @@ impl Model for ClientId {
 }
 
 impl ClientId {
-    /// Takes any text, as it is: none is checked.
+    /// Takes any text unchanged; nothing is checked.
     pub fn new(text: String) -> ClientId
         ensures { result ≡ string_bytes text }
     {
@@ -73,7 +73,7 @@ impl fmt::Debug for ClientId {
     fn fmt<W: fmt::Write>(&self, f: &mut fmt::Formatter<W>) -> fmt::Result
         ensures writes { DisplaysOnOk W.write_str_gives f.old result
             (debug_variant (codes "ClientId") (debug_str self.now)) f.new }
-        // Whatever options the formatter has, as under `{:#?}`.
+        // Holds for all formatter options, also for `{:#?}`.
         ensures styled { WritesDebugText W.write_str_gives f.old result
             (codes "ClientId") self.now f.new }
     {

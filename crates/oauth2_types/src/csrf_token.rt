@@ -12,7 +12,8 @@ use std::alloc::{AllocError, Global};
 use std::fmt;
 use std::marker::Model;
 
-/// The opaque value by which the client knows its own request again (RFC 6749, section 10.12).
+/// The opaque value of `state`. With it the client tells that a redirect belongs to its own request
+/// (RFC 6749, section 10.12).
 #[derive(PartialEq, Eq, Hash, Drop)]
 pub struct CsrfToken(Secret);
 
@@ -25,7 +26,7 @@ impl Model for CsrfToken {
 }
 
 impl CsrfToken {
-    /// Takes any text, as it is: none is checked.
+    /// Takes any text unchanged; nothing is checked.
     pub fn new(secret: String) -> CsrfToken
         ensures { result ≡ string_bytes secret }
     {
@@ -53,7 +54,7 @@ impl CsrfToken {
         self.0.into_text()
     }
 
-    /// The text of 16 random bytes.
+    /// A new value: 16 random bytes as unpadded base64url.
     pub fn new_random<R: Rng>(alloc: Global, rng: &mut R) -> Result<CsrfToken, AllocError>
         ensures random { IfOk result
             (λ token. IsRandomText 16 (R.stream rng.old) (R.stream rng.new) token) }
@@ -62,7 +63,7 @@ impl CsrfToken {
         CsrfToken::new_random_len(alloc, rng, 16)
     }
 
-    /// The text of n random bytes.
+    /// A new value: n random bytes as unpadded base64url.
     pub fn new_random_len<R: Rng>(
         alloc: Global,
         rng: &mut R,
@@ -93,7 +94,7 @@ impl fmt::Debug for CsrfToken {
     fn fmt<W: fmt::Write>(&self, f: &mut fmt::Formatter<W>) -> fmt::Result
         ensures writes { DisplaysOnOk W.write_str_gives f.old result
             (Some (codes "CsrfToken([redacted])")) f.new }
-        // Whatever options the formatter has, as under `{:#?}`.
+        // Holds for all formatter options, also for `{:#?}`.
         ensures styled { WritesStyledOnOk W.write_str_gives f.old result
             (codes "CsrfToken([redacted])") f.new }
     {

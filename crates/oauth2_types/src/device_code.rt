@@ -9,7 +9,7 @@ use std::alloc::{AllocError, Global};
 use std::fmt;
 use std::marker::Model;
 
-/// The code by which a device asks for its token (RFC 8628, section 3.2).
+/// The code with which a device polls for its token (RFC 8628, section 3.2).
 #[derive(PartialEq, Eq, Hash, Drop)]
 pub struct DeviceCode(Secret);
 
@@ -22,7 +22,7 @@ impl Model for DeviceCode {
 }
 
 impl DeviceCode {
-    /// Takes any text, as it is: none is checked.
+    /// Takes any text unchanged; nothing is checked.
     pub fn new(secret: String) -> DeviceCode
         ensures { result ≡ string_bytes secret }
     {
@@ -67,7 +67,7 @@ impl fmt::Debug for DeviceCode {
     fn fmt<W: fmt::Write>(&self, f: &mut fmt::Formatter<W>) -> fmt::Result
         ensures writes { DisplaysOnOk W.write_str_gives f.old result
             (Some (codes "DeviceCode([redacted])")) f.new }
-        // Whatever options the formatter has, as under `{:#?}`.
+        // Holds for all formatter options, also for `{:#?}`.
         ensures styled { WritesStyledOnOk W.write_str_gives f.old result
             (codes "DeviceCode([redacted])") f.new }
     {

@@ -1,4 +1,4 @@
-//! Texts that a formatter's options don't change.
+//! Writing texts so that a formatter's options don't change them.
 
 ghost use Rattle.std.specs.Prelude.{◌≡◌};
 ghost use Rattle.std.specs.Fmt.{DisplaysOnOk, DisplaysStyledOnOk, debug_str, debug_variant};
@@ -7,15 +7,15 @@ ghost use Rattle.oauth2_types.specs.Display.{WritesDebugText};
 use std::fmt;
 use std::fmt::Write;
 
-// Writes through a formatter, and hides its options.
+// A writer that passes each text to a formatter and ignores the formatter's options.
 #[derive(Drop)]
 struct Through<'f, W> {
     f: &'f mut fmt::Formatter<W>,
 }
 
 impl<'f, W: fmt::Write> Through<'f, W> {
-    // No effect at run time: the proof reads what the formatter became from the reference that
-    // comes back.
+    // Has no effect at run time. The proof needs the returned reference, to know what the
+    // formatter became.
     fn into_inner(self) -> &'f mut fmt::Formatter<W>
         ensures { result ≡ self.entry.f }
     {
@@ -33,10 +33,8 @@ impl<'f, W: fmt::Write> fmt::Write for Through<'f, W> {
     }
 }
 
-/// Writes a value as `{}` does, whatever options the formatter has. Where `write!` promises its
-/// text for a formatter without options alone, `write_display(f, format_args!(..))` promises it
-/// for
-/// each.
+/// Writes a value as `{}` does, whatever options the formatter has. The contract of `write!` covers
+/// only a formatter without options; that of `write_display(f, format_args!(..))` covers all.
 pub fn write_display<W: fmt::Write, D: fmt::Display + Drop>(
     f: &mut fmt::Formatter<W>,
     value: D,
@@ -50,8 +48,8 @@ pub fn write_display<W: fmt::Write, D: fmt::Display + Drop>(
     result
 }
 
-/// Writes the name of a type and its text in quotes and parentheses; under `{:#?}` the text stands
-/// in a line of its own. Other options change nothing.
+/// Writes the name of a type and its text in quotes and parentheses. Under `{:#?}` the text has a
+/// separate line. Other options change nothing.
 pub fn write_debug_text<W: fmt::Write>(
     f: &mut fmt::Formatter<W>,
     name: &str,

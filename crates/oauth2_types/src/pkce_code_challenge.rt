@@ -17,7 +17,8 @@ use std::alloc::{AllocError, Global};
 use std::fmt;
 use std::marker::Model;
 
-/// What the client sends with an authorization URL. The server later checks a verifier by it.
+/// The challenge that the client sends in an authorization URL. The server later checks the
+/// verifier against it.
 #[derive(PartialEq, Eq, Drop)]
 pub struct PkceCodeChallenge {
     code_challenge: PlainText,
@@ -35,7 +36,7 @@ impl Model for PkceCodeChallenge {
 }
 
 impl PkceCodeChallenge {
-    /// A verifier of 32 random bytes, and its challenge.
+    /// A verifier of 32 random bytes (43 characters), and its `S256` challenge.
     pub fn new_random_sha256<R: Rng>(
         alloc: Global,
         rng: &mut R,
@@ -51,7 +52,7 @@ impl PkceCodeChallenge {
         PkceCodeChallenge::new_random_sha256_len(alloc, rng, 32)
     }
 
-    /// A verifier of n random bytes, and its challenge.
+    /// A verifier of n random bytes (43 to 128 characters), and its `S256` challenge.
     pub fn new_random_sha256_len<R: Rng>(
         alloc: Global,
         rng: &mut R,
@@ -72,8 +73,8 @@ impl PkceCodeChallenge {
         Ok((challenge, verifier))
     }
 
-    /// A verifier of 32 random bytes, and the challenge `plain`, which is the verifier itself. Use
-    /// it only with a server that does not support S256.
+    /// A verifier of 32 random bytes (43 characters), and its `plain` challenge, which is the
+    /// verifier itself. Use it only with a server that does not support `S256`.
     pub fn new_random_plain<R: Rng>(
         alloc: Global,
         rng: &mut R,
@@ -91,7 +92,7 @@ impl PkceCodeChallenge {
         Ok((challenge, verifier))
     }
 
-    /// The challenge `S256`; the verifier's characters aren't looked at.
+    /// The `S256` challenge of a verifier. The verifier's characters aren't checked.
     pub fn from_code_verifier_sha256(
         alloc: Global,
         verifier: &PkceCodeVerifier,
@@ -106,7 +107,7 @@ impl PkceCodeChallenge {
         Ok(PkceCodeChallenge::from_parts(text, PkceCodeChallengeMethod::new(method)))
     }
 
-    /// The challenge `plain`; the verifier's characters aren't looked at.
+    /// The `plain` challenge of a verifier. The verifier's characters aren't checked.
     pub fn from_code_verifier_plain(
         alloc: Global,
         verifier: &PkceCodeVerifier,
@@ -120,7 +121,7 @@ impl PkceCodeChallenge {
         Ok(PkceCodeChallenge::from_parts(text, PkceCodeChallengeMethod::new(method)))
     }
 
-    /// The challenge that was written as these two texts.
+    /// A challenge from its text and its method. Neither is checked.
     pub fn from_parts(
         code_challenge: String,
         code_challenge_method: PkceCodeChallengeMethod,
@@ -134,12 +135,14 @@ impl PkceCodeChallenge {
         }
     }
 
+    /// The text of the challenge, as it is sent in `code_challenge` (RFC 7636, section 4.3).
     pub fn as_str(&self) -> &str
         ensures { result.now ≡ self.now.text }
     {
         self.code_challenge.text().as_str()
     }
 
+    /// The method, as it is sent in `code_challenge_method` (RFC 7636, section 4.3).
     pub fn method(&self) -> &PkceCodeChallengeMethod
         ensures { result.now ≡ self.now.method }
     {
@@ -164,7 +167,7 @@ impl TryClone for PkceCodeChallenge {
     }
 }
 
-// The debug text of a challenge that is its verifier.
+// Writes the debug text of a `plain` challenge, which doesn't show the verifier.
 fn debug_plain<W: fmt::Write>(f: &mut fmt::Formatter<W>) -> fmt::Result
     ensures writes { DisplaysOnOk W.write_str_gives f.old result (Some plain_debug) f.new }
     ensures styled { WritesStyledOnOk W.write_str_gives f.old result
@@ -189,7 +192,7 @@ impl fmt::Debug for PkceCodeChallenge {
     fn fmt<W: fmt::Write>(&self, f: &mut fmt::Formatter<W>) -> fmt::Result
         ensures writes { DisplaysOnOk W.write_str_gives f.old result
             (challenge_debug self.now) f.new }
-        // Whatever options the formatter has, as under `{:#?}`.
+        // Holds for all formatter options, also for `{:#?}`.
         ensures redacted { self.now.method ≡ codes "plain"
             → WritesStyledOnOk W.write_str_gives f.old result
             (plain_debug_text (spec_alternate (formatter_spec f.old))) f.new }

@@ -24,7 +24,7 @@ impl Model for PkceCodeChallengeMethod {
 }
 
 impl PkceCodeChallengeMethod {
-    /// Takes any text, as it is: none is checked.
+    /// Takes any text unchanged; nothing is checked.
     pub fn new(text: String) -> PkceCodeChallengeMethod
         ensures { result ≡ string_bytes text }
     {
@@ -73,7 +73,7 @@ impl fmt::Debug for PkceCodeChallengeMethod {
     fn fmt<W: fmt::Write>(&self, f: &mut fmt::Formatter<W>) -> fmt::Result
         ensures writes { DisplaysOnOk W.write_str_gives f.old result
             (debug_variant (codes "PkceCodeChallengeMethod") (debug_str self.now)) f.new }
-        // Whatever options the formatter has, as under `{:#?}`.
+        // Holds for all formatter options, also for `{:#?}`.
         ensures styled { WritesDebugText W.write_str_gives f.old result
             (codes "PkceCodeChallengeMethod") self.now f.new }
     {

@@ -9,7 +9,7 @@ use std::alloc::{AllocError, Global};
 use std::fmt;
 use std::marker::Model;
 
-/// The secret behind a code challenge. It is used once, so it has no copy.
+/// The secret behind a code challenge. It is used once, so it cannot be copied.
 #[derive(PartialEq, Eq, Hash, Drop)]
 pub struct PkceCodeVerifier(Secret);
 
@@ -22,7 +22,7 @@ impl Model for PkceCodeVerifier {
 }
 
 impl PkceCodeVerifier {
-    /// Takes any text, as it is; whether its length is valid, `has_valid_length` tells.
+    /// Takes any text unchanged; `has_valid_length` says whether its length is valid.
     pub fn new(secret: String) -> PkceCodeVerifier
         ensures { result ≡ string_bytes secret }
     {
@@ -65,7 +65,7 @@ impl fmt::Debug for PkceCodeVerifier {
     fn fmt<W: fmt::Write>(&self, f: &mut fmt::Formatter<W>) -> fmt::Result
         ensures writes { DisplaysOnOk W.write_str_gives f.old result
             (Some (codes "PkceCodeVerifier([redacted])")) f.new }
-        // Whatever options the formatter has, as under `{:#?}`.
+        // Holds for all formatter options, also for `{:#?}`.
         ensures styled { WritesStyledOnOk W.write_str_gives f.old result
             (codes "PkceCodeVerifier([redacted])") f.new }
     {

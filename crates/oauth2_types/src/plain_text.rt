@@ -1,4 +1,4 @@
-//! What every plain text type is: the text that was given.
+//! The common part of the plain text types: the text that was given.
 
 ghost use Rattle.std.specs.Prelude.{◌≡◌, ℕ, List, string_bytes, IfOk};
 ghost use Rattle.std.specs.Cmp.{partial_equiv_from_equiv};
@@ -60,7 +60,7 @@ impl PlainText {
         })
     }
 
-    // The name, and the text in quotes and parentheses.
+    // Writes the type's name, and the text in quotes and parentheses.
     pub(crate) fn debug<W: fmt::Write>(&self, f: &mut fmt::Formatter<W>, name: &str) -> fmt::Result
         ensures writes { DisplaysOnOk W.write_str_gives f.old result
             (debug_variant name.now (debug_str self.now)) f.new }

@@ -21,7 +21,7 @@ pub(crate) fn base64url(alloc: Global, bytes: &[u8]) -> Result<String, AllocErro
     URL_SAFE_NO_PAD.encode(alloc, bytes)
 }
 
-// The text of n random bytes, drawn by one call of the generator.
+// n random bytes, drawn by one call of the generator, as unpadded base64url.
 #[tactic(auto, using(crate::proofs::Lengths::lengths))]
 pub(crate) fn random_text<R: Rng>(alloc: Global, rng: &mut R, n: u32) -> Result<String, AllocError>
     ensures random { IfOk result

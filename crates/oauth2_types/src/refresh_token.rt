@@ -9,7 +9,7 @@ use std::alloc::{AllocError, Global};
 use std::fmt;
 use std::marker::Model;
 
-/// A token that the client shows for a new access token (RFC 6749, section 1.5).
+/// A token with which the client gets a new access token (RFC 6749, section 1.5).
 #[derive(PartialEq, Eq, Hash, Drop)]
 pub struct RefreshToken(Secret);
 
@@ -22,7 +22,7 @@ impl Model for RefreshToken {
 }
 
 impl RefreshToken {
-    /// Takes any text, as it is: none is checked.
+    /// Takes any text unchanged; nothing is checked.
     pub fn new(secret: String) -> RefreshToken
         ensures { result ≡ string_bytes secret }
     {
@@ -67,7 +67,7 @@ impl fmt::Debug for RefreshToken {
     fn fmt<W: fmt::Write>(&self, f: &mut fmt::Formatter<W>) -> fmt::Result
         ensures writes { DisplaysOnOk W.write_str_gives f.old result
             (Some (codes "RefreshToken([redacted])")) f.new }
-        // Whatever options the formatter has, as under `{:#?}`.
+        // Holds for all formatter options, also for `{:#?}`.
         ensures styled { WritesStyledOnOk W.write_str_gives f.old result
             (codes "RefreshToken([redacted])") f.new }
     {

@@ -24,7 +24,7 @@ impl Model for ResourceOwnerUsername {
 }
 
 impl ResourceOwnerUsername {
-    /// Takes any text, as it is: none is checked.
+    /// Takes any text unchanged; nothing is checked.
     pub fn new(text: String) -> ResourceOwnerUsername
         ensures { result ≡ string_bytes text }
     {
@@ -73,7 +73,7 @@ impl fmt::Debug for ResourceOwnerUsername {
     fn fmt<W: fmt::Write>(&self, f: &mut fmt::Formatter<W>) -> fmt::Result
         ensures writes { DisplaysOnOk W.write_str_gives f.old result
             (debug_variant (codes "ResourceOwnerUsername") (debug_str self.now)) f.new }
-        // Whatever options the formatter has, as under `{:#?}`.
+        // Holds for all formatter options, also for `{:#?}`.
         ensures styled { WritesDebugText W.write_str_gives f.old result
             (codes "ResourceOwnerUsername") self.now f.new }
     {

@@ -11,7 +11,8 @@ use std::fmt;
 use std::marker::Model;
 use std::ops::Deref;
 
-/// What the authorization endpoint is to answer with (RFC 6749, section 3.1.1).
+/// What the client requests from the authorization endpoint, such as `code` (RFC 6749, section
+/// 3.1.1).
 #[derive(PartialEq, Eq, Hash, Drop)]
 pub struct ResponseType(PlainText);
 
@@ -24,7 +25,7 @@ impl Model for ResponseType {
 }
 
 impl ResponseType {
-    /// Takes any text, as it is: none is checked.
+    /// Takes any text unchanged; nothing is checked.
     pub fn new(text: String) -> ResponseType
         ensures { result ≡ string_bytes text }
     {
@@ -73,7 +74,7 @@ impl fmt::Debug for ResponseType {
     fn fmt<W: fmt::Write>(&self, f: &mut fmt::Formatter<W>) -> fmt::Result
         ensures writes { DisplaysOnOk W.write_str_gives f.old result
             (debug_variant (codes "ResponseType") (debug_str self.now)) f.new }
-        // Whatever options the formatter has, as under `{:#?}`.
+        // Holds for all formatter options, also for `{:#?}`.
         ensures styled { WritesDebugText W.write_str_gives f.old result
             (codes "ResponseType") self.now f.new }
     {

@@ -25,7 +25,7 @@ impl Model for Scope {
 }
 
 impl Scope {
-    /// Takes any text, as it is: none is checked.
+    /// Takes any text unchanged; nothing is checked.
     pub fn new(text: String) -> Scope
         ensures { result ≡ string_bytes text }
     {
@@ -82,7 +82,7 @@ impl fmt::Debug for Scope {
     fn fmt<W: fmt::Write>(&self, f: &mut fmt::Formatter<W>) -> fmt::Result
         ensures writes { DisplaysOnOk W.write_str_gives f.old result
             (debug_variant (codes "Scope") (debug_str self.now)) f.new }
-        // Whatever options the formatter has, as under `{:#?}`.
+        // Holds for all formatter options, also for `{:#?}`.
         ensures styled { WritesDebugText W.write_str_gives f.old result
             (codes "Scope") self.now f.new }
     {

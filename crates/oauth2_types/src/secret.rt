@@ -1,4 +1,4 @@
-//! What every secret is: a text, compared by its digest and never shown.
+//! The common part of the secrets: a text that is compared by its digest.
 
 ghost use Rattle.std.specs.Prelude.{◌≡◌, ℕ, List, string_bytes, IfOk};
 ghost use Rattle.std.proofs.Common.{rules};
@@ -72,13 +72,13 @@ impl PartialEq for Secret {
     }
 }
 
-// Reflexive, symmetric and transitive. Secrets of equal texts are equal; equal secrets may have
-// other texts, where two texts have one digest.
+// Equality is reflexive, symmetric and transitive. Secrets with equal texts are equal. Secrets with
+// different texts are equal only if their texts have the same digest.
 impl Eq for Secret {
     ghost laws = { Prim.search (comparing, rules) };
 }
 
-// Equal secrets hash alike.
+// Equal secrets have equal hashes.
 impl Hash for Secret {
     ghost hash_input = { digest_input };
 

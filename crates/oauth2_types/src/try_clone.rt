@@ -1,4 +1,4 @@
-//! Copies that may want memory.
+//! Copies that allocate.
 
 ghost use Rattle.std.specs.Prelude.{List, ℕ, Option, option_map, map, string_bytes};
 
@@ -8,12 +8,12 @@ use std::alloc::{AllocError, Global};
 pub trait TryClone: Sized {
     ghost use Rattle.std.specs.Prelude.{◌≡◌, IfOk};
 
-    /// What contracts see of a value, wherever it lies in memory.
+    /// What contracts compare of a value: its contents, not its place in memory.
     ghost Seen: { Type 0 };
 
     ghost seen: { Self → Seen };
 
-    /// The copy; an error where memory runs out.
+    /// Returns a copy, or an error if memory runs out.
     fn try_clone(&self, alloc: Global) -> Result<Self, AllocError>
         ensures { IfOk result (λ copy. seen copy ≡ seen self.now) };
 }

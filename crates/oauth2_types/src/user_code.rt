@@ -22,7 +22,7 @@ impl Model for UserCode {
 }
 
 impl UserCode {
-    /// Takes any text, as it is: none is checked.
+    /// Takes any text unchanged; nothing is checked.
     pub fn new(secret: String) -> UserCode
         ensures { result ≡ string_bytes secret }
     {
@@ -67,7 +67,7 @@ impl fmt::Debug for UserCode {
     fn fmt<W: fmt::Write>(&self, f: &mut fmt::Formatter<W>) -> fmt::Result
         ensures writes { DisplaysOnOk W.write_str_gives f.old result
             (Some (codes "UserCode([redacted])")) f.new }
-        // Whatever options the formatter has, as under `{:#?}`.
+        // Holds for all formatter options, also for `{:#?}`.
         ensures styled { WritesStyledOnOk W.write_str_gives f.old result
             (codes "UserCode([redacted])") f.new }
     {

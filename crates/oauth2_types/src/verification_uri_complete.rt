@@ -9,7 +9,8 @@ use std::alloc::{AllocError, Global};
 use std::fmt;
 use std::marker::Model;
 
-/// A verification URI that holds the user code (RFC 8628, section 3.3.1); it is kept as a text.
+/// A verification URI that holds the user code (RFC 8628, section 3.3.1). It is kept as a text and
+/// not parsed.
 #[derive(PartialEq, Eq, Hash, Drop)]
 pub struct VerificationUriComplete(Secret);
 
@@ -22,7 +23,7 @@ impl Model for VerificationUriComplete {
 }
 
 impl VerificationUriComplete {
-    /// Takes any text, as it is: none is checked.
+    /// Takes any text unchanged; nothing is checked.
     pub fn new(secret: String) -> VerificationUriComplete
         ensures { result ≡ string_bytes secret }
     {
@@ -67,7 +68,7 @@ impl fmt::Debug for VerificationUriComplete {
     fn fmt<W: fmt::Write>(&self, f: &mut fmt::Formatter<W>) -> fmt::Result
         ensures writes { DisplaysOnOk W.write_str_gives f.old result
             (Some (codes "VerificationUriComplete([redacted])")) f.new }
-        // Whatever options the formatter has, as under `{:#?}`.
+        // Holds for all formatter options, also for `{:#?}`.
         ensures styled { WritesStyledOnOk W.write_str_gives f.old result
             (codes "VerificationUriComplete([redacted])") f.new }
     {

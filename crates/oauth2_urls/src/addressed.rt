@@ -1,4 +1,4 @@
-//! What every URL type is: a text as it was given, beside its parsed URL.
+//! The common part of the URL types: a text as it was given, with its parsed URL.
 
 ghost use Rattle.std.specs.Prelude.{◌≡◌, Some, string_bytes, IfOk, refl};
 ghost use Rattle.std.specs.Cmp.{on_equiv, on_per, on_po, on_total, partial_equiv_from_equiv};
@@ -76,7 +76,7 @@ impl AddressedUrl {
         Ok(AddressedUrl { text, url })
     }
 
-    // The name, and the text in quotes and parentheses.
+    // Writes the type's name, and the text in quotes and parentheses.
     pub(crate) fn debug<W: fmt::Write>(&self, f: &mut fmt::Formatter<W>, name: &str) -> fmt::Result
         ensures writes { DisplaysOnOk W.write_str_gives f.old result
             (debug_variant name.now (debug_str self.now.text)) f.new }
@@ -111,7 +111,7 @@ impl PartialOrd for AddressedUrl {
     }
 }
 
-// Total. Two URLs tie exactly where they are equal, that is where their texts are.
+// A total order by the bytes of the texts. It is `Equal` exactly for URLs that are `==`.
 impl Ord for AddressedUrl {
     ghost cmp = { λ a b. slice_cmp nat_cmp a.text b.text };
 
@@ -126,7 +126,7 @@ impl Ord for AddressedUrl {
     }
 }
 
-// Equal URLs hash alike.
+// Equal URLs have equal hashes.
 impl Hash for AddressedUrl {
     ghost hash_input = { λ a. fed.str a.text };
 

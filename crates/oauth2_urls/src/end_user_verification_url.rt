@@ -41,7 +41,7 @@ impl EndUserVerificationUrl {
         EndUserVerificationUrl::new(alloc, String::from_str(alloc, url)?)
     }
 
-    /// The URL beside the text that it is written as.
+    /// Takes a parsed URL. The text is the URL's serialization.
     pub fn from_url(alloc: Global, url: Url) -> Result<EndUserVerificationUrl, AllocError>
         ensures { IfOk result (λ u. u ≡ written_url url) }
     {
@@ -92,7 +92,7 @@ impl fmt::Debug for EndUserVerificationUrl {
     fn fmt<W: fmt::Write>(&self, f: &mut fmt::Formatter<W>) -> fmt::Result
         ensures writes { DisplaysOnOk W.write_str_gives f.old result
             (debug_variant (codes "EndUserVerificationUrl") (debug_str self.now.text)) f.new }
-        // Whatever options the formatter has, as under `{:#?}`.
+        // Holds for all formatter options, also for `{:#?}`.
         ensures styled { WritesDebugText W.write_str_gives f.old result
             (codes "EndUserVerificationUrl") self.now.text f.new }
     {

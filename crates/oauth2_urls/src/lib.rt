@@ -1,5 +1,4 @@
-//! The URLs of an OAuth 2.0 client: each the text that was given, beside the URL that it parses
-//! to.
+//! The URLs of an OAuth 2.0 client. Each value keeps the text that was given, with its parsed URL.
 
 #![tactic(auto)]
 

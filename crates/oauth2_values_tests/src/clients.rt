@@ -1,4 +1,4 @@
-//! Clients: made, copied, and where a login leads.
+//! Tests of clients: how they are made and copied, and the URL of a login.
 
 use crate::support::{
     assert_debugged_as, assert_debugged_in_lines, assert_equal, assert_text, text,
@@ -42,7 +42,7 @@ fn assert_client(rt: &impl Abort, client: &CodeClient, rule: ReplyRule) {
     assert_equal(rt, client.reply_rule(), rule);
 }
 
-// The client and its copy tell the same.
+// Checks that the getters of the client and of its copy return the same.
 fn assert_client_and_copy(rt: &(impl Abort + AllocGlobal), client: &CodeClient, rule: ReplyRule) {
     assert_client(rt, client, rule);
     let copy = client.try_clone(rt.alloc()).expect(rt, "a copy");
@@ -78,7 +78,8 @@ fn client_its_copies_and_its_implicit_flow(rt: HostRuntime) {
     assert_client_and_copy(&rt, &client, ReplyRule::MediaType);
 }
 
-// As the Rust crate shows it, whose last field is `phantom` in place of `reply_rule`.
+// The debug text is that of the Rust crate, except that the Rust crate's last field is `phantom` in
+// place of `reply_rule`.
 #[test]
 fn client_in_debug(rt: HostRuntime) {
     let client = client(&rt);

@@ -38,7 +38,7 @@ fn code_of_any_text(rt: HostRuntime) {
     assert_refused::<TextErrorResponseType>(&rt, "1", "", ParseCause::WrongType);
 }
 
-// What a caller that knows no more than the bound shows.
+// Checks what a generic caller prints that knows only this trait.
 fn assert_error_response<E: ErrorResponse>(
     rt: &(impl Abort + AllocGlobal),
     response: &E,
@@ -74,8 +74,7 @@ fn body_is_utf8(rt: HostRuntime) {
     assert!(rt; is_fault(read, "", ParseCause::NotJson));
 }
 
-// An error response with a member whose value is this many lists, each but the last around the
-// next.
+// An error response with a member whose value is this many nested lists.
 fn nested(rt: &(impl Abort + AllocGlobal), lists: usize) -> String {
     let open = "[".repeat(rt.alloc(), lists).expect(rt, "a text");
     let close = "]".repeat(rt.alloc(), lists).expect(rt, "a text");

@@ -1,16 +1,16 @@
-//! What is shown of the errors of reading and writing.
+//! Tests of the texts of the errors of reading and writing.
 
 use crate::support::{assert_displayed_as, text};
 use oauth2::{ParseCause, ParseFault, ReadError, WriteError};
 use std::error::Error;
 use std::process::Abort;
 
-// What a caller that knows no more than the bound shows.
+// Checks what a generic caller prints that knows only this trait.
 fn assert_error<E: Error>(rt: &(impl Abort + AllocGlobal), error: &E, wanted: &str) {
     assert_displayed_as(rt, error, wanted);
 }
 
-// The cause is shown as this text, in a fault that names no member too.
+// Checks the text of a cause, also in a fault that names no member.
 fn assert_cause(rt: &(impl Abort + AllocGlobal), cause: ParseCause, wanted: &str) {
     assert_displayed_as(rt, &cause, wanted);
     let member = text(rt, "");

@@ -1,5 +1,5 @@
-//! The helpers for types of a user's own: lists in one text, audiences, codes and variants; and
-//! members that the types here do not need.
+//! Tests of the helpers for types that a user defines (lists in one text, audiences, codes and
+//! variants), and of members that the types here do not need.
 
 use crate::support::{assert_equal, assert_text, assert_written_as, is_fault, parsed, scope_list};
 use jiff::Timestamp;
@@ -24,7 +24,7 @@ fn ascii_letters_are_lowered(rt: HostRuntime) {
     assert_written_as(&rt, &read, r#""Äb""#);
 }
 
-// How many scopes the value reads to.
+// How many scopes the value is read as; `None` if it cannot be read.
 fn count_of(rt: &(impl Abort + AllocGlobal), value: Value) -> Option<usize> {
     let read = deserialize_space_delimited_vec::<Scope>(rt.alloc(), value).expect(
         rt,
@@ -36,7 +36,7 @@ fn count_of(rt: &(impl Abort + AllocGlobal), value: Value) -> Option<usize> {
     }
 }
 
-// The list is written as this text, which reads to so many scopes.
+// Checks that the list is written as this text, which is read as this many scopes.
 fn assert_split(
     rt: &(impl Abort + AllocGlobal),
     scopes: Option<Vec<Scope>>,
@@ -56,7 +56,7 @@ fn scopes_are_split_at_every_space(rt: HostRuntime) {
     assert_split(&rt, Some(scope_list(&rt, "a b")), r#""a b""#, Some(2));
 }
 
-// The text reads to an audience that is written as this one.
+// Checks that the text is read as an audience that is written as `wanted`.
 fn assert_audience_written_as(rt: &(impl Abort + AllocGlobal), text: &str, wanted: &str) {
     let list = deserialize_optional_string_or_vec_string(rt.alloc(), parsed(rt, text)).expect(
         rt, "a list",
@@ -98,7 +98,7 @@ fn variants_have_names(rt: HostRuntime) {
     assert_text(&rt, variant_name(&Plain), "Plain");
 }
 
-// The time is written as this second, and this second reads to a time.
+// Checks that the time is written as this second, and that this second is read as a time.
 fn assert_second(rt: &(impl Abort + AllocGlobal), nanosecond: i128, second: &str) {
     let at = Timestamp::from_nanosecond(nanosecond).expect(rt, "a time");
     let value = members::time_value(Some(at)).expect(rt, "a value");
@@ -119,7 +119,7 @@ fn times_are_whole_seconds_rounded_down(rt: HostRuntime) {
     }
 }
 
-// The text of a member that may be absent, but not null.
+// A member with a text that may be absent, but not null.
 #[test]
 fn members_that_are_not_null(rt: HostRuntime) {
     let word = Some(parsed(&rt, r#""x""#));

@@ -85,7 +85,7 @@ fn named_members_are_told(rt: HostRuntime) {
     assert!(rt; confirmation.is_array());
 }
 
-// The lifetime is there, and no other member.
+// Checks that the lifetime is the only member.
 fn assert_lifetime_alone(rt: &impl Abort, fields: &IdentityFields) {
     assert!(rt; fields.value().is_none());
     let rest = fields.rest();
@@ -136,8 +136,8 @@ fn members_of_another_kind_are_refused(rt: HostRuntime) {
     }
 }
 
-// Responses with these fields are written with them. (Generic, so that what the fields are is
-// proved once, at the call, and not at each type of response.)
+// Checks that responses with these fields are written with them. (The function is generic, so that
+// what the fields are is proved once, at the call, and not for each type of response.)
 fn assert_identity_written<Fields: ExtraTokenFields + TryClone + Drop>(
     rt: &(impl Abort + AllocGlobal),
 ) {

@@ -9,7 +9,7 @@ use std::process::Abort;
 // The challenge of RFC 7636, appendix B.
 const CHALLENGE: &str = "E9Melhoa2OwvFrEMTJguCHaoeK1t8URWbuGJSstw-cM";
 
-// The text, the method and the debug text of a challenge.
+// Checks the text, the method and the debug text of a challenge.
 fn assert_challenge(
     rt: &(impl Abort + AllocGlobal),
     challenge: &PkceCodeChallenge,
@@ -97,15 +97,15 @@ fn random_states(rt: HostRuntime) {
     }
 }
 
-// Of 96 zero bytes.
+// The verifier that is made from 96 zero bytes.
 const LONGEST: &str =
     "AAAAAAAAAAAAAAAAAAAAAAAAAAAAAAAAAAAAAAAAAAAAAAAAAAAAAAAAAAAAAAAAAAAAAAAAAAAAAAAAAAAAAAAAAAAA\
     AAAAAAAAAAAAAAAAAAAAAAAAAAAAAAAAAAAA";
 
-// Of 32 zero bytes.
+// The verifier that is made from 32 zero bytes.
 const SHORTEST: &str = "AAAAAAAAAAAAAAAAAAAAAAAAAAAAAAAAAAAAAAAAAAA";
 
-// The texts of a challenge and of its verifier.
+// Checks the texts of a challenge and of its verifier.
 fn assert_pair(
     rt: &impl Abort,
     made: Result<(PkceCodeChallenge, PkceCodeVerifier), AllocError>,
@@ -117,7 +117,7 @@ fn assert_pair(
     assert_text(rt, made_verifier.secret().as_str(), verifier);
 }
 
-// The challenges by SHA-256 are those that Python's `hashlib` makes.
+// The SHA-256 challenges were made by Python's `hashlib`.
 #[test]
 fn random_challenges(rt: HostRuntime) {
     let longest = PkceCodeChallenge::new_random_sha256_len(rt.alloc(), &mut Repeated(0), 96);

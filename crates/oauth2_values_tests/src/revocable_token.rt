@@ -5,7 +5,7 @@ use oauth2::helpers::variant_name;
 use oauth2::{AccessToken, RefreshToken, RevocableToken, StandardRevocableToken};
 use std::process::Abort;
 
-// The secret, the hint and the name of a token.
+// Checks the secret, the hint and the name of a token.
 fn assert_token(
     rt: &impl Abort,
     token: &StandardRevocableToken,

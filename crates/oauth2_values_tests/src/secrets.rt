@@ -1,4 +1,4 @@
-//! Secrets: hidden in debug, compared by their digests, copied and taken apart.
+//! Tests of secrets: hidden by `{:?}`, compared by their digests, copied and turned into texts.
 
 ghost use Rattle.std.specs.Prelude.{◌≡◌, IsTrue};
 

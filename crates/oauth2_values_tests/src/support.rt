@@ -1,4 +1,4 @@
-//! What the tests of several subjects share.
+//! Functions that several test files share.
 
 use oauth2::{
     FromJson, ParseCause, ReadError, Scope, ToJson, TryClone, WriteError, compact, read_body,
@@ -38,7 +38,7 @@ pub fn assert_equal<T: PartialEq + Debug + Drop>(rt: &impl Abort, found: T, want
     assert_eq!(rt; found, wanted);
 }
 
-/// The texts are equal.
+/// Checks that the texts are equal.
 pub fn assert_text(rt: &impl Abort, found: &str, wanted: &str) {
     assert_eq!(rt; found, wanted);
 }
@@ -48,13 +48,13 @@ pub fn assert_at(rt: &impl Abort, is_so: bool, row: &str) {
     assert!(rt; is_so, "at {row}");
 }
 
-/// The value is shown as this text where it is debugged.
+/// Checks the text that the value prints by `{:?}`.
 pub fn assert_debugged_as<T: Debug>(rt: &(impl Abort + AllocGlobal), value: &T, wanted: &str) {
     let shown = format!(in rt.alloc(); "{value:?}").expect(rt, "a debug text");
     assert_text(rt, shown.as_str(), wanted);
 }
 
-/// The value is shown as this text where it is debugged in lines.
+/// Checks the text that the value prints by `{:#?}`.
 pub fn assert_debugged_in_lines<T: Debug>(
     rt: &(impl Abort + AllocGlobal),
     value: &T,
@@ -64,7 +64,7 @@ pub fn assert_debugged_in_lines<T: Debug>(
     assert_text(rt, shown.as_str(), wanted);
 }
 
-/// The value is shown as this text.
+/// Checks the text that the value displays.
 pub fn assert_displayed_as<T: Display>(rt: &(impl Abort + AllocGlobal), value: &T, wanted: &str) {
     let shown = format!(in rt.alloc(); "{value}").expect(rt, "a text");
     assert_text(rt, shown.as_str(), wanted);
@@ -109,7 +109,7 @@ pub fn assert_different<T: Debug + Eq + Hash + TryClone + Drop>(
     assert!(rt; value != other);
 }
 
-/// The value is written as this text.
+/// Checks that the value is written as this JSON text.
 pub fn assert_written_as<T: ToJson>(rt: &(impl Abort + AllocGlobal), value: &T, wanted: &str) {
     let json = compact(rt.alloc(), value).expect(rt, "a text");
     assert_text(rt, json.as_str(), wanted);

@@ -1,4 +1,4 @@
-//! Texts that are no secrets: shown, compared, copied and taken apart.
+//! Tests of texts that are no secrets: displayed, compared, copied and turned into texts.
 
 use crate::support::{assert_different, assert_text, other, text, value};
 use oauth2::{

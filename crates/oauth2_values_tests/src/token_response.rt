@@ -6,7 +6,7 @@ use oauth2::{AccessToken, EmptyExtraTokenFields, RefreshToken, TokenResponse};
 use std::process::Abort;
 use std::time::Duration;
 
-// A token response with the members that each has.
+// A token response with only the required members.
 fn least(rt: &(impl Abort + AllocGlobal)) -> BasicTokenResponse {
     let access_token = AccessToken::new(text(rt, "t"));
     BasicTokenResponse::new(access_token, BasicTokenType::Mac, EmptyExtraTokenFields {})
@@ -27,7 +27,7 @@ fn set_tokens(rt: &(impl Abort + AllocGlobal), token: &mut BasicTokenResponse) {
     token.set_refresh_token(Some(RefreshToken::new(text(rt, "r"))));
 }
 
-// What the getters say.
+// Checks what the getters return.
 fn has_members(rt: &impl Abort, token: &BasicTokenResponse) {
     assert_text(rt, token.access_token().secret().as_str(), "u");
     assert!(rt; *token.token_type() == BasicTokenType::Bearer);

@@ -1,4 +1,4 @@
-//! URLs as they were given, beside what they parse to.
+//! Tests of URLs, which keep the text that was given next to the parsed URL.
 
 ghost use Rattle.std.specs.Prelude.{IsTrue};
 
@@ -28,7 +28,7 @@ fn parsed(rt: &(impl Abort + AllocGlobal)) -> Url {
     Url::parse(rt.alloc(), GIVEN).expect(rt, "a URL")
 }
 
-// The texts of a URL, its copy, and its order below one that is made of what it parses to.
+// Checks the texts of a URL, its copy, and that it is less than a URL made from its parsed form.
 fn assert_ordered<T: Debug + Display + Ord + Hash + TryClone + Drop, U: Fn(&T) -> &Url>(
     rt: &(impl Abort + AllocGlobal),
     given: Result<T, ParseError>,
@@ -108,7 +108,7 @@ fn refused_urls(rt: HostRuntime) {
     assert!(rt; matches!(refused, Err(ParseError::RelativeUrlWithoutBase)));
 }
 
-// Order and equality agree.
+// Whether the order and the equality of two values agree.
 fn is_lawful<T: Ord>(a: &T, b: &T) -> bool
     ensures { IsTrue result }
 {

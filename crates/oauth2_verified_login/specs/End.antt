@@ -8,13 +8,13 @@ use Rattle.oauth2_verified_login.specs.declared.login_error.VerifiedLoginError.T
 use Rattle.oauth2_verified_login.specs.Unverified.{signature_error_text}
 
 module _ {D RE T : Type 0} where
-  -- how the login ended before its signature was checked
+  -- the result of the login without the check of its signature
   abbrev pub before_signature : Result (OpenIdLoginEnd D) (VerifiedLoginError D RE T) → Result (OpenIdLoginEnd D) (OpenIdLoginError RE T)
   before_signature (Ok end) = Ok end
   before_signature (Err (Login error)) = Err error
   before_signature (Err (Signature unverified)) = Ok unverified.end
 
-  -- the text of an error
+  -- the text that `Display` writes of an error, where `text` is that of the server's error
   abbrev pub verified_login_error_text : (T → Option (List ℕ)) → VerifiedLoginError D RE T → Option (List ℕ)
   verified_login_error_text text (Login error) = openid_login_error_text text error
   verified_login_error_text text (Signature unverified) = Some (signature_error_text unverified.error)

@@ -3,13 +3,14 @@ use Rattle.std.specs.Prelude.{Some}
 use Rattle.oauth2_openid_login.specs.Provider.{Provider}
 use Rattle.oauth2_verified_login.specs.Signature.{Check, registered_algorithm}
 
--- what is expected of its redirects and of the claims of its ID tokens, and how their signature is
--- checked
+-- what is expected of a provider's redirects and of the claims of its ID tokens, and how the
+-- signature of an ID token is checked
 pub record Verifying : Type 0 where
   pub provider : Provider
   pub check : Check
 
--- OpenID Connect Core 1.0, 3.1.3.7, 7: of the claims the algorithm of the check is expected too
+-- this provider with this check, whose algorithm an ID token must have too (OpenID Connect Core
+-- 1.0, 3.1.3.7, 7)
 abbrev pub verifying : Provider → Check → Verifying
 verifying provider check =
     record {

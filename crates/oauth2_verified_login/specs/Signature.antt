@@ -11,28 +11,29 @@ use Rattle.oauth2_keys.specs.Verified.{IsVerified, IsRefusal}
 use Rattle.oauth2_verified_login.specs.declared.signature_check.SignatureCheck.{SignatureCheck}
 use Rattle.oauth2_verified_login.specs.declared.signature_check.SignatureCheck.TheVariants as checks
 
--- what a signature is checked by, without where it lies in memory: the provider's keys, or the
--- client's secret; and the algorithm that the client registered
+-- how a signature is checked: by the provider's keys or by the client's secret, and with the
+-- algorithm that the client registered
 pub data Check : Type 0 where
   by_keys : List ListedKey → SignatureAlgorithm → Check
   by_secret : List ℕ → SecretAlgorithm → Check
 
+-- the check that a `SignatureCheck` stands for, without its place in memory
 abbrev pub check_of : SignatureCheck → Check
 check_of (checks.Keys keys algorithm) = by_keys keys.now algorithm
 check_of (checks.Secret secret algorithm) = by_secret secret.now algorithm
 
--- the value of `alg`
+-- the name of the registered algorithm, as `alg` has it (RFC 7515, 4.1.1)
 abbrev pub registered_algorithm : Check → List ℕ
 registered_algorithm (by_keys keys algorithm) = algorithm_name algorithm
 registered_algorithm (by_secret secret algorithm) = secret_algorithm_name algorithm
 
--- the token has the registered algorithm, and is signed by the key that is chosen for it, or by the
--- secret
+-- the token has the registered algorithm, and is signed by the key that is chosen for it, or with
+-- the secret
 abbrev pub IsSigned : Check → DecodedToken → Type 0
 IsSigned (by_keys keys algorithm) token = IsVerified keys algorithm token
 IsSigned (by_secret secret algorithm) token = IsVerifiedBySecret secret algorithm token
 
--- why a signature is refused
+-- the error says why the check refuses the token's signature
 abbrev pub IsSignatureRefusal : Check → DecodedToken → SignatureError → Type 0
 IsSignatureRefusal (by_keys keys algorithm) token error = IsRefusal keys algorithm token error
 IsSignatureRefusal (by_secret secret algorithm) token error = IsSecretRefusal secret algorithm token error

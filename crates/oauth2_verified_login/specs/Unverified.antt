@@ -6,19 +6,20 @@ use Rattle.oauth2_keys.specs.declared.signature_error.SignatureError.TheVariants
 use Rattle.oauth2_openid_login.specs.declared.login_end.OpenIdLoginEnd.{OpenIdLoginEnd}
 use Rattle.oauth2_verified_login.specs.Signature.{Check, IsSigned, IsSignatureRefusal}
 
--- the end of a login whose signature is refused, and why
+-- the end of a login whose ID token has a refused signature, and why it is refused
 pub record Unverified (D : Type 0) : Type 0 where
   pub end : OpenIdLoginEnd D
   pub error : SignatureError
 
 module _ {D : Type 0} where
-  -- the end is returned as it was: as a verified one if its ID token is signed, and else with why not
+  -- the check returns the end unchanged: as a verified one if its ID token is signed, and else with
+  -- the reason why the signature is refused
   abbrev pub Verifies : Check → OpenIdLoginEnd D → Result (OpenIdLoginEnd D) (Unverified D) → Type 0
   Verifies check end (Ok verified) = (verified ≡ end) × IsSigned check (token_of end.id_token)
   Verifies check end (Err unverified) =
       (unverified.end ≡ end) × IsSignatureRefusal check (token_of end.id_token) unverified.error
 
--- the text of an error
+-- the text of the error of a signature
 abbrev pub signature_error_text : SignatureError → List ℕ
 signature_error_text errors.OtherAlgorithm = codes "ID token: the algorithm is not the registered one"
 signature_error_text errors.NoKey = codes "ID token: no key is for it"

@@ -1,4 +1,4 @@
-//! What a login gives whose ID token is verified, and what is left of one whose is not.
+//! The end of a login whose ID token is verified, and of one whose signature is refused.
 
 ghost use Rattle.std.specs.Fmt.{DisplaysOnOk, WritesStyledOnOk};
 ghost use Rattle.std.specs.Prelude.{◌≡◌, Some, codes};
@@ -12,10 +12,10 @@ use oauth2_openid_login::OpenIdLoginEnd;
 use std::fmt;
 use std::marker::Model;
 
-/// What a login gave: the tokens, and who the user is. The ID token meets each rule of OpenID
-/// Connect Core 1.0, 3.1.3.7, its signature among them. Only `finish` and `finish_query` of a
-/// `VerifiedProvider` make one, and `verify_again` of what they return at a signature that is
-/// refused. Contracts see the end as that of an `OpenIdLogin`.
+/// What a login returns: the tokens, and who the user is. The ID token meets each rule of OpenID
+/// Connect Core 1.0, 3.1.3.7, including the one for its signature. Only `finish` and `finish_query`
+/// of a `VerifiedProvider` and `verify_again` of an `UnverifiedLogin` make one. Contracts see it as
+/// an `OpenIdLoginEnd`.
 #[derive(Drop)]
 pub struct VerifiedLoginEnd<TR> {
     end: OpenIdLoginEnd<TR>,
@@ -48,14 +48,14 @@ impl<TR> VerifiedLoginEnd<TR> {
         &self.end.id_token
     }
 
-    /// What the ID token's hash says of the access token.
+    /// What the ID token's hash (`at_hash`) says of the access token.
     pub fn access_token_hash(&self) -> AccessTokenHash
         ensures { result ≡ self.now.access_token_hash }
     {
         self.end.access_token_hash
     }
 
-    /// The token response, the ID token and what its hash says, to be moved out.
+    /// Takes this apart into the token response, the ID token and what its hash says.
     pub fn into_end(self) -> OpenIdLoginEnd<TR>
         ensures { result ≡ self }
     {
@@ -70,7 +70,7 @@ impl<TR> fmt::Debug for VerifiedLoginEnd<TR> {
     fn fmt<W: fmt::Write>(&self, f: &mut fmt::Formatter<W>) -> fmt::Result
         ensures writes { DisplaysOnOk W.write_str_gives f.old result
             (Some (codes "VerifiedLoginEnd([redacted])")) f.new }
-        // Whatever options the formatter has, as under `{:#?}`.
+        // The same for all options of the formatter, for example `{:#?}`.
         ensures styled { WritesStyledOnOk W.write_str_gives f.old result
             (codes "VerifiedLoginEnd([redacted])") f.new }
     {
@@ -78,8 +78,9 @@ impl<TR> fmt::Debug for VerifiedLoginEnd<TR> {
     }
 }
 
-/// A login whose ID token meets each rule for its claims, and whose signature is refused. The code
-/// is spent, so the tokens wait here for a check by other keys, as those that `jwks_uri` has by now.
+/// A login whose ID token meets each rule for its claims, but whose signature is refused. The code
+/// is spent, so the tokens are kept here for a check by other keys, such as newer ones of
+/// `jwks_uri`.
 #[derive(Drop)]
 pub struct UnverifiedLogin<TR> {
     end: OpenIdLoginEnd<TR>,
@@ -99,26 +100,26 @@ impl<TR> Model for UnverifiedLogin<TR> {
 }
 
 impl<TR> UnverifiedLogin<TR> {
-    /// Why the signature is refused. At `NoKey` the provider may have a new key, so `jwks_uri` is to
-    /// be asked again (10.1.1).
+    /// Why the signature is refused. At `NoKey` the provider may have a new key: get the keys of
+    /// `jwks_uri` again (OpenID Connect Core 1.0, 10.1.1).
     pub fn error(&self) -> SignatureError
         ensures { result ≡ self.now.error }
     {
         self.error
     }
 
-    /// Checks the signature once more. An algorithm that is not the registered one is refused, since
-    /// the token has that one.
+    /// Checks the signature again. A check with another algorithm than the registered one is
+    /// refused, since the token has the registered one.
     pub fn verify_again(
         self,
         check: SignatureCheck<'_>,
     ) -> Result<VerifiedLoginEnd<TR>, UnverifiedLogin<TR>>
         ensures { Verifies (check_of check.entry) self.end result }
     {
-        verified(self.end, check)
+        verify_end(self.end, check)
     }
 
-    /// The tokens, of which nobody knows whether the provider signed them, as to revoke them.
+    /// The tokens, for example to revoke them. The ID token may not be the provider's.
     pub fn into_unverified_end(self) -> OpenIdLoginEnd<TR>
         ensures { result ≡ self.end }
     {
@@ -127,9 +128,9 @@ impl<TR> UnverifiedLogin<TR> {
     }
 }
 
-// The end of a login, if its ID token is signed as the check asks for. (Whoever calls it has checked
-// the claims: anyone can make such an end.)
-pub(crate) fn verified<TR>(
+// The end of a login as a verified one, if its ID token passes the check. (The caller must have
+// checked the claims: anyone can make an `OpenIdLoginEnd`.)
+pub(crate) fn verify_end<TR>(
     end: OpenIdLoginEnd<TR>,
     check: SignatureCheck<'_>,
 ) -> Result<VerifiedLoginEnd<TR>, UnverifiedLogin<TR>>
@@ -141,7 +142,7 @@ pub(crate) fn verified<TR>(
     }
 }
 
-// The text of an error.
+// The text of the error of a signature.
 fn error_text(error: SignatureError) -> &'static str
     ensures { result.now ≡ signature_error_text error }
 {
@@ -173,7 +174,7 @@ impl<TR> fmt::Debug for UnverifiedLogin<TR> {
     fn fmt<W: fmt::Write>(&self, f: &mut fmt::Formatter<W>) -> fmt::Result
         ensures writes { DisplaysOnOk W.write_str_gives f.old result
             (Some (codes "UnverifiedLogin([redacted])")) f.new }
-        // Whatever options the formatter has, as under `{:#?}`.
+        // The same for all options of the formatter, for example `{:#?}`.
         ensures styled { WritesStyledOnOk W.write_str_gives f.old result
             (codes "UnverifiedLogin([redacted])") f.new }
     {

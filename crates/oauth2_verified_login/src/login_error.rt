@@ -1,17 +1,17 @@
-//! Why a login gave no user whose ID token is verified.
+//! Why a login returned no user with a verified ID token.
 
 use crate::login_end::UnverifiedLogin;
 use oauth2_openid_login::OpenIdLoginError;
 use oauth2_types::display::write_display;
 use std::fmt;
 
-/// Why a login gave no user.
+/// Why a login returned no user.
 #[derive(Drop)]
 pub enum VerifiedLoginError<TR, RE, T> {
-    /// There is no ID token that meets each rule for its claims, as `finish` of an `OpenIdLogin`
-    /// says it.
+    /// The login failed before its signature was checked: the error of `OpenIdLogin::finish`.
     Login(OpenIdLoginError<RE, T>),
-    /// The ID token meets each of these rules, and its signature is refused. The tokens are kept.
+    /// The ID token meets every rule for its claims, but its signature is refused. The tokens are
+    /// in this error.
     Signature(UnverifiedLogin<TR>),
 }
 
@@ -60,7 +60,7 @@ impl<TR, RE, T> fmt::Debug for VerifiedLoginError<TR, RE, T> {
     fn fmt<W: fmt::Write>(&self, f: &mut fmt::Formatter<W>) -> fmt::Result
         ensures writes { DisplaysOnOk W.write_str_gives f.old result
             (Some (verified_login_error_debug self.now)) f.new }
-        // Whatever options the formatter has, as under `{:#?}`.
+        // The same for all options of the formatter, for example `{:#?}`.
         ensures styled { WritesStyledOnOk W.write_str_gives f.old result
             (verified_login_error_debug self.now) f.new }
     {

@@ -15,7 +15,7 @@ ghost use Rattle.jiff.specs.Types.{Timestamp};
 ghost use Rattle.oauth2_form.specs.Pairs.{form};
 ghost use Rattle.oauth2_form.specs.Query.{query_form};
 ghost use Rattle.oauth2_redirect.specs.Query.{sole_text};
-ghost use Rattle.oauth2_redirect.specs.Redirect.{MayWantMemory, RedirectRefusal, answer, is_state};
+ghost use Rattle.oauth2_redirect.specs.Redirect.{MayWantMemory, RedirectErrorView, answer, is_state};
 ghost use Rattle.oauth2_openid.specs.Seen.{token_of};
 ghost use Rattle.oauth2_openid.specs.TokenRules.{Holds};
 ghost use Rattle.oauth2_openid_login.specs.End.{EndsOpenIdLogin};
@@ -25,7 +25,7 @@ ghost use Rattle.oauth2_verified_login.specs.End.{before_signature};
 ghost use Rattle.oauth2_verified_login.specs.Provider.{verifying};
 ghost use Rattle.oauth2_verified_login.specs.Signature.{IsSignatureRefusal, IsSigned, check_of};
 
-use crate::login_end::{VerifiedLoginEnd, verified};
+use crate::login_end::{VerifiedLoginEnd, verify_end};
 use crate::login_error::VerifiedLoginError;
 use crate::signature_check::SignatureCheck;
 use jiff::Timestamp;
@@ -40,8 +40,8 @@ use std::alloc::Global;
 use std::marker::Model;
 use url::Url;
 
-/// An OpenID provider whose ID tokens are verified: what a client knows of it, and how the signature
-/// of its ID tokens is checked.
+/// An OpenID provider whose ID tokens are verified: what a client knows of it, and how the
+/// signature of its ID tokens is checked.
 #[derive(Drop)]
 pub struct VerifiedProvider<'a> {
     provider: OpenIdProvider<'a>,
@@ -58,8 +58,8 @@ impl<'a> Model for VerifiedProvider<'a> {
 }
 
 impl<'a> VerifiedProvider<'a> {
-    /// This provider, whose ID tokens are signed as the check says. The algorithm that is expected
-    /// is that of the check, whatever `set_algorithm` said.
+    /// This provider, with the check for the signatures of its ID tokens. The expected algorithm is
+    /// that of the check, whatever `set_algorithm` set.
     pub fn new(provider: OpenIdProvider<'a>, check: SignatureCheck<'a>) -> VerifiedProvider<'a>
         ensures { result ≡ verifying provider.entry (check_of check.entry) }
     {
@@ -69,8 +69,8 @@ impl<'a> VerifiedProvider<'a> {
         }
     }
 
-    /// Ends a login at this provider as `finish` of an `OpenIdLogin` does, and checks the signature
-    /// of the ID token. Where that alone is refused, the code is spent, and the error keeps the
+    /// Ends a login at this provider as `OpenIdLogin::finish` does, and checks the signature of the
+    /// ID token. If only the signature is refused, the code is spent, and the error holds the
     /// tokens for a check by other keys.
     pub fn finish<TE, TR, TIR, RT, TRE, A, D, I, R, C: SyncHttpClient, K>(
         &self,
@@ -92,7 +92,7 @@ impl<'a> VerifiedProvider<'a> {
         requires client { C.is_ready http_client.old }
         requires clock { K.IsAlwaysCallable clock }
 
-        // All but the signature is as an `OpenIdLogin` has it.
+        // Apart from the signature, the login ends as an `OpenIdLogin` does.
         ensures end { EndsOpenIdLogin TR.meaning TE.meaning TR.reading TE.reading C.step
             TR.access_token TR.token_type_text TR.id_token client.now login
             (expected_of self.now.provider client.now login) (K.post clock)
@@ -100,14 +100,13 @@ impl<'a> VerifiedProvider<'a> {
             (query_form redirect.now))
             http_client.old (before_signature result) http_client.new }
 
-        // In the plainest words: each rule holds at a moment that the clock told, and the token is
-        // signed.
+        // In short: each rule holds at a time that the clock returned, and the token is signed.
         ensures verified { IfOk result (λ end. (now : Timestamp) × K.post clock now
             × Holds (expected_of self.now.provider client.now login)
             (TR.access_token end.token_response) now.nanosecond (token_of end.id_token)
             × IsSigned self.now.check (token_of end.id_token)) }
 
-        // Where the signature is refused, each other rule holds.
+        // If the signature is refused, each other rule holds.
         ensures unverified { (unverified : _)
             → result ≡ Err (VerifiedLoginError.Signature unverified)
             → (now : Timestamp) × K.post clock now
@@ -117,8 +116,8 @@ impl<'a> VerifiedProvider<'a> {
             × IsSignatureRefusal self.now.check (token_of unverified.end.id_token)
             unverified.error }
 
-        // A redirect that tells no code sends nothing, so none with another state does.
-        ensures no_code { (why : RedirectRefusal)
+        // Without a code nothing is sent, and so nothing is sent for another state.
+        ensures no_code { (why : RedirectErrorView)
             → answer login.login.state (redirect_issuer self.now.provider)
             (query_form redirect.now) ≡ Err why
             → http_client.new ≡ http_client.old }
@@ -132,7 +131,7 @@ impl<'a> VerifiedProvider<'a> {
             → MayWantMemory login.login.state (redirect_issuer self.now.provider)
             (query_form redirect.now) }
 
-        // One that tells no state, or several, needs no memory.
+        // A redirect without a state, or with several, is refused without an allocation.
         ensures no_state { sole_text (codes "state") (query_form redirect.now) ≡ None
             → result ≡ Err (VerifiedLoginError.Login
             (OpenIdLoginError.Redirect RedirectError.OtherState login)) }
@@ -142,8 +141,8 @@ impl<'a> VerifiedProvider<'a> {
         verified_end(ended, self.check)
     }
 
-    /// What `finish` returns for a redirect with this query, which stands without the `?`, or with
-    /// this form as its body (`response_mode=form_post`): for a handler that has no `Url`.
+    /// As `finish`, for a handler that has no `Url`. `query` is the redirect's query without the
+    /// `?`, or the form in the body of the request (`response_mode=form_post`).
     pub fn finish_query<TE, TR, TIR, RT, TRE, A, D, I, R, C: SyncHttpClient, K>(
         &self,
         alloc: Global,
@@ -164,21 +163,20 @@ impl<'a> VerifiedProvider<'a> {
         requires client { C.is_ready http_client.old }
         requires clock { K.IsAlwaysCallable clock }
 
-        // All but the signature is as an `OpenIdLogin` has it.
+        // Apart from the signature, the login ends as an `OpenIdLogin` does.
         ensures end { EndsOpenIdLogin TR.meaning TE.meaning TR.reading TE.reading C.step
             TR.access_token TR.token_type_text TR.id_token client.now login
             (expected_of self.now.provider client.now login) (K.post clock)
             (answer login.login.state (redirect_issuer self.now.provider) (form query.now))
             http_client.old (before_signature result) http_client.new }
 
-        // In the plainest words: each rule holds at a moment that the clock told, and the token is
-        // signed.
+        // In short: each rule holds at a time that the clock returned, and the token is signed.
         ensures verified { IfOk result (λ end. (now : Timestamp) × K.post clock now
             × Holds (expected_of self.now.provider client.now login)
             (TR.access_token end.token_response) now.nanosecond (token_of end.id_token)
             × IsSigned self.now.check (token_of end.id_token)) }
 
-        // Where the signature is refused, each other rule holds.
+        // If the signature is refused, each other rule holds.
         ensures unverified { (unverified : _)
             → result ≡ Err (VerifiedLoginError.Signature unverified)
             → (now : Timestamp) × K.post clock now
@@ -188,8 +186,8 @@ impl<'a> VerifiedProvider<'a> {
             × IsSignatureRefusal self.now.check (token_of unverified.end.id_token)
             unverified.error }
 
-        // A redirect that tells no code sends nothing, so none with another state does.
-        ensures no_code { (why : RedirectRefusal)
+        // Without a code nothing is sent, and so nothing is sent for another state.
+        ensures no_code { (why : RedirectErrorView)
             → answer login.login.state (redirect_issuer self.now.provider) (form query.now)
             ≡ Err why
             → http_client.new ≡ http_client.old }
@@ -203,7 +201,7 @@ impl<'a> VerifiedProvider<'a> {
             → MayWantMemory login.login.state (redirect_issuer self.now.provider)
             (form query.now) }
 
-        // One that tells no state, or several, needs no memory.
+        // A redirect without a state, or with several, is refused without an allocation.
         ensures no_state { sole_text (codes "state") (form query.now) ≡ None
             → result ≡ Err (VerifiedLoginError.Login
             (OpenIdLoginError.Redirect RedirectError.OtherState login)) }
@@ -214,7 +212,7 @@ impl<'a> VerifiedProvider<'a> {
     }
 }
 
-// What comes of a login that ended so, once its signature is checked.
+// Checks the signature, if the login ended with an ID token.
 fn verified_end<TR, RE, T>(
     ended: Result<OpenIdLoginEnd<TR>, OpenIdLoginError<RE, T>>,
     check: SignatureCheck<'_>,
@@ -226,7 +224,7 @@ fn verified_end<TR, RE, T>(
         unverified.error }
 {
     match ended {
-        Ok(end) => Ok(verified(end, check)?),
+        Ok(end) => Ok(verify_end(end, check)?),
         Err(error) => Err(VerifiedLoginError::Login(error)),
     }
 }

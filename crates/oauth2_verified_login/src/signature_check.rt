@@ -19,7 +19,7 @@ use oauth2_types::ClientSecret;
 pub enum SignatureCheck<'a> {
     /// By the keys that the provider has at its `jwks_uri` (OpenID Connect Core 1.0, 10.1).
     Keys(&'a JsonWebKeySet, SignatureAlgorithm),
-    /// By the client's secret, where a confidential client registered an HMAC.
+    /// By the client's secret, if a confidential client registered an HMAC algorithm.
     Secret(&'a ClientSecret, SecretAlgorithm),
 }
 
@@ -34,8 +34,8 @@ impl SignatureCheck<'_> {
         }
     }
 
-    /// Whether the token has the registered algorithm, and is signed by the key that is chosen for
-    /// it, or by the secret. The rules for its claims are not looked at.
+    /// Checks that the token has the registered algorithm, and is signed by the key that is chosen
+    /// for it, or with the secret. The rules for its claims are not checked.
     pub fn verify(self, token: &IdToken) -> Result<(), SignatureError>
         ensures verified { IsOk result ↔ IsSigned (check_of self.entry) (token_of token.now) }
         ensures refused { IfErr result

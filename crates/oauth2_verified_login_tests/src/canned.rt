@@ -22,14 +22,14 @@ pub fn client(alloc: Global) -> Result<OpenIdClient, ParseError> {
 #[derive(Clone, Copy, Debug)]
 pub struct NoReply;
 
-/// An HTTP client that replies at its first call.
+/// An HTTP client that returns one reply, at its first call.
 #[derive(Drop)]
 pub struct OneReply {
     reply: Option<HttpResponse>,
 }
 
 impl OneReply {
-    /// A client with a token response ready that has this ID token. Its access token is that of the
+    /// A client that returns a token response with this ID token. Its access token is that of the
     /// standard's example A.4.
     pub fn new(alloc: Global, id_token: &str) -> Result<OneReply, AllocError> {
         let body = format!(in alloc;

@@ -1,4 +1,4 @@
-//! Logins, and what is printed of their ends.
+//! Runs logins, and prints their results.
 
 use crate::canned::{NoReply, OneReply};
 use jiff::Timestamp;
@@ -19,7 +19,7 @@ type Ended = Result<
     VerifiedLoginError<OpenIdTokenResponse, NoReply, BasicErrorResponse>,
 >;
 
-// A login of the nonce of the standard's examples, and its redirect.
+// A stored login with the nonce of the standard's examples, and its redirect.
 const KEPT: &str = r#"{"nonce":"n-0S6_WzA2Mj","state":"af0ifjsldkj","verifier":"v"}"#;
 
 const REDIRECT: &str =
@@ -27,7 +27,7 @@ const REDIRECT: &str =
 
 const FORM: &str = "code=SplxlOBeZQQYbYS6WxSbIA&state=af0ifjsldkj";
 
-// How a signature is checked by an algorithm of that name.
+// How a signature is checked if its algorithm has this name.
 fn check_of<'a>(
     name: &str,
     keys: &'a JsonWebKeySet,
@@ -48,7 +48,7 @@ fn provider_of<'a>(issuer: &'a str, check: SignatureCheck<'a>) -> VerifiedProvid
     VerifiedProvider::new(provider, check)
 }
 
-// The end of a login by a redirect.
+// The result of a login with a redirect.
 fn ended_by_redirect(
     alloc: Global,
     client: &OpenIdClient,
@@ -62,7 +62,7 @@ fn ended_by_redirect(
     Ok(provider.finish(alloc, login, client, &mut http_client, &redirect, || now))
 }
 
-// The end of a login by a form.
+// The result of a login with the body of a form.
 fn ended_by_form(
     alloc: Global,
     client: &OpenIdClient,
@@ -82,7 +82,7 @@ fn ended_again(
     Ok(unverified.verify_again(check)?)
 }
 
-// Who the user is, by which access token, and what the hash says of it.
+// Writes who the user is, the access token, and the result of comparing its hash.
 fn write_user<W: Write>(
     end: VerifiedLoginEnd<OpenIdTokenResponse>,
     writer: &mut W,
@@ -95,7 +95,7 @@ fn write_user<W: Write>(
     writeln!(writer, "of {}", end.id_token.claims().issuer())
 }
 
-// How the login of a line ends; `None` where the line is none.
+// The result of the login of a line; `None` if the line has no login.
 fn ended_of(
     alloc: Global,
     client: &OpenIdClient,
@@ -122,12 +122,12 @@ fn ended_of(
 pub struct Logins {
     keys: JsonWebKeySet,
     secret: ClientSecret,
-    // The last one whose signature was refused.
+    // The last login whose signature was refused.
     refused: Option<UnverifiedLogin<OpenIdTokenResponse>>,
 }
 
 impl Logins {
-    /// No login yet, no key and an empty secret.
+    /// A run without a login and a key, and with an empty secret.
     pub fn new(alloc: Global) -> anyhow::Result<Logins> {
         Ok(Logins {
             keys: JsonWebKeySet::from_body(alloc, br#"{"keys":[]}"#)?,
@@ -136,7 +136,7 @@ impl Logins {
         })
     }
 
-    /// Does what a line says. For a line that says nothing it prints a question mark.
+    /// Runs the command of a line. If the line has no command, it prints a question mark.
     pub fn run_line<W: Write>(
         &mut self,
         alloc: Global,

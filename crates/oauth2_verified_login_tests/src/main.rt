@@ -1,12 +1,12 @@
-//! Ends logins by the ID tokens that standard input lists, and checks their signatures.
+//! Finishes logins with the ID tokens that standard input lists, and checks their signatures.
 //!
 //! A line `keys JSON` reads a key set, and a line `secret TEXT` sets the client's secret. A line
-//! `login ALGORITHM ISSUER TOKEN` ends a login at the provider of that issuer, whose token response
-//! has that ID token, and prints who the user is, or why there is none. A line `form` is the same for
-//! a redirect whose parameters are a form. A line `again ALGORITHM` checks the signature once more
-//! that was refused last, and a line `give up` prints the access token that came with it. A line that
-//! begins with `#` is a heading, and is printed as it is. The file `stdout` has what has to be printed
-//! for the file `stdin`.
+//! `login ALGORITHM ISSUER TOKEN` finishes a login at the provider of that issuer, whose token
+//! response has that ID token, and prints who the user is, or why there is none. A line `form` does
+//! the same for a redirect whose parameters are a form. A line `again ALGORITHM` checks the
+//! signature again that was refused last, and a line `give up` prints the access token that came
+//! with it. A line that begins with `#` is a heading, and is printed as it is. The file `stdout`
+//! has the expected output for the file `stdin`.
 
 #![tactic(auto)]
 

@@ -1,4 +1,4 @@
--- What `server_view` answers of a request.
+-- What `server_view` returns for a request.
 use Rattle.std.specs.Prelude.{◌≡◌, map, None, Some, option_map, string_bytes, String}
 use Rattle.std.specs.Str.Lossy.{utf8_lossy}
 use Rattle.http_header.specs.FieldValue.{FieldValue}
@@ -12,15 +12,15 @@ use Rattle.oauth2_wire.specs.Request.{RequestView, authorization_of, basic_of}
 abbrev pub pair_texts : {Y Z : Type 0} → String Y × String Z → Pair
 pair_texts p = (string_bytes p.0, string_bytes p.1)
 
--- a pair of bytes as text, with U+FFFD for what is not UTF-8
+-- a pair of byte strings as texts, with U+FFFD in place of what is not UTF-8
 abbrev pub shown_pair : Pair → Pair
 shown_pair p = (utf8_lossy p.0, utf8_lossy p.1)
 
--- there is an Authorization value, and it says no identifier and secret
+-- there is an Authorization value, but it holds no identifier and secret
 abbrev pub IsBadBasic : RequestView → Type 0
 IsBadBasic r = (value : FieldValue) × (authorization_of r ≡ Some value) × (basic value.bytes ≡ None)
 
--- what a server that decodes sees
+-- the view holds what a server reads from the request by decoding it
 pub record IsServerView (r : RequestView) (v : ServerView) : Type 0 where
   pub method : string_bytes v.method ≡ r.method
   pub target : string_bytes v.target ≡ uri_text r.target

@@ -21,6 +21,6 @@ abbrev pub redirect_of : RedirectRef → Addressed
 redirect_of (redirect.Borrowed url) = url.now
 redirect_of (redirect.Owned url) = url
 
--- the text that a URL was given as
+-- the text from which the URL was parsed, unchanged
 abbrev pub given_text : Addressed → List ℕ
 given_text url = url.text

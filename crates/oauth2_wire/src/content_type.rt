@@ -10,12 +10,12 @@ ghost use Rattle.oauth2_wire.specs.ContentType.{unexpected_type_text};
 use oauth2_types::TryClone;
 use std::alloc::{AllocError, Global};
 
-/// Which Content-Type values of a success are those of a JSON text.
+/// Which Content-Type values of a success count as JSON.
 #[derive(Clone, Copy, Debug, PartialEq, Eq)]
 pub enum ReplyRule {
-    /// Those that begin with `application/json`, so `application/jsonfoo` too.
+    /// Values that begin with `application/json`; `application/jsonfoo` counts too.
     Prefix,
-    /// Those whose media type is `application/json`, with any parameters.
+    /// Values whose media type is `application/json`, with any parameters.
     MediaType,
 }
 
@@ -31,7 +31,7 @@ impl TryClone for ReplyRule {
     }
 }
 
-// Whether a value is that of a JSON text by this rule.
+// Whether a Content-Type value counts as JSON by this rule.
 pub(crate) fn is_json_type(rule: ReplyRule, value: &[u8]) -> bool
     ensures { result ≡ is_json_type rule value.now }
 {
@@ -53,7 +53,7 @@ fn begins_with_json(value: &[u8]) -> bool
     front(value, 16).eq_ignore_ascii_case(b"application/json".as_slice())
 }
 
-// Whether the media type of a value that begins with `application/json` is that text.
+// For a value that begins with `application/json`: whether its media type ends there.
 fn ends_the_type(value: &[u8]) -> bool
     ensures { result ≡ ends_the_type (drop 16 value.now) }
 {
@@ -63,21 +63,21 @@ fn ends_the_type(value: &[u8]) -> bool
     }
 }
 
-// What follows the first n bytes, or nothing after fewer.
+// The bytes after the first `n`, or none if there are fewer.
 fn back(value: &[u8], n: usize) -> &[u8]
     ensures { result.now ≡ drop n value.now }
 {
     if value.len() < n { &[] } else { &value[n..] }
 }
 
-// The first n bytes, or all of fewer.
+// The first `n` bytes, or all if there are fewer.
 fn front(value: &[u8], n: usize) -> &[u8]
     ensures { result.now ≡ take n value.now }
 {
     if value.len() < n { value } else { &value[..n] }
 }
 
-// What is said of a value that is not that of a JSON text.
+// The error text for a Content-Type that is not JSON.
 pub(crate) fn unexpected_type_text(alloc: Global, value: &[u8]) -> Result<String, AllocError>
     ensures { IfOk result (λ text. string_bytes text ≡ unexpected_type_text value.now) }
 {

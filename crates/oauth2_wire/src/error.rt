@@ -1,4 +1,4 @@
-//! Why a request could not be made, was not sent, or got no answer.
+//! Errors of requests: why one could not be made, was not sent, or brought no result.
 
 use crate::request::RequestFault;
 use oauth2_codes::{BasicErrorResponseType, StandardErrorResponse};
@@ -11,9 +11,9 @@ use thiserror::Error;
 /// Why a `Client` cannot make a request.
 #[derive(Debug, Drop)]
 pub enum ConfigurationError {
-    /// The endpoint of this name has no URL.
+    /// The endpoint with this name has no URL.
     MissingUrl(&'static str),
-    /// The URL of the endpoint of this name is not an `https` URL.
+    /// The URL of the endpoint with this name is not an `https` URL.
     InsecureUrl(&'static str),
 }
 
@@ -40,26 +40,27 @@ impl fmt::Display for ConfigurationError {
 
 impl std::error::Error for ConfigurationError {}
 
-/// Why a request got no answer.
+/// Why a request failed.
 #[derive(Debug, Drop)]
 pub enum RequestTokenError<RE, T> {
-    /// The server's own error (RFC 6749, section 5.2).
+    /// The error that the server sent (RFC 6749, section 5.2).
     ServerResponse(T),
-    /// The client's error.
+    /// The error of the HTTP client.
     Request(RE),
-    /// Why the reply's body does not read, and its bytes.
+    /// The body of the reply does not parse: the fault, and the bytes of the body.
     Parse(ParseFault, Vec<u8>),
-    /// Another fault, in words.
+    /// Another error, as a text: an empty body, a Content-Type that is not JSON, an endpoint URL
+    /// that is not an HTTP target.
     Other(String),
     /// Memory ran out.
     Memory {
-        /// Whether the client was called.
+        /// Whether the HTTP client was called before memory ran out.
         sent: bool,
     },
 }
 
-/// The error of a request to an endpoint that answers with the basic errors (RFC 6749, section
-/// 5.2).
+/// The error of a request to an endpoint whose error responses use the basic codes (RFC 6749,
+/// section 5.2).
 pub type BasicRequestTokenError<RE> = RequestTokenError<
     RE,
     StandardErrorResponse<BasicErrorResponseType>,
@@ -98,7 +99,7 @@ impl<RE, T> RequestTokenError<RE, T> {
     ghost use Rattle.oauth2_wire.specs.declared.error.RequestTokenError.TheVariants.{Memory};
     ghost use Rattle.oauth2_wire.specs.declared.request.RequestFault.TheVariants.{NotHttp};
 
-    /// The error for memory that ran out before a request was sent. It turns the error of a call
+    /// The error for memory that ran out before a request was sent. It converts the error of a call
     /// that only allocates: `.map_err(RequestTokenError::refused)?`. A function that is generic
     /// over its client writes the closure `|_| RequestTokenError::Memory { sent: false }` instead.
     pub fn refused(_error: AllocError) -> RequestTokenError<RE, T>
@@ -107,7 +108,7 @@ impl<RE, T> RequestTokenError<RE, T> {
         RequestTokenError::Memory { sent: false }
     }
 
-    /// `Other` with a copy of this text, or `Memory` with this `sent` if memory for it runs out.
+    /// `Other` with a copy of this text, or `Memory { sent }` if memory for the copy runs out.
     pub fn with_text(alloc: Global, text: &str, sent: bool) -> RequestTokenError<RE, T>
         ensures { SaysOther text.now result ⊎ (result ≡ Memory sent) }
     {
@@ -117,8 +118,8 @@ impl<RE, T> RequestTokenError<RE, T> {
         }
     }
 
-    /// The error of a request that could not be prepared, with this `sent` if memory ran out: it
-    /// says whether the client was called before.
+    /// The error for a request that could not be prepared. If memory ran out, the error is `Memory
+    /// { sent }`: `sent` says whether the client was called before.
     pub fn unprepared(alloc: Global, fault: RequestFault, sent: bool) -> RequestTokenError<RE, T>
         ensures { ((fault ≡ NotHttp) × SaysOther not_http_text result) ⊎ (result ≡ Memory sent) }
     {
@@ -144,16 +145,16 @@ impl<RE, T> From<RE> for RequestTokenError<RE, T> {
     }
 }
 
-/// An error for clients that the caller writes.
+/// An error type for HTTP clients that you write.
 #[derive(Debug, Drop, Error)]
 pub enum HttpClientError<RE> {
-    /// The client library's error.
+    /// The error of the HTTP library.
     Reqwest(Box<RE>),
-    /// A part of a request or of a reply that is not valid.
+    /// An invalid part of a request or of a reply.
     Http(http::Error),
     /// An error of input or output.
     Io(io::Error),
-    /// Another error, in words.
+    /// Another error, as a text.
     Other(String),
 }
 

@@ -1,19 +1,19 @@
-//! The caller's HTTP client.
+//! The HTTP client, which the caller provides.
 
 use crate::request::HttpRequest;
 use http::Response;
 use std::marker::{Model, PhantomData};
 
-/// The reply that a client hands back.
+/// The reply that an HTTP client returns.
 pub type HttpResponse = Response<Vec<u8>>;
 
 /// A client that sends one request and waits for its reply.
 ///
-/// If your client may always be called, do not define `is_ready`: its callers then need no
-/// precondition. A function that is generic over such clients takes an `AlwaysReady`. One for
-/// every client writes `requires { C.is_ready client.old }`, and also
-/// `ensures { C.is_ready client.new }` if its callers may call again. To use `?` into `anyhow` it
-/// writes `where C::Error: fmt::Debug`.
+/// If your client may always be called, do not define `is_ready`: functions that call it then need
+/// no precondition. A function that is generic over such clients takes an `AlwaysReady`. A function
+/// that takes any client declares `requires { C.is_ready client.old }`, and also `ensures {
+/// C.is_ready client.new }` if its callers may call again. If it converts errors to `anyhow` by
+/// `?`, it declares `where C::Error: fmt::Debug`.
 pub trait SyncHttpClient {
     ghost use Rattle.std.specs.Prelude.{ℕ, Vec, Result, ⊤};
     ghost use Rattle.std.specs.declared.alloc.Global.{Global};
@@ -23,29 +23,30 @@ pub trait SyncHttpClient {
     /// Why a request got no reply.
     type Error: Drop;
 
-    // The client may be called in this state, on every request.
+    // The client may be called in this state, with any request.
     ghost is_ready: { Self → Type 0 } = { λ _. ⊤ };
 
-    // What a call may do: the state before, the request, the answer and the state after.
+    // What a call may do, as a relation: the state before, the request, the result and the state
+    // after.
     ghost step: { Self → Request (Vec ℕ Global) → Result (Response (Vec ℕ Global)) Self.Error
         → Self → Type 0 } = { λ _ _ _ _. ⊤ };
 
-    /// Sends one request.
+    /// Sends one request and returns its reply.
     fn call(&mut self, request: HttpRequest) -> Result<HttpResponse, Self::Error>
         requires { is_ready self.old }
         ensures step { step self.old request result self.new }
         ensures ready { is_ready self.new };
 }
 
-/// A client that may be called in every state, so that a function which is generic over it needs
-/// no clause. A client that does not define `is_ready` is one by a line:
-/// `impl AlwaysReady for MyClient { ghost always_ready = { λ _. tt }; }`.
+/// A client that may be called in every state. A function that is generic over it needs no
+/// precondition. For a client that does not define `is_ready`, one line is enough: `impl
+/// AlwaysReady for MyClient { ghost always_ready = { λ _. tt }; }`.
 pub trait AlwaysReady: SyncHttpClient {
     // The client may be called in this state.
     ghost always_ready: { (c : Self) → Self.is_ready c };
 }
 
-/// A closure as a client. Contracts see the closure.
+/// A closure as an HTTP client. Contracts see the closure.
 #[derive(Drop)]
 pub struct FnClient<F, E> {
     f: F,

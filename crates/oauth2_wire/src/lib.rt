@@ -1,5 +1,5 @@
-//! The wire of an OAuth 2.0 client: the requests that it sends, what a server that only decodes
-//! reads of them, and what the replies say.
+//! The HTTP side of an OAuth 2.0 client: the requests that it sends, what a server reads from them
+//! by decoding, and what the replies say.
 
 #![tactic(auto)]
 

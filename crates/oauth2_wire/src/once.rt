@@ -1,4 +1,4 @@
-//! One request and its answer.
+//! Sending one request and reading its reply.
 
 ghost use Rattle.oauth2_wire.specs.Reply.{accepted, reply_of, answer_of, status_answer_of};
 ghost use Rattle.oauth2_wire.specs.Once.{KeepsSuccess, SendsOnce};
@@ -13,7 +13,8 @@ use crate::request::{HttpRequest, RequestFault};
 use oauth2_json::FromJson;
 use std::alloc::Global;
 
-/// Sends a prepared request once, and reads its reply by this rule.
+/// Sends a prepared request once, and reads its reply by this rule for the Content-Type. If the
+/// request could not be prepared, nothing is sent.
 pub fn send_once<C: SyncHttpClient, TE: FromJson, DO: FromJson>(
     alloc: Global,
     rule: ReplyRule,
@@ -31,8 +32,8 @@ pub fn send_once<C: SyncHttpClient, TE: FromJson, DO: FromJson>(
     }
 }
 
-/// Sends a prepared request once, and reads from its reply whether it succeeded. The body of a
-/// success is not read.
+/// Sends a prepared request once, and reads from the status of its reply whether it succeeded. The
+/// body of a success is not read. If the request could not be prepared, nothing is sent.
 pub fn send_once_status_only<C: SyncHttpClient, TE: FromJson>(
     alloc: Global,
     prepared: Result<HttpRequest, RequestFault>,
@@ -50,7 +51,8 @@ pub fn send_once_status_only<C: SyncHttpClient, TE: FromJson>(
     }
 }
 
-// The reply to a prepared request, or why there is none.
+// The reply to a prepared request, or why there is none: it could not be prepared, or the client
+// failed.
 fn call<C: SyncHttpClient, TE>(
     alloc: Global,
     prepared: Result<HttpRequest, RequestFault>,

@@ -26,7 +26,7 @@ pub fn endpoint_response<RE, TE: FromJson, DO: FromJson>(
     endpoint_response_with(alloc, ReplyRule::Prefix, reply)
 }
 
-/// What a reply says to a request for a `DO` (RFC 6749, section 5), by a rule for its
+/// Reads a reply as a `DO` or as the server's error (RFC 6749, section 5), by a given rule for its
 /// Content-Type.
 pub fn endpoint_response_with<RE, TE: FromJson, DO: FromJson>(
     alloc: Global,
@@ -59,14 +59,14 @@ pub fn endpoint_response_status_only<RE, TE: FromJson>(
     }
 }
 
-// Whether the status is that of a success, which is 200 alone.
+// Whether the reply is a success: only status 200 is.
 fn is_success(reply: &HttpResponse) -> bool
     ensures { result ≡ (reply_of reply.now).status == 200 }
 {
     reply.status().as_u16() == 200
 }
 
-// The reply of a success.
+// Reads the reply of a success.
 fn read_success<RE, TE: FromJson, DO: FromJson>(
     alloc: Global,
     rule: ReplyRule,
@@ -86,7 +86,7 @@ fn read_success<RE, TE: FromJson, DO: FromJson>(
     }
 }
 
-// The body of a success.
+// Reads the body of a success.
 fn read_answer<RE, TE: FromJson, DO: FromJson>(
     alloc: Global,
     body: Vec<u8>,
@@ -107,7 +107,7 @@ fn read_answer<RE, TE: FromJson, DO: FromJson>(
     }
 }
 
-// The body of a failure.
+// Reads the body of a reply that is not a success, as the server's error.
 fn read_failure<RE, TE: FromJson>(alloc: Global, body: Vec<u8>) -> RequestTokenError<RE, TE>
     ensures { ShowsFailure TE.meaning (failure_answer TE.reading body.items) result }
 {
@@ -121,7 +121,7 @@ fn read_failure<RE, TE: FromJson>(alloc: Global, body: Vec<u8>) -> RequestTokenE
     }
 }
 
-// The refusal of a Content-Type.
+// The error for a Content-Type that is not JSON.
 fn refused_type<RE, TE: FromJson>(alloc: Global, value: &[u8]) -> RequestTokenError<RE, TE>
     ensures { ShowsFailure TE.meaning (other (unexpected_type_text value.now)) result }
 {

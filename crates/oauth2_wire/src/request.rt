@@ -31,15 +31,15 @@ use std::alloc::{AllocError, Global};
 use std::fmt;
 use url::Url;
 
-/// The request that a client is handed.
+/// The request that an HTTP client receives.
 pub type HttpRequest = Request<Vec<u8>>;
 
-/// How a client shows its identifier and its secret (RFC 6749, section 2.3.1).
+/// How a client sends its identifier and its secret (RFC 6749, section 2.3.1).
 #[derive(Clone, Copy, Debug, PartialEq, Eq)]
 pub enum AuthType {
-    /// As pairs of the body.
+    /// As parameters of the body.
     RequestBody,
-    /// By HTTP Basic authentication, where there is a secret.
+    /// By HTTP Basic authentication; a client without a secret sends its identifier in the body.
     BasicAuth,
 }
 
@@ -92,8 +92,9 @@ impl From<AllocError> for RequestFault {
     }
 }
 
-/// Builds the POST to an endpoint: the pairs of this kind of request, the client's credentials, the
-/// redirect, the scopes and the extra parameters.
+/// Builds the POST to an endpoint. Its body has, in this order, the own pairs of the request, the
+/// scopes, the credentials (unless they are in the header), the redirect URL and the extra
+/// parameters.
 pub fn endpoint_request(
     alloc: Global,
     auth_type: &AuthType,
@@ -115,7 +116,7 @@ pub fn endpoint_request(
       extra_params = map param_pair extra_params.now;
     }) (serialize url.now) (view_of r)) }
 
-    // A URL that is no HTTP target gives no request, and no other is refused as one.
+    // If the URL is not an HTTP target, the result is an error; `NotHttp` is returned only then.
     ensures no_target { SpellsNone (serialize url.now) → IsErr result }
     ensures not_http { result ≡ Err RequestFault.NotHttp → SpellsNone (serialize url.now) }
 {
@@ -132,7 +133,7 @@ pub fn endpoint_request(
     )
 }
 
-/// The same request from scopes and parameters that are encoded already.
+/// Builds the POST to an endpoint from scopes and extra parameters that are already encoded.
 #[tactic(auto, using(crate::proofs::ByNameLemmas::by_name))]
 pub fn endpoint_request_encoded(
     alloc: Global,
@@ -149,7 +150,7 @@ pub fn endpoint_request_encoded(
         (option_copied redirect_url.entry) in
         IfOk result (λ r. IsRequestOf configuration (serialize url.now) (view_of r)) }
 
-    // A URL that is no HTTP target gives no request, and no other is refused as one.
+    // If the URL is not an HTTP target, the result is an error; `NotHttp` is returned only then.
     ensures no_target { SpellsNone (serialize url.now) → IsErr result }
     ensures not_http { result ≡ Err RequestFault.NotHttp → SpellsNone (serialize url.now) }
 {
@@ -173,11 +174,11 @@ pub fn endpoint_request_encoded(
     Ok(Request::from_parts(head, body.into_bytes()))
 }
 
-/// A copy of a request, for a client that takes the request itself.
+/// Copies a request, for a client that takes its request by value.
 pub fn copy_request(alloc: Global, request: &HttpRequest) -> Result<HttpRequest, AllocError>
     ensures copy { IfOk result (λ copy. IsCopyOf (view_of request.now) (view_of copy)) }
 
-    // It is the request of each configuration that the other is.
+    // The copy is the request of every configuration that the original is the request of.
     ensures request { IfOk result (λ copy. (configuration : Configuration) (text : List ℕ)
         → IsRequestOf configuration text (view_of request.now)
         → IsRequestOf configuration text (view_of copy)) }
@@ -195,7 +196,7 @@ pub fn copy_request(alloc: Global, request: &HttpRequest) -> Result<HttpRequest,
     Ok(Request::from_parts(head, body))
 }
 
-// A buffer of the scopes and the parameters.
+// A buffer with the scopes and the extra parameters.
 fn filled_buffer(
     alloc: Global,
     scopes: Option<&[Scope]>,
@@ -211,7 +212,7 @@ fn filled_buffer(
     Ok(buffer)
 }
 
-// A buffer of the scopes alone.
+// A buffer with the scopes and no extra parameter.
 #[tactic(auto, using(crate::proofs::ParamsLemmas::joined))]
 fn scopes_buffer(alloc: Global, scopes: Option<&[Scope]>) -> Result<ParamBuffer, AllocError>
     ensures { IfOk result (λ buffer. buffer ≡ record {
@@ -241,7 +242,7 @@ fn add_scopes(buffer: &mut ParamBuffer, scopes: &[Scope]) -> Result<(), AllocErr
     Ok(())
 }
 
-// Adds the parameters, in order.
+// Adds the extra parameters, in order.
 fn add_extras(
     buffer: &mut ParamBuffer,
     extra_params: &[(ParamText<'_>, ParamText<'_>)],
@@ -256,7 +257,7 @@ fn add_extras(
     Ok(())
 }
 
-// The target that the URL's text spells.
+// The HTTP target that the text of the URL spells.
 fn target(alloc: Global, url: &Url) -> Result<Uri, RequestFault>
     ensures ok { IfOk result (Spells (serialize url.now)) }
     ensures not_http { result ≡ Err RequestFault.NotHttp → SpellsNone (serialize url.now) }
@@ -268,11 +269,11 @@ fn target(alloc: Global, url: &Url) -> Result<Uri, RequestFault>
     }
 }
 
-// How many bytes of pairs a body has room for before it grows, beside the extra parameters.
+// How many bytes a body has room for before it reallocates, besides its extra parameters.
 const ROOM: usize = 256;
 
-// The body: the request's own pairs, the scopes, the credentials that go into no header, the
-// redirect URL, and the extra parameters.
+// The body: the own pairs of the request, the scopes, the credentials that are not sent in the
+// header, the redirect URL, and the extra parameters.
 fn request_body(
     alloc: Global,
     auth_type: &AuthType,
@@ -296,7 +297,7 @@ fn request_body(
     Ok(body.append(buffer.extra_params())?)
 }
 
-// Adds the pairs, in order.
+// Appends the pairs, in order.
 fn push_all(body: &mut FormBody, pairs: &[(&str, &str)]) -> Result<(), AllocError>
     ensures { OnOk result (body.new ≡ body.old ++ map pair_text pairs.now) }
 {
@@ -306,7 +307,7 @@ fn push_all(body: &mut FormBody, pairs: &[(&str, &str)]) -> Result<(), AllocErro
     Ok(())
 }
 
-// The body with one more pair, where there is a value.
+// The body with one more pair, if there is a value.
 fn with_encoded(
     body: FormBody,
     name: &str,
@@ -321,7 +322,7 @@ fn with_encoded(
     }
 }
 
-// Adds the credentials that go into no header.
+// Appends the credentials, unless they are sent in the header.
 fn push_credentials(
     body: &mut FormBody,
     auth_type: &AuthType,
@@ -361,7 +362,7 @@ fn push_secret(body: &mut FormBody, client_secret: &ClientSecret) -> Result<(), 
     Ok(())
 }
 
-// Adds the redirect URL's text, where there is one.
+// Appends the text of the redirect URL, if there is one.
 fn push_redirect(body: &mut FormBody, redirect_url: Option<&RedirectUrl>) -> Result<(), AllocError>
     ensures { let text = option_map given_text (option_copied redirect_url.entry) in
         OnOk result (body.new ≡ body.old ++ optional_pair (codes "redirect_uri") text) }
@@ -375,7 +376,7 @@ fn push_redirect(body: &mut FormBody, redirect_url: Option<&RedirectUrl>) -> Res
     }
 }
 
-// The credentials that go into the header.
+// The value of the Authorization header, if the credentials are sent in it.
 fn authorization(
     alloc: Global,
     auth_type: &AuthType,

@@ -8,7 +8,7 @@ use oauth2_urls::RedirectUrl;
 /// A name or a value of a parameter, borrowed or owned.
 #[derive(Debug, Drop)]
 pub enum ParamText<'a> {
-    /// A text of the caller's.
+    /// A text that the caller keeps.
     Borrowed(&'a str),
     /// A text that this value owns.
     Owned(String),
@@ -45,9 +45,9 @@ impl ParamText<'_> {
 /// A redirect URL, borrowed or owned.
 #[derive(Debug, Drop)]
 pub enum RedirectRef<'a> {
-    /// A URL of the caller's.
+    /// A URL that the caller keeps.
     Borrowed(&'a RedirectUrl),
-    /// A URL of its own.
+    /// A URL that this value owns.
     Owned(RedirectUrl),
 }
 

@@ -1,4 +1,4 @@
-//! A request as a server that only decodes reads it.
+//! A request as a server reads it that does nothing but decode it.
 
 ghost use Rattle.std.specs.Prelude.{◌≡◌, ◌<◌, ◌==◌, length, position, map, string_bytes};
 ghost use Rattle.std.specs.Prelude.{None, Some, IfSome, option_map, Err, IfOk};
@@ -17,20 +17,21 @@ use http_header::AUTHORIZATION;
 use std::alloc::{AllocError, Global};
 use std::fmt;
 
-/// A request as a server reads it, by decoding alone.
+/// What a server reads from a request by decoding it.
 #[derive(Debug, PartialEq, Eq, Drop)]
 pub struct ServerView {
     /// The method.
     pub method: String,
-    /// The target: scheme, `://`, authority and path, and `?` and the query where there is one.
+    /// The target: scheme, `://`, authority and path, then `?` and the query if there is one.
     pub target: String,
-    /// The identifier and the secret of the first Authorization header, if there is one.
+    /// The identifier and the secret of the first Authorization header; `None` if there is no such
+    /// header.
     pub basic: Option<(String, String)>,
-    /// The pairs of the body.
+    /// The parameters of the body, decoded, in order.
     pub form: Vec<(String, String)>,
 }
 
-/// Why a request has no view.
+/// Why a request cannot be read.
 #[derive(Clone, Copy, Debug, PartialEq, Eq)]
 pub enum ViewError {
     /// The Authorization header holds no identifier and secret.
@@ -69,25 +70,25 @@ impl From<AllocError> for ViewError {
     }
 }
 
-// The decoded text of a name or a value.
-fn shown(alloc: Global, encoded: &[u8]) -> Result<String, AllocError>
+// The decoded text of a name or a value, with U+FFFD in place of what is not UTF-8.
+fn decode_text(alloc: Global, encoded: &[u8]) -> Result<String, AllocError>
     ensures { IfOk result (λ text. string_bytes text ≡ utf8_lossy (decoded encoded.now)) }
 {
     decode(alloc, encoded)?.into_owned(alloc)
 }
 
-// The pairs of a body.
+// The decoded pairs of a body.
 fn read_form(alloc: Global, body: &[u8]) -> Result<Vec<(String, String)>, AllocError>
     ensures { IfOk result (λ pairs. map pair_texts pairs.items ≡ map shown_pair (form body.now)) }
 {
     let mut pairs = Vec::new(alloc);
     for (name, value) in raw_pairs(body) {
-        pairs.push((shown(alloc, name)?, shown(alloc, value)?))?;
+        pairs.push((decode_text(alloc, name)?, decode_text(alloc, value)?))?;
     }
     Ok(pairs)
 }
 
-// Where the first colon stands.
+// The index of the first colon.
 fn first_colon(text: &[u8]) -> Option<usize>
     ensures place { result ≡ position (λ b. b == colon) text.now }
     ensures inside { IfSome result (λ i. i < length text.now) }
@@ -95,19 +96,22 @@ fn first_colon(text: &[u8]) -> Option<usize>
     text.iter().position(|&b| b == b':')
 }
 
-// A text cut at its first colon, both halves decoded.
+// The two halves of a text split at its first colon, decoded.
 #[tactic(auto, unfolding(oauth2_form::specs::Basic::pair_of_text))]
 fn read_pair(alloc: Global, text: &[u8]) -> Result<Option<(String, String)>, AllocError>
     ensures { IfOk result (λ pair. option_map pair_texts pair
         ≡ option_map shown_pair (pair_of_text text.now)) }
 {
     match first_colon(text) {
-        Some(i) => Ok(Some((shown(alloc, &text[..i])?, shown(alloc, &text[i + 1..])?))),
+        Some(i) => Ok(Some((
+            decode_text(alloc, &text[..i])?,
+            decode_text(alloc, &text[i + 1..])?,
+        ))),
         None => Ok(None),
     }
 }
 
-// The identifier and the secret of a header value.
+// The identifier and the secret of an Authorization value, if it holds any.
 #[tactic(auto, unfolding(oauth2_form::specs::Basic::basic))]
 fn read_basic(alloc: Global, value: &[u8]) -> Result<Option<(String, String)>, AllocError>
     ensures { IfOk result (λ pair. option_map pair_texts pair
@@ -123,7 +127,8 @@ fn read_basic(alloc: Global, value: &[u8]) -> Result<Option<(String, String)>, A
     }
 }
 
-/// The request as a server reads it, by decoding alone.
+/// Reads a request as a server does that only decodes it. Bytes that are not UTF-8 are read as
+/// U+FFFD.
 pub fn server_view(alloc: Global, request: &HttpRequest) -> Result<ServerView, ViewError>
     ensures view { IfOk result (IsServerView (view_of request.now)) }
     ensures bad { result ≡ Err ViewError.BadBasic → IsBadBasic (view_of request.now) }

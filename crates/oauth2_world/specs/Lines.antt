@@ -11,61 +11,70 @@ use Rattle.oauth2_form.specs.Basic.{basic_value}
 use Rattle.oauth2_wire.specs.Expected.{Configuration, expected_basic, expected_pairs}
 use Rattle.oauth2_wire.specs.ServerView.{shown_pair}
 
--- a text as JSON writes it
+-- a text as a JSON string, with its quotation marks
 unfoldable pub quotation : List ℕ → List ℕ
 quotation text = compact_text (string text)
 
+-- a text and a newline byte
 abbrev pub line : List ℕ → List ℕ
 line text = text ++ codes "\n"
 
+-- the line `request M T`, with the method and the target
 unfoldable pub request_line : List ℕ → List ℕ → List ℕ
 request_line method target = line (codes "request " ++ method ++ codes " " ++ target)
 
+-- the line `authorization V`, with the value of the Authorization header, or `authorization none`
 unfoldable pub authorization_line : Option (List ℕ) → List ℕ
 authorization_line None = line (codes "authorization none")
 authorization_line (Some value) = line (codes "authorization " ++ utf8_lossy value)
 
+-- the line `body "B"`; bytes of the body that are not UTF-8 are shown as U+FFFD
 unfoldable pub body_line : List ℕ → List ℕ
 body_line body = line (codes "body " ++ quotation (utf8_lossy body))
 
+-- the line `basic "I" "S"`, with an identifier and a secret, or `basic none`
 unfoldable pub basic_line : Option Pair → List ℕ
 basic_line None = line (codes "basic none")
 basic_line (Some pair) = line (codes "basic " ++ quotation pair.0 ++ codes " " ++ quotation pair.1)
 
+-- the line `pair "N" "V"`, with the name and the value of a parameter
 unfoldable pub pair_line : Pair → List ℕ
 pair_line pair = line (codes "pair " ++ quotation pair.0 ++ codes " " ++ quotation pair.1)
 
+-- one line for each pair, in order
 abbrev pub pair_lines : List Pair → List ℕ
 pair_lines pairs = flat_map pair_line pairs
 
--- ---- of the request that a configuration asks for, at this target
+-- ---- the lines of the request of a configuration
 
+-- the value of the Authorization header for these credentials (RFC 6749, 2.3.1)
 abbrev pub authorization_text : Option Pair → Option (List ℕ)
 authorization_text credentials = option_map (λ c. basic_value c.0 c.1) credentials
 
+-- the lines of the POST request of a configuration to this target
 unfoldable pub expected_lines : Configuration → List ℕ → List ℕ
 expected_lines c target =
     request_line (codes "POST") target ++ authorization_line (authorization_text (expected_basic c))
     ++ body_line (extend_pairs [] (expected_pairs c))
     ++ basic_line (option_map shown_pair (expected_basic c)) ++ pair_lines (map shown_pair (expected_pairs c))
 
--- ---- of a sleep
+-- ---- the line of a sleep
 
--- with zeros in front
+-- a number in decimal, with zeros in front up to nine digits
 abbrev pub nine_digits : ℕ → List ℕ
 nine_digits n = replicate (9 - length (decimal n)) 48 ++ decimal n
 
--- its whole seconds, and the nanoseconds beyond
+-- the line `sleep S.N`: whole seconds, and nine digits of nanoseconds
 unfoldable pub sleep_line : ℕ → List ℕ
 sleep_line nanos =
     line (codes "sleep " ++ decimal (nanos / 1_000_000_000) ++ codes "." ++ nine_digits (nanos % 1_000_000_000))
 
--- ---- of an end
+-- ---- the lines of an answer and of a fault
 
--- an answer, as JSON
+-- the line `answer ok J`, with a JSON text
 unfoldable pub answer_line : List ℕ → List ℕ
 answer_line json = line (codes "answer ok " ++ json)
 
--- the display of a fault
+-- the line `answer fault "D"`, with the text of a fault
 unfoldable pub fault_line : List ℕ → List ℕ
 fault_line text = line (codes "answer fault " ++ quotation text)

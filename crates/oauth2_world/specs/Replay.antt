@@ -1,4 +1,4 @@
--- The scripted client: what one call prints and answers.
+-- The scripted client: what one call prints and returns.
 use Rattle.std.specs.Prelude.{◌≡◌, List, ◌++◌, true, Option, Some, None, Result, Ok, Err, map, string_bytes, ◌⊎◌}
 use Rattle.oauth2_wire.specs.Reply.{HttpResponse, ReplyView, reply_of}
 use Rattle.oauth2_wire.specs.Request.{HttpRequest, view_of}
@@ -9,20 +9,22 @@ use Rattle.oauth2_script.specs.Views as script_views
 use Rattle.oauth2_world.specs.declared.replay.ScriptedClient.{ScriptedClient}
 use Rattle.oauth2_world.specs.declared.replay.NoReply.{NoReply}
 
+-- the reply that a call returned, or `None` for a failed call
 abbrev pub reply_seen : Result HttpResponse NoReply → Option ReplyView
 reply_seen (Ok reply) = Some (reply_of reply)
 reply_seen (Err e) = None
 
+-- the replies of the script that the client has not returned yet
 abbrev pub client_replies : ScriptedClient → List Reply
 client_replies c = map script_views.stored_reply c.replies.items
 
--- one call
+-- one call: it returns the next reply of the script, and adds the lines of the request
 pub record Replays (old : ScriptedClient) (request : HttpRequest) (answer : Result HttpResponse NoReply) (new : ScriptedClient) : Type 0 where
   pub answers : reply_seen answer ≡ next_reply (client_replies old)
   pub goes_on : client_replies new ≡ later_replies (client_replies old)
   pub prints : string_bytes new.lines ≡ string_bytes old.lines ++ request_lines (view_of request)
   pub is_fed : new.is_starved ≡ old.is_starved
 
--- one call, unless it was refused memory
+-- one call that replays the script, unless the client has run out of memory
 abbrev pub ReplaysOrStarves : ScriptedClient → HttpRequest → Result HttpResponse NoReply → ScriptedClient → Type 0
 ReplaysOrStarves old request answer new = (new.is_starved ≡ true) ⊎ Replays old request answer new

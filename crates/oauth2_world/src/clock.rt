@@ -6,11 +6,11 @@ ghost use Rattle.oauth2_world.specs.Clock.{new_clock, reading_of, after_reading}
 use jiff::Timestamp;
 use std::marker::Model;
 
-/// Shows its moments in turn, and the last one ever after.
+/// A clock that shows its moments one after the other, and then the last one again.
 #[derive(Drop)]
 pub struct ScriptedClock {
     readings: Vec<jiff_core::Timestamp>,
-    // How many of the readings it has shown.
+    // How many of the readings were shown.
     shown: usize,
     last: jiff_core::Timestamp,
 }
@@ -30,7 +30,7 @@ impl Model for ScriptedClock {
 }
 
 impl ScriptedClock {
-    /// A clock with these readings; one with none shows the first moment of 1970.
+    /// A clock with these readings; without any it shows 1970-01-01T00:00:00Z.
     pub fn new(readings: Vec<jiff_core::Timestamp>) -> ScriptedClock
         ensures { result ≡ new_clock (map (λ t. t.nanosecond) readings.items) }
     {
@@ -41,7 +41,7 @@ impl ScriptedClock {
         }
     }
 
-    /// Reads it.
+    /// Returns the next reading, or the last one again if none is left.
     pub fn read(&mut self) -> Timestamp
         ensures shown { result.nanosecond ≡ reading_of self.old }
         ensures later { self.new ≡ after_reading self.old }
@@ -53,7 +53,7 @@ impl ScriptedClock {
         Timestamp::from_plain(self.last)
     }
 
-    /// What it has still to show, in order.
+    /// The readings that are left, in order.
     pub fn moments(&self) -> &[jiff_core::Timestamp]
         ensures { map (λ t. t.nanosecond) result.now ≡ self.now.moments }
     {

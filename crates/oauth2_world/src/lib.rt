@@ -1,5 +1,5 @@
-//! What a script's run takes place in: a client and a clock that answer from the script, and the
-//! lines of what they are asked.
+//! The client and the clock of a script's run, which return what the script says, and the lines
+//! that show each request and each sleep.
 
 #![tactic(auto)]
 

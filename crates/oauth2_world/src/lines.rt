@@ -14,7 +14,7 @@ use serde_json::Value;
 use std::alloc::{AllocError, Global};
 use std::time::Duration;
 
-/// A text as JSON writes it.
+/// A text as a JSON string, with its quotation marks.
 #[tactic(auto, unfolding(crate::specs::Lines::quotation))]
 pub fn quoted(alloc: Global, text: &str) -> Result<String, AllocError>
     ensures { IfOk result (λ s. string_bytes s ≡ spec.quotation text.now) }
@@ -114,7 +114,7 @@ fn print_credentials(
     }
 }
 
-// What a server that decodes reads of the request.
+// The lines of what a server reads that does nothing but decode the header and the form.
 fn print_view(alloc: Global, lines: &mut String, request: &HttpRequest) -> Result<(), AllocError>
     ensures { OnOk result (string_bytes lines.new ≡ string_bytes lines.old
         ++ private_spec.view_lines (view_of request.now)) }
@@ -133,7 +133,7 @@ fn print_view(alloc: Global, lines: &mut String, request: &HttpRequest) -> Resul
     }
 }
 
-/// The lines of a request that a client is handed.
+/// Adds the lines of a request, from `request` to the last `pair`.
 #[tactic(auto, unfolding(crate::specs::RequestLines::request_lines))]
 pub fn print_request(
     alloc: Global,
@@ -151,7 +151,7 @@ pub fn print_request(
     Ok(())
 }
 
-/// The line of a sleep.
+/// Adds the line of a sleep: whole seconds, and nine digits of nanoseconds.
 #[tactic(auto, unfolding(crate::specs::Lines::sleep_line))]
 pub fn print_sleep(lines: &mut String, duration: Duration) -> Result<(), AllocError>
     ensures { OnOk result (string_bytes lines.new ≡ string_bytes lines.old
@@ -162,7 +162,7 @@ pub fn print_sleep(lines: &mut String, duration: Duration) -> Result<(), AllocEr
     writeln!(lines, "sleep {seconds}.{nanos:09}")
 }
 
-/// The line of an answer, as JSON.
+/// Adds the line of an answer; `json` is a JSON text.
 #[tactic(auto, unfolding(crate::specs::Lines::answer_line))]
 pub fn print_answer(lines: &mut String, json: &str) -> Result<(), AllocError>
     ensures { OnOk result (string_bytes lines.new ≡ string_bytes lines.old
@@ -171,7 +171,7 @@ pub fn print_answer(lines: &mut String, json: &str) -> Result<(), AllocError>
     writeln!(lines, "answer ok {json}")
 }
 
-/// The line of a fault, by its text.
+/// Adds the line of a fault; `text` is quoted as JSON.
 #[tactic(auto, unfolding(crate::specs::Lines::fault_line))]
 pub fn print_fault(alloc: Global, lines: &mut String, text: &str) -> Result<(), AllocError>
     ensures { OnOk result (string_bytes lines.new ≡ string_bytes lines.old

@@ -1,4 +1,4 @@
-//! A client that answers from a script and gathers what is to be printed.
+//! A client that returns the replies of a script and collects the lines of its requests.
 
 ghost use Rattle.std.specs.Prelude.{◌≡◌, IfOk};
 ghost use Rattle.oauth2_wire.specs.Reply.{reply_of};
@@ -14,18 +14,18 @@ use oauth2_wire::{HttpRequest, HttpResponse, SyncHttpClient};
 use std::alloc::{AllocError, Global};
 use std::collections::VecDeque;
 
-/// The script failed the call, or had no further reply.
+/// The call failed: the script says so, or it has no further reply.
 #[derive(Clone, Copy, Debug, PartialEq, Eq)]
 pub struct NoReply;
 
-/// Answers from a script, in order, and then fails.
+/// Returns the replies of a script in order; after the last one every call fails.
 #[derive(Drop)]
 pub struct ScriptedClient {
     pub alloc: Global,
     pub replies: VecDeque<Reply>,
-    /// What its calls print.
+    /// The lines that its calls have added.
     pub lines: String,
-    /// Memory for a line or a reply was refused.
+    /// Whether memory for a line or a reply ran out.
     pub is_starved: bool,
 }
 

@@ -1,4 +1,4 @@
-//! What a script polls in.
+//! The client and the clock of a poll.
 
 use crate::clock::ScriptedClock;
 use crate::lines::print_sleep;
@@ -8,7 +8,7 @@ use oauth2_device::PollWorld;
 use oauth2_wire::{HttpRequest, HttpResponse, SyncHttpClient};
 use std::time::Duration;
 
-/// The client of a script and its clock. A sleep is a line among those of the client's calls.
+/// The client of a script and its clock. A sleep adds its line to the lines of the client.
 #[derive(Drop)]
 pub struct ScriptedWorld {
     pub http_client: ScriptedClient,

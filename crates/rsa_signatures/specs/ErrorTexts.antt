@@ -1,8 +1,9 @@
--- What `Display` writes of the errors.
+-- The texts that `Display` writes for the errors.
 use Rattle.std.specs.Prelude.{ℕ, List, codes}
 use Rattle.rsa_signatures.specs.declared.key_error.RsaKeyError.{RsaKeyError}
 use Rattle.rsa_signatures.specs.declared.key_error.RsaKeyError.TheVariants.{ModulusTooSmall, ModulusTooLarge, ModulusEven, ExponentTooLarge, ExponentTooSmall, ExponentEven}
 
+-- the text for each fault of a public key
 abbrev pub key_error_text : RsaKeyError → List ℕ
 key_error_text ModulusTooSmall = codes "the modulus has fewer than 2048 bits"
 key_error_text ModulusTooLarge = codes "the modulus has more than 8192 bits"

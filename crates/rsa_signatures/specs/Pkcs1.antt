@@ -4,7 +4,7 @@ use Rattle.hash_functions.specs.declared.hash_function.HashFunction.{HashFunctio
 use Rattle.hash_functions.specs.declared.hash_function.HashFunction.TheVariants.{Sha256, Sha384, Sha512}
 use Rattle.hash_functions.specs.HashFunction.{hashed}
 
--- what comes before the digest in the DER of its DigestInfo (note 1)
+-- the DER of a DigestInfo up to its digest (note 1)
 abbrev pub digest_prefix : HashFunction → List ℕ
 digest_prefix Sha256 =
     0x30 ∷ 0x31 ∷ 0x30 ∷ 0x0d ∷ 0x06 ∷ 0x09 ∷ 0x60 ∷ 0x86 ∷ 0x48 ∷ 0x01
@@ -16,11 +16,11 @@ digest_prefix Sha512 =
     0x30 ∷ 0x51 ∷ 0x30 ∷ 0x0d ∷ 0x06 ∷ 0x09 ∷ 0x60 ∷ 0x86 ∷ 0x48 ∷ 0x01
     ∷ 0x65 ∷ 0x03 ∷ 0x04 ∷ 0x02 ∷ 0x03 ∷ 0x05 ∷ 0x00 ∷ 0x04 ∷ 0x40 ∷ []
 
--- 00 01 FF .. FF 00 T, of so many octets (steps 3 to 6)
+-- 00 01 FF .. FF 00 T, padded to `size` octets (steps 3 to 6)
 abbrev pub padded : ℕ → List ℕ → List ℕ
 padded size t = 0x00 ∷ 0x01 ∷ replicate (size - length t - 3) 0xff ++ 0x00 ∷ t
 
--- EM (steps 1 to 6): T is the DigestInfo of the message's digest. With keys of 2048 bits and more
--- the encoding is never too short for it.
+-- EM, where T is the DigestInfo of the message's digest (steps 1 to 6). Step 3 (EM is long enough)
+-- never fails for keys of 2048 bits or more.
 abbrev pub pkcs1_encoded : HashFunction → ℕ → List ℕ → List ℕ
 pkcs1_encoded hash size message = padded size (digest_prefix hash ++ hashed hash message)

@@ -1,9 +1,9 @@
--- The public keys that are taken (RFC 8017, 3.1).
+-- The public keys that this crate accepts (RFC 8017, 3.1).
 use Rattle.std.specs.Prelude.{ℕ, ◌%◌, ◌^◌, nat_eq, nat_lt, nat_le, if◌then◌else◌, Result, Ok, Err}
 use Rattle.rsa_signatures.specs.declared.key_error.RsaKeyError.{RsaKeyError}
 use Rattle.rsa_signatures.specs.declared.key_error.RsaKeyError.TheVariants.{ModulusTooSmall, ModulusTooLarge, ModulusEven, ExponentTooLarge, ExponentTooSmall, ExponentEven}
 
--- n and e (RFC 8017, 3.1)
+-- a public key: the modulus n and the exponent e (RFC 8017, 3.1)
 pub record PublicKey : Type 0 where
   pub modulus : ℕ
   pub exponent : ℕ

@@ -8,15 +8,15 @@ use std::fmt;
 /// The first fault of a public key. The faults are looked for in the order of these variants.
 #[derive(Clone, Copy, Debug, PartialEq, Eq, Drop)]
 pub enum RsaKeyError {
-    /// The modulus has fewer than 2048 bits (RFC 7518, 3.3 and 3.5, asks for as many).
+    /// The modulus has fewer than 2048 bits, which RFC 7518, 3.3 and 3.5, requires.
     ModulusTooSmall,
-    /// The modulus has more than 8192 bits. The limit is this crate's: a larger key would make each
+    /// The modulus has more than 8192 bits. This crate sets the limit: a larger key would make each
     /// check slow.
     ModulusTooLarge,
     /// The modulus is even, so it is no product of odd primes (RFC 8017, 3.1).
     ModulusEven,
-    /// The exponent is 2 ^ 64 or more. The limit is this crate's, for the same reason. It refuses
-    /// each exponent that is not below the modulus too, as RFC 8017, 3.1, asks.
+    /// The exponent is 2 ^ 64 or more. This crate sets the limit, for the same reason. So an
+    /// exponent that is accepted is below the modulus, as RFC 8017, 3.1, requires.
     ExponentTooLarge,
     /// The exponent is less than 3 (RFC 8017, 3.1).
     ExponentTooSmall,

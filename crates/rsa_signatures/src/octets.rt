@@ -6,10 +6,10 @@ ghost use Rattle.modular_arithmetic.specs.Limbs.{AreLimbs, limb_weight, value_be
 
 use modular_arithmetic::push;
 
-// Limbs of 8192 bits.
+// How many limbs 8192 bits take.
 pub(crate) const LIMBS: usize = 128;
 
-// Octets of 8192 bits.
+// How many octets 8192 bits take.
 pub(crate) const OCTETS: usize = 1024;
 
 pub(crate) fn push_repeated(limbs: &mut [u64; LIMBS], len: usize, octet: u8, count: usize)
@@ -24,8 +24,8 @@ pub(crate) fn push_repeated(limbs: &mut [u64; LIMBS], len: usize, octet: u8, cou
     }
 }
 
-// The octets, and zeros.
-pub(crate) fn filled(octets: &[u8]) -> [u8; OCTETS]
+// The octets, followed by zeros.
+pub(crate) fn with_zeros(octets: &[u8]) -> [u8; OCTETS]
     requires { length octets.now ≤ OCTETS }
     ensures { take (length octets.now) result ≡ octets.now }
 {
@@ -49,7 +49,7 @@ fn put(octets: &mut [u8; OCTETS], end: usize, limb: u64)
     }
 }
 
-// The octets of a number (RFC 8017, 4.1), with zeros in front.
+// The octets of a number (RFC 8017, 4.1), the highest first, with leading zeros.
 pub(crate) fn octets_of(limbs: &[u64; LIMBS], len: usize) -> [u8; OCTETS]
     requires { len ≤ LIMBS }
     ensures { number result ≡ value_below limbs.now len }

@@ -49,7 +49,7 @@ fn padded_number(prefix: &[u8], digest: &[u8], size: usize, len: usize) -> [u64;
     limbs
 }
 
-// Whether the representative is that of the encoded message.
+// Whether the representative is the encoded message as a number.
 pub(crate) fn is_pkcs1(
     hash: HashFunction,
     message: &[u8],

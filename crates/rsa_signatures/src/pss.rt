@@ -37,7 +37,7 @@ ghost use Rattle.modular_arithmetic.specs.Limbs.{value_below};
 use crate::octets::{LIMBS, OCTETS, octets_of};
 use hash_functions::HashFunction;
 
-// A block of MGF1's mask (RFC 8017, B.2.1), as the first octets.
+// A block of MGF1's mask (RFC 8017, B.2.1): the first `hash.size()` octets of the result.
 fn mask_block(hash: HashFunction, seed: &[u8], counter: usize) -> [u8; 64]
     requires { counter < 2 ^ 32 }
     ensures { take (hash_size hash) result ≡ hashed hash (seed.now ++ octets_of 4 counter) }
@@ -45,7 +45,7 @@ fn mask_block(hash: HashFunction, seed: &[u8], counter: usize) -> [u8; 64]
     hash.digest(seed, &(counter as u32).to_be_bytes(), &[])
 }
 
-// The block that octet i of the mask is in, where that before it is given.
+// The block that octet i of the mask is in. `before` is the block of the octet before it.
 fn block_at(hash: HashFunction, seed: &[u8], i: usize, before: [u8; 64]) -> [u8; 64]
     requires i { i < 2 ^ 32 }
     requires before { (i % hash_size hash ≡ 0 → ⊥) → take (hash_size hash) before
@@ -60,8 +60,8 @@ fn block_at(hash: HashFunction, seed: &[u8], i: usize, before: [u8; 64]) -> [u8;
     }
 }
 
-// Octets with MGF1's mask added, as the first octets.
-fn unmasked(hash: HashFunction, seed: &[u8], masked: &[u8]) -> [u8; OCTETS]
+// The octets without MGF1's mask (exclusive or): the first octets of the result.
+fn without_mask(hash: HashFunction, seed: &[u8], masked: &[u8]) -> [u8; OCTETS]
     requires { length masked.now ≤ OCTETS }
     ensures { take (length masked.now) result
         ≡ xored masked.now (mgf1 hash seed.now (length masked.now)) }
@@ -76,7 +76,7 @@ fn unmasked(hash: HashFunction, seed: &[u8], masked: &[u8]) -> [u8; OCTETS]
     octets
 }
 
-// What the first octet of an encoding is below, where so many of its bits are unused.
+// The limit that the first octet of an encoding is below if its first `unused` bits are zero.
 fn first_limit(unused: usize) -> u16
     requires { unused < 8 }
     ensures { result ≡ 2 ^ (8 - unused) }
@@ -84,7 +84,7 @@ fn first_limit(unused: usize) -> u16
     1 << (8 - unused)
 }
 
-// The data block of an encoding, as the first octets.
+// The data block (DB) of an encoding: the first octets of the result.
 fn data_block(hash: HashFunction, unused: usize, em: &[u8]) -> [u8; OCTETS]
     requires least { 130 ≤ length em.now }
     requires most { length em.now ≤ OCTETS }
@@ -93,7 +93,7 @@ fn data_block(hash: HashFunction, unused: usize, em: &[u8]) -> [u8; OCTETS]
 {
     let size = em.len() - hash.size() - 1;
     let seed = &em[size..size + hash.size()];
-    let mut octets = unmasked(hash, seed, &em[..size]);
+    let mut octets = without_mask(hash, seed, &em[..size]);
     octets[0] = (octets[0] as u16 % first_limit(unused)) as u8;
     octets
 }
@@ -104,7 +104,7 @@ fn is_zero(octets: &[u8]) -> bool
     octets.iter().all(|octet| *octet == 0)
 }
 
-// Whether octets are zeros and then a one.
+// Whether the octets are zeros and a final 0x01 (step 10).
 fn is_padding(octets: &[u8]) -> bool
     requires { 0 < length octets.now }
     ensures { IsTrue result
@@ -114,7 +114,7 @@ fn is_padding(octets: &[u8]) -> bool
     is_zero(&octets[..last]) && octets[last] == 1
 }
 
-// Whether octets are the digest of eight zeros, the message's digest and the salt.
+// Whether `found` is the digest of eight zeros, the message's digest and the salt (steps 12 to 14).
 fn is_salted_digest(hash: HashFunction, message: &[u8], salt: &[u8], found: &[u8]) -> bool
     ensures { IsTrue result
         ↔ (found.now
@@ -125,7 +125,7 @@ fn is_salted_digest(hash: HashFunction, message: &[u8], salt: &[u8], found: &[u8
     found == &expected[..hash.size()]
 }
 
-// Whether an encoding ends as it has to, and its unused bits are zero.
+// Whether an encoding ends in 0xbc, and its unused bits are zero (steps 4 and 6).
 fn has_ends(unused: usize, em: &[u8]) -> bool
     requires least { 130 ≤ length em.now }
     requires unused { unused < 8 }
@@ -148,7 +148,8 @@ fn is_encoding(hash: HashFunction, unused: usize, message: &[u8], em: &[u8]) -> 
     has_ends(unused, em) && is_padding(padding) && is_salted_digest(hash, message, salt, found)
 }
 
-// Whether the representative is that of an encoding of the message, for a modulus of so many bits.
+// Whether the representative is an encoding of the message as a number. `bits` is the number of
+// bits of the modulus.
 pub(crate) fn is_pss(
     hash: HashFunction,
     message: &[u8],

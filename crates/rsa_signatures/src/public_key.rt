@@ -1,4 +1,4 @@
-//! A public key, and the check of a signature by it.
+//! A public key, and the check of a signature with it.
 
 ghost use Rattle.std.specs.Prelude.{
   ⊤,
@@ -26,14 +26,14 @@ ghost use Rattle.rsa_signatures.specs.Signature.{IsSignature};
 ghost use Rattle.rsa_signatures.specs.private.KeyFields.{IsKey};
 
 use crate::key_error::RsaKeyError;
-use crate::octets::{LIMBS, OCTETS, filled};
+use crate::octets::{LIMBS, OCTETS, with_zeros};
 use crate::signature_scheme::SignatureScheme;
 use modular_arithmetic::{is_less, limb, negated_inverse, number, power, weight_square};
 use std::alloc::AllocError;
 use std::fmt;
 use std::marker::Model;
 
-/// A public key (RFC 8017, 3.1) of 2048 to 8192 bits. It takes no memory but its own.
+/// A public key (RFC 8017, 3.1) of 2048 to 8192 bits. It allocates nothing.
 #[derive(Drop)]
 pub struct RsaPublicKey {
     n: [u64; LIMBS],
@@ -85,7 +85,7 @@ impl fmt::Debug for RsaPublicKey {
     }
 }
 
-// The octets after the zeros in front.
+// The octets without the leading zeros.
 fn significant(bytes: &[u8]) -> &[u8]
     ensures number { number result.now ≡ number bytes.now }
     ensures first { 0 < length result.now → 0 < slice_index result.now 0 }
@@ -97,7 +97,7 @@ fn significant(bytes: &[u8]) -> &[u8]
     &bytes[start..]
 }
 
-// The exponent that octets hold, unless it is 2 ^ 64 or more.
+// The exponent that the octets hold; `None` if it is 2 ^ 64 or more.
 fn exponent_from_octets(bytes: &[u8]) -> Option<u64>
     ensures { MatchOption result (2 ^ 64 ≤ number bytes.now) (λ e. e ≡ number bytes.now) }
 {
@@ -125,7 +125,7 @@ fn is_long(bytes: &[u8]) -> bool
     bytes.len() > 1024
 }
 
-// The bits of the number that octets hold.
+// How many bits the number has that the octets hold.
 fn bits(bytes: &[u8]) -> usize
     requires some { 0 < length bytes.now }
     requires most { length bytes.now ≤ OCTETS }
@@ -140,7 +140,7 @@ fn bits(bytes: &[u8]) -> usize
 impl RsaPublicKey {
     /// The key with this modulus and this exponent, or its first fault. Both are octets, the
     /// highest first (RFC 8017, 4.2), as `n` and `e` of a JWK (RFC 7518, 6.3.1) hold them in
-    /// base64url. Zeros in front do not count.
+    /// base64url. Leading zeros are ignored.
     pub fn new(modulus: &[u8], exponent: &[u8]) -> Result<RsaPublicKey, RsaKeyError>
         ensures { result ≡ key_of (number modulus.now) (number exponent.now) }
     {
@@ -170,7 +170,7 @@ impl RsaPublicKey {
         Ok(RsaPublicKey {
             inverse: negated_inverse(n[0]),
             n,
-            octets: filled(bytes),
+            octets: with_zeros(bytes),
             square,
             exponent,
             size,
@@ -179,7 +179,7 @@ impl RsaPublicKey {
         })
     }
 
-    /// The modulus, the highest octet first, which is not 0.
+    /// The octets of the modulus, the highest first, without leading zeros.
     pub fn modulus(&self) -> &[u8]
         ensures number { number result.now ≡ self.now.modulus }
         ensures first { 0 < slice_index result.now 0 }
@@ -194,7 +194,7 @@ impl RsaPublicKey {
         self.exponent
     }
 
-    /// The octets of the modulus, which are as many as those of a signature.
+    /// The size of the modulus in octets, which is also that of a signature.
     pub fn size(&self) -> usize
         ensures { HasOctets self.now.modulus result }
     {

@@ -21,7 +21,7 @@ pub enum SignatureScheme {
 }
 
 impl SignatureScheme {
-    // Whether the representative is that of an encoding of the message.
+    // Whether the representative is an encoding of the message as a number.
     pub(crate) fn is_encoded(
         self,
         message: &[u8],

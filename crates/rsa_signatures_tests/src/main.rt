@@ -1,4 +1,4 @@
-//! Checks the signatures that standard input lists, and prints what comes of each line.
+//! Checks the signatures that standard input lists, and prints the result of each line.
 //!
 //! A line `key MODULUS EXPONENT` takes a key, and a line `ALGORITHM MESSAGE SIGNATURE` checks a
 //! signature by it, where ALGORITHM is a name of RFC 7518, 3.1, such as `RS256`. Octets are written
@@ -24,7 +24,7 @@ fn scheme_of(algorithm: &str) -> Option<SignatureScheme> {
     }
 }
 
-// The octets of a word; none where it is no hex.
+// The octets that a word is the hex of; none if it is not hex.
 fn octets_of(alloc: Global, word: Option<&str>) -> Vec<u8> {
     match hex::decode(alloc, word.unwrap_or("-")) {
         Ok(octets) => octets,

@@ -4,16 +4,16 @@ use Rattle.modular_arithmetic.specs.Limbs.{value_below}
 use Rattle.ecdsa_signatures.specs.Curve.{prime, Point, Infinity, Affine}
 use Rattle.ecdsa_signatures.specs.declared.point.AffinePoint.{AffinePoint}
 
--- the number of four limbs
+-- the number that four limbs hold
 abbrev pub value : List ℕ → ℕ
 value limbs = value_below limbs 4
 
--- the point that limbs hold, of which there are none for the point at infinity
+-- the point with these coordinates; `None` is the point at infinity
 abbrev pub point_of : Option AffinePoint → Point
 point_of None = Infinity
 point_of (Some p) = Affine (value p.x) (value p.y)
 
--- the coordinates are below p
+-- both coordinates are below p; the point at infinity has none
 abbrev pub IsReduced : Option AffinePoint → Type 0
 IsReduced None = ⊤
 IsReduced (Some p) = (value p.x < prime) × (value p.y < prime)

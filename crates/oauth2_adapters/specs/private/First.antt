@@ -1,8 +1,8 @@
--- The token that comes first.
+-- The first JSON token.
 use Rattle.std.specs.Prelude.{List, [], ◌∷◌, Bool, true, false}
 use Rattle.json.specs.Token.{Token}
 
--- a brace that opens an object
+-- the first token opens an object
 abbrev pub begins_with_brace : List Token → Bool
 begins_with_brace [] = false
 begins_with_brace (Token.begin_object ∷ ts) = true
@@ -16,7 +16,7 @@ begins_with_brace (Token.boolean b ∷ ts) = false
 begins_with_brace (Token.null ∷ ts) = false
 begins_with_brace (Token.bad ∷ ts) = false
 
--- a text that is a value
+-- the first token is a string as a value
 abbrev pub begins_with_text : List Token → Bool
 begins_with_text [] = false
 begins_with_text (Token.begin_object ∷ ts) = false

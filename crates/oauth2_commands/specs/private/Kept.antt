@@ -1,4 +1,4 @@
--- The keeper of a script, and one call of it.
+-- The keeper that the command holds, and one call of it.
 use Rattle.std.specs.Prelude.{◌≡◌, ℕ, ℤ, pos, ◌+ℤ◌, Bool, false, List, Option, Some, None, option_map, IsSomeAnd, Result, Ok, Err, if◌then◌else◌}
 use Rattle.oauth2.specs.Settings.{Settings}
 use Rattle.oauth2_keeper.specs.Keeper.{Keeper, Given}
@@ -19,30 +19,35 @@ use Rattle.oauth2_commands.specs.declared.script_keeper.ScriptKeeper.{ScriptKeep
 use Rattle.oauth2_commands.specs.declared.script_keeper.ScriptKeeper.TheVariants.{Plain, Waiting}
 use Rattle.oauth2_request_commands.specs.declared.status.RunStatus.{RunStatus}
 
+-- the state of a command with this keeper, this end of its wait and the replies that are left
 abbrev pub standing : Keeper → Option ℤ → ScriptedClient → Standing
 standing keeper waits_until client = record { keeper = keeper; waits_until = waits_until; replies = client_replies client }
 
--- the end of a wait after a request that failed at a moment
+-- when a wait ends after a request that failed at `failed_at`, in nanoseconds since 1970
 abbrev pub end_of_wait : ℕ → Option ℤ → Option ℤ
 end_of_wait wait failed_at = option_map (λ moment. moment +ℤ pos wait) failed_at
 
+-- the state of a command with a keeper that waits after failed requests
 abbrev pub patient_standing : Patient → ScriptedClient → Standing
 patient_standing patient client = standing patient.keeper (end_of_wait patient.wait patient.failed_at) client
 
+-- the keeper, the end of its wait and the replies that are left, as the command holds them
 abbrev pub standing_of : ScriptKeeper → ScriptedClient → Standing
 standing_of (Plain keeper) client = standing keeper None client
 standing_of (Waiting patient) client = patient_standing patient client
 
--- it waits so long after a request that failed, if at all, and hands out no token meanwhile
+-- the keeper waits `wait` nanoseconds after a failed request, or never if `None`; while it waits,
+-- it does not use its token beyond the margin
 abbrev pub WaitsFor : ScriptKeeper → Option ℕ → Type 0
 WaitsFor (Plain keeper) wait = wait ≡ None
 WaitsFor (Waiting patient) wait = (wait ≡ Some patient.wait) × (patient.until_end ≡ false)
 
--- the end of the wait after a call with this result
+-- when the wait ends after a call at `now` with this result, in nanoseconds since 1970
 abbrev pub wait_after : Option ℕ → Option ℤ → ℤ → Bool → Result Unit ShownFault → Option ℤ
 wait_after retry_after until now was_good (Ok done) = if was_good then until else None
 wait_after retry_after until now was_good (Err error) = if counts error then option_map (λ wait. now +ℤ pos wait) retry_after else until
 
+-- what a keeper takes from a token response that the code holds; the lifetime is in nanoseconds
 abbrev pub told_by : TokenSeen → Given
 told_by reply = given_in (token_meaning reply)
 
@@ -51,11 +56,11 @@ abbrev pub ShowsCall : List ℕ → List ℕ → RunStatus → Keeper → Result
 ShowsCall old new s kept (Ok done) = IsSomeAnd kept.token (λ token. AddsOutput old new s (success_output (quotation token.access_token)))
 ShowsCall old new s kept (Err fault) = AddsOutput old new s (fault_output error_seen fault)
 
--- what is shown of a keeper that has no good token: the fault of a request, or the end of a wait
+-- what is shown if the keeper has no good token: the fault of a request, or the end of a wait
 abbrev pub ShowsError : List ℕ → List ℕ → RunStatus → PatientError NoReply ErrorResponse → Type 0
 ShowsError old new s (Request fault) = AddsOutput old new s (fault_output error_seen fault)
 ShowsError old new s (Waits until) = (end : ℤ) → IsUntil end until → AddsOutput old new s (waiting end)
 
--- the calls at these moments of a new keeper
+-- the output of the calls of a new keeper at these moments
 abbrev pub AreKept : Settings → KeeperParams → List ℤ → List Reply → Output → Type 0
 AreKept client p moments replies o = (kept : Standing) × AreCalls p.retry_after (new_standing client p replies) moments o kept

@@ -1,4 +1,4 @@
-//! Why a run has no answer, and what it tells of that.
+//! Why a run has no answer, and what it prints then.
 
 ghost use Rattle.std.specs.Prelude.{◌≡◌};
 ghost use Rattle.oauth2_examples.specs.Fault.{fault_exit_status};
@@ -51,7 +51,8 @@ impl Fault {
         Fault::from(ReadError::at(alloc, name, cause))
     }
 
-    /// What this name stands for cannot be read.
+    /// The file or the variable with this name, or the file that this setting names, cannot be
+    /// read.
     pub fn unreadable(alloc: Global, name: &str) -> Fault {
         match String::from_str(alloc, name) {
             Ok(name) => Fault::Unreadable(name),
@@ -67,12 +68,13 @@ impl Fault {
         }
     }
 
-    /// The request got no answer, for a reason that its text tells.
+    /// The request got no answer. The text of `error` is the member `error` of the object.
     pub fn unanswered<E: Display>(alloc: Global, error: &E) -> Fault {
         Fault::told(error_value(alloc, error))
     }
 
-    /// The request got no answer, for one of the reasons that each request has.
+    /// The request got no answer. The object also has the cause and the reply where the text of the
+    /// error leaves them out.
     pub fn of_request<E: Display, R: Display + ToJson>(
         alloc: Global,
         error: &RequestTokenError<E, R>,
@@ -87,7 +89,7 @@ impl Fault {
         }
     }
 
-    /// The exit status: 2 if nothing was asked, and else 1.
+    /// The exit status: 2 if a setting is wrong or cannot be read, otherwise 1.
     pub fn status(&self) -> u8
         ensures { result ≡ fault_exit_status self.now }
     {
@@ -97,7 +99,7 @@ impl Fault {
         }
     }
 
-    /// The line that tells of the fault.
+    /// The line of JSON to print for the fault.
     pub fn line(&self, alloc: Global) -> Result<String, AllocError> {
         match self {
             Fault::Setting(error) => error_value(alloc, error)?.to_string(alloc),
@@ -115,13 +117,14 @@ impl Fault {
     }
 }
 
-// The text of an error as an object.
+// An object whose member `error` is the text of an error.
 fn error_value<E: Display>(alloc: Global, error: &E) -> Result<Value, AllocError> {
     let text = error.to_string(alloc)?;
     json!(in alloc; {"error": text})
 }
 
-// The text of an error; where it leaves out the cause, also the cause, and what the server said.
+// An object with the text of an error, and its cause and the server's reply where the text leaves
+// them out.
 fn request_value<E: Display, R: Display + ToJson>(
     alloc: Global,
     error: &RequestTokenError<E, R>,

@@ -13,7 +13,7 @@ use serde_json::{Value, json};
 use std::alloc::{AllocError, Global};
 use std::str;
 
-/// A GET of a URL, with a token if there is one.
+/// Makes a GET request to the setting `url`. The setting `token`, if set, is its Bearer token.
 pub fn get(settings: &mut Settings<'_>, http_client: &mut HttpClient) -> Result<Value, Fault> {
     let alloc = settings.alloc();
     let url: String = settings.needed("url")?;
@@ -43,7 +43,7 @@ fn get_request(alloc: Global, url: String) -> Result<HttpRequest, Fault> {
     }
 }
 
-// The credentials of a token. They are no field value if the token has a control character.
+// The value of the Authorization header. A token with a control character is refused.
 fn bearer(alloc: Global, token: &AccessToken) -> Result<HeaderValue, Fault> {
     let secret = token.secret();
     match HeaderValue::from_string(format!(in alloc; "Bearer {secret}")?) {
@@ -53,7 +53,7 @@ fn bearer(alloc: Global, token: &AccessToken) -> Result<HeaderValue, Fault> {
     }
 }
 
-// The status, the first Content-Type if it is ASCII, and the body.
+// The reply as an object: the status, the first Content-Type if it is ASCII, and the body.
 fn reply_value(alloc: Global, reply: &HttpResponse) -> Result<Value, AllocError> {
     let status = reply.status().as_u16() as u64;
     let content_type = content_type(alloc, reply)?;

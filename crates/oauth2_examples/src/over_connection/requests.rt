@@ -30,7 +30,7 @@ type RevocationClient = BasicClient<
     EndpointNotSet,
 >;
 
-// The answer as JSON, or why there is none.
+// The answer as JSON, or the fault for a failed request.
 fn answered<T: ToJson + Drop, E: Display + Drop, R: Display + ToJson + Drop>(
     alloc: Global,
     end: Result<T, RequestTokenError<E, R>>,
@@ -44,7 +44,7 @@ fn answered<T: ToJson + Drop, E: Display + Drop, R: Display + ToJson + Drop>(
     }
 }
 
-/// The client with its token endpoint.
+/// Makes the client of the settings, with the setting `token_url` as its token endpoint.
 pub fn token_client(settings: &mut Settings<'_>) -> Result<TokenClient, Fault> {
     let token_url = settings.needed("token_url")?;
     Ok(settings.client()?.set_token_uri(token_url))
@@ -127,7 +127,7 @@ fn exchange_refresh_token(
     answered(alloc, request.request(alloc, http_client))
 }
 
-/// What a token is worth (RFC 7662, section 2).
+/// Introspects a token: whether it is active, and its other members (RFC 7662, section 2).
 pub fn introspect(
     settings: &mut Settings<'_>,
     http_client: &mut HttpClient,
@@ -162,7 +162,7 @@ fn revoke_token(
     }
 }
 
-// What is told of a revocation, which has no answer of its own.
+// The answer to print for a revocation, whose reply has no members (RFC 7009, section 2.2).
 fn revoked<E: Display + Drop, R: Display + ToJson + Drop>(
     alloc: Global,
     end: Result<(), RequestTokenError<E, R>>,

@@ -27,7 +27,7 @@ pub type PlainClient = BasicClient<
     EndpointNotSet,
 >;
 
-/// The members of a file of settings that were not read yet, and the system that has the secrets.
+/// The members of a settings file that were not read yet, and the runtime that reads the secrets.
 #[derive(Drop)]
 pub struct Settings<'a> {
     rt: &'a HostRuntime,
@@ -54,12 +54,12 @@ impl<'a> Settings<'a> {
         }
     }
 
-    /// Where a run has its memory from.
+    /// The allocator of the run.
     pub fn alloc(&self) -> Global {
         self.rt.alloc()
     }
 
-    /// A member that has to be there.
+    /// Reads a required member, and removes it from the settings.
     pub fn needed<T: FromJson>(&mut self, name: &str) -> Result<T, ReadError>
         ensures { ReadsAs T.meaning result (needed_member T.reading name.now
             (get_member name.now (members_view self.old.members.entries))) }
@@ -68,7 +68,7 @@ impl<'a> Settings<'a> {
         members::needed(self.rt.alloc(), name, found)
     }
 
-    /// A member that may be absent or null.
+    /// Reads a member that may be absent or null, and removes it from the settings.
     pub fn optional<T: FromJson>(&mut self, name: &str) -> Result<Option<T>, ReadError>
         ensures { ReadsAs (option_map T.meaning) result (optional_member T.reading name.now
             (get_member name.now (members_view self.old.members.entries))) }
@@ -82,7 +82,7 @@ impl<'a> Settings<'a> {
         members::number_or(self.rt.alloc(), name, default, found)
     }
 
-    /// A list of texts, which is empty if it is absent.
+    /// Reads a list of texts, which is empty if the member is absent.
     pub fn texts(&mut self, name: &str) -> Result<Vec<String>, Fault> {
         let alloc = self.rt.alloc();
         let found = members::take(&mut self.members, name);
@@ -92,7 +92,7 @@ impl<'a> Settings<'a> {
         }
     }
 
-    /// The scopes, none if they are absent.
+    /// Reads the setting `scopes`, which is empty if it is absent.
     pub fn scopes(&mut self) -> Result<Vec<Scope>, Fault> {
         let mut scopes = Vec::new(self.rt.alloc());
         for text in self.texts("scopes")? {
@@ -101,7 +101,8 @@ impl<'a> Settings<'a> {
         Ok(scopes)
     }
 
-    /// The first line of the file that a member names, or else a variable of the environment.
+    /// Reads a secret: the first line of the file that the member `name` names; without that
+    /// member, the environment variable `variable`. `None` if neither is set.
     pub fn secret(&mut self, name: &str, variable: &str) -> Result<Option<String>, Fault> {
         let alloc = self.rt.alloc();
         let Some(path) = self.optional::<String>(name)? else {
@@ -123,7 +124,7 @@ impl<'a> Settings<'a> {
         }
     }
 
-    /// The password of the user.
+    /// The user's password, from the file `password_file` or the variable `OAUTH2_PASSWORD`.
     pub fn password(&mut self) -> Result<ResourceOwnerPassword, Fault> {
         match self.secret("password_file", "OAUTH2_PASSWORD")? {
             Some(password) => Ok(ResourceOwnerPassword::new(password)),
@@ -131,7 +132,7 @@ impl<'a> Settings<'a> {
         }
     }
 
-    // How the client shows its secret: in a header, unless the settings say otherwise.
+    // How the client sends its secret: in a header, unless the setting `auth` is `body`.
     fn auth_type(&mut self) -> Result<AuthType, Fault> {
         let Some(auth) = self.optional::<String>("auth")? else {
             return Ok(AuthType::BasicAuth);
@@ -156,7 +157,8 @@ impl<'a> Settings<'a> {
         Ok(client)
     }
 
-    /// How much of a reply is read.
+    /// The limits on a reply: `max_head` and `max_body` in bytes, and `max_reads`, the number of
+    /// reads.
     pub fn bounds(&mut self) -> Result<Bounds, Fault> {
         let default = Bounds::default();
         let max_head = self.number_or("max_head", default.limits.max_head_len as u64)?;

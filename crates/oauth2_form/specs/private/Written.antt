@@ -13,7 +13,7 @@ pub record IsEncodedText (text : List ℕ) : Type 0 where
   pub spelled : text ≡ byte_serialize (decode text)
   pub bytes : All IsByte (decode text)
 
--- the new text is written, and holds the pairs of both forms
+-- the new text is the encoding of the pairs of `a`, followed by those of `b`
 pub record JoinsForms (a b new : List ℕ) : Type 0 where
   pub written : IsWritten new
   pub pairs : parse new ≡ parse a ++ parse b

@@ -4,7 +4,7 @@ use Rattle.oauth2_form.specs.Pairs.{Pair}
 use Rattle.oauth2_form.specs.Params.{with_scope}
 use Rattle.oauth2_requests.specs.Base.{Base}
 
--- the scopes of a request, with more where there are more
+-- the scopes of a request with more scopes, if there are any
 abbrev pub with_more : Option (List ℕ) → Option (List ℕ) → Option (List ℕ)
 with_more scope None = scope
 with_more scope (Some more) = Some (with_scope scope more)

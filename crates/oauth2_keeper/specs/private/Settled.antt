@@ -1,4 +1,4 @@
--- What the answer to a keeper's request leaves.
+-- What a keeper keeps after the answer to its request.
 use Rattle.std.specs.Prelude.{◌≡◌, ℤ, true, Result, Ok, Err, List, ℕ}
 use Rattle.oauth2_wire.specs.declared.content_type.ReplyRule.{ReplyRule}
 use Rattle.oauth2_wire.specs.declared.error.RequestTokenError.{RequestTokenError}
@@ -7,7 +7,7 @@ use Rattle.oauth2_wire.specs.declared.error.RequestTokenError.TheVariants.{Memor
 use Rattle.oauth2_keeper.specs.Keeper.{Keeper, Given, accept, Renews}
 
 module _ {D T RE : Type 0} (told : D → Given) where
-  -- from what was kept before to the result and what is kept after
+  -- what a call returns and keeps, by the answer to its request
   abbrev pub Settles : Keeper → ℤ → Result D (RequestTokenError RE T) → Result Unit (RequestTokenError RE T) → Keeper → Type 0
   Settles before now (Ok reply) (Ok done) after = after ≡ accept before now (told reply)
   Settles before now (Ok reply) (Err error) after = (error ≡ Memory true) × (after ≡ before)
@@ -15,7 +15,7 @@ module _ {D T RE : Type 0} (told : D → Given) where
   Settles before now (Err fault) (Err error) after = (error ≡ fault) × (after ≡ before)
 
 module _ {D T RE C : Type 0} (asks : ReplyRule → (List ℕ → RequestView → Type 0) → List ℕ → C → Result D (RequestTokenError RE T) → C → Type 0) (told : D → Given) where
-  -- another token is asked for, and what the answer leaves
+  -- another token is requested, and what the call returns and keeps by the answer
   abbrev pub RenewsAndSettles : Keeper → ℤ → C → Result Unit (RequestTokenError RE T) → C → Keeper → Type 0
   RenewsAndSettles keeper now before result after kept =
       (answer : Result D (RequestTokenError RE T)) × Renews asks keeper before answer after × Settles told keeper now answer result kept

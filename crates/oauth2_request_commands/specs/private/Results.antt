@@ -1,4 +1,4 @@
--- What a run shows of the result of a request.
+-- What the output shows of the result of a request.
 use Rattle.std.specs.Prelude.{ℕ, List, Result, Ok, Err, codes}
 use Rattle.oauth2_codes.specs.Codes.{token_code}
 use Rattle.oauth2_codes.specs.ErrorCodes.{error_code, error_code_text, revocation_error_code, revocation_error_code_text}
@@ -16,36 +16,45 @@ use Rattle.oauth2_request_commands.specs.Out.{Output, success_output}
 use Rattle.oauth2_world.specs.declared.replay.NoReply.{NoReply}
 
 module _ {T : Type 0} (text : T → List ℕ) where
-  -- the end of a request, where the server's error is shown as `text`
+  -- what is shown of the result of a request; `text` displays the error response of the server
   abbrev pub end_output : {D : Type 0} → (D → Output) → Result D (RequestTokenError NoReply T) → Output
   end_output shown (Ok answer) = shown answer
   end_output shown (Err fault) = fault_output text fault
 
--- ---- a server that uses no extension
+-- ---- the types of the code for a server without extensions
 
+-- an error response, as the code holds it (RFC 6749, 5.2)
 abbrev pub ErrorResponse : Type 0
 ErrorResponse = StandardErrorResponse BasicErrorResponseType
 
+-- the error of a request of the scripted client, as the code holds it
 abbrev pub ShownFault : Type 0
 ShownFault = RequestTokenError NoReply ErrorResponse
 
+-- the text of an error response that the code holds (RFC 6749, 5.2)
 abbrev pub error_seen : ErrorResponse → List ℕ
 error_seen e = error_display error_code_text (parts_of error_code e)
 
+-- a token response without extension members, as contracts see the one that the code holds
 abbrev pub TokenSeen : Type 0
 TokenSeen = Token EmptyExtraTokenFields BasicTokenType
 
+-- a token response that the code holds, as the specification has it
 abbrev pub token_meaning : TokenSeen → BasicToken
 token_meaning t = token_seen (λ _. tt) token_code t
 
+-- an error response to a revocation request, as the code holds it (RFC 7009, 2.2.1)
 abbrev pub RevocationErrorResponse : Type 0
 RevocationErrorResponse = StandardErrorResponse RevocationErrorResponseType
 
+-- the error of a revocation request of the scripted client, as the code holds it
 abbrev pub RevocationFault : Type 0
 RevocationFault = RequestTokenError NoReply RevocationErrorResponse
 
+-- the text of an error response to a revocation request that the code holds (RFC 7009, 2.2.1)
 abbrev pub revocation_error_seen : RevocationErrorResponse → List ℕ
 revocation_error_seen e = error_display revocation_error_code_text (parts_of revocation_error_code e)
 
+-- what is shown of the result of a revocation request: `null`, or the fault
 abbrev pub revocation_output : Result Unit RevocationFault → Output
 revocation_output result = end_output revocation_error_seen (λ done. success_output (codes "null")) result

@@ -1,4 +1,4 @@
--- One try of a request that may be sent again.
+-- One try to send a request.
 use Rattle.std.specs.Prelude.{◌≡◌, ℕ, Bool, false, IsTrue, Result}
 use Rattle.std.specs.declared.time.Duration.{Duration}
 use Rattle.std.specs.Duration.{as_nanos}
@@ -9,7 +9,7 @@ use Rattle.oauth2_retries.specs.Answers.{is_repeatable}
 use Rattle.oauth2_retries.specs.Pause.{pause_after}
 
 module _ {C E : Type 0} (step : C → HttpRequest → Result HttpResponse E → C → Type 0) where
-  -- the request is sent again after this answer, and was waited for
+  -- the request may be sent again after this answer, and the client slept before that
   pub record SleepsAfter (sleeps : C → Duration → C → Type 0) (unsent : E → Bool) (most wait : ℕ)
       (request sent : HttpRequest) (before after : C) : Type 0 where
     pub answer : Result HttpResponse E
@@ -20,7 +20,7 @@ module _ {C E : Type 0} (step : C → HttpRequest → Result HttpResponse E → 
     pub time : as_nanos duration ≡ pause_after most wait answer
     pub slept : sleeps called duration after
 
-  -- it is not sent again after this answer
+  -- the request is not sent again after this answer
   abbrev pub Ends : (E → Bool) → HttpRequest → HttpRequest → C → Result HttpResponse E → C → Type 0
   Ends unsent request sent before answer after =
       step before sent answer after × (is_repeatable unsent (head_of request).method answer ≡ false)

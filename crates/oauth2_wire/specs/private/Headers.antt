@@ -4,11 +4,11 @@ use Rattle.http_header.specs.FieldValue.{FieldValue}
 use Rattle.http_header.specs.HeaderMap.{Entries}
 use Rattle.oauth2_wire.specs.Expected.{headers_before}
 
--- the header of a value that is there
+-- the Authorization header with this value, or no header without a value
 abbrev pub optional_authorization : Option FieldValue → Entries FieldValue
 optional_authorization None = []
 optional_authorization (Some value) = (codes "authorization", value ∷ []) ∷ []
 
--- every header
+-- every header of a request, in order
 abbrev pub headers_with : Option FieldValue → Entries FieldValue
 headers_with authorization = headers_before (optional_authorization authorization)

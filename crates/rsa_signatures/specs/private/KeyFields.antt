@@ -4,8 +4,8 @@ use Rattle.modular_arithmetic.specs.Octets.{number}
 use Rattle.rsa_signatures.specs.Octets.{HasBits, HasOctets}
 use Rattle.modular_arithmetic.specs.Limbs.{limb_weight, value_below}
 
--- the modulus n of so many limbs, octets and bits, those octets, the square of the weight above its
--- limbs, and what its lowest limb is multiplied by to be -1 modulo 2 ^ 64
+-- what the fields of a key hold: the modulus as `len` limbs and as `size` octets, the number of its
+-- bits, and two constants for Montgomery's method (`square` and `inverse`)
 pub record IsKey (n octets square : List ℕ) (inverse size bits len : ℕ) : Type 0 where
   pub low : 1 ≤ len
   pub high : len ≤ 128

@@ -10,8 +10,8 @@ returns-in-Ok c =
     IfOk-weaker c.ask.result _ _
     (λ status adds. λ fed.
     issuer_asked c.args.client.now (metadata_view c.args.params) (client_replies c.args.http_client.now) (string_bytes c.args.http_client.now.lines)
-    (string_bytes c.ask.new.http_client.lines) status c.in-Ok.request c.expecting-request.result c.in-Ok.ensures
-    (rw (c.expecting-request.ensures, c.set_reply_rule.ensures, c.reply_rule-rule.ensures) refl) (adds fed))
+    (string_bytes c.ask.new.http_client.lines) status c.in-Ok.request c.with_expected_issuer-request.result c.in-Ok.ensures
+    (rw (c.with_expected_issuer-request.ensures, c.set_reply_rule.ensures, c.reply_rule-rule.ensures) refl) (adds fed))
     c.ask.ensures
 
 pub returns-in-Err : goal.returns-in-Err

@@ -9,5 +9,5 @@ returns-clause-reads_back g c =
     let r = c.args.self.now in
     let T = g.T.FromJson in
     let writing = g.T.ToJson.writing in
-    if_written c.written.result (error_writing writing (parts_of (λ t. t) r)) (λ d. IsReadBack T.reading T.meaning writing r.error → error_reading T.reading d ≡ Ok (parts_of T.meaning r))
-    c.written.ensures (λ d w back. error_back T.reading T.meaning writing r.error (option_map string_bytes r.error_description) (option_map string_bytes r.error_uri) d w back)
+    if_written c.to_value.result (error_writing writing (parts_of (λ t. t) r)) (λ d. IsReadBack T.reading T.meaning writing r.error → error_reading T.reading d ≡ Ok (parts_of T.meaning r))
+    c.to_value.ensures (λ d w back. error_back T.reading T.meaning writing r.error (option_map string_bytes r.error_description) (option_map string_bytes r.error_uri) d w back)

@@ -10,7 +10,7 @@ returns-in-Expired-clause-turn g c = (
   Reading c.now-now.result ∷ [],
   (c.now-now.new.self, c.now-now.ensures.reads, refl),
   tt,
-  inl (late g.TR.FromJson.meaning (device_answer c.args.self.now.request.base.reply_rule g.TR.FromJson.reading) _ c.args.poll.now c.args.sent c.now-now.result c.expired.result (c.in-Expired.ensures.0 refl) c.expired.ensures),
+  inl (late g.TR.FromJson.meaning (device_answer c.args.self.now.request.base.reply_rule g.TR.FromJson.reading) _ c.args.poll.now c.args.sent c.now-now.result c.expired_token_error.result (c.in-Expired.ensures.0 refl) c.expired_token_error.ensures),
 )
 
 pub returns-in-Err-clause-turn : goal.returns-in-Err-clause-turn

@@ -11,7 +11,7 @@ returns-clause-kept g c =
     let V = g.M.Value.MemberValue in
     let F = g.Rest.FromJson in
     let w = g.Rest.ToJson.writing in
-    if_written c.written.result (with_member_writing name V.written w fields)
+    if_written c.to_value.result (with_member_writing name V.written w fields)
     (λ d. IsValueKept V.written fields.value → AreFieldsKept F.reading F.meaning w fields.rest → AreFieldsKept (with_member_reading name V.reading F.reading) (with_member_seen V.meaning F.meaning) (with_member_writing name V.written w) fields)
-    c.written.ensures (λ d h kept rest.
+    c.to_value.ensures (λ d h kept rest.
     members_again name V.reading V.meaning V.written F.reading F.meaning w fields d g.met.M.Value.MemberValue.reads_back h kept rest)

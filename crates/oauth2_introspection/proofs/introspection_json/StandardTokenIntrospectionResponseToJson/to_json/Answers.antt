@@ -11,5 +11,5 @@ returns-clause-reads_back g c =
     let T = g.TT.FromJson in
     let ew = g.EF.ToJson.writing in
     let tw = g.TT.ToJson.writing in
-    if_written c.written.result (introspection_writing ew tw r) (λ d. IsIntrospectionKept E.reading E.meaning ew T.reading T.meaning tw r → introspection_reading E.reading T.reading d ≡ Ok (introspection_seen E.meaning T.meaning r))
-    c.written.ensures.written (λ d h k. introspection_back E.reading E.meaning ew T.reading T.meaning tw r c.written.ensures.times d h k)
+    if_written c.to_value.result (introspection_writing ew tw r) (λ d. IsIntrospectionKept E.reading E.meaning ew T.reading T.meaning tw r → introspection_reading E.reading T.reading d ≡ Ok (introspection_seen E.meaning T.meaning r))
+    c.to_value.ensures.written (λ d h k. introspection_back E.reading E.meaning ew T.reading T.meaning tw r c.to_value.ensures.times d h k)

@@ -10,5 +10,5 @@ returns-clause-reads_back g c =
     let m = c.args.self.now in
     let E = g.EF.FromJson in
     let ew = g.EF.ToJson.writing in
-    if_written_and c.written.result (metadata_writing ew m) (AreAddresses m.endpoints) (λ d. AreFieldsKept E.reading E.meaning ew m.extra_fields → metadata_reading E.reading d ≡ Ok (metadata_seen E.meaning m))
-    c.written.ensures.written c.written.ensures.addresses (λ addresses d h k. metadata_back E.reading E.meaning ew m addresses d h k)
+    if_written_and c.to_value.result (metadata_writing ew m) (AreAddresses m.endpoints) (λ d. AreFieldsKept E.reading E.meaning ew m.extra_fields → metadata_reading E.reading d ≡ Ok (metadata_seen E.meaning m))
+    c.to_value.ensures.written c.to_value.ensures.addresses (λ addresses d h k. metadata_back E.reading E.meaning ew m addresses d h k)

@@ -10,7 +10,7 @@ returns-in-Ok-Ok-clause-once g c =
     let once = rw (ap (λ (r : MetadataQuery). r.reply_rule) c.self.view_is, c.in-Ok-Ok.field-0-is) at c.in-Ok-Ok.ensures.once in
     let named = c.as_str.ensures.value ∙ ap (λ (r : MetadataQuery). r.issuer) c.self.view_is in (
       Ok (Ok m),
-      subst (λ issuer. IsChecked issuer m (endpoint_fault m.endpoints) c.checked.result) named c.checked.ensures,
+      subst (λ issuer. IsChecked issuer m (endpoint_fault m.endpoints) c.check_metadata.result) named c.check_metadata.ensures,
       (prepared.result, prepared.ensures.ok, prepared.ensures.not_http, once),
     )
 

@@ -3,7 +3,7 @@ use Rattle.std.specs.Prelude.{codes}
 use Rattle.oauth2_form.specs.Pairs.{Pair, form}
 use Rattle.oauth2_form.specs.Query.{query_form}
 use Rattle.oauth2_redirect.specs.Query.{sole_text}
-use Rattle.oauth2_redirect.specs.Redirect.{MayWantMemory, RedirectRefusal, answer, is_state}
+use Rattle.oauth2_redirect.specs.Redirect.{MayWantMemory, RedirectErrorView, answer, is_state}
 use Rattle.oauth2_redirect.specs.declared.redirect.RedirectError.TheVariants.{Memory, OtherState}
 use Rattle.oauth2_openid_login.specs.End.{EndsOpenIdLogin}
 use Rattle.oauth2_openid_login.specs.declared.login_error.OpenIdLoginError.TheVariants.{Redirect}
@@ -23,7 +23,7 @@ returns-clause-other_state g c =
 pub returns-clause-no_code : goal.returns-clause-no_code
 returns-clause-no_code g c =
     let same : form c.query_of-query.result.now ≡ query_form c.args.redirect.now = c.query_of-query.ensures in
-    subst (λ (pairs : List Pair). (why : RedirectRefusal) → answer c.args.self.login.state (redirect_issuer c.args.provider.now) pairs ≡ Err why → c.finish_query.new.http_client ≡ c.args.http_client.now) same c.finish_query.ensures.no_code
+    subst (λ (pairs : List Pair). (why : RedirectErrorView) → answer c.args.self.login.state (redirect_issuer c.args.provider.now) pairs ≡ Err why → c.finish_query.new.http_client ≡ c.args.http_client.now) same c.finish_query.ensures.no_code
 
 pub returns-clause-memory : goal.returns-clause-memory
 returns-clause-memory g c =

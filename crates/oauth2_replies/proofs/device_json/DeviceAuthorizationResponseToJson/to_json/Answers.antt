@@ -10,5 +10,5 @@ returns-clause-reads_back g c =
     let r = c.args.self.now in
     let E = g.EF.FromJson in
     let ew = g.EF.ToJson.writing in
-    if_written c.written.result (device_writing ew r) (λ d. AreFieldsKept E.reading E.meaning ew r.extra_fields → device_reading E.reading d ≡ Ok (device_seen E.meaning r))
-    c.written.ensures.written (λ d h k. device_back E.reading E.meaning ew r c.written.ensures.address d h k)
+    if_written c.to_value.result (device_writing ew r) (λ d. AreFieldsKept E.reading E.meaning ew r.extra_fields → device_reading E.reading d ≡ Ok (device_seen E.meaning r))
+    c.to_value.ensures.written (λ d h k. device_back E.reading E.meaning ew r c.to_value.ensures.address d h k)

@@ -7,4 +7,4 @@ use Rattle.oauth2_replies.proofs.revocation.StandardRevocableTokenToJson.to_json
 pub returns-clause-reads_back : goal.returns-clause-reads_back
 returns-clause-reads_back c =
     let token = c.args.self.now in
-    if_written c.written.result (revocable_writing token) (λ d. revocable_reading d ≡ Ok token) c.written.ensures (read_again token)
+    if_written c.to_value.result (revocable_writing token) (λ d. revocable_reading d ≡ Ok token) c.to_value.ensures (read_again token)

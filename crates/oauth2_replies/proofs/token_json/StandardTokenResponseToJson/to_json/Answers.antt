@@ -11,5 +11,5 @@ returns-clause-reads_back g c =
     let T = g.TT.FromJson in
     let ew = g.EF.ToJson.writing in
     let tw = g.TT.ToJson.writing in
-    if_written c.written.result (token_writing ew tw r) (λ d. IsTokenKept E.reading E.meaning ew T.reading T.meaning tw r → token_reading E.reading T.reading d ≡ Ok (token_seen E.meaning T.meaning r))
-    c.written.ensures (λ d h k. token_back E.reading E.meaning ew T.reading T.meaning tw r d h k)
+    if_written c.to_value.result (token_writing ew tw r) (λ d. IsTokenKept E.reading E.meaning ew T.reading T.meaning tw r → token_reading E.reading T.reading d ≡ Ok (token_seen E.meaning T.meaning r))
+    c.to_value.ensures (λ d h k. token_back E.reading E.meaning ew T.reading T.meaning tw r d h k)

@@ -10,8 +10,8 @@ returns-clause-step g c =
     let unsent = g.C.Error.TellsUnsent.unsent in
     let client_is : c.self.inside.client ≡ c.args.self.now.client = ap (λ r. r.client) c.self.view_is in
     let limits_is : limits_of c.self.inside.limits ≡ c.args.self.now.limits = ap (λ r. r.limits) c.self.view_is in
-    let made = c.repeated-answer.ensures.calls in (
-      subst (λ limits. Repeats step sleeps unsent limits c.args.self.now.client c.args.request c.repeated-answer.result.0 c.repeated-answer.new.client c.repeated-answer.result.1) limits_is
-          (subst (λ client. Repeats step sleeps unsent (limits_of c.self.inside.limits) client c.args.request c.repeated-answer.result.0 c.repeated-answer.new.client c.repeated-answer.result.1) client_is made),
+    let made = c.call_repeatedly-answer.ensures.calls in (
+      subst (λ limits. Repeats step sleeps unsent limits c.args.self.now.client c.args.request c.call_repeatedly-answer.result.0 c.call_repeatedly-answer.new.client c.call_repeatedly-answer.result.1) limits_is
+          (subst (λ client. Repeats step sleeps unsent (limits_of c.self.inside.limits) client c.args.request c.call_repeatedly-answer.result.0 c.call_repeatedly-answer.new.client c.call_repeatedly-answer.result.1) client_is made),
       limits_is,
     )

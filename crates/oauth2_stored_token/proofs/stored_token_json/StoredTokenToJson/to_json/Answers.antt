@@ -7,5 +7,5 @@ use Rattle.oauth2_stored_token.proofs.stored_token_json.StoredTokenToJson.to_jso
 pub returns-clause-reads_back : goal.returns-clause-reads_back
 returns-clause-reads_back c =
     let s = c.args.self.now in
-    if_written c.written.result (stored_writing s) (λ d. stored_reading d ≡ Ok s) (search rules)
+    if_written c.stored_value.result (stored_writing s) (λ d. stored_reading d ≡ Ok s) (search rules)
     (λ d is. stored_back s (search rules) (search rules) d is)

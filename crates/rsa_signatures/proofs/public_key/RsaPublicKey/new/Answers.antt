@@ -72,8 +72,8 @@ weight_square-square-requires c =
     let above = ltb-false (number bs) least_modulus (sym c.is_short.ensures ∙ c.if-is_short.false) in
     (lit< tt, (omega arith, (omega arith, rw c.number-n.ensures (lt_of_lt_of_le least_modulus-above_one above))))
 
-pub filled-requires : goal.filled-requires
-filled-requires c =
+pub with_zeros-requires : goal.with_zeros-requires
+with_zeros-requires c =
     let bs = c.significant-bytes.result.now in
     let most = size_greatest bs c.significant-bytes.ensures.first (sym c.is_long.ensures ∙ c.if-is_long.false) in
     omega arith
@@ -99,7 +99,7 @@ invariant_of-result c =
     let sized : HasOctets (number bs) (length bs) = has_bytes bs bytes c.significant-bytes.ensures.first (omega arith) in
     let parity = value_below-parity c.number-n.result c.div_ceil-len.result (omega arith) in
     let some : 0 < length bs = omega arith in
-    let first-is : get_or bs 0 0 ≡ get_or c.filled.result 0 0 = ap (λ t. get_or t 0 0) (sym c.filled.ensures) ∙ get_or-take (length bs) c.filled.result 0 0 some in
+    let first-is : get_or bs 0 0 ≡ get_or c.with_zeros.result 0 0 = ap (λ t. get_or t 0 0) (sym c.with_zeros.ensures) ∙ get_or-take (length bs) c.with_zeros.result 0 0 some in
     let first : 0 < get_or bs 0 0 = c.significant-bytes.ensures.first some in
     record {
       low = omega arith;
@@ -110,7 +110,7 @@ invariant_of-result c =
       least_bits = omega (arith, c.bits.ensures.least);
       most_bits = omega (arith, c.bits.ensures.most);
       has_bits = rw c.number-n.ensures c.bits.ensures.has_bits;
-      octets_are = ap number c.filled.ensures ∙ sym c.number-n.ensures;
+      octets_are = ap number c.with_zeros.ensures ∙ sym c.number-n.ensures;
       first_octet = omega arith;
       odd = parity ∙ omega (arith, c.if-n-eq0.false);
       inverse_is = c.negated_inverse.ensures;
@@ -132,4 +132,4 @@ returns c =
     let taken = key_of-taken (number c.args.modulus.now) (number c.args.exponent.now) good (lt-leb (2 ^ 64) (number c.args.exponent.now) fits) (le-ltb (number c.args.exponent.now) 3 least-e)
     (ne_eqb (number c.args.exponent.now % 2) 0 (λ z. c.if-exponent-eq0.false (ap (λ t. t % 2) is ∙ z))) in
     let key : ℕ → ℕ → Result PublicKey RsaKeyError = λ t u. Ok (record { modulus = t; exponent = u }) in
-    ap (λ t. key t c.in-Some.exponent) (ap number c.filled.ensures ∙ c.significant-bytes.ensures.number) ∙ ap (key (number c.args.modulus.now)) is ∙ sym taken
+    ap (λ t. key t c.in-Some.exponent) (ap number c.with_zeros.ensures ∙ c.significant-bytes.ensures.number) ∙ ap (key (number c.args.modulus.now)) is ∙ sym taken

@@ -6,7 +6,7 @@ use Rattle.hash_functions.specs.HashFunction.{hashed, hash_size}
 use Rattle.rsa_signatures.specs.Octets.{octets_of}
 use Rattle.rsa_signatures.specs.Pss.{mgf1}
 use Rattle.rsa_signatures.proofs.Masks.{mask_octet, mgf1-at, length-mgf1, same_block, xored_is}
-use Rattle.rsa_signatures.proofs.pss.unmasked.Goals as goal
+use Rattle.rsa_signatures.proofs.pss.without_mask.Goals as goal
 
 pub loop-i-init : goal.loop-i-init
 loop-i-init c = record {

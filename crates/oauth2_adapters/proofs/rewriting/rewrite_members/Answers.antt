@@ -1,6 +1,6 @@
 use Rattle.std.proofs.Common.{option_map, sym, ap, ◌∙◌}
 use Rattle.oauth2_adapters.proofs.RewritingTurns.{not_opened, finished, unfinished}
-use Rattle.oauth2_adapters.proofs.rewriting.rewritten.Goals as goal
+use Rattle.oauth2_adapters.proofs.rewriting.rewrite_members.Goals as goal
 
 pub returns-then-not-opens_object-clause-value : goal.returns-then-not-opens_object-clause-value
 returns-then-not-opens_object-clause-value g c = sym (not_opened (g.M.MemberChange.change c.args.change.now) c.args.reader.now (sym c.if-not-opens_object.ensures.found))

@@ -1,5 +1,5 @@
 use Rattle.std.proofs.Common.{Ok, Err, inl, refl}
-use Rattle.oauth2_redirect.proofs.login.Login.exchanged.Goals as goal
+use Rattle.oauth2_redirect.proofs.login.Login.exchange_for_login.Goals as goal
 
 pub returns-in-Ok-clause-end : goal.returns-in-Ok-clause-end
 returns-in-Ok-clause-end g c = inl (c.args.code, refl, Ok c.in-Ok.token, refl, c.in-Ok.ensures.once)

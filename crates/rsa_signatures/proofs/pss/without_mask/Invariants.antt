@@ -2,7 +2,7 @@ use Rattle.std.proofs.Common.{◌≡◌, ℕ, ◌/◌, ◌%◌, ◌<◌, ◌++�
 use Rattle.hash_functions.specs.HashFunction.{hashed, hash_size}
 use Rattle.rsa_signatures.specs.Octets.{octets_of}
 use Rattle.rsa_signatures.proofs.Masks.{mask_octet}
-use Rattle.rsa_signatures.proofs.pss.unmasked.Given as goal
+use Rattle.rsa_signatures.proofs.pss.without_mask.Given as goal
 
 abbrev pub invariant-loop-i : goal.invariant-loop-i
 invariant-loop-i l = record {

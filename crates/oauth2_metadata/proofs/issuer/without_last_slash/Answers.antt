@@ -2,7 +2,7 @@ use Rattle.std.proofs.Common.{◌≡◌, ◌≢◌, ℕ, List, [], ◌∷◌, �
 use Rattle.std.proofs.lemmas.Str.Pattern.{strip_suffix_char}
 use Rattle.oauth2_metadata.specs.Issuer.{trimmed}
 use Rattle.oauth2_metadata.proofs.PlaceLaws.{trimmed-slash, trimmed-other}
-use Rattle.oauth2_metadata.proofs.issuer.trimmed.Goals as goal
+use Rattle.oauth2_metadata.proofs.issuer.without_last_slash.Goals as goal
 
 cut : (path : Bor (List ℕ)) (r : Option (Bor (List ℕ))) → MatchOption r ((front : List ℕ) → path.now ≢ front ++ (47 ∷ [])) (λ x. path.now ≡ x.now ++ (47 ∷ [])) → (unwrap_or r path).now ≡ trimmed path.now
 cut path None h = sym (trimmed-other path.now h)

@@ -1,5 +1,5 @@
 use Rattle.std.proofs.Common.{◌≡◌, ℕ, ◌<◌, ◌≤◌, length, get_or, bit_xor}
-use Rattle.hmac_signatures.proofs.hmac.padded.Given as goal
+use Rattle.hmac_signatures.proofs.hmac.padded_key.Given as goal
 
 abbrev pub invariant-loop-i : goal.invariant-loop-i
 invariant-loop-i l = record {

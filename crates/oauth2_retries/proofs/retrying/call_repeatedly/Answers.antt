@@ -3,7 +3,7 @@ use Rattle.std.specs.Prelude.{min}
 use Rattle.std.specs.Duration.{as_nanos, max_nanos}
 use Rattle.oauth2_retries.specs.Limits.{limits_of}
 use Rattle.oauth2_retries.proofs.Turns.{none_yet, one_more, cut_short, answered, spent}
-use Rattle.oauth2_retries.proofs.retrying.repeated.Goals as goal
+use Rattle.oauth2_retries.proofs.retrying.call_repeatedly.Goals as goal
 
 pub tries-init : goal.tries-init
 tries-init g c = record {

@@ -2,7 +2,7 @@ use Rattle.std.proofs.Common.{◌≡◌, ◌<◌, length, ◌∙◌, arith, inl,
 use Rattle.std.proofs.lemmas.List.{get_or-replicate, length-replicate}
 use Rattle.std.proofs.lemmas.Bool.{cases_lt}
 use Rattle.hmac_signatures.proofs.Keys.{pad_is}
-use Rattle.hmac_signatures.proofs.hmac.padded.Goals as goal
+use Rattle.hmac_signatures.proofs.hmac.padded_key.Goals as goal
 
 pub loop-i-init : goal.loop-i-init
 loop-i-init c = record {

@@ -1,7 +1,7 @@
 use Rattle.std.specs.Duration.{as_nanos}
 use Rattle.oauth2_retries.specs.Limits.{limits_of}
 use Rattle.oauth2_retries.proofs.Turns.{SoFar}
-use Rattle.oauth2_retries.proofs.retrying.repeated.Given as goal
+use Rattle.oauth2_retries.proofs.retrying.call_repeatedly.Given as goal
 
 abbrev pub invariant-tries : goal.invariant-tries
 invariant-tries g l = record {
