@@ -20,7 +20,7 @@ ghost use Rattle.std.specs.Duration.{as_nanos};
 ghost use Rattle.oauth2_poll.specs.Pacing.{ClockIsHonest, SleepsArePaced, requests_in};
 ghost use Rattle.oauth2_poll.specs.Run.{event_of};
 ghost use Rattle.oauth2_urls.specs.Addressed.{Addressed};
-ghost use Rattle.oauth2_device.specs.DeviceToken.{seconds};
+ghost use Rattle.oauth2_device.specs.DeviceToken.{nanos_of_seconds};
 ghost use Rattle.oauth2_device.specs.Events.{ClientLeads, EachRequest, Event, SleepLeads};
 ghost use Rattle.oauth2_device.specs.Poll.{IsDeviceRequest, device_answer, plain};
 ghost use Rattle.oauth2.specs.NewRequest.{new_device_token_request};
@@ -85,7 +85,7 @@ pub fn device_token<C: SyncHttpClient, F: FnMut() -> Timestamp + Drop, S: FnMut(
         × SleepLeads (λ s d v. S.step s d tt v) sleep_fn.old e sleep_fn.new
         × EachRequest
         (IsDeviceRequest (new_device_token_request client.now endpoint response.now)) e
-        × SleepsArePaced (seconds response.now.interval) (seconds 10)
+        × SleepsArePaced (nanos_of_seconds response.now.interval) (nanos_of_seconds 10)
         (plain
         (device_answer client.now.reply_rule ⟦<BasicTokenResponse as FromJson>⟧.reading) e) }
     ensures sleep { S.IsAlwaysCallable sleep_fn.new }

@@ -1,22 +1,16 @@
 //! Tests of the replies of servers, and of what a program reads from them.
 
 use oauth2::basic::BasicClient;
-use oauth2::http::response::Parts;
-use oauth2::http::{Response, StatusCode};
-use oauth2::{
-    AuthorizationCode, Client, ClientId, ConfigurationError, HttpRequest, HttpResponse,
-    SyncHttpClient, compact, read_body,
-};
+use oauth2::{AuthorizationCode, Client, ClientId, ConfigurationError, compact};
 use oauth2_metadata::{
     Endpoint, EndpointCause, EndpointError, EndpointFault, MetadataError, MetadataRequest,
     ServerMetadata,
 };
-use std::process::Abort;
-
-// Makes a text whose bytes proofs do not see.
-fn text(rt: &(impl Abort + AllocGlobal), text: &str) -> String {
-    String::from_str(rt.alloc(), text).expect(rt, "a text")
-}
+use oauth2_tests_support::{
+    NoReply, OneReply, check_display, check_equal, check_text, check_written, read, text,
+};
+use std::alloc::{AllocError, Global};
+use std::test::Fail;
 
 // The example of RFC 8414, section 3.2.
 const EXAMPLE: &str = r#"{"issuer":"https://server.example.com",
@@ -32,131 +26,92 @@ const EXAMPLE: &str = r#"{"issuer":"https://server.example.com",
 "service_documentation":"http://server.example.com/service_documentation.html",
 "ui_locales_supported":["en-US","en-GB","en-CA","fr-FR","fr-CA"]}"#;
 
-// An HTTP client that returns one reply, and counts its calls.
-#[derive(Drop)]
-struct Canned {
-    calls: u8,
-    reply: Option<HttpResponse>,
+// Requests the metadata of the example's issuer.
+fn request(
+    alloc: Global,
+    http_client: &mut OneReply,
+) -> Result<Result<ServerMetadata, MetadataError<NoReply>>, Fail> {
+    let issuer = text(alloc, "https://server.example.com")?;
+    Ok(MetadataRequest::new(alloc, issuer)?.request(alloc, http_client))
 }
 
-impl SyncHttpClient for Canned {
-    type Error = ();
-
-    fn call(&mut self, request: HttpRequest) -> Result<HttpResponse, ()> {
-        self.calls = self.calls.saturating_add(1);
-        drop(request);
-        self.reply.take().ok_or(())
-    }
-}
-
-fn answering(rt: &(impl Abort + AllocGlobal), status: u16, body: &str) -> Canned {
-    let alloc = rt.alloc();
-    let mut head = Parts::new(alloc);
-    head.status = StatusCode::from_u16(status).expect(rt, "a status");
-    let body = body.as_bytes().to_vec(alloc).expect(rt, "a body");
-    Canned {
-        calls: 0,
-        reply: Some(Response::from_parts(head, body)),
-    }
-}
-
-fn asked(
-    rt: &(impl Abort + AllocGlobal),
-    issuer: &str,
-    client: &mut Canned,
-) -> Result<ServerMetadata, MetadataError<()>> {
-    let alloc = rt.alloc();
-    let request = MetadataRequest::new(alloc, text(rt, issuer)).expect(rt, "an issuer");
-    request.request(alloc, client)
-}
-
-#[test]
-fn example(rt: HostRuntime) {
-    let alloc = rt.alloc();
-    let mut http_client = answering(&rt, 200, EXAMPLE);
-    let metadata = asked(&rt, "https://server.example.com", &mut http_client)
-        .ok()
-        .expect(&rt, "metadata");
-    assert!(rt; http_client.calls == 1);
-    assert_eq!(rt; metadata.issuer(), "https://server.example.com");
-    let keys = metadata.jwks_uri().expect(&rt, "a URL");
-    assert_eq!(rt; keys, "https://server.example.com/jwks.json");
-    let languages = metadata.ui_locales_supported().expect(&rt, "languages");
-    assert!(rt; languages.len() == 5);
-    assert!(rt; metadata.grant_types_supported().is_none());
-    assert!(rt; !metadata.authorization_response_iss_parameter_supported());
+// Checks the members of the example.
+fn check_example(metadata: &ServerMetadata) -> Result<(), Fail> {
+    check_text(metadata.issuer(), "https://server.example.com")?;
+    let keys = metadata.jwks_uri().unwrap_or("");
+    check_text(keys, "https://server.example.com/jwks.json")?;
+    let languages = metadata.ui_locales_supported().ok_or("no languages")?;
+    check_equal(languages.len(), 5)?;
+    check_equal(metadata.grant_types_supported().is_none(), true)?;
+    check_equal(
+        metadata.authorization_response_iss_parameter_supported(),
+        false,
+    )?;
     let user = metadata
         .extra_fields()
         .text("userinfo_endpoint")
-        .expect(&rt, "a URL");
-    assert_eq!(rt; user, "https://server.example.com/userinfo");
-
-    // The metadata is written as JSON that is read as the same metadata.
-    let written = compact(alloc, &metadata).ok().expect(&rt, "JSON");
-    let again: ServerMetadata = read_body(alloc, written.as_bytes())
-        .ok()
-        .expect(&rt, "metadata");
-    let second = compact(alloc, &again).ok().expect(&rt, "JSON");
-    assert_eq!(rt; second.as_str(), written.as_str());
+        .unwrap_or("");
+    check_text(user, "https://server.example.com/userinfo")
 }
 
 #[test]
-fn endpoints(rt: HostRuntime) {
+fn example(rt: HostRuntime) -> Result<(), Fail> {
+    let mut http_client = OneReply::with_body(rt.alloc(), 200, EXAMPLE)?;
+    let metadata = request(rt.alloc(), &mut http_client)??;
+    check_equal(http_client.calls, 1)?;
+    check_example(&metadata)?;
+
+    // The metadata is written as JSON that is read as the same metadata.
+    let written = compact(rt.alloc(), &metadata)?;
+    let again: ServerMetadata = read(rt.alloc(), written.as_str())?;
+    check_written(rt.alloc(), &again, written.as_str())
+}
+
+fn new_client(alloc: Global) -> Result<BasicClient, AllocError> {
+    Ok(Client::new(ClientId::new(text(alloc, "aaa")?)))
+}
+
+#[test]
+fn endpoints(rt: HostRuntime) -> Result<(), Fail> {
     let alloc = rt.alloc();
-    let metadata: ServerMetadata = read_body(alloc, text(&rt, EXAMPLE).as_bytes())
-        .ok()
-        .expect(&rt, "metadata");
-    let client = metadata
-        .endpoints_of(alloc, new_client(&rt))
-        .expect(&rt, "a client");
-    let token = client.token_uri().expect(&rt, "a URL");
-    assert_eq!(rt; token.as_str(), "https://server.example.com/token");
-    let code = AuthorizationCode::new(text(&rt, "abc"));
-    assert!(rt; client.exchange_code(alloc, code).is_ok());
+    let metadata: ServerMetadata = read(alloc, EXAMPLE)?;
+    let client = metadata.endpoints_of(alloc, new_client(alloc)?)?;
+    let token = client.token_uri().ok_or("no URL")?;
+    check_text(token.as_str(), "https://server.example.com/token")?;
+    let code = AuthorizationCode::new(text(alloc, "abc")?);
+    check_equal(client.exchange_code(alloc, code).is_ok(), true)?;
     match client.exchange_device_code(alloc) {
-        Err(ConfigurationError::MissingUrl(name)) => {
-            assert_eq!(rt; name, "device authorization");
-        }
-        _ => panic!(rt; "an endpoint that is not told"),
+        Err(ConfigurationError::MissingUrl(name)) => check_text(name, "device authorization"),
+        _ => Err(Fail::new("an endpoint that is not told")),
     }
 }
 
-fn new_client(rt: &(impl Abort + AllocGlobal)) -> BasicClient {
-    Client::new(ClientId::new(text(rt, "aaa")))
-}
-
 #[test]
-fn clients_for_a_task(rt: HostRuntime) {
+fn clients_for_a_task(rt: HostRuntime) -> Result<(), Fail> {
     let alloc = rt.alloc();
-    let metadata: ServerMetadata = read_body(alloc, text(&rt, EXAMPLE).as_bytes())
-        .ok()
-        .expect(&rt, "metadata");
-    let client = metadata
-        .login_client_of(alloc, new_client(&rt))
-        .expect(&rt, "a client");
-    let auth = client.auth_uri().as_str();
-    assert_eq!(rt; auth, "https://server.example.com/authorize");
-    assert_eq!(rt;
+    let metadata: ServerMetadata = read(alloc, EXAMPLE)?;
+    let client = metadata.login_client_of(alloc, new_client(alloc)?)?;
+    check_text(
+        client.auth_uri().as_str(),
+        "https://server.example.com/authorize",
+    )?;
+    check_text(
         client.token_uri().as_str(),
-        "https://server.example.com/token"
-    );
-    let client = metadata
-        .token_client_of(alloc, new_client(&rt))
-        .expect(&rt, "a client");
-    assert_eq!(rt;
+        "https://server.example.com/token",
+    )?;
+    let client = metadata.token_client_of(alloc, new_client(alloc)?)?;
+    check_text(
         client.token_uri().as_str(),
-        "https://server.example.com/token"
-    );
-    let error = metadata
-        .device_client_of(alloc, new_client(&rt))
-        .err()
-        .expect(&rt, "an error");
-    assert!(rt; error == EndpointError::Missing(Endpoint::DeviceAuthorization));
-    let told = format!(in alloc; "{error}").expect(&rt, "a text");
-    assert_eq!(rt;
-        told.as_str(),
-        "metadata has no device_authorization_endpoint"
-    );
+        "https://server.example.com/token",
+    )?;
+    let client = metadata.device_client_of(alloc, new_client(alloc)?);
+    let error = client.err().ok_or("no error")?;
+    check_equal(error, EndpointError::Missing(Endpoint::DeviceAuthorization))?;
+    check_display(
+        alloc,
+        &error,
+        "metadata has no device_authorization_endpoint",
+    )
 }
 
 // Endpoints that no client may call (RFC 6749, sections 3.1 and 3.2; RFC 7009, section 2).
@@ -194,16 +149,15 @@ const REFUSED: [(&str, Endpoint, EndpointCause); 6] = [
 ];
 
 #[test]
-fn refused_endpoints(rt: HostRuntime) {
+fn refused_endpoints(rt: HostRuntime) -> Result<(), Fail> {
     let alloc = rt.alloc();
     for (body, endpoint, cause) in REFUSED {
         let fault = EndpointFault { endpoint, cause };
-        let metadata: ServerMetadata = read_body(alloc, text(&rt, body).as_bytes())
-            .ok()
-            .expect(&rt, "metadata");
-        let error = metadata.login_client_of(alloc, new_client(&rt)).err();
-        assert!(rt; error == Some(EndpointError::Refused(fault)));
+        let metadata: ServerMetadata = read(alloc, body)?;
+        let error = metadata.login_client_of(alloc, new_client(alloc)?).err();
+        check_equal(error, Some(EndpointError::Refused(fault)))?;
     }
+    Ok(())
 }
 
 // Replies that are errors by their status (RFC 8414, section 3.2; RFC 9110, section 15.4).
@@ -216,15 +170,16 @@ const STATUSES: [(u16, &str); 5] = [
 ];
 
 #[test]
-fn statuses(rt: HostRuntime) {
+fn statuses(rt: HostRuntime) -> Result<(), Fail> {
     for (status, body) in STATUSES {
-        let mut http_client = answering(&rt, status, body);
-        match asked(&rt, "https://server.example.com", &mut http_client) {
+        let mut http_client = OneReply::with_body(rt.alloc(), status, body)?;
+        match request(rt.alloc(), &mut http_client)? {
             Err(MetadataError::Status(reply)) => {
-                assert!(rt; reply.status == status);
-                assert_eq!(rt; reply.body.as_slice(), body.as_bytes());
+                check_equal(reply.status, status)?;
+                check_equal(reply.body.as_slice(), body.as_bytes())?;
             }
-            _ => panic!(rt; "a status"),
+            _ => return Err(Fail::new("no status")),
         }
     }
+    Ok(())
 }

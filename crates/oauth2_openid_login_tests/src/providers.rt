@@ -1,11 +1,11 @@
 //! Tests of providers whose ID tokens have several issuers, audiences or authorized parties.
 
-use crate::ends::{Ended, STORED, answering, line, response};
-use crate::support::{assert_text, client, login, text};
-use jiff::Timestamp;
+use crate::support::{STORED, check_end, client, now, response};
 use oauth2_openid::IssuerRule;
-use oauth2_openid_login::OpenIdProvider;
-use std::process::Abort;
+use oauth2_openid_login::{OpenIdLogin, OpenIdProvider};
+use oauth2_tests_support::{OneReply, read, text};
+use std::alloc::Global;
+use std::test::Fail;
 use std::time::Duration;
 
 // The claims are made and encoded by Python: those of the standard's example, and then of an issuer
@@ -35,84 +35,80 @@ fn provider(issuer: &str) -> OpenIdProvider<'_> {
     OpenIdProvider::new(issuer, Duration::from_secs(60))
 }
 
-// The result of a login at this provider, if the reply has these claims, and the redirect has this
-// query next to its state and its code.
-fn ended(
-    rt: &(impl Abort + AllocGlobal),
+// Checks the result of a login at this provider, if the reply has these claims, and the redirect
+// has this query next to its state and its code.
+fn check_login(
+    alloc: Global,
     provider: &OpenIdProvider<'_>,
     claims: &str,
     more: &str,
-) -> Ended {
-    let now = Timestamp::from_second(1311281000).ok().expect(rt, "a time");
-    let query = format!(in rt.alloc(); "state=af0ifjsldkj&code=c{more}").expect(rt, "a query");
-    login(rt, STORED).finish_query(
-        rt.alloc(),
-        &client(rt),
-        &mut answering(rt, response(rt, claims).as_str()),
+    wanted: &str,
+) -> Result<(), Fail> {
+    let now = now()?;
+    let query = format!(in alloc; "state=af0ifjsldkj&code=c{more}")?;
+    let mut http_client = OneReply::with_body(alloc, 200, response(alloc, claims)?.as_str())?;
+    let login: OpenIdLogin = read(alloc, STORED)?;
+    let end = login.finish_query(
+        alloc,
+        &client(alloc)?,
+        &mut http_client,
         query.as_str(),
         provider,
         || now,
-    )
-}
-
-fn assert_ended_as(
-    rt: &(impl Abort + AllocGlobal),
-    provider: &OpenIdProvider<'_>,
-    claims: &str,
-    more: &str,
-    expected: &str,
-) {
-    let ended = ended(rt, provider, claims, more);
-    assert_text(rt, line(rt, ended).as_str(), expected);
+    );
+    check_end(alloc, end, wanted)
 }
 
 // A redirect is compared with the provider's own issuer, whatever the rule for its ID tokens says.
 #[test]
-fn an_issuer_for_each_tenant(rt: HostRuntime) {
+fn an_issuer_for_each_tenant(rt: HostRuntime) -> Result<(), Fail> {
+    let alloc = rt.alloc();
     let own = "https://login.microsoftonline.com/{tenantid}/v2.0";
     let tenants = IssuerRule::PerTenant {
-        before: text(&rt, "https://login.microsoftonline.com/"),
-        after: text(&rt, "/v2.0"),
+        before: text(alloc, "https://login.microsoftonline.com/")?,
+        after: text(alloc, "/v2.0")?,
     };
     let wrong = "ID token: the issuer is another one";
-    assert_ended_as(&rt, &provider(own), OF_A_TENANT, "", wrong);
+    check_login(alloc, &provider(own), OF_A_TENANT, "", wrong)?;
     let entra = provider(own).set_issuer_rule(&tenants);
-    assert_ended_as(&rt, &entra, OF_A_TENANT, "", "Absent");
-    assert_ended_as(&rt, &entra, OF_THE_SECOND_SPELLING, "", wrong);
+    check_login(alloc, &entra, OF_A_TENANT, "", "Absent")?;
+    check_login(alloc, &entra, OF_THE_SECOND_SPELLING, "", wrong)?;
     let of_a_tenant = "&iss=https://login.microsoftonline.com/9122040d/v2.0";
     let wrong = "redirect has another issuer";
-    assert_ended_as(&rt, &entra, OF_A_TENANT, of_a_tenant, wrong);
+    check_login(alloc, &entra, OF_A_TENANT, of_a_tenant, wrong)
 }
 
 #[test]
-fn an_issuer_of_two_spellings(rt: HostRuntime) {
+fn an_issuer_of_two_spellings(rt: HostRuntime) -> Result<(), Fail> {
+    let alloc = rt.alloc();
     let own = "https://accounts.google.com";
-    let mut spellings = Vec::new(rt.alloc());
+    let mut spellings = Vec::new(alloc);
     for spelling in [own, "accounts.google.com"] {
-        spellings.push(text(&rt, spelling)).expect(&rt, "a list");
+        spellings.push(text(alloc, spelling)?)?;
     }
     let spellings = IssuerRule::OneOf(spellings);
     let wrong = "ID token: the issuer is another one";
-    assert_ended_as(&rt, &provider(own), OF_THE_SECOND_SPELLING, "", wrong);
+    check_login(alloc, &provider(own), OF_THE_SECOND_SPELLING, "", wrong)?;
     let google = provider(own).set_issuer_rule(&spellings);
     let told = "&iss=https%3A%2F%2Faccounts.google.com";
-    assert_ended_as(&rt, &google, OF_THE_SECOND_SPELLING, told, "Absent");
-    assert_ended_as(&rt, &google, OF_A_TENANT, told, wrong);
+    check_login(alloc, &google, OF_THE_SECOND_SPELLING, told, "Absent")?;
+    check_login(alloc, &google, OF_A_TENANT, told, wrong)
 }
 
 #[test]
-fn other_audiences_and_parties(rt: HostRuntime) {
+fn other_audiences_and_parties(rt: HostRuntime) -> Result<(), Fail> {
+    let alloc = rt.alloc();
     let own = "http://server.example.com";
     let app = ["1234987819200-android.apps.googleusercontent.com"];
     let wrong = "ID token: the authorized party is another one";
     let audiences = provider(own).set_other_audiences(&app);
-    assert_ended_as(&rt, &audiences, OF_AN_APP, "", wrong);
+    check_login(alloc, &audiences, OF_AN_APP, "", wrong)?;
     let parties = provider(own).set_authorized_parties(&app);
-    assert_ended_as(&rt, &parties, OF_AN_APP, "", "Absent");
+    check_login(alloc, &parties, OF_AN_APP, "", "Absent")?;
     let api = ["https://api.example.com"];
     let wrong = "ID token: an audience is not trusted";
     let parties = provider(own).set_authorized_parties(&api);
-    assert_ended_as(&rt, &parties, FOR_ANOTHER_AUDIENCE, "", wrong);
+    check_login(alloc, &parties, FOR_ANOTHER_AUDIENCE, "", wrong)?;
     let audiences = provider(own).set_other_audiences(&api);
-    assert_ended_as(&rt, &audiences, FOR_ANOTHER_AUDIENCE, "", "Absent");
+    check_login(alloc, &audiences, FOR_ANOTHER_AUDIENCE, "", "Absent")
 }

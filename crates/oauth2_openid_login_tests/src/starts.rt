@@ -1,42 +1,45 @@
 //! Tests of the URL of a login, and of what is stored of the login.
 
-ghost use Rattle.std.specs.Prelude.{◌≡◌, None};
+ghost use Rattle.std.specs.Prelude.{◌≡◌, None, IfOk};
 
-use crate::support::{assert_stored_as, assert_text, client, client_without_redirect, login, text};
-use oauth2::{ParseCause, ReadError, RedirectUrl, Scope, read_body};
+use crate::support::{client, client_without_redirect};
+use oauth2::{ParseCause, RedirectUrl, Scope};
 use oauth2_openid_login::{OpenIdClient, OpenIdLogin, OpenIdLoginRequest, OpenIdLoginUrlFault};
+use oauth2_tests_support::{
+    check_debug, check_display, check_fault, check_text, check_written, read, text,
+};
 use rand_pcg::Pcg32;
-use std::process::Abort;
+use std::alloc::{AllocError, Global};
+use std::test::Fail;
 use std::time::Duration;
 
-fn started<'a>(rt: &(impl Abort + AllocGlobal), client: &'a OpenIdClient) -> OpenIdLoginRequest<'a>
-    ensures { result.max_age ≡ None }
+fn start(alloc: Global, client: &OpenIdClient) -> Result<OpenIdLoginRequest<'_>, AllocError>
+    ensures { IfOk result (λ request. request.max_age ≡ None) }
 {
-    let mut rng = Pcg32::new(42, 54);
-    OpenIdLogin::start(rt.alloc(), client, &mut rng).expect(rt, "a login")
+    OpenIdLogin::start(alloc, client, &mut Pcg32::new(42, 54))
 }
 
 // Checks that a login has this URL, and is stored as this text.
-fn assert_login(
-    rt: &(impl Abort + AllocGlobal),
+fn check_login(
+    alloc: Global,
     request: OpenIdLoginRequest<'_>,
     url: &str,
     stored: &str,
-) {
-    let (led, login) = request.url(rt.alloc()).ok().expect(rt, "a URL");
-    assert_text(rt, led.as_str(), url);
-    assert_stored_as(rt, &login, stored);
+) -> Result<(), Fail> {
+    let (led, login) = request.url(alloc)?;
+    check_text(led.as_str(), url)?;
+    check_written(alloc, &login, stored)
 }
 
 // The state, the verifier and the nonce are those that a generator in Python draws.
 #[test]
-fn a_login_is_started(rt: HostRuntime) {
-    let client = client(&rt);
-    let request = started(&rt, &client);
-    let shown = format!(in rt.alloc(); "{request:?}").expect(&rt, "a text");
-    assert_text(&rt, shown.as_str(), "OpenIdLoginRequest([redacted])");
-    assert_login(
-        &rt,
+fn a_login_is_started(rt: HostRuntime) -> Result<(), Fail> {
+    let alloc = rt.alloc();
+    let client = client(alloc)?;
+    let request = start(alloc, &client)?;
+    check_debug(alloc, &request, "OpenIdLoginRequest([redacted])")?;
+    check_login(
+        alloc,
         request,
         "https://server.example.com/authorize?response_type=code&client_id=s6BhdRkqt3\
          &state=twJcoQn0R3swMx26k_LSgw&code_challenge=H7ZdcLcbjjOKQshuaEBh45jlXGBfQdZSXs7wHPjiPgQ\
@@ -45,37 +48,27 @@ fn a_login_is_started(rt: HostRuntime) {
         "{\"nonce\":\"Jmh47R1EIjjXE6Eri4FbHA\",\
          \"redirect_uri\":\"https://client.example.org/cb\",\"state\":\"twJcoQn0R3swMx26k_LSgw\",\
          \"verifier\":\"S3ikv25g7cuto8a_bf8vgVowH-aQSzj5_obbMvk1wB0\"}",
-    );
+    )
 }
 
 // A login without a redirect URI has no URL (3.1.2.1). The error returns the login, so a redirect
 // URI can be set after it.
 #[test]
-fn a_login_is_started_with_more(rt: HostRuntime) {
+fn a_login_is_started_with_more(rt: HostRuntime) -> Result<(), Fail> {
     let alloc = rt.alloc();
-    let client = client_without_redirect(&rt);
-    let redirect = RedirectUrl::new(alloc, text(&rt, "https://app.example/cb"))
-        .ok()
-        .expect(&rt, "a URL");
-    let request = started(&rt, &client)
-        .add_scope(Scope::new(text(&rt, "profile")))
-        .expect(&rt, "room")
-        .add_scopes(Some(Scope::new(text(&rt, "email"))))
-        .expect(&rt, "room")
-        .add_extra_param("prompt".into(), "consent".into())
-        .expect(&rt, "room")
-        .set_max_age(alloc, Duration::from_millis(3_600_999))
-        .expect(&rt, "room");
-    let refused = request.url(alloc).err().expect(&rt, "a refusal");
+    let client = client_without_redirect(alloc)?;
+    let redirect = RedirectUrl::new(alloc, text(alloc, "https://app.example/cb")?)?;
+    let request = start(alloc, &client)?
+        .add_scope(Scope::new(text(alloc, "profile")?))?
+        .add_scopes(Some(Scope::new(text(alloc, "email")?)))?
+        .add_extra_param("prompt".into(), "consent".into())?
+        .set_max_age(alloc, Duration::from_millis(3_600_999))?;
+    let refused = request.url(alloc).err().ok_or("a URL")?;
     assert!(rt; refused.error == OpenIdLoginUrlFault::NoRedirectUri);
-    let shown = format!(in alloc; "{refused} {refused:?}").expect(&rt, "a text");
-    assert_text(
-        &rt,
-        shown.as_str(),
-        "login has no redirect URI OpenIdLoginUrlError([redacted])",
-    );
-    assert_login(
-        &rt,
+    check_display(alloc, &refused, "login has no redirect URI")?;
+    check_debug(alloc, &refused, "OpenIdLoginUrlError([redacted])")?;
+    check_login(
+        alloc,
         refused.request.set_redirect_uri(&redirect),
         "https://server.example.com/authorize?response_type=code&client_id=s6BhdRkqt3\
          &state=twJcoQn0R3swMx26k_LSgw&code_challenge=H7ZdcLcbjjOKQshuaEBh45jlXGBfQdZSXs7wHPjiPgQ\
@@ -84,44 +77,34 @@ fn a_login_is_started_with_more(rt: HostRuntime) {
         "{\"max_age\":3600,\"nonce\":\"Jmh47R1EIjjXE6Eri4FbHA\",\
          \"redirect_uri\":\"https://app.example/cb\",\"state\":\"twJcoQn0R3swMx26k_LSgw\",\
          \"verifier\":\"S3ikv25g7cuto8a_bf8vgVowH-aQSzj5_obbMvk1wB0\"}",
-    );
-}
-
-// Checks that a stored text is refused, with this member and this cause.
-fn assert_refused(rt: &(impl Abort + AllocGlobal), stored: &str, member: &str, cause: ParseCause) {
-    let read: Result<OpenIdLogin, ReadError> = read_body(rt.alloc(), stored.as_bytes());
-    match read {
-        Err(ReadError::Fault(fault)) => {
-            assert_text(rt, fault.member.as_str(), member);
-            assert!(rt; fault.cause == cause);
-        }
-        _ => assert_text(rt, "no fault", member),
-    }
+    )
 }
 
 #[test]
-fn a_login_is_stored(rt: HostRuntime) {
+fn a_login_is_stored(rt: HostRuntime) -> Result<(), Fail> {
+    let alloc = rt.alloc();
     let stored = r#"{"max_age":0,"nonce":"n","state":"s","verifier":"v"}"#;
-    let login = login(&rt, stored);
-    assert_stored_as(&rt, &login, stored);
-    let shown = format!(in rt.alloc(); "{login:?}").expect(&rt, "a text");
-    assert_text(&rt, shown.as_str(), "OpenIdLogin([redacted])");
-    assert_refused(
-        &rt,
-        r#"{"state":"s","verifier":"v"}"#,
-        "nonce",
-        ParseCause::Missing,
-    );
-    assert_refused(
-        &rt,
-        r#"{"nonce":"n","verifier":"v"}"#,
-        "state",
-        ParseCause::Missing,
-    );
-    assert_refused(
-        &rt,
-        r#"{"max_age":-1,"nonce":"n","state":"s","verifier":"v"}"#,
-        "max_age",
-        ParseCause::OutOfRange,
-    );
+    let login: OpenIdLogin = read(alloc, stored)?;
+    check_written(alloc, &login, stored)?;
+    check_debug(alloc, &login, "OpenIdLogin([redacted])")?;
+    for (stored, member, cause) in [
+        (
+            r#"{"state":"s","verifier":"v"}"#,
+            "nonce",
+            ParseCause::Missing,
+        ),
+        (
+            r#"{"nonce":"n","verifier":"v"}"#,
+            "state",
+            ParseCause::Missing,
+        ),
+        (
+            r#"{"max_age":-1,"nonce":"n","state":"s","verifier":"v"}"#,
+            "max_age",
+            ParseCause::OutOfRange,
+        ),
+    ] {
+        check_fault::<OpenIdLogin>(alloc, stored, member, cause)?;
+    }
+    Ok(())
 }

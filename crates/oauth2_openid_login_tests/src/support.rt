@@ -1,49 +1,58 @@
-//! A client of a provider, and checks that tests call.
+//! The client of the standard's examples, and its logins.
 
-use oauth2::url::Url;
-use oauth2::{AuthUrl, Client, ClientId, RedirectUrl, TokenUrl, compact, read_body};
-use oauth2_openid_login::{OpenIdClient, OpenIdLogin};
-use std::process::Abort;
+use jiff::Timestamp;
+use oauth2::basic::BasicErrorResponse;
+use oauth2::{AuthUrl, Client, ClientId, RedirectUrl, TokenUrl};
+use oauth2_openid_login::{OpenIdClient, OpenIdLoginEnd, OpenIdLoginError, OpenIdTokenResponse};
+use oauth2_tests_support::{NoReply, check_text, text};
+use std::alloc::Global;
+use std::test::Fail;
 
-/// Makes a text whose bytes proofs do not see.
-pub(crate) fn text(rt: &(impl Abort + AllocGlobal), text: &str) -> String {
-    String::from_str(rt.alloc(), text).expect(rt, "a text")
-}
+/// The result of a login.
+pub(crate) type End = Result<
+    OpenIdLoginEnd<OpenIdTokenResponse>,
+    OpenIdLoginError<NoReply, BasicErrorResponse>,
+>;
 
-/// Checks that the texts are equal. (A call is much cheaper to prove than the assertion itself.)
-pub(crate) fn assert_text(rt: &impl Abort, found: &str, expected: &str) {
-    assert_eq!(rt; found, expected);
-}
-
-pub(crate) fn url(rt: &(impl Abort + AllocGlobal), url: &str) -> Url {
-    Url::parse(rt.alloc(), url).ok().expect(rt, "a URL")
-}
+/// A stored login with the nonce of the standard's examples.
+pub(crate) const STORED: &str = r#"{"nonce":"n-0S6_WzA2Mj","state":"af0ifjsldkj","verifier":"v"}"#;
 
 /// The client of the standard's examples, without a redirect URI.
-pub(crate) fn client_without_redirect(rt: &(impl Abort + AllocGlobal)) -> OpenIdClient {
-    let alloc = rt.alloc();
-    let auth = AuthUrl::new(alloc, text(rt, "https://server.example.com/authorize"));
-    let token = TokenUrl::new(alloc, text(rt, "https://server.example.com/token"));
-    Client::new(ClientId::new(text(rt, "s6BhdRkqt3")))
-        .set_auth_uri(auth.ok().expect(rt, "a URL"))
-        .set_token_uri(token.ok().expect(rt, "a URL"))
+pub(crate) fn client_without_redirect(alloc: Global) -> Result<OpenIdClient, Fail> {
+    let auth = AuthUrl::new(alloc, text(alloc, "https://server.example.com/authorize")?)?;
+    let token = TokenUrl::new(alloc, text(alloc, "https://server.example.com/token")?)?;
+    let client = Client::new(ClientId::new(text(alloc, "s6BhdRkqt3")?));
+    Ok(client.set_auth_uri(auth).set_token_uri(token))
 }
 
 /// The client of the standard's examples.
-pub(crate) fn client(rt: &(impl Abort + AllocGlobal)) -> OpenIdClient {
-    let redirect = RedirectUrl::new(rt.alloc(), text(rt, "https://client.example.org/cb"));
-    client_without_redirect(rt).set_redirect_uri(redirect.ok().expect(rt, "a URL"))
+pub(crate) fn client(alloc: Global) -> Result<OpenIdClient, Fail> {
+    let redirect = RedirectUrl::new(alloc, text(alloc, "https://client.example.org/cb")?)?;
+    Ok(client_without_redirect(alloc)?.set_redirect_uri(redirect))
 }
 
-/// The login that was stored as this text.
-pub(crate) fn login(rt: &(impl Abort + AllocGlobal), stored: &str) -> OpenIdLogin {
-    read_body(rt.alloc(), stored.as_bytes())
-        .ok()
-        .expect(rt, "a login")
+/// A time at which the ID tokens of the standard's examples are valid.
+pub(crate) fn now() -> Result<Timestamp, Fail> {
+    Ok(Timestamp::from_second(1311281000).ok().ok_or("no time")?)
 }
 
-/// Checks that the login is stored as this text.
-pub(crate) fn assert_stored_as(rt: &(impl Abort + AllocGlobal), login: &OpenIdLogin, stored: &str) {
-    let written = compact(rt.alloc(), login).ok().expect(rt, "a text");
-    assert_text(rt, written.as_str(), stored);
+/// The response of the standard's example with these claims.
+pub(crate) fn response(alloc: Global, claims: &str) -> Result<String, Fail> {
+    Ok(format!(in alloc;
+        "{{\"access_token\":\"SlAV32hkKG\",\"token_type\":\"Bearer\",\
+             \"refresh_token\":\"8xLOxBtZp8\",\"id_token\":\"eyJhbGciOiJSUzI1NiJ9.{claims}.c2ln\"}}"
+    )?)
+}
+
+/// Checks the result of a login: its comparison of the access token's hash, or the text of its
+/// error.
+pub(crate) fn check_end(alloc: Global, end: End, wanted: &str) -> Result<(), Fail> {
+    let line = match end {
+        Ok(end) => {
+            let hash = end.access_token_hash;
+            format!(in alloc; "{hash:?}")?
+        }
+        Err(error) => format!(in alloc; "{error}")?,
+    };
+    check_text(line.as_str(), wanted)
 }

@@ -1,13 +1,16 @@
 //! Tests of queries without a URL, and of error codes. Scripts test whole URLs.
 
-use oauth2_codes::AuthorizationErrorResponseType;
+use oauth2_codes::AuthorizationErrorResponseType::{
+    self, AccessDenied, InvalidRequest, InvalidScope, ServerError, TemporarilyUnavailable,
+    UnauthorizedClient, UnsupportedResponseType,
+};
 use oauth2_redirect::{ExpectedIssuer, RedirectError, read_redirect_query};
 use oauth2_types::{AuthorizationCode, CsrfToken};
 use std::alloc::{AllocError, Global};
 use std::test::Fail;
 
-// The result of reading a redirect, as one line.
-fn line(
+// Describes the result of reading a redirect, in one line.
+fn describe(
     alloc: Global,
     read: Result<AuthorizationCode, RedirectError>,
 ) -> Result<String, AllocError> {
@@ -17,11 +20,11 @@ fn line(
     }
 }
 
-// What a query is read as for a login with the state `s7`, as one line.
-fn told(alloc: Global, query: &str) -> Result<String, AllocError> {
+// Reads a query for a login with the state `s7`, and describes the result.
+fn describe_query(alloc: Global, query: &str) -> Result<String, AllocError> {
     let state = CsrfToken::from_str(alloc, "s7")?;
     let read = read_redirect_query(alloc, query, &state, ExpectedIssuer::Unknown);
-    line(alloc, read)
+    describe(alloc, read)
 }
 
 // A query, and what it is read as.
@@ -39,7 +42,8 @@ const QUERIES: [(&str, &str); 4] = [
 fn reads_a_query(rt: HostRuntime) -> Result<(), Fail> {
     let alloc = rt.alloc();
     for (query, expected) in QUERIES {
-        assert_eq!(rt; told(alloc, query)?.as_str(), expected, "at {query}");
+        let line = describe_query(alloc, query)?;
+        assert_eq!(rt; line.as_str(), expected, "at {query}");
     }
     Ok(())
 }
@@ -53,37 +57,19 @@ fn code(alloc: Global, text: &str) -> Result<AuthorizationErrorResponseType, All
 fn names_the_codes(rt: HostRuntime) -> Result<(), Fail> {
     let alloc = rt.alloc();
     let rows = [
-        (
-            "access_denied",
-            AuthorizationErrorResponseType::AccessDenied,
-        ),
-        (
-            "invalid_request",
-            AuthorizationErrorResponseType::InvalidRequest,
-        ),
-        (
-            "invalid_scope",
-            AuthorizationErrorResponseType::InvalidScope,
-        ),
-        ("server_error", AuthorizationErrorResponseType::ServerError),
-        (
-            "temporarily_unavailable",
-            AuthorizationErrorResponseType::TemporarilyUnavailable,
-        ),
-        (
-            "unauthorized_client",
-            AuthorizationErrorResponseType::UnauthorizedClient,
-        ),
-        (
-            "unsupported_response_type",
-            AuthorizationErrorResponseType::UnsupportedResponseType,
-        ),
+        ("access_denied", AccessDenied),
+        ("invalid_request", InvalidRequest),
+        ("invalid_scope", InvalidScope),
+        ("server_error", ServerError),
+        ("temporarily_unavailable", TemporarilyUnavailable),
+        ("unauthorized_client", UnauthorizedClient),
+        ("unsupported_response_type", UnsupportedResponseType),
     ];
     for (text, expected) in rows {
         assert!(rt; code(alloc, text)? == expected, "at {text}");
         assert_eq!(rt; format!(in alloc; "{expected}")?.as_str(), text);
     }
     let other = code(alloc, "Access_denied")?;
-    assert!(rt; other != AuthorizationErrorResponseType::AccessDenied);
+    assert!(rt; other != AccessDenied);
     Ok(())
 }

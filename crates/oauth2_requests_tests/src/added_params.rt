@@ -1,8 +1,9 @@
 //! Scopes and parameters that are encoded as they are added.
 
-use crate::support::{assert_equal, text, url};
 use oauth2::{AuthType, ClientId, HttpRequest, ParamBuffer, endpoint_request_encoded};
-use std::process::Abort;
+use oauth2_tests_support::{check_equal, text, url};
+use std::alloc::{AllocError, Global};
+use std::test::Fail;
 
 // What is added to a buffer: a scope, or an extra parameter.
 #[derive(Clone, Copy)]
@@ -11,43 +12,35 @@ enum Addition<'a> {
     Extra(&'a str, &'a str),
 }
 
-fn add(rt: &impl Abort, params: &mut ParamBuffer, addition: Addition<'_>) {
+fn add(params: &mut ParamBuffer, addition: Addition<'_>) -> Result<(), AllocError> {
     match addition {
-        Addition::Scope(scope) => params.add_scope(scope).expect(rt, "a scope"),
-        Addition::Extra(name, value) => params.add_extra(name, value).expect(rt, "a parameter"),
+        Addition::Scope(scope) => params.add_scope(scope),
+        Addition::Extra(name, value) => params.add_extra(name, value),
     }
 }
 
 // A client credentials request with the parameters of a buffer.
-fn request_of(rt: &(impl Abort + AllocGlobal), params: &ParamBuffer) -> HttpRequest {
-    let url = url(rt, "https://example.com/token");
-    let id = ClientId::new(text(rt, "aaa"));
-    endpoint_request_encoded(
-        rt.alloc(),
-        &AuthType::BasicAuth,
-        &id,
-        None,
-        params,
-        None,
-        &url,
-        &[("grant_type", "client_credentials")],
-    )
-    .expect(rt, "a request")
+fn request_of(alloc: Global, params: &ParamBuffer) -> Result<HttpRequest, Fail> {
+    let url = url(alloc, "https://example.com/token")?;
+    let id = ClientId::new(text(alloc, "aaa")?);
+    let pairs = [("grant_type", "client_credentials")];
+    let auth = AuthType::BasicAuth;
+    Ok(endpoint_request_encoded(alloc, &auth, &id, None, params, None, &url, &pairs)?)
 }
 
-fn assert_sent(
-    rt: &(impl Abort + AllocGlobal),
+fn check_sent(
+    alloc: Global,
     added: &[Addition<'_>],
     has_scope: bool,
     body: &str,
-) {
-    let mut params = ParamBuffer::new(rt.alloc());
+) -> Result<(), Fail> {
+    let mut params = ParamBuffer::new(alloc);
     for addition in added {
-        add(rt, &mut params, *addition);
+        add(&mut params, *addition)?;
     }
-    assert_equal(rt, params.has_scope(), has_scope);
-    let request = request_of(rt, &params);
-    assert_equal(rt, request.body().as_slice(), body.as_bytes());
+    check_equal(params.has_scope(), has_scope)?;
+    let request = request_of(alloc, &params)?;
+    check_equal(request.body().as_slice(), body.as_bytes())
 }
 
 // What is added, whether the buffer has a scope after that, and the body of the request.
@@ -75,8 +68,9 @@ const ROWS: [(&[Addition<'static>], bool, &str); 4] = [
 ];
 
 #[test]
-fn scopes_and_parameters(rt: HostRuntime) {
+fn scopes_and_parameters(rt: HostRuntime) -> Result<(), Fail> {
     for (additions, has_scope, body) in ROWS {
-        assert_sent(&rt, additions, has_scope, body);
+        check_sent(rt.alloc(), additions, has_scope, body)?;
     }
+    Ok(())
 }

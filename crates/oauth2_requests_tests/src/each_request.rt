@@ -1,90 +1,63 @@
 //! Tests of each kind of request, with replies that no script can have.
 
-use crate::replies::reply_of;
-use crate::support::{Replying, assert_displayed_as, assert_equal, assert_text, text};
 use jiff::Timestamp;
 use oauth2::basic::{BasicClient, BasicRequestTokenError, BasicTokenResponse};
 use oauth2::{
     AccessToken, AuthorizationCode, ClientId, ClientSecret, DeviceAuthorizationUrl, EndpointNotSet,
-    EndpointSet, HttpRequest, HttpResponse, IntrospectionUrl, ParseCause, RefreshToken,
-    RequestTokenError, ResourceOwnerPassword, ResourceOwnerUsername, RevocationUrl, Scope,
+    EndpointSet, HttpResponse, IntrospectionUrl, ParseCause, RefreshToken, RequestTokenError,
+    ResourceOwnerPassword, ResourceOwnerUsername, RevocationUrl, Scope,
     StandardDeviceAuthorizationResponse, StandardRevocableToken, TokenUrl, endpoint_response,
-    read_body,
 };
+use oauth2_tests_support::{
+    NoReply, OneReply, check, check_display, check_equal, check_text, read, reply_of, text,
+};
+use std::alloc::Global;
 use std::fmt::Display;
-use std::process::Abort;
+use std::test::Fail;
 use std::time::Duration;
 
 // A client with every endpoint except the authorization endpoint.
 type PostClient = BasicClient<EndpointNotSet, EndpointSet, EndpointSet, EndpointSet, EndpointSet>;
 
-type TokenClient = BasicClient<
-    EndpointNotSet,
-    EndpointNotSet,
-    EndpointNotSet,
-    EndpointNotSet,
-    EndpointSet,
->;
-
-fn token_client(rt: &(impl Abort + AllocGlobal)) -> TokenClient {
-    let token_url = TokenUrl::new(rt.alloc(), text(rt, "https://example.com/token"));
-    BasicClient::new(ClientId::new(text(rt, "aaa")))
-        .set_client_secret(ClientSecret::new(text(rt, "bbb")))
-        .set_token_uri(token_url.expect(rt, "a URL"))
+fn client(alloc: Global) -> Result<PostClient, Fail> {
+    let token = TokenUrl::new(alloc, text(alloc, "https://example.com/token")?)?;
+    let device = DeviceAuthorizationUrl::new(alloc, text(alloc, "https://example.com/device")?)?;
+    let introspection = IntrospectionUrl::new(alloc, text(alloc, "https://example.com/asked")?)?;
+    let revocation = RevocationUrl::new(alloc, text(alloc, "https://example.com/revoked")?)?;
+    let secret = ClientSecret::new(text(alloc, "bbb")?);
+    let client = BasicClient::new(ClientId::new(text(alloc, "aaa")?))
+        .set_client_secret(secret)
+        .set_token_uri(token)
+        .set_device_authorization_url(device)
+        .set_introspection_url(introspection)
+        .set_revocation_url(revocation);
+    Ok(client)
 }
 
-fn client(rt: &(impl Abort + AllocGlobal)) -> PostClient {
-    let device = DeviceAuthorizationUrl::new(rt.alloc(), text(rt, "https://example.com/device"));
-    let introspection = IntrospectionUrl::new(rt.alloc(), text(rt, "https://example.com/asked"));
-    let revocation = RevocationUrl::new(rt.alloc(), text(rt, "https://example.com/revoked"));
-    token_client(rt)
-        .set_device_authorization_url(device.expect(rt, "a URL"))
-        .set_introspection_url(introspection.expect(rt, "a URL"))
-        .set_revocation_url(revocation.expect(rt, "a URL"))
-}
-
-// A body that can be read as each kind of response.
+// A body that can be read as each kind of response. As a device authorization response it has the
+// code `d`, which expires in two seconds.
 const WHOLE: &str =
     "{\"access_token\":\"t\",\"token_type\":\"bearer\",\"active\":true,\"device_code\":\"d\",\
     \"user_code\":\"u\",\"verification_uri\":\"https://v/\",\"expires_in\":2}";
 
-// The device authorization response with the code `d`, which expires in two seconds.
-fn device(rt: &(impl Abort + AllocGlobal)) -> StandardDeviceAuthorizationResponse {
-    read_body(rt.alloc(), WHOLE.as_bytes()).expect(rt, "a response")
+fn access_token(alloc: Global) -> Result<AccessToken, Fail> {
+    Ok(AccessToken::new(text(alloc, "t")?))
 }
 
-fn refresh_token(rt: &(impl Abort + AllocGlobal)) -> RefreshToken {
-    RefreshToken::new(text(rt, "r"))
+fn refresh_token(alloc: Global) -> Result<RefreshToken, Fail> {
+    Ok(RefreshToken::new(text(alloc, "r")?))
 }
 
-fn access_token(rt: &(impl Abort + AllocGlobal)) -> AccessToken {
-    AccessToken::new(text(rt, "t"))
-}
-
-// The refresh request with one scope.
-fn scoped_refresh(
-    rt: &(impl Abort + AllocGlobal),
-    client: &PostClient,
-    token: &RefreshToken,
-) -> HttpRequest {
-    client
-        .exchange_refresh_token(rt.alloc(), token)
-        .add_scope(Scope::new(text(rt, "a")))
-        .expect(rt, "a scope")
-        .prepare_request(rt.alloc())
-        .expect(rt, "a request")
-}
-
-fn assert_body(rt: &impl Abort, request: HttpRequest, body: &str) {
-    assert_equal(rt, request.body().as_slice(), body.as_bytes());
-}
-
-fn assert_prepared_refresh(rt: &(impl Abort + AllocGlobal), client: &PostClient) {
-    assert_body(
-        rt,
-        scoped_refresh(rt, client, &refresh_token(rt)),
-        "grant_type=refresh_token&refresh_token=r&scope=a",
-    );
+// Checks the body of a refresh request with one scope.
+fn check_prepared_refresh(alloc: Global, client: &PostClient) -> Result<(), Fail> {
+    let token = refresh_token(alloc)?;
+    let scope = Scope::new(text(alloc, "a")?);
+    let request = client
+        .exchange_refresh_token(alloc, &token)
+        .add_scope(scope)?;
+    let request = request.prepare_request(alloc)?;
+    let body = b"grant_type=refresh_token&refresh_token=r&scope=a".as_slice();
+    check_equal(request.body().as_slice(), body)
 }
 
 // A reply: its status, its values of Content-Type and its body.
@@ -93,6 +66,16 @@ struct Reply<'a> {
     status: u16,
     types: &'a [&'a [u8]],
     body: &'a [u8],
+}
+
+impl Reply<'_> {
+    fn response(self, alloc: Global) -> Result<HttpResponse, Fail> {
+        reply_of(alloc, self.status, self.types, self.body)
+    }
+
+    fn http_client(self, alloc: Global) -> Result<OneReply, Fail> {
+        Ok(OneReply::new(self.response(alloc)?))
+    }
 }
 
 // The result of a request.
@@ -104,178 +87,140 @@ enum Outcome<'a> {
     Shown(&'a str),
 }
 
-fn made(rt: &(impl Abort + AllocGlobal), reply: Reply<'_>) -> HttpResponse {
-    reply_of(rt, reply.status, reply.types, reply.body)
+// A request by this client, the reply to it, and the wanted result.
+#[derive(Drop)]
+struct Case<'a> {
+    alloc: Global,
+    client: &'a PostClient,
+    reply: Reply<'a>,
+    wanted: Outcome<'a>,
 }
 
-fn handing_out(rt: &(impl Abort + AllocGlobal), reply: Reply<'_>) -> Replying {
-    Replying {
-        reply: Some(made(rt, reply)),
-        calls: 0,
-    }
-}
-
-// Checks that the result is the wanted one. An error of reading has to have the body's bytes.
-fn assert_answer<T: Drop, E: Display + Drop>(
-    rt: &(impl Abort + AllocGlobal),
-    answer: Result<T, RequestTokenError<u8, E>>,
-    body: &[u8],
-    wanted: Outcome<'_>,
-) {
-    match (answer, wanted) {
-        (Ok(_), Outcome::Accepted) => {}
-        (Err(RequestTokenError::Parse(fault, bytes)), Outcome::NotJson) => {
-            assert_text(rt, fault.member.as_str(), "");
-            assert_equal(rt, fault.cause, ParseCause::NotJson);
-            assert_equal(rt, bytes.as_slice(), body);
+impl Case<'_> {
+    // Checks that the result is the wanted one. An error of reading has to have the body's bytes.
+    fn check<T: Drop, E: Display + Drop>(
+        &self,
+        answer: Result<T, RequestTokenError<NoReply, E>>,
+    ) -> Result<(), Fail> {
+        match (answer, self.wanted) {
+            (Ok(_), Outcome::Accepted) => Ok(()),
+            (Err(RequestTokenError::Parse(fault, bytes)), Outcome::NotJson) => {
+                check_text(fault.member.as_str(), "")?;
+                check_equal(fault.cause, ParseCause::NotJson)?;
+                check_equal(bytes.as_slice(), self.reply.body)
+            }
+            (Err(error), Outcome::Shown(text)) => check_display(self.alloc, &error, text),
+            _ => Err(Fail::new("another answer")),
         }
-        (Err(error), Outcome::Shown(text)) => assert_displayed_as(rt, &error, text),
-        _ => panic!(rt; "another answer"),
     }
 }
 
-fn assert_code_exchange(
-    rt: &(impl Abort + AllocGlobal),
-    client: &PostClient,
-    reply: Reply<'_>,
-    wanted: Outcome<'_>,
-) {
-    let code = AuthorizationCode::new(text(rt, "c"));
-    let request = client.exchange_code(rt.alloc(), code);
-    let answer = request.request(rt.alloc(), &mut handing_out(rt, reply));
-    assert_answer(rt, answer, reply.body, wanted);
+fn check_code_exchange(case: &Case<'_>) -> Result<(), Fail> {
+    let code = AuthorizationCode::new(text(case.alloc, "c")?);
+    let mut http_client = case.reply.http_client(case.alloc)?;
+    let request = case.client.exchange_code(case.alloc, code);
+    case.check(request.request(case.alloc, &mut http_client))
 }
 
-fn assert_refresh(
-    rt: &(impl Abort + AllocGlobal),
-    client: &PostClient,
-    reply: Reply<'_>,
-    wanted: Outcome<'_>,
-) {
-    let token = refresh_token(rt);
-    let request = client.exchange_refresh_token(rt.alloc(), &token);
-    let answer = request.request(rt.alloc(), &mut handing_out(rt, reply));
-    assert_answer(rt, answer, reply.body, wanted);
+fn check_refresh(case: &Case<'_>) -> Result<(), Fail> {
+    let token = refresh_token(case.alloc)?;
+    let mut http_client = case.reply.http_client(case.alloc)?;
+    let request = case.client.exchange_refresh_token(case.alloc, &token);
+    case.check(request.request(case.alloc, &mut http_client))
 }
 
-fn assert_password_exchange(
-    rt: &(impl Abort + AllocGlobal),
-    client: &PostClient,
-    reply: Reply<'_>,
-    wanted: Outcome<'_>,
-) {
-    let username = ResourceOwnerUsername::new(text(rt, "u"));
-    let password = ResourceOwnerPassword::new(text(rt, "p"));
-    let request = client.exchange_password(rt.alloc(), &username, &password);
-    let answer = request.request(rt.alloc(), &mut handing_out(rt, reply));
-    assert_answer(rt, answer, reply.body, wanted);
+fn check_password_exchange(case: &Case<'_>) -> Result<(), Fail> {
+    let username = ResourceOwnerUsername::new(text(case.alloc, "u")?);
+    let password = ResourceOwnerPassword::new(text(case.alloc, "p")?);
+    let mut http_client = case.reply.http_client(case.alloc)?;
+    let request = case
+        .client
+        .exchange_password(case.alloc, &username, &password);
+    case.check(request.request(case.alloc, &mut http_client))
 }
 
-fn assert_client_credentials_exchange(
-    rt: &(impl Abort + AllocGlobal),
-    client: &PostClient,
-    reply: Reply<'_>,
-    wanted: Outcome<'_>,
-) {
-    let request = client.exchange_client_credentials(rt.alloc());
-    let answer = request.request(rt.alloc(), &mut handing_out(rt, reply));
-    assert_answer(rt, answer, reply.body, wanted);
+fn check_client_credentials_exchange(case: &Case<'_>) -> Result<(), Fail> {
+    let mut http_client = case.reply.http_client(case.alloc)?;
+    let request = case.client.exchange_client_credentials(case.alloc);
+    case.check(request.request(case.alloc, &mut http_client))
 }
 
-fn assert_introspection(
-    rt: &(impl Abort + AllocGlobal),
-    client: &PostClient,
-    reply: Reply<'_>,
-    wanted: Outcome<'_>,
-) {
-    let token = access_token(rt);
-    let request = client.introspect(rt.alloc(), &token);
-    let answer = request.request(rt.alloc(), &mut handing_out(rt, reply));
-    assert_answer(rt, answer, reply.body, wanted);
+fn check_introspection(case: &Case<'_>) -> Result<(), Fail> {
+    let token = access_token(case.alloc)?;
+    let mut http_client = case.reply.http_client(case.alloc)?;
+    let request = case.client.introspect(case.alloc, &token);
+    case.check(request.request(case.alloc, &mut http_client))
 }
 
-fn assert_device_codes(
-    rt: &(impl Abort + AllocGlobal),
-    client: &PostClient,
-    reply: Reply<'_>,
-    wanted: Outcome<'_>,
-) {
-    let request = client.exchange_device_code(rt.alloc());
-    let answer: Result<StandardDeviceAuthorizationResponse, BasicRequestTokenError<u8>> =
-        request.request(rt.alloc(), &mut handing_out(rt, reply));
-    assert_answer(rt, answer, reply.body, wanted);
+fn check_device_codes(case: &Case<'_>) -> Result<(), Fail> {
+    let mut http_client = case.reply.http_client(case.alloc)?;
+    let request = case.client.exchange_device_code(case.alloc);
+    let answer: Result<StandardDeviceAuthorizationResponse, BasicRequestTokenError<NoReply>> =
+        request.request(case.alloc, &mut http_client);
+    case.check(answer)
 }
 
 // Checks a poll with one request, whose clock always shows the same time.
-fn assert_one_poll(
-    rt: &(impl Abort + AllocGlobal),
-    client: &PostClient,
-    device: &StandardDeviceAuthorizationResponse,
-    reply: Reply<'_>,
-    wanted: Outcome<'_>,
-) {
-    let request = client
-        .exchange_device_access_token(rt.alloc(), device)
+fn check_one_poll(case: &Case<'_>) -> Result<(), Fail> {
+    let device: StandardDeviceAuthorizationResponse = read(case.alloc, WHOLE)?;
+    let mut http_client = case.reply.http_client(case.alloc)?;
+    let request = case
+        .client
+        .exchange_device_access_token(case.alloc, &device)
         .set_time_fn(|| Timestamp::UNIX_EPOCH);
-    let answer = request.request(
-        rt.alloc(),
-        &mut handing_out(rt, reply),
-        &mut |_: Duration| {},
-        None,
-        1,
-    );
-    assert_answer(rt, answer, reply.body, wanted);
+    let mut sleep_fn = |_: Duration| {};
+    case.check(request.request(case.alloc, &mut http_client, &mut sleep_fn, None, 1))
 }
 
 // Checks a revocation: only status 200 is a success, whatever the body and the Content-Type are.
-fn assert_revocation(
-    rt: &(impl Abort + AllocGlobal),
-    client: &PostClient,
-    reply: Reply<'_>,
-    wanted: Outcome<'_>,
-) {
-    let request = client
-        .revoke_token(rt.alloc(), StandardRevocableToken::from(access_token(rt)))
-        .expect(rt, "an endpoint");
-    let answer = request.request(rt.alloc(), &mut handing_out(rt, reply));
-    let wanted = if reply.status == 200 {
-        Outcome::Accepted
+fn check_revocation(case: &Case<'_>) -> Result<(), Fail> {
+    let token = StandardRevocableToken::from(access_token(case.alloc)?);
+    let mut http_client = case.reply.http_client(case.alloc)?;
+    let request = case.client.revoke_token(case.alloc, token)?;
+    let answer = request.request(case.alloc, &mut http_client);
+    if case.reply.status == 200 {
+        check(answer.is_ok(), "status 200")
     } else {
-        wanted
-    };
-    assert_answer(rt, answer, reply.body, wanted);
+        case.check(answer)
+    }
 }
 
 // Checks what the reply is read as if the caller sends the request itself.
-fn assert_read(rt: &(impl Abort + AllocGlobal), reply: Reply<'_>, wanted: Outcome<'_>) {
-    let answer: Result<BasicTokenResponse, BasicRequestTokenError<u8>> = endpoint_response(
-        rt.alloc(),
-        made(rt, reply),
+fn check_read(case: &Case<'_>) -> Result<(), Fail> {
+    let reply = case.reply.response(case.alloc)?;
+    let answer: Result<BasicTokenResponse, BasicRequestTokenError<NoReply>> = endpoint_response(
+        case.alloc, reply,
     );
-    assert_answer(rt, answer, reply.body, wanted);
+    case.check(answer)
 }
 
 // Checks the result of each kind of request, and that the reply is read as the same if the caller
 // sends the request itself.
-fn assert_answers(
-    rt: &(impl Abort + AllocGlobal),
+fn check_answers(
+    alloc: Global,
     client: &PostClient,
     reply: Reply<'_>,
     wanted: Outcome<'_>,
-) {
-    assert_code_exchange(rt, client, reply, wanted);
-    assert_refresh(rt, client, reply, wanted);
-    assert_password_exchange(rt, client, reply, wanted);
-    assert_client_credentials_exchange(rt, client, reply, wanted);
-    assert_introspection(rt, client, reply, wanted);
-    assert_device_codes(rt, client, reply, wanted);
-    assert_one_poll(rt, client, &device(rt), reply, wanted);
-    assert_revocation(rt, client, reply, wanted);
-    assert_read(rt, reply, wanted);
+) -> Result<(), Fail> {
+    let case = Case {
+        alloc,
+        client,
+        reply,
+        wanted,
+    };
+    check_code_exchange(&case)?;
+    check_refresh(&case)?;
+    check_password_exchange(&case)?;
+    check_client_credentials_exchange(&case)?;
+    check_introspection(&case)?;
+    check_device_codes(&case)?;
+    check_one_poll(&case)?;
+    check_revocation(&case)?;
+    check_read(&case)
 }
 
 // A reply with this body, and no Content-Type.
-fn untyped(status: u16, body: &[u8]) -> Reply<'_> {
+fn reply_without_type(status: u16, body: &[u8]) -> Reply<'_> {
     Reply {
         status,
         types: &[],
@@ -324,21 +269,27 @@ const TYPES: [(&[&[u8]], Outcome<'static>); 3] = [
     ),
 ];
 
-fn assert_answers_in_each_row(rt: &(impl Abort + AllocGlobal), client: &PostClient) {
+fn check_answers_in_each_row(alloc: Global, client: &PostClient) -> Result<(), Fail> {
     for status in [200, 400, 500] {
         for body in [b"\xff".as_slice(), b"{\"error\":\"\xff\"}"] {
-            assert_answers(rt, client, untyped(status, body), Outcome::NotJson);
+            check_answers(
+                alloc,
+                client,
+                reply_without_type(status, body),
+                Outcome::NotJson,
+            )?;
         }
     }
     for (types, wanted) in TYPES {
-        assert_answers(rt, client, success(types), wanted);
-        assert_answers(rt, client, failure(types), INVALID_GRANT);
+        check_answers(alloc, client, success(types), wanted)?;
+        check_answers(alloc, client, failure(types), INVALID_GRANT)?;
     }
+    Ok(())
 }
 
 #[test]
-fn each_request(rt: HostRuntime) {
-    let client = client(&rt);
-    assert_prepared_refresh(&rt, &client);
-    assert_answers_in_each_row(&rt, &client);
+fn each_request(rt: HostRuntime) -> Result<(), Fail> {
+    let client = client(rt.alloc())?;
+    check_prepared_refresh(rt.alloc(), &client)?;
+    check_answers_in_each_row(rt.alloc(), &client)
 }

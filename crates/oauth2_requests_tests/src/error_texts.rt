@@ -1,63 +1,58 @@
 //! Tests of the texts of errors.
 
-use crate::support::{assert_text, text};
 use oauth2::{ConfigurationError, HttpClientError, RequestFault, RequestTokenError, ViewError};
-use std::alloc::AllocError;
+use oauth2_tests_support::{check_display, text};
+use std::alloc::{AllocError, Global};
 use std::error::Error;
 use std::io;
-use std::process::Abort;
+use std::test::Fail;
 
 // Checks what a generic caller prints that knows only this trait.
-fn assert_error<E: Error + Drop>(rt: &(impl Abort + AllocGlobal), error: E, wanted: &str) {
-    let shown = format!(in rt.alloc(); "{error}").expect(rt, "a text");
-    assert_text(rt, shown.as_str(), wanted);
+fn check_error<E: Error + Drop>(alloc: Global, error: E, wanted: &str) -> Result<(), Fail> {
+    check_display(alloc, &error, wanted)
 }
 
 #[test]
-fn texts_of_errors(rt: HostRuntime) {
-    assert_error(
-        &rt,
-        ConfigurationError::MissingUrl("token"),
-        "No token endpoint URL specified",
-    );
-    assert_error(
-        &rt,
-        ConfigurationError::InsecureUrl("revocation"),
+fn texts_of_errors(rt: HostRuntime) -> Result<(), Fail> {
+    let alloc = rt.alloc();
+    let missing = ConfigurationError::MissingUrl("token");
+    check_error(alloc, missing, "No token endpoint URL specified")?;
+    let insecure = ConfigurationError::InsecureUrl("revocation");
+    check_error(
+        alloc,
+        insecure,
         "Scheme for revocation endpoint URL must be HTTPS",
-    );
-    assert_error(
-        &rt,
+    )?;
+    check_error(
+        alloc,
         RequestFault::NotHttp,
         "endpoint URL is not an HTTP target",
-    );
-    assert_error(&rt, RequestFault::Memory, "Out of memory");
-    assert_error(
-        &rt,
-        ViewError::BadBasic,
-        "Authorization header holds no identifier and secret",
-    );
-    assert_error(&rt, ViewError::Memory, "Out of memory");
+    )?;
+    check_error(alloc, RequestFault::Memory, "Out of memory")?;
+    let wanted = "Authorization header holds no identifier and secret";
+    check_error(alloc, ViewError::BadBasic, wanted)?;
+    check_error(alloc, ViewError::Memory, "Out of memory")
 }
 
 #[test]
-fn texts_of_exchanges(rt: HostRuntime) {
+fn texts_of_exchanges(rt: HostRuntime) -> Result<(), Fail> {
     let of_client: RequestTokenError<u8, String> = RequestTokenError::from(7);
-    assert_error(&rt, of_client, "Request failed");
+    check_error(rt.alloc(), of_client, "Request failed")?;
     let refused: RequestTokenError<u8, String> = RequestTokenError::refused(AllocError);
     assert!(rt; matches!(&refused, RequestTokenError::Memory { sent: false }));
-    assert_error(&rt, refused, "Out of memory");
+    check_error(rt.alloc(), refused, "Out of memory")
 }
 
 #[test]
-fn texts_of_http_clients(rt: HostRuntime) {
-    let library = Box::new(rt.alloc(), 7u8).expect(&rt, "a box");
-    let library: HttpClientError<u8> = HttpClientError::from(library);
-    assert_error(&rt, library, "client error");
+fn texts_of_http_clients(rt: HostRuntime) -> Result<(), Fail> {
+    let alloc = rt.alloc();
+    let library: HttpClientError<u8> = HttpClientError::from(Box::new(alloc, 7u8)?);
+    check_error(alloc, library, "client error")?;
     let status: HttpClientError<u8> = HttpClientError::from(oauth2::http::Error::StatusCode);
-    assert_error(&rt, status, "HTTP error");
+    check_error(alloc, status, "HTTP error")?;
     let not_found = io::Error::from(io::ErrorKind::NotFound);
     let not_found: HttpClientError<u8> = HttpClientError::from(not_found);
-    assert_error(&rt, not_found, "I/O error");
-    let other: HttpClientError<u8> = HttpClientError::Other(text(&rt, "no answer"));
-    assert_error(&rt, other, "no answer");
+    check_error(alloc, not_found, "I/O error")?;
+    let other: HttpClientError<u8> = HttpClientError::Other(text(alloc, "no answer")?);
+    check_error(alloc, other, "no answer")
 }

@@ -1,35 +1,26 @@
 //! Tests of how a form encodes each byte (URL Standard, section 5.2).
 
-use crate::support::{assert_equal, text, url};
 use oauth2::{AuthType, ClientId, HttpRequest, ParamText, endpoint_request};
-use std::process::Abort;
+use oauth2_tests_support::{check_equal, text, url};
+use std::alloc::{AllocError, Global};
+use std::test::Fail;
 
 // A request with these extra parameters.
 fn request_of(
-    rt: &(impl Abort + AllocGlobal),
+    alloc: Global,
     extra: &[(ParamText<'_>, ParamText<'_>)],
-) -> HttpRequest {
-    let url = url(rt, "https://example.com/token");
-    let id = ClientId::new(text(rt, "a"));
-    endpoint_request(
-        rt.alloc(),
-        &AuthType::RequestBody,
-        &id,
-        None,
-        extra,
-        None,
-        None,
-        &url,
-        &[],
-    )
-    .expect(rt, "a request")
+) -> Result<HttpRequest, Fail> {
+    let url = url(alloc, "https://example.com/token")?;
+    let id = ClientId::new(text(alloc, "a")?);
+    let auth = AuthType::RequestBody;
+    Ok(endpoint_request(alloc, &auth, &id, None, extra, None, None, &url, &[])?)
 }
 
 // Checks the body of a request with one extra parameter, whose name is the text.
-fn assert_sent(rt: &(impl Abort + AllocGlobal), name: &str, body: &[u8]) {
+fn check_sent(alloc: Global, name: &str, body: &[u8]) -> Result<(), Fail> {
     let extra = [(ParamText::from(name), ParamText::from(""))];
-    let request = request_of(rt, extra.as_slice());
-    assert_equal(rt, request.body().as_slice(), body);
+    let request = request_of(alloc, extra.as_slice())?;
+    check_equal(request.body().as_slice(), body)
 }
 
 // Whether a byte is written as it is: the ASCII letters and digits, `*`, `-`, `.` and `_` are.
@@ -38,31 +29,31 @@ fn is_unescaped(byte: u8) -> bool {
 }
 
 // Appends `+` for a space, an unescaped byte, or the escape of two upper-case hexadecimal digits.
-fn append_encoded(rt: &(impl Abort + AllocGlobal), body: &mut String, byte: u8) {
+fn append_encoded(alloc: Global, body: &mut String, byte: u8) -> Result<(), AllocError> {
     if is_unescaped(byte) {
-        body.push(char::from(byte)).expect(rt, "a text");
+        body.push(char::from(byte))
     } else if byte == b' ' {
-        body.push('+').expect(rt, "a text");
+        body.push('+')
     } else {
-        let escape = format!(in rt.alloc(); "%{byte:02X}").expect(rt, "an escape");
-        body.push_str(escape.as_str()).expect(rt, "a text");
+        body.push_str(format!(in alloc; "%{byte:02X}")?.as_str())
     }
 }
 
 // The body of a request whose extra parameter's name is the text.
-fn body_of(rt: &(impl Abort + AllocGlobal), name: &str) -> String {
-    let mut body = text(rt, "client_id=a&");
+fn body_of(alloc: Global, name: &str) -> Result<String, AllocError> {
+    let mut body = text(alloc, "client_id=a&")?;
     for &byte in name.as_bytes() {
-        append_encoded(rt, &mut body, byte);
+        append_encoded(alloc, &mut body, byte)?;
     }
-    body.push('=').expect(rt, "a text");
-    body
+    body.push('=')?;
+    Ok(body)
 }
 
 // Appends the character, if there is one of this code.
-fn push_code(rt: &(impl Abort + AllocGlobal), characters: &mut String, code: u32) {
-    if let Some(c) = char::from_u32(code) {
-        characters.push(c).expect(rt, "a text");
+fn push_code(characters: &mut String, code: u32) -> Result<(), AllocError> {
+    match char::from_u32(code) {
+        Some(c) => characters.push(c),
+        None => Ok(()),
     }
 }
 
@@ -73,20 +64,20 @@ const LONG: [u32; 21] = [
 ];
 
 // Characters whose encodings hold every byte that UTF-8 has.
-fn every_byte(rt: &(impl Abort + AllocGlobal)) -> String {
-    let mut characters = text(rt, "");
+fn every_byte(alloc: Global) -> Result<String, AllocError> {
+    let mut characters = text(alloc, "")?;
     for code in 0..0x800u32 {
-        push_code(rt, &mut characters, code);
+        push_code(&mut characters, code)?;
     }
     for code in LONG {
-        push_code(rt, &mut characters, code);
+        push_code(&mut characters, code)?;
     }
-    characters
+    Ok(characters)
 }
 
 #[test]
-fn every_byte_of_utf8(rt: HostRuntime) {
-    let name = every_byte(&rt);
-    let body = body_of(&rt, name.as_str());
-    assert_sent(&rt, name.as_str(), body.as_bytes());
+fn every_byte_of_utf8(rt: HostRuntime) -> Result<(), Fail> {
+    let name = every_byte(rt.alloc())?;
+    let body = body_of(rt.alloc(), name.as_str())?;
+    check_sent(rt.alloc(), name.as_str(), body.as_bytes())
 }

@@ -19,6 +19,4 @@ mod one_shot;
 #[cfg(test)]
 mod replies;
 #[cfg(test)]
-mod support;
-#[cfg(test)]
 mod views;

@@ -1,18 +1,16 @@
 //! Tests of how replies are read (RFC 6749, sections 5.1 and 5.2; RFC 7009, section 2.2).
 
-use crate::support::{assert_displayed_as, assert_text};
-use http_header::{CONTENT_TYPE, HeaderValue};
 use oauth2::basic::BasicRequestTokenError;
-use oauth2::http::response::Parts;
-use oauth2::http::{Response, StatusCode};
 use oauth2::{
     HttpResponse, ReplyRule, RequestTokenError, RevocationErrorResponseType, StandardErrorResponse,
     endpoint_response, endpoint_response_status_only, endpoint_response_with,
 };
-use std::process::Abort;
+use oauth2_tests_support::{NoReply, check_display, check_text, reply_of};
+use std::alloc::Global;
+use std::test::Fail;
 
 /// The result of a request whose response is a text.
-pub type TextResult = Result<String, BasicRequestTokenError<u8>>;
+pub type TextResult = Result<String, BasicRequestTokenError<NoReply>>;
 
 /// The error of a revocation.
 pub type RevocationError = RequestTokenError<
@@ -20,57 +18,28 @@ pub type RevocationError = RequestTokenError<
     StandardErrorResponse<RevocationErrorResponseType>,
 >;
 
-fn body_of(rt: &(impl Abort + AllocGlobal), bytes: &[u8]) -> Vec<u8> {
-    bytes.to_vec(rt.alloc()).expect(rt, "a body")
-}
-
-fn value_of(rt: &(impl Abort + AllocGlobal), bytes: &[u8]) -> HeaderValue {
-    HeaderValue::from_bytes(rt.alloc(), bytes).expect(rt, "a header's value")
-}
-
-// The head of a reply, without a header.
-fn head_of(rt: &(impl Abort + AllocGlobal), status: u16) -> Parts {
-    let mut head = Parts::new(rt.alloc());
-    head.status = StatusCode::from_u16(status).expect(rt, "a status");
-    head
-}
-
-/// A reply with these values of Content-Type.
-pub fn reply_of(
-    rt: &(impl Abort + AllocGlobal),
-    status: u16,
-    types: &[&[u8]],
-    body: &[u8],
-) -> HttpResponse {
-    let mut head = head_of(rt, status);
-    for bytes in types {
-        let value = value_of(rt, bytes);
-        let _ = head
-            .headers
-            .append(CONTENT_TYPE, value)
-            .expect(rt, "a header");
-    }
-    Response::from_parts(head, body_of(rt, body))
-}
-
 /// Checks what was read from a reply: its text, or the text of the error.
-pub fn assert_text_result(rt: &(impl Abort + AllocGlobal), answer: TextResult, wanted: &str) {
+pub fn check_text_result(alloc: Global, answer: TextResult, wanted: &str) -> Result<(), Fail> {
     match answer {
-        Ok(text) => assert_text(rt, text.as_str(), wanted),
-        Err(error) => assert_displayed_as(rt, &error, wanted),
+        Ok(text) => check_text(text.as_str(), wanted),
+        Err(error) => check_display(alloc, &error, wanted),
     }
 }
 
 // Checks how a reply is read whose response is a text.
-fn assert_reply(rt: &(impl Abort + AllocGlobal), status: u16, types: &[&[u8]], wanted: &str) {
-    let reply = reply_of(rt, status, types, b"\"a token\"");
-    assert_text_result(rt, endpoint_response(rt.alloc(), reply), wanted);
+fn check_reply(alloc: Global, types: &[&[u8]], wanted: &str) -> Result<(), Fail> {
+    let reply = reply_of(alloc, 200, types, b"\"a token\"")?;
+    check_text_result(alloc, endpoint_response(alloc, reply), wanted)
 }
 
 /// A reply whose body is a text, with the Content-Type `application/jsonfoo`.
-pub fn json_foo(rt: &(impl Abort + AllocGlobal)) -> HttpResponse {
-    let types = [b"application/jsonfoo".as_slice()];
-    reply_of(rt, 200, &types, b"\"a token\"")
+pub fn json_foo(alloc: Global) -> Result<HttpResponse, Fail> {
+    reply_of(
+        alloc,
+        200,
+        &[b"application/jsonfoo".as_slice()],
+        b"\"a token\"",
+    )
 }
 
 /// The error that the rule `MediaType` returns for `json_foo`.
@@ -79,32 +48,33 @@ pub const JSON_FOO_REFUSED: &str =
     `application/json`";
 
 #[test]
-fn replies_that_a_caller_got(rt: HostRuntime) {
-    assert_reply(&rt, 200, &[], "a token");
+fn replies_that_a_caller_got(rt: HostRuntime) -> Result<(), Fail> {
+    let alloc = rt.alloc();
+    check_reply(alloc, &[], "a token")?;
     let types = [b"application/json".as_slice(), b"text/html".as_slice()];
-    assert_reply(&rt, 200, &types, "a token");
-    let answer = endpoint_response_with(rt.alloc(), ReplyRule::MediaType, json_foo(&rt));
-    assert_text_result(&rt, answer, JSON_FOO_REFUSED);
+    check_reply(alloc, &types, "a token")?;
+    let answer = endpoint_response_with(alloc, ReplyRule::MediaType, json_foo(alloc)?);
+    check_text_result(alloc, answer, JSON_FOO_REFUSED)
 }
 
 // Checks what is read from a reply when only its status says whether the request succeeded.
-fn assert_reply_by_status(rt: &(impl Abort + AllocGlobal), status: u16, body: &str, wanted: &str) {
+fn check_reply_by_status(alloc: Global, status: u16, body: &str, wanted: &str) -> Result<(), Fail> {
     let types = [b"application/octet-stream".as_slice()];
-    let reply = reply_of(rt, status, &types, body.as_bytes());
-    let answer: Result<(), RevocationError> = endpoint_response_status_only(rt.alloc(), reply);
+    let reply = reply_of(alloc, status, &types, body.as_bytes())?;
+    let answer: Result<(), RevocationError> = endpoint_response_status_only(alloc, reply);
     match answer {
-        Ok(()) => assert_text(rt, "done", wanted),
-        Err(error) => assert_displayed_as(rt, &error, wanted),
+        Ok(()) => check_text("done", wanted),
+        Err(error) => check_display(alloc, &error, wanted),
     }
 }
 
 #[test]
-fn status_alone(rt: HostRuntime) {
-    assert_reply_by_status(&rt, 200, "\x01\x02\x03", "done");
-    assert_reply_by_status(
-        &rt,
+fn status_alone(rt: HostRuntime) -> Result<(), Fail> {
+    check_reply_by_status(rt.alloc(), 200, "\x01\x02\x03", "done")?;
+    check_reply_by_status(
+        rt.alloc(),
         400,
         "{\"error\":\"unsupported_token_type\",\"error_description\":\"stuff happened\"}",
         "Server returned error response: unsupported_token_type: stuff happened",
-    );
+    )
 }

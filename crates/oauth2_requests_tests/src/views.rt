@@ -1,72 +1,73 @@
 //! Tests of what a server gets that does nothing but decode a request's form and header (RFC 6749,
 //! section 2.3.1).
 
-use crate::support::{assert_at, assert_equal, assert_text, text};
 use http_header::{AUTHORIZATION, HeaderValue};
 use oauth2::http::Request;
 use oauth2::{HttpRequest, ViewError, basic_header, server_view};
-use std::process::Abort;
+use oauth2_tests_support::{check, check_equal, check_text, text};
+use std::alloc::{AllocError, Global};
+use std::test::Fail;
 
-fn header(rt: &(impl Abort + AllocGlobal), text: &str) -> HeaderValue {
-    HeaderValue::from_str(rt.alloc(), text).expect(rt, "a header's value")
+fn header(alloc: Global, text: &str) -> Result<HeaderValue, Fail> {
+    Ok(HeaderValue::from_str(alloc, text)?)
 }
 
 // A request with this Authorization header and nothing else.
-fn request_with(rt: &(impl Abort + AllocGlobal), value: HeaderValue) -> HttpRequest {
-    let mut request = Request::new(rt.alloc(), Vec::new(rt.alloc()));
-    let _ = request
-        .headers_mut()
-        .insert(AUTHORIZATION, value)
-        .expect(rt, "a header");
-    request
+fn request_with(alloc: Global, value: HeaderValue) -> Result<HttpRequest, Fail> {
+    let mut request = Request::new(alloc, Vec::new(alloc));
+    let _ = request.headers_mut().insert(AUTHORIZATION, value)?;
+    Ok(request)
 }
 
 // Checks the identifier and the secret that a server decodes from a request with this header.
-fn assert_credentials(rt: &(impl Abort + AllocGlobal), value: HeaderValue, id: &str, secret: &str) {
-    let request = request_with(rt, value);
-    let view = server_view(rt.alloc(), &request).expect(rt, "a view");
-    let (read_id, read_secret) = view.basic.expect(rt, "credentials");
-    assert_text(rt, read_id.as_str(), id);
-    assert_text(rt, read_secret.as_str(), secret);
+fn check_credentials(
+    alloc: Global,
+    value: HeaderValue,
+    id: &str,
+    secret: &str,
+) -> Result<(), Fail> {
+    let view = server_view(alloc, &request_with(alloc, value)?)?;
+    let (read_id, read_secret) = view.basic.ok_or("no credentials")?;
+    check_text(read_id.as_str(), id)?;
+    check_text(read_secret.as_str(), secret)
 }
 
 #[test]
-fn credentials_of_a_header(rt: HostRuntime) {
-    let value = basic_header(rt.alloc(), "a:b", "c+d e").expect(&rt, "a header's value");
-    assert_equal(
-        &rt,
-        value.as_bytes(),
-        b"Basic YSUzQWI6YyUyQmQrZQ==".as_slice(),
-    );
-    assert_credentials(&rt, value, "a:b", "c+d e");
-    assert_credentials(&rt, header(&rt, "Basic YTpiOmM="), "a", "b:c");
+fn credentials_of_a_header(rt: HostRuntime) -> Result<(), Fail> {
+    let value = basic_header(rt.alloc(), "a:b", "c+d e")?;
+    check_equal(value.as_bytes(), b"Basic YSUzQWI6YyUyQmQrZQ==".as_slice())?;
+    check_credentials(rt.alloc(), value, "a:b", "c+d e")?;
+    check_credentials(
+        rt.alloc(),
+        header(rt.alloc(), "Basic YTpiOmM=")?,
+        "a",
+        "b:c",
+    )
 }
 
 #[test]
-fn bad_credentials(rt: HostRuntime) {
+fn bad_credentials(rt: HostRuntime) -> Result<(), Fail> {
     for value in ["Basic YWFh", "Basic !!", "Bearer x"] {
-        let request = request_with(&rt, header(&rt, value));
-        let fault = server_view(rt.alloc(), &request)
-            .err()
-            .expect(&rt, "a fault");
-        assert_at(&rt, fault == ViewError::BadBasic, value);
+        let request = request_with(rt.alloc(), header(rt.alloc(), value)?)?;
+        let fault = server_view(rt.alloc(), &request).err();
+        check(fault == Some(ViewError::BadBasic), value)?;
     }
+    Ok(())
 }
 
 // The pairs of a form, each as a line.
-fn lines(rt: &(impl Abort + AllocGlobal), form: &[(String, String)]) -> String {
-    let mut shown = String::new(rt.alloc());
+fn lines(alloc: Global, form: &[(String, String)]) -> Result<String, AllocError> {
+    let mut shown = String::new(alloc);
     for (name, value) in form {
-        let line = format!(in rt.alloc(); "{name} is {value}\n").expect(rt, "a line");
-        shown.push_str(line.as_str()).expect(rt, "the lines");
+        shown.push_str(format!(in alloc; "{name} is {value}\n")?.as_str())?;
     }
-    shown
+    Ok(shown)
 }
 
 #[test]
-fn pairs_of_a_body(rt: HostRuntime) {
-    let body = text(&rt, "a&=b&&c==d&e=%zz").into_bytes();
-    let view = server_view(rt.alloc(), &Request::new(rt.alloc(), body)).expect(&rt, "a view");
-    let shown = lines(&rt, view.form.as_slice());
-    assert_text(&rt, shown.as_str(), "a is \n is b\nc is =d\ne is %zz\n");
+fn pairs_of_a_body(rt: HostRuntime) -> Result<(), Fail> {
+    let body = text(rt.alloc(), "a&=b&&c==d&e=%zz")?.into_bytes();
+    let view = server_view(rt.alloc(), &Request::new(rt.alloc(), body))?;
+    let shown = lines(rt.alloc(), view.form.as_slice())?;
+    check_text(shown.as_str(), "a is \n is b\nc is =d\ne is %zz\n")
 }

@@ -1,34 +1,33 @@
 //! The members of a device authorization response (RFC 8628, section 3.2).
 
-use crate::support::{assert_text, read};
 use oauth2::{EmptyExtraDeviceAuthorizationFields, StandardDeviceAuthorizationResponse};
+use oauth2_tests_support::{check_equal, check_text, read};
 use std::ops::Deref;
-use std::process::Abort;
+use std::test::Fail;
 use std::time::Duration;
 
-fn assert_texts(rt: &impl Abort, device: &StandardDeviceAuthorizationResponse) {
-    assert_text(rt, device.device_code().secret().as_str(), "d");
-    assert_text(rt, device.user_code().secret().as_str(), "u");
-    assert_text(rt, device.verification_uri().deref().as_str(), "https://v/");
-    let complete = device
-        .verification_uri_complete()
-        .expect(rt, "a complete URI");
-    assert_text(rt, complete.secret().as_str(), "https://v/u");
+fn check_texts(device: &StandardDeviceAuthorizationResponse) -> Result<(), Fail> {
+    check_text(device.device_code().secret().as_str(), "d")?;
+    check_text(device.user_code().secret().as_str(), "u")?;
+    check_text(device.verification_uri().deref().as_str(), "https://v/")?;
+    let complete = device.verification_uri_complete().ok_or("no complete URI")?;
+    check_text(complete.secret().as_str(), "https://v/u")
 }
 
-fn assert_times(rt: &impl Abort, device: &StandardDeviceAuthorizationResponse) {
-    assert!(rt; device.expires_in() == Duration::from_secs(300));
-    assert!(rt; device.interval() == Duration::from_secs(7));
+fn check_times(device: &StandardDeviceAuthorizationResponse) -> Result<(), Fail> {
+    check_equal(device.expires_in(), Duration::from_secs(300))?;
+    check_equal(device.interval(), Duration::from_secs(7))
 }
 
 #[test]
-fn members_of_a_device_response(rt: HostRuntime) {
+fn members_of_a_device_response(rt: HostRuntime) -> Result<(), Fail> {
     let device = read::<StandardDeviceAuthorizationResponse>(
-        &rt,
+        rt.alloc(),
         "{\"device_code\":\"d\",\"expires_in\":300,\"interval\":7,\"user_code\":\"u\",\
         \"verification_uri\":\"https://v/\",\"verification_uri_complete\":\"https://v/u\"}",
-    );
-    assert_texts(&rt, &device);
-    assert_times(&rt, &device);
+    )?;
+    check_texts(&device)?;
+    check_times(&device)?;
     let EmptyExtraDeviceAuthorizationFields {} = device.extra_fields();
+    Ok(())
 }

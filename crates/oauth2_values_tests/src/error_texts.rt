@@ -1,24 +1,25 @@
 //! Tests of the texts of the errors of reading and writing.
 
-use crate::support::{assert_displayed_as, text};
 use oauth2::{ParseCause, ParseFault, ReadError, WriteError};
+use oauth2_tests_support::{check_display, text};
+use std::alloc::Global;
 use std::error::Error;
-use std::process::Abort;
+use std::test::Fail;
 
 // Checks what a generic caller prints that knows only this trait.
-fn assert_error<E: Error>(rt: &(impl Abort + AllocGlobal), error: &E, wanted: &str) {
-    assert_displayed_as(rt, error, wanted);
+fn check_error<E: Error>(alloc: Global, error: &E, wanted: &str) -> Result<(), Fail> {
+    check_display(alloc, error, wanted)
 }
 
 // Checks the text of a cause, also in a fault that names no member.
-fn assert_cause(rt: &(impl Abort + AllocGlobal), cause: ParseCause, wanted: &str) {
-    assert_displayed_as(rt, &cause, wanted);
-    let member = text(rt, "");
-    assert_displayed_as(rt, &ParseFault { member, cause }, wanted);
+fn check_cause(alloc: Global, cause: ParseCause, wanted: &str) -> Result<(), Fail> {
+    check_display(alloc, &cause, wanted)?;
+    let member = text(alloc, "")?;
+    check_display(alloc, &ParseFault { member, cause }, wanted)
 }
 
 #[test]
-fn texts_of_causes(rt: HostRuntime) {
+fn texts_of_causes(rt: HostRuntime) -> Result<(), Fail> {
     for (cause, wanted) in [
         (ParseCause::NotJson, "not one whole JSON value"),
         (ParseCause::NotObject, "not an object"),
@@ -30,21 +31,22 @@ fn texts_of_causes(rt: HostRuntime) {
         (ParseCause::BothNames, "under both of its names"),
         (ParseCause::Refused, "of another shape"),
     ] {
-        assert_cause(&rt, cause, wanted);
+        check_cause(rt.alloc(), cause, wanted)?;
     }
+    Ok(())
 }
 
 #[test]
-fn texts_of_read_errors(rt: HostRuntime) {
+fn texts_of_read_errors(rt: HostRuntime) -> Result<(), Fail> {
     let inner = ReadError::at(rt.alloc(), "expires_in", ParseCause::NotWhole);
-    assert_error(&rt, &inner, "expires_in: not a whole number");
+    check_error(rt.alloc(), &inner, "expires_in: not a whole number")?;
     let outer = inner.under(rt.alloc(), "outer");
-    assert_error(&rt, &outer, "outer: not a whole number");
-    assert_error(&rt, &ReadError::Memory, "out of memory");
+    check_error(rt.alloc(), &outer, "outer: not a whole number")?;
+    check_error(rt.alloc(), &ReadError::Memory, "out of memory")
 }
 
 #[test]
-fn texts_of_write_errors(rt: HostRuntime) {
+fn texts_of_write_errors(rt: HostRuntime) -> Result<(), Fail> {
     for (error, wanted) in [
         (WriteError::Memory, "out of memory"),
         (
@@ -53,6 +55,7 @@ fn texts_of_write_errors(rt: HostRuntime) {
         ),
         (WriteError::Float, "an extra member holds a float"),
     ] {
-        assert_error(&rt, &error, wanted);
+        check_error(rt.alloc(), &error, wanted)?;
     }
+    Ok(())
 }

@@ -2,18 +2,17 @@
 
 ghost use Rattle.std.specs.Prelude.{codes};
 
-use crate::support::{
-    assert_copy_kept, assert_equal, assert_kept, assert_not_written, assert_refused,
-    assert_rewritten, assert_text, read, text,
-};
+use crate::support::{check_copy_kept, check_kept, check_not_written, check_rewritten};
 use oauth2::basic::BasicTokenType;
 use oauth2::{
     DeviceAuthorizationResponse, EmptyExtraDeviceAuthorizationFields, EmptyExtraTokenFields,
     ExtraFields, ExtraTokenFields, NamedMember, ParseCause, StandardTokenIntrospectionResponse,
     StandardTokenResponse, TryClone, WithMember, WriteError,
 };
+use oauth2_tests_support::{check, check_equal, check_fault, check_text, read, text};
 use serde_json::Value;
-use std::process::Abort;
+use std::alloc::Global;
+use std::test::Fail;
 
 struct IdToken;
 
@@ -70,43 +69,45 @@ type IdentityFields = WithMember<IdToken, WithMember<ExtExpiresIn, OfflineFields
 type DeviceFields = WithMember<Confirmation, EmptyExtraDeviceAuthorizationFields>;
 
 #[test]
-fn named_members_are_told(rt: HostRuntime) {
+fn named_members_are_told(rt: HostRuntime) -> Result<(), Fail> {
     let fields = read::<IdentityFields>(
-        &rt,
+        rt.alloc(),
         r#"{"n":1,"id_token":"x","ext_expires_in":7,"offline":true,"cnf":[]}"#,
-    );
-    let id_token = fields.value().expect(&rt, "a text");
-    assert_text(&rt, id_token.as_str(), "x");
+    )?;
+    let id_token = fields.value().ok_or("no text")?;
+    check_text(id_token.as_str(), "x")?;
     let rest = fields.rest();
-    assert_equal(&rt, rest.value(), Some(&7));
+    check_equal(rest.value(), Some(&7))?;
     let rest = rest.rest();
-    assert_equal(&rt, rest.value(), Some(&true));
-    let confirmation = rest.rest().value().expect(&rt, "a value");
+    check_equal(rest.value(), Some(&true))?;
+    let confirmation = rest.rest().value().ok_or("no value")?;
     assert!(rt; confirmation.is_array());
+    Ok(())
 }
 
 // Checks that the lifetime is the only member.
-fn assert_lifetime_alone(rt: &impl Abort, fields: &IdentityFields) {
-    assert!(rt; fields.value().is_none());
+fn check_lifetime_alone(fields: &IdentityFields) -> Result<(), Fail> {
+    check(fields.value().is_none(), "id_token")?;
     let rest = fields.rest();
-    assert!(rt; rest.value().is_some());
+    check(rest.value().is_some(), "ext_expires_in")?;
     let rest = rest.rest();
-    assert!(rt; rest.value().is_none());
-    assert!(rt; rest.rest().value().is_none());
+    check(rest.value().is_none(), "offline")?;
+    check(rest.rest().value().is_none(), "cnf")
 }
 
 #[test]
-fn absent_and_null_members_are_none(rt: HostRuntime) {
+fn absent_and_null_members_are_none(rt: HostRuntime) -> Result<(), Fail> {
     for body in [
         r#"{"ext_expires_in":7}"#,
         r#"{"cnf":null,"ext_expires_in":7,"id_token":null,"offline":null}"#,
     ] {
-        assert_lifetime_alone(&rt, &read::<IdentityFields>(&rt, body));
+        check_lifetime_alone(&read::<IdentityFields>(rt.alloc(), body)?)?;
     }
+    Ok(())
 }
 
 #[test]
-fn members_of_another_kind_are_refused(rt: HostRuntime) {
+fn members_of_another_kind_are_refused(rt: HostRuntime) -> Result<(), Fail> {
     for (body, member, cause) in [
         (r#"{"id_token":1}"#, "id_token", ParseCause::WrongType),
         (
@@ -132,42 +133,43 @@ fn members_of_another_kind_are_refused(rt: HostRuntime) {
         ),
         ("[]", "", ParseCause::NotObject),
     ] {
-        assert_refused::<IdentityFields>(&rt, body, member, cause);
+        check_fault::<IdentityFields>(rt.alloc(), body, member, cause)?;
     }
+    Ok(())
 }
 
 // Checks that responses with these fields are written with them. (The function is generic, so that
 // what the fields are is proved once, at the call, and not for each type of response.)
-fn assert_identity_written<Fields: ExtraTokenFields + TryClone + Drop>(
-    rt: &(impl Abort + AllocGlobal),
-) {
+fn check_identity_written<Fields: ExtraTokenFields + TryClone + Drop>(
+    alloc: Global,
+) -> Result<(), Fail> {
     let whole = "{\"access_token\":\"t\",\"cnf\":[],\"ext_expires_in\":7,\"id_token\":\"x\",\
         \"offline\":true,\"token_type\":\"bearer\"}";
-    assert_copy_kept::<StandardTokenResponse<Fields, BasicTokenType>>(rt, whole);
-    assert_rewritten::<StandardTokenResponse<Fields, BasicTokenType>>(
-        rt,
+    check_copy_kept::<StandardTokenResponse<Fields, BasicTokenType>>(alloc, whole)?;
+    check_rewritten::<StandardTokenResponse<Fields, BasicTokenType>>(
+        alloc,
         r#"{"access_token":"t","token_type":"bearer","n":1,"offline":null,"ext_expires_in":7}"#,
         r#"{"access_token":"t","ext_expires_in":7,"token_type":"bearer"}"#,
-    );
-    assert_kept::<StandardTokenIntrospectionResponse<Fields, BasicTokenType>>(
-        rt,
+    )?;
+    check_kept::<StandardTokenIntrospectionResponse<Fields, BasicTokenType>>(
+        alloc,
         r#"{"active":true,"id_token":"x"}"#,
-    );
+    )
 }
 
 #[test]
-fn named_members_are_written(rt: HostRuntime) {
-    assert_identity_written::<IdentityFields>(&rt);
-    assert_kept::<DeviceAuthorizationResponse<DeviceFields>>(
-        &rt,
+fn named_members_are_written(rt: HostRuntime) -> Result<(), Fail> {
+    check_identity_written::<IdentityFields>(rt.alloc())?;
+    check_kept::<DeviceAuthorizationResponse<DeviceFields>>(
+        rt.alloc(),
         "{\"cnf\":[],\"device_code\":\"d\",\"expires_in\":1,\"interval\":5,\"user_code\":\"u\",\
         \"verification_uri\":\"https://v/\"}",
-    );
+    )
 }
 
 #[test]
-fn name_that_the_rest_writes_is_refused(rt: HostRuntime) {
-    let rest = read::<ExtraFields>(&rt, r#"{"id_token":"y"}"#);
-    let fields = WithMember::<IdToken, ExtraFields>::new(Some(text(&rt, "x")), rest);
-    assert_not_written(&rt, fields, WriteError::NameClash, "id_token");
+fn name_that_the_rest_writes_is_refused(rt: HostRuntime) -> Result<(), Fail> {
+    let rest = read::<ExtraFields>(rt.alloc(), r#"{"id_token":"y"}"#)?;
+    let fields = WithMember::<IdToken, ExtraFields>::new(Some(text(rt.alloc(), "x")?), rest);
+    check_not_written(rt.alloc(), fields, WriteError::NameClash, "id_token")
 }

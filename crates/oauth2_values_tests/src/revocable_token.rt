@@ -1,47 +1,34 @@
 //! Tokens that can be revoked (RFC 7009, section 2.1).
 
-use crate::support::{assert_text, text};
 use oauth2::helpers::variant_name;
 use oauth2::{AccessToken, RefreshToken, RevocableToken, StandardRevocableToken};
-use std::process::Abort;
+use oauth2_tests_support::{check_equal, check_text, text};
+use std::test::Fail;
 
 // Checks the secret, the hint and the name of a token.
-fn assert_token(
-    rt: &impl Abort,
+fn check_token(
     token: &StandardRevocableToken,
     secret: &str,
     hint: &'static str,
     name: &str,
-) {
-    assert_text(rt, token.secret(), secret);
-    assert!(rt; token.type_hint() == Some(hint));
-    assert_text(rt, variant_name(token), name);
+) -> Result<(), Fail> {
+    check_text(token.secret(), secret)?;
+    check_equal(token.type_hint(), Some(hint))?;
+    check_text(variant_name(token), name)
 }
 
 #[test]
-fn access_tokens(rt: HostRuntime) {
-    let access_token = AccessToken::new(text(&rt, "a"));
-    let token = StandardRevocableToken::from_access_token_ref(rt.alloc(), &access_token).expect(
-        &rt, "a token",
-    );
-    assert_token(&rt, &token, "a", "access_token", "AccessToken");
-    assert_text(
-        &rt,
-        StandardRevocableToken::from(access_token).secret(),
-        "a",
-    );
+fn access_tokens(rt: HostRuntime) -> Result<(), Fail> {
+    let access_token = AccessToken::new(text(rt.alloc(), "a")?);
+    let token = StandardRevocableToken::from_access_token_ref(rt.alloc(), &access_token)?;
+    check_token(&token, "a", "access_token", "AccessToken")?;
+    check_text(StandardRevocableToken::from(access_token).secret(), "a")
 }
 
 #[test]
-fn refresh_tokens(rt: HostRuntime) {
-    let refresh_token = RefreshToken::new(text(&rt, "b"));
-    let token = StandardRevocableToken::from_refresh_token_ref(rt.alloc(), &refresh_token).expect(
-        &rt, "a token",
-    );
-    assert_token(&rt, &token, "b", "refresh_token", "RefreshToken");
-    assert_text(
-        &rt,
-        StandardRevocableToken::from(refresh_token).secret(),
-        "b",
-    );
+fn refresh_tokens(rt: HostRuntime) -> Result<(), Fail> {
+    let refresh_token = RefreshToken::new(text(rt.alloc(), "b")?);
+    let token = StandardRevocableToken::from_refresh_token_ref(rt.alloc(), &refresh_token)?;
+    check_token(&token, "b", "refresh_token", "RefreshToken")?;
+    check_text(StandardRevocableToken::from(refresh_token).secret(), "b")
 }

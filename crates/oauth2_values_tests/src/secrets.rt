@@ -2,76 +2,46 @@
 
 ghost use Rattle.std.specs.Prelude.{◌≡◌, IsTrue};
 
-use crate::support::{assert_debugged_in_lines, assert_different, assert_text, other, text, value};
+use crate::support::{check_debug_in_lines, check_different};
 use oauth2::{
     AccessToken, AuthorizationCode, ClientSecret, CsrfToken, DeviceCode, RefreshToken,
     ResourceOwnerPassword, TryClone, UserCode, VerificationUriComplete,
 };
+use oauth2_tests_support::{check_text, text};
+use std::test::Fail;
 
 #[test]
-fn secrets_are_hidden(rt: HostRuntime) {
-    assert_different(
-        &rt,
-        AccessToken::new(value(&rt)),
-        AccessToken::new(other(&rt)),
-        "AccessToken([redacted])",
-    );
-    assert_different(
-        &rt,
-        AuthorizationCode::new(value(&rt)),
-        AuthorizationCode::new(other(&rt)),
+fn secrets_are_hidden(rt: HostRuntime) -> Result<(), Fail> {
+    let alloc = rt.alloc();
+    check_different(alloc, AccessToken::new, "AccessToken([redacted])")?;
+    check_different(
+        alloc,
+        AuthorizationCode::new,
         "AuthorizationCode([redacted])",
-    );
-    assert_different(
-        &rt,
-        ClientSecret::new(value(&rt)),
-        ClientSecret::new(other(&rt)),
-        "ClientSecret([redacted])",
-    );
-    assert_different(
-        &rt,
-        CsrfToken::new(value(&rt)),
-        CsrfToken::new(other(&rt)),
-        "CsrfToken([redacted])",
-    );
-    assert_different(
-        &rt,
-        DeviceCode::new(value(&rt)),
-        DeviceCode::new(other(&rt)),
-        "DeviceCode([redacted])",
-    );
-    assert_different(
-        &rt,
-        RefreshToken::new(value(&rt)),
-        RefreshToken::new(other(&rt)),
-        "RefreshToken([redacted])",
-    );
-    assert_different(
-        &rt,
-        ResourceOwnerPassword::new(value(&rt)),
-        ResourceOwnerPassword::new(other(&rt)),
+    )?;
+    check_different(alloc, ClientSecret::new, "ClientSecret([redacted])")?;
+    check_different(alloc, CsrfToken::new, "CsrfToken([redacted])")?;
+    check_different(alloc, DeviceCode::new, "DeviceCode([redacted])")?;
+    check_different(alloc, RefreshToken::new, "RefreshToken([redacted])")?;
+    check_different(
+        alloc,
+        ResourceOwnerPassword::new,
         "ResourceOwnerPassword([redacted])",
-    );
-    assert_different(
-        &rt,
-        UserCode::new(value(&rt)),
-        UserCode::new(other(&rt)),
-        "UserCode([redacted])",
-    );
-    assert_different(
-        &rt,
-        VerificationUriComplete::new(value(&rt)),
-        VerificationUriComplete::new(other(&rt)),
+    )?;
+    check_different(alloc, UserCode::new, "UserCode([redacted])")?;
+    check_different(
+        alloc,
+        VerificationUriComplete::new,
         "VerificationUriComplete([redacted])",
-    );
+    )
 }
 
 #[test]
-fn texts_of_secrets(rt: HostRuntime) {
-    let secret = ClientSecret::new(text(&rt, "top_secret"));
-    assert_debugged_in_lines(&rt, &secret, "ClientSecret([redacted])");
-    assert_text(&rt, secret.secret().as_str(), "top_secret");
-    assert_text(&rt, secret.into_secret().as_str(), "top_secret");
+fn texts_of_secrets(rt: HostRuntime) -> Result<(), Fail> {
+    let secret = ClientSecret::new(text(rt.alloc(), "top_secret")?);
+    check_debug_in_lines(rt.alloc(), &secret, "ClientSecret([redacted])")?;
+    check_text(secret.secret().as_str(), "top_secret")?;
+    check_text(secret.into_secret().as_str(), "top_secret")
 }
 
 // Two secrets with the same text are equal.
@@ -90,9 +60,10 @@ fn is_lawful<T: Eq>(a: &T, b: &T, c: &T) -> bool
 }
 
 #[test]
-fn laws_of_secrets(rt: HostRuntime) {
-    let token = AccessToken::new(text(&rt, "a"));
-    let copy = token.try_clone(rt.alloc()).expect(&rt, "a copy");
+fn laws_of_secrets(rt: HostRuntime) -> Result<(), Fail> {
+    let token = AccessToken::new(text(rt.alloc(), "a")?);
+    let copy = token.try_clone(rt.alloc())?;
     assert!(rt; equal_texts(&token, &copy));
     assert!(rt; is_lawful(&token, &copy, &token));
+    Ok(())
 }

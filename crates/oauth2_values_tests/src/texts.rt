@@ -1,59 +1,46 @@
 //! Tests of texts that are no secrets: displayed, compared, copied and turned into texts.
 
-use crate::support::{assert_different, assert_text, other, text, value};
+use crate::support::check_different;
 use oauth2::{
     ClientId, PkceCodeChallengeMethod, ResourceOwnerUsername, ResponseType, Scope, TryClone,
 };
+use oauth2_tests_support::{check_text, text};
 use std::convert::AsStr;
+use std::test::Fail;
 
 #[test]
-fn plain_texts(rt: HostRuntime) {
-    assert_different(
-        &rt,
-        ClientId::new(value(&rt)),
-        ClientId::new(other(&rt)),
-        "ClientId(\"top_secret\")",
-    );
-    assert_different(
-        &rt,
-        PkceCodeChallengeMethod::new(value(&rt)),
-        PkceCodeChallengeMethod::new(other(&rt)),
+fn plain_texts(rt: HostRuntime) -> Result<(), Fail> {
+    let alloc = rt.alloc();
+    check_different(alloc, ClientId::new, "ClientId(\"top_secret\")")?;
+    check_different(
+        alloc,
+        PkceCodeChallengeMethod::new,
         "PkceCodeChallengeMethod(\"top_secret\")",
-    );
-    assert_different(
-        &rt,
-        ResourceOwnerUsername::new(value(&rt)),
-        ResourceOwnerUsername::new(other(&rt)),
+    )?;
+    check_different(
+        alloc,
+        ResourceOwnerUsername::new,
         "ResourceOwnerUsername(\"top_secret\")",
-    );
-    assert_different(
-        &rt,
-        ResponseType::new(value(&rt)),
-        ResponseType::new(other(&rt)),
-        "ResponseType(\"top_secret\")",
-    );
-    assert_different(
-        &rt,
-        Scope::new(value(&rt)),
-        Scope::new(other(&rt)),
-        "Scope(\"top_secret\")",
-    );
+    )?;
+    check_different(alloc, ResponseType::new, "ResponseType(\"top_secret\")")?;
+    check_different(alloc, Scope::new, "Scope(\"top_secret\")")
 }
 
 #[test]
-fn parts_of_texts(rt: HostRuntime) {
-    let id = ClientId::new(text(&rt, "b"));
-    assert_text(&rt, id.as_str(), "b");
-    assert_text(&rt, String::from(id).as_str(), "b");
-    let scope = Scope::new(text(&rt, "c"));
-    assert_text(&rt, AsStr::as_str(&scope), "c");
+fn parts_of_texts(rt: HostRuntime) -> Result<(), Fail> {
+    let id = ClientId::new(text(rt.alloc(), "b")?);
+    check_text(id.as_str(), "b")?;
+    check_text(String::from(id).as_str(), "b")?;
+    let scope = Scope::new(text(rt.alloc(), "c")?);
+    check_text(AsStr::as_str(&scope), "c")
 }
 
 #[test]
-fn copies_of_lists(rt: HostRuntime) {
-    let words = vec![in rt.alloc(); text(&rt, "a"), text(&rt, "b")].expect(&rt, "a list");
-    let list = Some(words).try_clone(rt.alloc()).expect(&rt, "a copy");
-    let words = list.expect(&rt, "the list is gone");
-    let joined = words.concat(rt.alloc()).expect(&rt, "a text");
-    assert_text(&rt, joined.as_str(), "ab");
+fn copies_of_lists(rt: HostRuntime) -> Result<(), Fail> {
+    let (first, second) = (text(rt.alloc(), "a")?, text(rt.alloc(), "b")?);
+    let words = vec![in rt.alloc(); first, second]?;
+    let list = Some(words).try_clone(rt.alloc())?;
+    let words = list.ok_or("the list is gone")?;
+    let joined = words.concat(rt.alloc())?;
+    check_text(joined.as_str(), "ab")
 }

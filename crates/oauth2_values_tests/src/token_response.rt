@@ -1,60 +1,67 @@
 //! The members of a token response (RFC 6749, section 5.1).
 
-use crate::support::{assert_equal, assert_text, assert_written_as, read, scope_list, text};
+use crate::support::scope_list;
 use oauth2::basic::{BasicTokenResponse, BasicTokenType};
 use oauth2::{AccessToken, EmptyExtraTokenFields, RefreshToken, TokenResponse};
-use std::process::Abort;
+use oauth2_tests_support::{check, check_equal, check_text, check_written, read, text};
+use std::alloc::Global;
+use std::test::Fail;
 use std::time::Duration;
 
 // A token response with only the required members.
-fn least(rt: &(impl Abort + AllocGlobal)) -> BasicTokenResponse {
-    let access_token = AccessToken::new(text(rt, "t"));
-    BasicTokenResponse::new(access_token, BasicTokenType::Mac, EmptyExtraTokenFields {})
+fn least_response(alloc: Global) -> Result<BasicTokenResponse, Fail> {
+    let access_token = AccessToken::new(text(alloc, "t")?);
+    Ok(BasicTokenResponse::new(access_token, BasicTokenType::Mac, EmptyExtraTokenFields {}))
 }
 
 #[test]
-fn lifetime_keeps_whole_seconds(rt: HostRuntime) {
-    let mut token = least(&rt);
+fn lifetime_keeps_whole_seconds(rt: HostRuntime) -> Result<(), Fail> {
+    let mut token = least_response(rt.alloc())?;
     token.set_expires_in(Some(&Duration::from_millis(1900)));
     assert!(rt; token.expires_in() == Some(Duration::from_secs(1)));
     token.set_expires_in(None);
     assert!(rt; token.expires_in().is_none());
+    Ok(())
 }
 
-fn set_tokens(rt: &(impl Abort + AllocGlobal), token: &mut BasicTokenResponse) {
-    token.set_access_token(AccessToken::new(text(rt, "u")));
+fn set_tokens(alloc: Global, token: &mut BasicTokenResponse) -> Result<(), Fail> {
+    token.set_access_token(AccessToken::new(text(alloc, "u")?));
     token.set_token_type(BasicTokenType::Bearer);
-    token.set_refresh_token(Some(RefreshToken::new(text(rt, "r"))));
+    token.set_refresh_token(Some(RefreshToken::new(text(alloc, "r")?)));
+    Ok(())
 }
 
 // Checks what the getters return.
-fn has_members(rt: &impl Abort, token: &BasicTokenResponse) {
-    assert_text(rt, token.access_token().secret().as_str(), "u");
-    assert!(rt; *token.token_type() == BasicTokenType::Bearer);
-    assert!(rt; token.refresh_token().is_some());
-    assert_equal(rt, token.scopes().expect(rt, "scopes").len(), 1);
-    assert!(rt; *token.extra_fields() == EmptyExtraTokenFields {});
+fn check_members(token: &BasicTokenResponse) -> Result<(), Fail> {
+    check_text(token.access_token().secret().as_str(), "u")?;
+    check(*token.token_type() == BasicTokenType::Bearer, "the type")?;
+    check(token.refresh_token().is_some(), "the refresh token")?;
+    check_equal(token.scopes().ok_or("no scopes")?.len(), 1)?;
+    check(
+        *token.extra_fields() == EmptyExtraTokenFields {},
+        "the extra fields",
+    )
 }
 
 #[test]
-fn token_response_is_set(rt: HostRuntime) {
-    let mut token = least(&rt);
-    set_tokens(&rt, &mut token);
-    token.set_scopes(Some(scope_list(&rt, "read")));
+fn token_response_is_set(rt: HostRuntime) -> Result<(), Fail> {
+    let mut token = least_response(rt.alloc())?;
+    set_tokens(rt.alloc(), &mut token)?;
+    token.set_scopes(Some(scope_list(rt.alloc(), "read")?));
     token.set_extra_fields(EmptyExtraTokenFields {});
-    has_members(&rt, &token);
-    assert_written_as(
-        &rt,
+    check_members(&token)?;
+    check_written(
+        rt.alloc(),
         &token,
         r#"{"access_token":"u","refresh_token":"r","scope":"read","token_type":"bearer"}"#,
-    );
+    )
 }
 
 #[test]
-fn empty_scope_is_one_entry(rt: HostRuntime) {
+fn empty_scope_is_one_entry(rt: HostRuntime) -> Result<(), Fail> {
     let token = read::<BasicTokenResponse>(
-        &rt,
+        rt.alloc(),
         r#"{"access_token":"u","token_type":"BEARER","scope":"","refresh_token":"r"}"#,
-    );
-    has_members(&rt, &token);
+    )?;
+    check_members(&token)
 }

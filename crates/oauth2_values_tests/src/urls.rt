@@ -2,110 +2,105 @@
 
 ghost use Rattle.std.specs.Prelude.{IsTrue};
 
-use crate::support::{
-    assert_copy_alike, assert_debugged_as, assert_displayed_as, assert_text, text,
-};
+use crate::support::check_copy_alike;
 use oauth2::url::{ParseError, Url};
 use oauth2::{
     AuthUrl, DeviceAuthorizationUrl, EndUserVerificationUrl, IntrospectionUrl, RedirectUrl,
     RevocationUrl, TokenUrl, TryClone,
 };
-use std::alloc::AllocError;
+use oauth2_tests_support::{check, check_debug, check_display, check_text, text, url};
+use std::alloc::{AllocError, Global};
 use std::cmp::Ordering;
 use std::fmt::{Debug, Display};
 use std::hash::Hash;
-use std::process::Abort;
+use std::test::Fail;
 
 const GIVEN: &str = "https://example.com";
 
 const PARSED: &str = "https://example.com/";
 
-fn given(rt: &(impl Abort + AllocGlobal)) -> String {
-    text(rt, GIVEN)
-}
-
-fn parsed(rt: &(impl Abort + AllocGlobal)) -> Url {
-    Url::parse(rt.alloc(), GIVEN).expect(rt, "a URL")
+fn given_text(alloc: Global) -> Result<String, AllocError> {
+    text(alloc, GIVEN)
 }
 
 // Checks the texts of a URL, its copy, and that it is less than a URL made from its parsed form.
-fn assert_ordered<T: Debug + Display + Ord + Hash + TryClone + Drop, U: Fn(&T) -> &Url>(
-    rt: &(impl Abort + AllocGlobal),
+fn check_ordered<T: Debug + Display + Ord + Hash + TryClone + Drop, U: Fn(&T) -> &Url>(
+    alloc: Global,
     given: Result<T, ParseError>,
     parsed: Result<T, AllocError>,
     url: U,
     debug: &str,
-)
+) -> Result<(), Fail>
     requires { U.IsAlwaysCallable url }
 {
-    let value = given.expect(rt, "a URL");
-    let greater = parsed.expect(rt, "a URL");
-    assert_displayed_as(rt, &value, GIVEN);
-    assert_displayed_as(rt, &greater, PARSED);
-    assert_debugged_as(rt, &value, debug);
-    assert_copy_alike(rt, &value);
-    assert!(rt; *url(&value) == *url(&greater));
-    assert!(rt; value != greater);
-    assert!(rt; value < greater);
+    let value = given?;
+    let greater = parsed?;
+    check_display(alloc, &value, GIVEN)?;
+    check_display(alloc, &greater, PARSED)?;
+    check_debug(alloc, &value, debug)?;
+    check_copy_alike(alloc, &value)?;
+    check(*url(&value) == *url(&greater), debug)?;
+    check(value != greater && value < greater, debug)
 }
 
 #[test]
-fn urls_keep_their_texts(rt: HostRuntime) {
-    assert_ordered(
-        &rt,
-        AuthUrl::new(rt.alloc(), given(&rt)),
-        AuthUrl::from_url(rt.alloc(), parsed(&rt)),
+fn urls_keep_their_texts(rt: HostRuntime) -> Result<(), Fail> {
+    check_ordered(
+        rt.alloc(),
+        AuthUrl::new(rt.alloc(), given_text(rt.alloc())?),
+        AuthUrl::from_url(rt.alloc(), url(rt.alloc(), GIVEN)?),
         AuthUrl::url,
         "AuthUrl(\"https://example.com\")",
-    );
-    assert_ordered(
-        &rt,
-        DeviceAuthorizationUrl::new(rt.alloc(), given(&rt)),
-        DeviceAuthorizationUrl::from_url(rt.alloc(), parsed(&rt)),
+    )?;
+    check_ordered(
+        rt.alloc(),
+        DeviceAuthorizationUrl::new(rt.alloc(), given_text(rt.alloc())?),
+        DeviceAuthorizationUrl::from_url(rt.alloc(), url(rt.alloc(), GIVEN)?),
         DeviceAuthorizationUrl::url,
         "DeviceAuthorizationUrl(\"https://example.com\")",
-    );
-    assert_ordered(
-        &rt,
-        EndUserVerificationUrl::new(rt.alloc(), given(&rt)),
-        EndUserVerificationUrl::from_url(rt.alloc(), parsed(&rt)),
+    )?;
+    check_ordered(
+        rt.alloc(),
+        EndUserVerificationUrl::new(rt.alloc(), given_text(rt.alloc())?),
+        EndUserVerificationUrl::from_url(rt.alloc(), url(rt.alloc(), GIVEN)?),
         EndUserVerificationUrl::url,
         "EndUserVerificationUrl(\"https://example.com\")",
-    );
-    assert_ordered(
-        &rt,
-        IntrospectionUrl::new(rt.alloc(), given(&rt)),
-        IntrospectionUrl::from_url(rt.alloc(), parsed(&rt)),
+    )?;
+    check_ordered(
+        rt.alloc(),
+        IntrospectionUrl::new(rt.alloc(), given_text(rt.alloc())?),
+        IntrospectionUrl::from_url(rt.alloc(), url(rt.alloc(), GIVEN)?),
         IntrospectionUrl::url,
         "IntrospectionUrl(\"https://example.com\")",
-    );
-    assert_ordered(
-        &rt,
-        RedirectUrl::new(rt.alloc(), given(&rt)),
-        RedirectUrl::from_url(rt.alloc(), parsed(&rt)),
+    )?;
+    check_ordered(
+        rt.alloc(),
+        RedirectUrl::new(rt.alloc(), given_text(rt.alloc())?),
+        RedirectUrl::from_url(rt.alloc(), url(rt.alloc(), GIVEN)?),
         RedirectUrl::url,
         "RedirectUrl(\"https://example.com\")",
-    );
-    assert_ordered(
-        &rt,
-        RevocationUrl::new(rt.alloc(), given(&rt)),
-        RevocationUrl::from_url(rt.alloc(), parsed(&rt)),
+    )?;
+    check_ordered(
+        rt.alloc(),
+        RevocationUrl::new(rt.alloc(), given_text(rt.alloc())?),
+        RevocationUrl::from_url(rt.alloc(), url(rt.alloc(), GIVEN)?),
         RevocationUrl::url,
         "RevocationUrl(\"https://example.com\")",
-    );
-    assert_ordered(
-        &rt,
-        TokenUrl::new(rt.alloc(), given(&rt)),
-        TokenUrl::from_url(rt.alloc(), parsed(&rt)),
+    )?;
+    check_ordered(
+        rt.alloc(),
+        TokenUrl::new(rt.alloc(), given_text(rt.alloc())?),
+        TokenUrl::from_url(rt.alloc(), url(rt.alloc(), GIVEN)?),
         TokenUrl::url,
         "TokenUrl(\"https://example.com\")",
-    );
+    )
 }
 
 #[test]
-fn refused_urls(rt: HostRuntime) {
-    let refused = TokenUrl::new(rt.alloc(), text(&rt, "not a url"));
+fn refused_urls(rt: HostRuntime) -> Result<(), Fail> {
+    let refused = TokenUrl::new(rt.alloc(), text(rt.alloc(), "not a url")?);
     assert!(rt; matches!(refused, Err(ParseError::RelativeUrlWithoutBase)));
+    Ok(())
 }
 
 // Whether the order and the equality of two values agree.
@@ -116,10 +111,11 @@ fn is_lawful<T: Ord>(a: &T, b: &T) -> bool
 }
 
 #[test]
-fn kept_texts(rt: HostRuntime) {
-    let redirect = RedirectUrl::new(rt.alloc(), given(&rt)).expect(&rt, "a URL");
-    assert_text(&rt, redirect.as_str(), GIVEN);
-    assert_text(&rt, redirect.url().as_str(), PARSED);
-    let same = redirect.try_clone(rt.alloc()).expect(&rt, "a copy");
+fn kept_texts(rt: HostRuntime) -> Result<(), Fail> {
+    let redirect = RedirectUrl::new(rt.alloc(), given_text(rt.alloc())?)?;
+    check_text(redirect.as_str(), GIVEN)?;
+    check_text(redirect.url().as_str(), PARSED)?;
+    let same = redirect.try_clone(rt.alloc())?;
     assert!(rt; is_lawful(&redirect, &same));
+    Ok(())
 }
