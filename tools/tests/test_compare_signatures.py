@@ -1,4 +1,4 @@
-"""Tests of tools/compare-signatures: the examples of RFC 7515, A.2 and A.3, and that its cases show a program that is wrong."""
+"""Tests of tools/compare-signatures: the examples of RFC 7515, A.2 and A.3, and RFC 6979, A.2.6, and that its cases show a program that is wrong."""
 import base64
 import contextlib
 import importlib.util
@@ -30,6 +30,13 @@ SIGNATURE = int.from_bytes(decoded(
     'cC4hiUPoj9Eetdgtv3hF80EGrhuB__dzERat0XF9g2VtQgr9PJbu3XOiZj5RZmh7AAuHIm4Bh-0Qc_lF5YKt_O8W2Fp5jujGbds9uJdbF9CUAr7t1dnZcAcQ'
     'jbKBYNX4BAynRFdiuB--f_nZLgrnbyTyWzO75vRK5h6xBArLIARNPvkSjtQBMHlb1L07Qe7K0GarZRmB_eSN9383LcOLn6_dO--xi12jzDwusC-eOkHWEsqt'
     'FZESc6BfI7noOPqvhJ1phCnvWh6IeYI2w9QOYEUipUTI8np6LbgGY9Fs98rqVt5AXLIhWkWywlVmtVrBp0igcN_IoypGlUPQGe77Rw'), 'big')
+
+
+# RFC 6979, A.2.6: the private key, and the signature of "sample" with SHA-384.
+PRIVATE = 0x6b9d3dad2e1b8c1c05b19875b6659f4de23c3b667bf297ba9aa47740787137d896d5724e4c70a825f872c9ea60d2edf5
+SIGNATURE_OF_SAMPLE = bytes.fromhex(
+    '94edbb92a5ecb8aad4736e56c691916b3f88140666ce9fa73d64c4ea95ad133c81a648152e44acf96e36dd1e80fabe46'
+    '99ef4aeb15f178cea1fe40db2603138f130e740a19624526203b6351d0a3a94fa329c145786e679e7b82c71a38628ac8')
 
 
 def judged_by(verdict):
@@ -69,17 +76,17 @@ SIGNATURE_BY_POINT = decoded('DtEhU3ljbEg8L38VWAfUAqOyKAM6-Xx-F4GawxaepmXFCgfTjD
 def judged_by_point(verdict):
     """What takes the place of a run of the program for ECDSA: the keys judged rightly, and each signature by this function."""
     def told(_, text):
-        lines = [it.replace('-', '').split(' ') for it in text.splitlines()]
-        key = tuple(int(it, 16) for it in lines[5][1:])
-        said = ['a coordinate is not below p'] * 3 + ['the point is not on the curve'] * 2 + ['true']
-        return said + [str(verdict(key, *(bytes.fromhex(word) for word in it[1:]))).lower() for it in lines[6:]]
+        lines = [it.split(' ') for it in text.splitlines()]
+        curve = next(it for it in ecdsa_cases.CURVES if it.name == lines[8][0])
+        key = tuple(int(it, 16) for it in lines[8][1:])
+        said = ['a coordinate is not below p'] * 3 + ['the point is not on the curve'] * 2 + ['a coordinate has the wrong size'] * 3 + ['true']
+        return said + [str(verdict(curve, key, *(bytes.fromhex(word.replace('-', '')) for word in it[1:]))).lower() for it in lines[9:]]
     return told
 
 
-def by_integers(key, message, signature):
+def by_integers(curve, key, message, signature):
     """As SEC 1 says, but with r and s of any size, and taken modulo n."""
-    r, s = (int.from_bytes(it, 'big') % ecdsa_cases.N for it in (signature[:32], signature[32:]))
-    return ecdsa_cases.is_signature(key, message, ecdsa_cases.joined(r, s))
+    return curve.is_signature(key, message, curve.joined(*(it % curve.n for it in curve.parts(signature))))
 
 
 class Signatures(unittest.TestCase):
@@ -108,9 +115,15 @@ class Signatures(unittest.TestCase):
         self.assertGreater(differences, 10)
 
     def test_an_example_by_a_point(self):
-        self.assertTrue(ecdsa_cases.is_signature(POINT, SIGNED_BY_POINT, SIGNATURE_BY_POINT))
-        self.assertFalse(ecdsa_cases.is_signature(POINT, SIGNED_BY_POINT + b'.', SIGNATURE_BY_POINT))
-        self.assertFalse(ecdsa_cases.is_signature(POINT, SIGNED_BY_POINT, SIGNATURE_BY_POINT + b'\0'))
+        curve = ecdsa_cases.P256
+        self.assertTrue(curve.is_signature(POINT, SIGNED_BY_POINT, SIGNATURE_BY_POINT))
+        self.assertFalse(curve.is_signature(POINT, SIGNED_BY_POINT + b'.', SIGNATURE_BY_POINT))
+        self.assertFalse(curve.is_signature(POINT, SIGNED_BY_POINT, SIGNATURE_BY_POINT + b'\0'))
+
+    def test_another_example_by_a_point(self):
+        curve, key = ecdsa_cases.P384, ecdsa_cases.P384.times(PRIVATE, ecdsa_cases.P384.g)
+        self.assertTrue(curve.is_signature(key, b'sample', SIGNATURE_OF_SAMPLE))
+        self.assertFalse(curve.is_signature(key, b'test', SIGNATURE_OF_SAMPLE))
 
     def compared_by_points(self, verdict, number):
         """How many cases of ECDSA differ, and what was printed."""
@@ -120,12 +133,12 @@ class Signatures(unittest.TestCase):
 
     @unittest.skipUnless(importlib.util.find_spec('cryptography'), 'no python3-cryptography')
     def test_a_program_for_points_that_is_right_or_wrong(self):
-        differences, said = self.compared_by_points(ecdsa_cases.is_signature, 105)
-        self.assertEqual((differences, said[-1]), (0, '105 cases, 0 differences'))
-        differences, said = self.compared_by_points(lambda *_: True, 105)
-        self.assertGreater(differences, 80)
-        differences, said = self.compared_by_points(by_integers, 105)
-        self.assertGreater(differences, 3)
+        differences, said = self.compared_by_points(ecdsa_cases.Curve.is_signature, 165)
+        self.assertEqual((differences, said[-1]), (0, '165 cases, 0 differences'))
+        differences, said = self.compared_by_points(lambda *_: True, 165)
+        self.assertGreater(differences, 120)
+        differences, said = self.compared_by_points(by_integers, 165)
+        self.assertGreater(differences, 4)
 
 
 if __name__ == '__main__':

@@ -4,90 +4,86 @@ ghost use Rattle.std.specs.Prelude.{◌≡◌, ◌+◌, ◌-◌, ◌*◌, ◌%�
 ghost use Rattle.ecdsa_signatures.specs.Curve.{prime, inverse, difference, quotient};
 ghost use Rattle.ecdsa_signatures.specs.private.Coordinates.{value};
 
+use crate::curve::{EllipticCurve, LIMBS};
 use modular_arithmetic::{add_mul, is_equal, is_less, power, product, reduce, subtract};
 
-// p, the lowest limb first.
-const PRIME: [u64; 4] = [
-    0xffff_ffff_ffff_ffff,
-    0x0000_0000_ffff_ffff,
-    0x0000_0000_0000_0000,
-    0xffff_ffff_0000_0001,
-];
-
-// p - 2.
-const EXPONENT: [u64; 4] = [
-    0xffff_ffff_ffff_fffd,
-    0x0000_0000_ffff_ffff,
-    0x0000_0000_0000_0000,
-    0xffff_ffff_0000_0001,
-];
-
-// 2 ^ 512 modulo p.
-const SQUARE: [u64; 4] = [
-    0x0000_0000_0000_0003,
-    0xffff_fffb_ffff_ffff,
-    0xffff_ffff_ffff_fffe,
-    0x0000_0004_ffff_fffd,
-];
-
-// The negated inverse of p: the two multiplied are -1 modulo 2 ^ 64.
-const INVERSE: u64 = 1;
-
-pub(crate) fn is_below_prime(a: &[u64; 4]) -> bool
-    ensures { IsTrue result ↔ (value a.now < prime) }
+pub(crate) fn is_below_prime(curve: EllipticCurve, a: &[u64; LIMBS]) -> bool
+    ensures { IsTrue result ↔ (value curve a.now < prime curve) }
 {
-    is_less(a, &PRIME, 4)
+    is_less(a, &curve.prime().number, curve.limbs())
 }
 
-pub(crate) fn is_same(a: &[u64; 4], b: &[u64; 4]) -> bool
-    ensures { IsTrue result ↔ (value a.now ≡ value b.now) }
+pub(crate) fn is_same(curve: EllipticCurve, a: &[u64; LIMBS], b: &[u64; LIMBS]) -> bool
+    ensures { IsTrue result ↔ (value curve a.now ≡ value curve b.now) }
 {
-    is_equal(a, b, 4)
+    is_equal(a, b, curve.limbs())
 }
 
-pub(crate) fn is_zero(a: &[u64; 4]) -> bool
-    ensures { IsTrue result ↔ (value a.now ≡ 0) }
+pub(crate) fn is_zero(curve: EllipticCurve, a: &[u64; LIMBS]) -> bool
+    ensures { IsTrue result ↔ (value curve a.now ≡ 0) }
 {
-    is_equal(a, &[0; 4], 4)
+    is_equal(a, &[0; LIMBS], curve.limbs())
 }
 
-pub(crate) fn add(a: &[u64; 4], b: &[u64; 4]) -> [u64; 4]
-    requires { value a.now + value b.now < 2 * prime }
-    ensures { value result ≡ (value a.now + value b.now) % prime }
+pub(crate) fn add(curve: EllipticCurve, a: &[u64; LIMBS], b: &[u64; LIMBS]) -> [u64; LIMBS]
+    requires { value curve a.now + value curve b.now < 2 * prime curve }
+    ensures { value curve result ≡ (value curve a.now + value curve b.now) % prime curve }
 {
+    let len = curve.limbs();
     let mut total = *a;
-    let top = add_mul(&mut total, 4, b, 1);
-    reduce(&mut total, top, &PRIME, 4);
+    let top = add_mul(&mut total, len, b, 1);
+    reduce(&mut total, top, &curve.prime().number, len);
     total
 }
 
 // p - a.
-fn negate(a: &[u64; 4]) -> [u64; 4]
-    requires { value a.now ≤ prime }
-    ensures { value result ≡ prime - value a.now }
+fn negate(curve: EllipticCurve, a: &[u64; LIMBS]) -> [u64; LIMBS]
+    requires { value curve a.now ≤ prime curve }
+    ensures { value curve result ≡ prime curve - value curve a.now }
 {
-    let mut rest = PRIME;
-    subtract(&mut rest, 4, a);
+    let mut rest = curve.prime().number;
+    subtract(&mut rest, curve.limbs(), a);
     rest
 }
 
-pub(crate) fn minus(a: &[u64; 4], b: &[u64; 4]) -> [u64; 4]
-    requires a { value a.now < prime }
-    requires b { value b.now ≤ prime }
-    ensures { value result ≡ difference (value a.now) (value b.now) }
+pub(crate) fn minus(curve: EllipticCurve, a: &[u64; LIMBS], b: &[u64; LIMBS]) -> [u64; LIMBS]
+    requires a { value curve a.now < prime curve }
+    requires b { value curve b.now ≤ prime curve }
+    ensures { value curve result
+        ≡ difference (prime curve) (value curve a.now) (value curve b.now) }
 {
-    add(a, &negate(b))
+    add(curve, a, &negate(curve, b))
 }
 
-pub(crate) fn times(a: &[u64; 4], b: &[u64; 4]) -> [u64; 4]
-    requires { value b.now < prime }
-    ensures { value result ≡ (value a.now * value b.now) % prime }
+pub(crate) fn times(curve: EllipticCurve, a: &[u64; LIMBS], b: &[u64; LIMBS]) -> [u64; LIMBS]
+    requires { value curve b.now < prime curve }
+    ensures { value curve result ≡ (value curve a.now * value curve b.now) % prime curve }
 {
-    product(a, b, &PRIME, &SQUARE, INVERSE, 4)
+    let p = curve.prime();
+    product(a, b, &p.number, &p.square, p.inverse, curve.limbs())
 }
 
-pub(crate) fn divide(a: &[u64; 4], b: &[u64; 4]) -> [u64; 4]
-    ensures { value result ≡ quotient (value a.now) (value b.now) }
+// 1 / a.
+fn invert(curve: EllipticCurve, a: &[u64; LIMBS]) -> [u64; LIMBS]
+    ensures below { value curve result < prime curve }
+    ensures value { value curve result ≡ inverse (prime curve) (value curve a.now) }
 {
-    times(a, &power(b, &EXPONENT, 256, &PRIME, &SQUARE, INVERSE, 4))
+    let p = curve.prime();
+    let len = curve.limbs();
+    power(
+        a,
+        &p.exponent,
+        64 * len,
+        &p.number,
+        &p.square,
+        p.inverse,
+        len,
+    )
+}
+
+pub(crate) fn divide(curve: EllipticCurve, a: &[u64; LIMBS], b: &[u64; LIMBS]) -> [u64; LIMBS]
+    ensures { value curve result
+        ≡ quotient (prime curve) (value curve a.now) (value curve b.now) }
+{
+    times(curve, a, &invert(curve, b))
 }

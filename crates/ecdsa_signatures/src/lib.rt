@@ -1,13 +1,16 @@
-//! Checks ECDSA signatures over the curve P-256 with SHA-256 by a public key (FIPS 186-5, 6.4.2),
-//! in the form of `ES256` of JSON Web Signatures (RFC 7518, 3.4).
+//! Checks ECDSA signatures by a public key (FIPS 186-5, 6.4.2): over the curve P-256 with SHA-256,
+//! and over P-384 with SHA-384. Their form is that of `ES256` and `ES384` of JSON Web Signatures
+//! (RFC 7518, 3.4).
 
 #![tactic(auto)]
 
+mod curve;
 mod field;
 mod key_error;
 mod point;
 mod public_key;
 mod scalar;
 
-pub use key_error::P256KeyError;
-pub use public_key::P256PublicKey;
+pub use curve::EllipticCurve;
+pub use key_error::EcdsaKeyError;
+pub use public_key::EcdsaPublicKey;

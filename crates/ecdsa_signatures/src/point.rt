@@ -1,152 +1,192 @@
 // Points of the curve.
 
 ghost use Rattle.std.specs.Prelude.{◌≡◌, ◌+◌, ◌*◌, ◌%◌, ◌<◌, ◌↔◌, IsTrue, Some};
-ghost use Rattle.ecdsa_signatures.specs.Curve.{prime, chord, tangent, third, generator};
+ghost use Rattle.ecdsa_signatures.specs.Curve.{prime, order, chord, tangent, third, generator};
 ghost use Rattle.ecdsa_signatures.specs.Curve.{sum, multiple, IsOnCurve};
 ghost use Rattle.ecdsa_signatures.specs.Signature.{HasX};
 ghost use Rattle.ecdsa_signatures.specs.private.Coordinates.{value, point_of, IsReduced};
 
+use crate::curve::{EllipticCurve, LIMBS};
 use crate::field::{add, divide, is_same, is_zero, minus, times};
 use crate::scalar::is_residue;
-use modular_arithmetic::is_bit_set;
+use modular_arithmetic::{is_bit_set, limb};
 
 /// The coordinates of a point, the lowest limb first. The point at infinity has none.
 #[derive(Clone, Copy)]
 pub(crate) struct AffinePoint {
-    pub(crate) x: [u64; 4],
-    pub(crate) y: [u64; 4],
+    pub(crate) x: [u64; LIMBS],
+    pub(crate) y: [u64; LIMBS],
 }
 
-// The coefficient b of the curve's equation, the lowest limb first.
-const COEFFICIENT: [u64; 4] = [
-    0x3bce_3c3e_27d2_604b,
-    0x651d_06b0_cc53_b0f6,
-    0xb3eb_bd55_7698_86bc,
-    0x5ac6_35d8_aa3a_93e7,
-];
-
-// The base point G.
-pub(crate) fn base_point() -> AffinePoint
-    ensures reduced { IsReduced (Some result) }
-    ensures value { point_of (Some result) ≡ generator }
+// G.
+pub(crate) fn base_point(curve: EllipticCurve) -> AffinePoint
+    ensures reduced { IsReduced curve (Some result) }
+    ensures value { point_of curve (Some result) ≡ generator curve }
 {
-    AffinePoint {
-        x: [
-            0xf4a1_3945_d898_c296,
-            0x7703_7d81_2deb_33a0,
-            0xf8bc_e6e5_63a4_40f2,
-            0x6b17_d1f2_e12c_4247,
-        ],
-        y: [
-            0xcbb6_4068_37bf_51f5,
-            0x2bce_3357_6b31_5ece,
-            0x8ee7_eb4a_7c0f_9e16,
-            0x4fe3_42e2_fe1a_7f9b,
-        ],
+    match curve {
+        EllipticCurve::P256 => AffinePoint {
+            x: [
+                0xf4a1_3945_d898_c296,
+                0x7703_7d81_2deb_33a0,
+                0xf8bc_e6e5_63a4_40f2,
+                0x6b17_d1f2_e12c_4247,
+                0x0000_0000_0000_0000,
+                0x0000_0000_0000_0000,
+            ],
+            y: [
+                0xcbb6_4068_37bf_51f5,
+                0x2bce_3357_6b31_5ece,
+                0x8ee7_eb4a_7c0f_9e16,
+                0x4fe3_42e2_fe1a_7f9b,
+                0x0000_0000_0000_0000,
+                0x0000_0000_0000_0000,
+            ],
+        },
+        EllipticCurve::P384 => AffinePoint {
+            x: [
+                0x3a54_5e38_7276_0ab7,
+                0x5502_f25d_bf55_296c,
+                0x59f7_41e0_8254_2a38,
+                0x6e1d_3b62_8ba7_9b98,
+                0x8eb1_c71e_f320_ad74,
+                0xaa87_ca22_be8b_0537,
+            ],
+            y: [
+                0x7a43_1d7c_90ea_0e5f,
+                0x0a60_b1ce_1d7e_819d,
+                0xe9da_3113_b5f0_b8c0,
+                0xf8f4_1dbd_289a_147c,
+                0x5d9e_98bf_9292_dc29,
+                0x3617_de4a_9626_2c6f,
+            ],
+        },
     }
 }
 
-pub(crate) fn is_on_curve(x: &[u64; 4], y: &[u64; 4]) -> bool
-    requires x { value x.now < prime }
-    requires y { value y.now < prime }
-    ensures { IsTrue result ↔ IsOnCurve (value x.now) (value y.now) }
+pub(crate) fn is_on_curve(curve: EllipticCurve, x: &[u64; LIMBS], y: &[u64; LIMBS]) -> bool
+    requires x { value curve x.now < prime curve }
+    requires y { value curve y.now < prime curve }
+    ensures { IsTrue result ↔ IsOnCurve curve (value curve x.now) (value curve y.now) }
 {
-    let left = add(&add(&add(&times(y, y), x), x), x);
-    let right = add(&times(&times(x, x), x), &COEFFICIENT);
-    is_same(&left, &right)
+    let square = times(curve, y, y);
+    let left = add(curve, &add(curve, &add(curve, &square, x), x), x);
+    let cube = times(curve, &times(curve, x, x), x);
+    let right = add(curve, &cube, &curve.coefficient());
+    is_same(curve, &left, &right)
 }
 
 // The slope of the line through two points.
-fn chord(p: &AffinePoint, q: &AffinePoint) -> [u64; 4]
-    requires p { IsReduced (Some p.now) }
-    requires q { IsReduced (Some q.now) }
-    ensures below { value result < prime }
-    ensures value { value result
-        ≡ chord (value p.now.x) (value p.now.y) (value q.now.x) (value q.now.y) }
+fn chord(curve: EllipticCurve, p: &AffinePoint, q: &AffinePoint) -> [u64; LIMBS]
+    requires p { IsReduced curve (Some p.now) }
+    requires q { IsReduced curve (Some q.now) }
+    ensures below { value curve result < prime curve }
+    ensures value { value curve result ≡ chord (prime curve) (value curve p.now.x)
+        (value curve p.now.y) (value curve q.now.x) (value curve q.now.y) }
 {
-    divide(&minus(&q.y, &p.y), &minus(&q.x, &p.x))
+    divide(curve, &minus(curve, &q.y, &p.y), &minus(curve, &q.x, &p.x))
 }
 
 // The slope of the tangent at a point.
-fn tangent(p: &AffinePoint) -> [u64; 4]
-    requires { IsReduced (Some p.now) }
-    ensures below { value result < prime }
-    ensures value { value result ≡ tangent (value p.now.x) (value p.now.y) }
+fn tangent(curve: EllipticCurve, p: &AffinePoint) -> [u64; LIMBS]
+    requires { IsReduced curve (Some p.now) }
+    ensures below { value curve result < prime curve }
+    ensures value { value curve result
+        ≡ tangent (prime curve) (value curve p.now.x) (value curve p.now.y) }
 {
-    let square = times(&p.x, &p.x);
-    let three_squares = add(&add(&square, &square), &square);
-    divide(&minus(&three_squares, &[3, 0, 0, 0]), &add(&p.y, &p.y))
+    let square = times(curve, &p.x, &p.x);
+    let three_squares = add(curve, &add(curve, &square, &square), &square);
+    let above = minus(curve, &three_squares, &limb(3));
+    divide(curve, &above, &add(curve, &p.y, &p.y))
 }
 
 // The sum of the points p and q, which are on a line of this slope.
-fn third(slope: &[u64; 4], p: &AffinePoint, q: &AffinePoint) -> Option<AffinePoint>
-    requires slope { value slope.now < prime }
-    requires p { IsReduced (Some p.now) }
-    requires q { IsReduced (Some q.now) }
-    ensures reduced { IsReduced result }
-    ensures value { point_of result
-        ≡ third (value slope.now) (value p.now.x) (value p.now.y) (value q.now.x) }
+fn third(
+    curve: EllipticCurve,
+    slope: &[u64; LIMBS],
+    p: &AffinePoint,
+    q: &AffinePoint,
+) -> Option<AffinePoint>
+    requires slope { value curve slope.now < prime curve }
+    requires p { IsReduced curve (Some p.now) }
+    requires q { IsReduced curve (Some q.now) }
+    ensures reduced { IsReduced curve result }
+    ensures value { point_of curve result ≡ third (prime curve) (value curve slope.now)
+        (value curve p.now.x) (value curve p.now.y) (value curve q.now.x) }
 {
-    let x = minus(&minus(&times(slope, slope), &p.x), &q.x);
-    let y = minus(&times(slope, &minus(&p.x, &x)), &p.y);
+    let square = times(curve, slope, slope);
+    let x = minus(curve, &minus(curve, &square, &p.x), &q.x);
+    let across = times(curve, slope, &minus(curve, &p.x, &x));
+    let y = minus(curve, &across, &p.y);
     Some(AffinePoint { x, y })
 }
 
-// The sum of two points, neither of which is the point at infinity.
-fn affine_sum(p: &AffinePoint, q: &AffinePoint) -> Option<AffinePoint>
-    requires p { IsReduced (Some p.now) }
-    requires q { IsReduced (Some q.now) }
-    ensures reduced { IsReduced result }
-    ensures value { point_of result ≡ sum (point_of (Some p.now)) (point_of (Some q.now)) }
+// The sum of two points, neither of which is that at infinity.
+fn affine_sum(curve: EllipticCurve, p: &AffinePoint, q: &AffinePoint) -> Option<AffinePoint>
+    requires p { IsReduced curve (Some p.now) }
+    requires q { IsReduced curve (Some q.now) }
+    ensures reduced { IsReduced curve result }
+    ensures value { point_of curve result
+        ≡ sum (prime curve) (point_of curve (Some p.now)) (point_of curve (Some q.now)) }
 {
-    if !is_same(&p.x, &q.x) {
-        return third(&chord(p, q), p, q);
+    if !is_same(curve, &p.x, &q.x) {
+        return third(curve, &chord(curve, p, q), p, q);
     }
-    if is_zero(&add(&p.y, &q.y)) {
+    if is_zero(curve, &add(curve, &p.y, &q.y)) {
         return None;
     }
-    third(&tangent(p), p, q)
+    third(curve, &tangent(curve, p), p, q)
 }
 
-// The sum p + q, where `None` is the point at infinity.
-pub(crate) fn sum(p: &Option<AffinePoint>, q: &Option<AffinePoint>) -> Option<AffinePoint>
-    requires p { IsReduced p.now }
-    requires q { IsReduced q.now }
-    ensures reduced { IsReduced result }
-    ensures value { point_of result ≡ sum (point_of p.now) (point_of q.now) }
+// p + q.
+pub(crate) fn sum(
+    curve: EllipticCurve,
+    p: &Option<AffinePoint>,
+    q: &Option<AffinePoint>,
+) -> Option<AffinePoint>
+    requires p { IsReduced curve p.now }
+    requires q { IsReduced curve q.now }
+    ensures reduced { IsReduced curve result }
+    ensures value { point_of curve result
+        ≡ sum (prime curve) (point_of curve p.now) (point_of curve q.now) }
 {
     match (p, q) {
         (None, _) => *q,
         (_, None) => *p,
-        (Some(p), Some(q)) => affine_sum(p, q),
+        (Some(p), Some(q)) => affine_sum(curve, p, q),
     }
 }
 
 // k times p, by doubling and adding.
-pub(crate) fn multiple(k: &[u64; 4], p: &Option<AffinePoint>) -> Option<AffinePoint>
-    requires { IsReduced p.now }
-    ensures reduced { IsReduced result }
-    ensures value { point_of result ≡ multiple (value k.now) (point_of p.now) }
+pub(crate) fn multiple(
+    curve: EllipticCurve,
+    k: &[u64; LIMBS],
+    p: &Option<AffinePoint>,
+) -> Option<AffinePoint>
+    requires { IsReduced curve p.now }
+    ensures reduced { IsReduced curve result }
+    ensures value { point_of curve result
+        ≡ multiple curve (value curve k.now) (point_of curve p.now) }
 {
+    let len = curve.limbs();
     let mut total = None;
-    let mut i = 256;
+    let mut i = 64 * len;
     while i > 0 {
         i -= 1;
-        total = sum(&total, &total);
-        if is_bit_set(k, 4, i) {
-            total = sum(&total, p);
+        total = sum(curve, &total, &total);
+        if is_bit_set(k, len, i) {
+            total = sum(curve, &total, p);
         }
     }
     total
 }
 
-// Whether the point is not the point at infinity, and its coordinate x modulo n is r.
-pub(crate) fn has_x(p: &Option<AffinePoint>, r: &[u64; 4]) -> bool
-    requires { IsReduced p.now }
-    ensures { IsTrue result ↔ HasX (point_of p.now) (value r.now) }
+// Whether the point is not that at infinity, and its x modulo n is r.
+pub(crate) fn has_x(curve: EllipticCurve, p: &Option<AffinePoint>, r: &[u64; LIMBS]) -> bool
+    requires { IsReduced curve p.now }
+    ensures { IsTrue result ↔ HasX (order curve) (point_of curve p.now) (value curve r.now) }
 {
     match p {
         None => false,
-        Some(p) => is_residue(&p.x, r),
+        Some(p) => is_residue(curve, &p.x, r),
     }
 }

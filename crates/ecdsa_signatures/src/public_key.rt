@@ -1,47 +1,55 @@
-//! A public key, and the check of a signature with it.
+//! A public key, and the check of a signature by it.
 
-ghost use Rattle.std.specs.Prelude.{⊤, ◌≡◌, ◌+◌, ◌*◌, ◌%◌, ◌<◌, ◌↔◌, IsTrue, Some};
+ghost use Rattle.std.specs.Prelude.{⊤, ◌≡◌, ◌+◌, ◌*◌, ◌%◌, ◌<◌, ◌≤◌, ◌↔◌, IsTrue, Some, length, take};
 ghost use Rattle.modular_arithmetic.specs.Octets.{number};
-ghost use Rattle.ecdsa_signatures.specs.Curve.{Affine};
+ghost use Rattle.ecdsa_signatures.specs.Curve.{prime, order, coordinate_size};
 ghost use Rattle.ecdsa_signatures.specs.PublicKey.{PublicKey, key_of};
 ghost use Rattle.ecdsa_signatures.specs.Signature.{IsSignature, HasX, e_of, found_point};
 ghost use Rattle.ecdsa_signatures.specs.private.Coordinates.{value, point_of, IsReduced};
 
+use crate::curve::{EllipticCurve, LIMBS, OCTETS};
 use crate::field::is_below_prime;
-use crate::key_error::P256KeyError;
+use crate::key_error::EcdsaKeyError;
 use crate::point::{AffinePoint, base_point, has_x, is_on_curve, multiple, sum};
 use crate::scalar::{invert, is_in_range, times};
 use modular_arithmetic::number;
-use sha2::{Digest, Sha256};
+use sha2::{Digest, Sha256, Sha384};
 use std::alloc::AllocError;
 use std::fmt;
 use std::marker::Model;
 
-/// A public key (SEC 1, 3.2) on the curve P-256. It allocates nothing.
+/// A public key (SEC 1, 3.2). It takes no memory but its own.
 #[derive(Drop)]
-pub struct P256PublicKey {
+pub struct EcdsaPublicKey {
+    curve: EllipticCurve,
     point: AffinePoint,
-    x: [u8; 32],
-    y: [u8; 32],
+    // The octets of the coordinates, and zeros behind them.
+    x: [u8; OCTETS],
+    y: [u8; OCTETS],
 }
 
-impl Model for P256PublicKey {
+impl Model for EcdsaPublicKey {
     ghost Value = { PublicKey };
 
-    ghost view = { λ k. record { x = number k.x; y = number k.y } };
+    ghost view = { λ k. record {
+      curve = k.curve;
+      x = number (take (coordinate_size k.curve) k.x);
+      y = number (take (coordinate_size k.curve) k.y);
+    } };
 
-    ghost invariant = { λ k. IsReduced (Some k.point)
-        × (value k.point.x ≡ number k.x)
-        × (value k.point.y ≡ number k.y) };
+    ghost invariant = { λ k. IsReduced k.curve (Some k.point)
+        × (value k.curve k.point.x ≡ number (take (coordinate_size k.curve) k.x))
+        × (value k.curve k.point.y ≡ number (take (coordinate_size k.curve) k.y)) };
 }
 
-impl Clone for P256PublicKey {
+impl Clone for EcdsaPublicKey {
     ghost is_clone = { λ key copy. copy ≡ key };
 
     ghost is_infallible = { λ _. ⊤ };
 
-    fn clone(&self) -> Result<P256PublicKey, AllocError> {
-        Ok(P256PublicKey {
+    fn clone(&self) -> Result<EcdsaPublicKey, AllocError> {
+        Ok(EcdsaPublicKey {
+            curve: self.curve,
             point: self.point,
             x: self.x,
             y: self.y,
@@ -49,83 +57,127 @@ impl Clone for P256PublicKey {
     }
 }
 
-impl fmt::Debug for P256PublicKey {
+impl fmt::Debug for EcdsaPublicKey {
     fn fmt<W: fmt::Write>(&self, f: &mut fmt::Formatter<W>) -> fmt::Result {
-        f.debug_struct("P256PublicKey")
-            .field("x", self.x())
-            .field("y", self.y())
+        f.debug_struct("EcdsaPublicKey")
+            .field("curve", &self.curve)
+            .field("x", &self.x())
+            .field("y", &self.y())
             .finish()
     }
 }
 
-// Whether r and s, which are in range, are a signature of a message with the hash e.
-fn is_match(e: &[u64; 4], r: &[u64; 4], s: &[u64; 4], key: &AffinePoint) -> bool
-    requires { IsReduced (Some key.now) }
-    ensures { IsTrue result ↔ HasX
-        (found_point (value e.now) (value r.now) (value s.now) (point_of (Some key.now)))
-        (value r.now) }
+// The octets, and zeros.
+fn with_zeros(octets: &[u8]) -> [u8; OCTETS]
+    requires { length octets.now ≤ OCTETS }
+    ensures { take (length octets.now) result ≡ octets.now }
 {
-    let inverse = invert(s);
-    let u = times(e, &inverse);
-    let v = times(r, &inverse);
-    let generated = multiple(&u, &Some(base_point()));
-    let multiplied = multiple(&v, &Some(*key));
-    has_x(&sum(&generated, &multiplied), r)
+    let mut filled = [0u8; OCTETS];
+    filled[..octets.len()].copy_from_slice(octets);
+    filled
 }
 
-impl P256PublicKey {
-    /// The key with these coordinates, or its first fault. Both are octets, the highest first
-    /// (SEC 1, 2.3.5), as `x` and `y` of a JWK (RFC 7518, 6.2.1) hold them in base64url.
-    pub fn new(x: &[u8; 32], y: &[u8; 32]) -> Result<P256PublicKey, P256KeyError>
-        ensures { result ≡ key_of (number x.now) (number y.now) }
+// e: the number of the message's hash.
+fn hash_number(curve: EllipticCurve, message: &[u8]) -> [u64; LIMBS]
+    ensures { value curve result ≡ e_of curve message.now }
+{
+    match curve {
+        EllipticCurve::P256 => number(&Sha256::digest(message), 4),
+        EllipticCurve::P384 => number(&Sha384::digest(message), 6),
+    }
+}
+
+// Whether r and s, in range, are a signature of a message with the hash e.
+fn is_match(
+    curve: EllipticCurve,
+    e: &[u64; LIMBS],
+    r: &[u64; LIMBS],
+    s: &[u64; LIMBS],
+    key: &AffinePoint,
+) -> bool
+    requires { IsReduced curve (Some key.now) }
+    ensures { IsTrue result ↔ HasX (order curve) (found_point curve (value curve e.now)
+        (value curve r.now) (value curve s.now) (point_of curve (Some key.now)))
+        (value curve r.now) }
+{
+    let inverse = invert(curve, s);
+    let u = times(curve, e, &inverse);
+    let v = times(curve, r, &inverse);
+    let generated = multiple(curve, &u, &Some(base_point(curve)));
+    let multiplied = multiple(curve, &v, &Some(*key));
+    has_x(curve, &sum(curve, &generated, &multiplied), r)
+}
+
+impl EcdsaPublicKey {
+    /// The key with these coordinates, or its first fault. Both are octets, the highest first (SEC
+    /// 1, 2.3.5), as `x` and `y` of a JWK (RFC 7518, 6.2.1) hold them in base64url. Each has as many
+    /// as `coordinate_size` of the curve says.
+    pub fn new(curve: EllipticCurve, x: &[u8], y: &[u8]) -> Result<EcdsaPublicKey, EcdsaKeyError>
+        ensures { result ≡ key_of curve x.now y.now }
     {
+        let size = curve.coordinate_size();
+        if x.len() != size || y.len() != size {
+            return Err(EcdsaKeyError::CoordinateOfWrongSize);
+        }
+        let len = curve.limbs();
         let point = AffinePoint {
-            x: number(x, 4),
-            y: number(y, 4),
+            x: number(x, len),
+            y: number(y, len),
         };
-        if !is_below_prime(&point.x) || !is_below_prime(&point.y) {
-            return Err(P256KeyError::CoordinateTooLarge);
+        if !is_below_prime(curve, &point.x) || !is_below_prime(curve, &point.y) {
+            return Err(EcdsaKeyError::CoordinateTooLarge);
         }
-        if !is_on_curve(&point.x, &point.y) {
-            return Err(P256KeyError::PointNotOnCurve);
+        if !is_on_curve(curve, &point.x, &point.y) {
+            return Err(EcdsaKeyError::PointNotOnCurve);
         }
-        Ok(P256PublicKey {
+        Ok(EcdsaPublicKey {
+            curve,
             point,
-            x: *x,
-            y: *y,
+            x: with_zeros(x),
+            y: with_zeros(y),
         })
     }
 
-    /// The coordinate x, the highest octet first.
-    pub fn x(&self) -> &[u8; 32]
-        ensures { number result.now ≡ self.now.x }
+    /// The curve.
+    pub fn curve(&self) -> EllipticCurve
+        ensures { result ≡ self.now.curve }
     {
-        &self.x
+        self.curve
+    }
+
+    /// The coordinate x, the highest octet first.
+    pub fn x(&self) -> &[u8]
+        ensures number { number result.now ≡ self.now.x }
+        ensures size { length result.now ≡ coordinate_size self.now.curve }
+    {
+        &self.x[..self.curve.coordinate_size()]
     }
 
     /// The coordinate y, the highest octet first.
-    pub fn y(&self) -> &[u8; 32]
-        ensures { number result.now ≡ self.now.y }
+    pub fn y(&self) -> &[u8]
+        ensures number { number result.now ≡ self.now.y }
+        ensures size { length result.now ≡ coordinate_size self.now.curve }
     {
-        &self.y
+        &self.y[..self.curve.coordinate_size()]
     }
 
-    /// Whether these octets are a signature of the message by this key: r and then s, of 32 octets
-    /// each, the highest first (RFC 7518, 3.4).
+    /// Whether these octets are a signature of the message by this key: r and then s, each of as
+    /// many octets as a coordinate, the highest first (RFC 7518, 3.4).
     pub fn verify(&self, message: &[u8], signature: &[u8]) -> bool
-        ensures { IsTrue result
-            ↔ IsSignature self.now.x self.now.y message.now signature.now }
+        ensures { IsTrue result ↔ IsSignature self.now message.now signature.now }
     {
-        if signature.len() != 64 {
+        let size = self.curve.coordinate_size();
+        if signature.len() != 2 * size {
             return false;
         }
-        let (r, s) = signature.split_at(32);
-        let r = number(r, 4);
-        let s = number(s, 4);
-        if !is_in_range(&r) || !is_in_range(&s) {
+        let len = self.curve.limbs();
+        let (r, s) = signature.split_at(size);
+        let r = number(r, len);
+        let s = number(s, len);
+        if !is_in_range(self.curve, &r) || !is_in_range(self.curve, &s) {
             return false;
         }
-        let e = number(&Sha256::digest(message), 4);
-        is_match(&e, &r, &s, &self.point)
+        let e = hash_number(self.curve, message);
+        is_match(self.curve, &e, &r, &s, &self.point)
     }
 }

@@ -1,17 +1,17 @@
-//! Checks the signatures that standard input lists, and prints the result of each line.
+//! Checks the signatures that standard input lists, and prints what comes of each line.
 //!
-//! A line `key X Y` takes a key, and a line `ES256 MESSAGE SIGNATURE` checks a signature by it.
-//! Octets are written in hex, and no octets as `-`. A line that begins with `#` is a heading, and
-//! is printed as it is. The file `stdout` has what has to be printed for the file `stdin`.
-//! `tools/compare-signatures` runs the program too.
+//! A line `P-256 X Y` or `P-384 X Y` takes a key, and a line `ES256 MESSAGE SIGNATURE` or `ES384
+//! MESSAGE SIGNATURE` checks a signature by it. Octets are written in hex, and no octets as `-`. A
+//! line that begins with `#` is a heading, and is printed as it is. The file `stdout` has what has
+//! to be printed for the file `stdin`. `tools/compare-signatures` runs the program too.
 
 #![tactic(auto)]
 
-use ecdsa_signatures::P256PublicKey;
+use ecdsa_signatures::{EcdsaPublicKey, EllipticCurve};
 use std::alloc::Global;
 use std::io::{self, BufRead, BufReader, Write};
 
-// The octets that a word is the hex of; none if it is not hex.
+// The octets of a word; none where it is no hex.
 fn octets_of(alloc: Global, word: Option<&str>) -> Vec<u8> {
     match hex::decode(alloc, word.unwrap_or("-")) {
         Ok(octets) => octets,
@@ -19,24 +19,32 @@ fn octets_of(alloc: Global, word: Option<&str>) -> Vec<u8> {
     }
 }
 
-// A coordinate of a key; `None` if it has not exactly 32 octets.
-fn coordinate_of(octets: &[u8]) -> Option<[u8; 32]> {
-    if octets.len() != 32 {
-        return None;
+// The curve of a name (RFC 7518, 6.2.1.1), and the name of its algorithm.
+fn curve_of(name: &str) -> Option<EllipticCurve> {
+    match name {
+        "P-256" => Some(EllipticCurve::P256),
+        "P-384" => Some(EllipticCurve::P384),
+        _ => None,
     }
-    let mut coordinate = [0; 32];
-    coordinate.copy_from_slice(octets);
-    Some(coordinate)
 }
 
-fn take_key<W: Write>(x: &[u8], y: &[u8], writer: &mut W) -> io::Result<Option<P256PublicKey>> {
-    let (Some(x), Some(y)) = (coordinate_of(x), coordinate_of(y)) else {
-        writeln!(writer, "?")?;
-        return Ok(None);
-    };
-    match P256PublicKey::new(&x, &y) {
+fn algorithm_of(curve: EllipticCurve) -> &'static str {
+    match curve {
+        EllipticCurve::P256 => "ES256",
+        EllipticCurve::P384 => "ES384",
+    }
+}
+
+fn take_key<W: Write>(
+    curve: EllipticCurve,
+    x: &[u8],
+    y: &[u8],
+    writer: &mut W,
+) -> io::Result<Option<EcdsaPublicKey>> {
+    match EcdsaPublicKey::new(curve, x, y) {
         Ok(key) => {
-            writeln!(writer, "{:?}", key.x() == &x && key.y() == &y)?;
+            let is_kept = key.curve() == curve && key.x() == x && key.y() == y;
+            writeln!(writer, "{is_kept:?}")?;
             Ok(Some(key.clone()?))
         }
         Err(error) => {
@@ -58,14 +66,14 @@ fn main(rt: HostRuntime) -> io::Result<()> {
         let second = octets_of(alloc, words.next());
         if name.starts_with('#') {
             writeln!(writer, "{line}")?;
-        } else if name == "key" {
-            key = take_key(&first, &second, &mut writer)?;
+        } else if let Some(curve) = curve_of(name) {
+            key = take_key(curve, &first, &second, &mut writer)?;
         } else if let Some(key) = &key
             && name == "show"
         {
             writeln!(writer, "{key:?}")?;
         } else if let Some(key) = &key
-            && name == "ES256"
+            && name == algorithm_of(key.curve())
         {
             writeln!(writer, "{}", key.verify(&first, &second))?;
         } else {

@@ -1,14 +1,17 @@
 -- The algorithms of signatures by a public key (RFC 7518, 3.1).
-use Rattle.std.specs.Prelude.{ℕ, List, codes, bytes_eq, if◌then◌else◌, Option, Some, None}
+use Rattle.std.specs.Prelude.{ℕ, List, codes, bytes_eq, Bool, IsTrue, if◌then◌else◌, Option, Some, None}
 use Rattle.rsa_signatures.specs.declared.signature_scheme.SignatureScheme.{SignatureScheme}
 use Rattle.rsa_signatures.specs.declared.signature_scheme.SignatureScheme.TheVariants.{Pkcs1v15, Pss}
 use Rattle.hash_functions.specs.declared.hash_function.HashFunction.TheVariants.{Sha256, Sha384, Sha512}
+use Rattle.rsa_signatures.specs.PublicKey.{PublicKey as RsaKey}
 use Rattle.rsa_signatures.specs.Signature.{IsSignature as IsRsaSignature}
 use Rattle.ecdsa_signatures.specs.Signature.{IsSignature as IsEcdsaSignature}
+use Rattle.ecdsa_signatures.specs.declared.curve.EllipticCurve.{EllipticCurve}
+use Rattle.ecdsa_signatures.specs.declared.curve.EllipticCurve.TheVariants.{P256, P384}
 use Rattle.oauth2_keys.specs.declared.algorithm.SignatureAlgorithm.{SignatureAlgorithm}
-use Rattle.oauth2_keys.specs.declared.algorithm.SignatureAlgorithm.TheVariants.{Rs256, Rs384, Rs512, Ps256, Ps384, Ps512, Es256}
+use Rattle.oauth2_keys.specs.declared.algorithm.SignatureAlgorithm.TheVariants.{Rs256, Rs384, Rs512, Ps256, Ps384, Ps512, Es256, Es384}
 use Rattle.oauth2_keys.specs.declared.public_key.PublicKey.{PublicKey}
-use Rattle.oauth2_keys.specs.declared.public_key.PublicKey.TheVariants.{Rsa, P256}
+use Rattle.oauth2_keys.specs.declared.public_key.PublicKey.TheVariants.{Rsa, Ecdsa}
 
 -- the value of `alg` for an algorithm (RFC 7518, 3.1)
 abbrev pub algorithm_name : SignatureAlgorithm → List ℕ
@@ -19,6 +22,7 @@ algorithm_name Ps256 = codes "PS256"
 algorithm_name Ps384 = codes "PS384"
 algorithm_name Ps512 = codes "PS512"
 algorithm_name Es256 = codes "ES256"
+algorithm_name Es384 = codes "ES384"
 
 -- the algorithm with that name, if it is one of these (RFC 7518, 3.1)
 abbrev pub algorithm_named : List ℕ → Option SignatureAlgorithm
@@ -30,9 +34,10 @@ algorithm_named name =
     else (if bytes_eq name (codes "PS384") then Some Ps384
     else (if bytes_eq name (codes "PS512") then Some Ps512
     else (if bytes_eq name (codes "ES256") then Some Es256
-    else None))))))
+    else (if bytes_eq name (codes "ES384") then Some Es384
+    else None)))))))
 
--- the RSA scheme of an algorithm (RFC 7518, 3.3 and 3.5); ES256 has none
+-- the RSA scheme of an algorithm (RFC 7518, 3.3 and 3.5); ES256 and ES384 have none
 abbrev pub rsa_scheme : SignatureAlgorithm → Option SignatureScheme
 rsa_scheme Rs256 = Some (Pkcs1v15 Sha256)
 rsa_scheme Rs384 = Some (Pkcs1v15 Sha384)
@@ -41,15 +46,26 @@ rsa_scheme Ps256 = Some (Pss Sha256)
 rsa_scheme Ps384 = Some (Pss Sha384)
 rsa_scheme Ps512 = Some (Pss Sha512)
 rsa_scheme Es256 = None
+rsa_scheme Es384 = None
 
--- the octets are a signature of the message by the key and this RSA scheme, or ES256 if there is
--- none (RFC 7518, 3.4). No octets are one by a key of the other type.
-abbrev pub IsSignatureIn : Option SignatureScheme → PublicKey → List ℕ → List ℕ → Type 0
-IsSignatureIn (Some scheme) (Rsa key) message signature = IsRsaSignature scheme key.modulus key.exponent message signature
-IsSignatureIn (Some scheme) (P256 key) message signature = ⊥
-IsSignatureIn None (Rsa key) message signature = ⊥
-IsSignatureIn None (P256 key) message signature = IsEcdsaSignature key.x key.y message signature
+-- the algorithm of a curve (RFC 7518, 3.4)
+abbrev pub curve_algorithm : EllipticCurve → List ℕ
+curve_algorithm P256 = codes "ES256"
+curve_algorithm P384 = codes "ES384"
 
--- the octets are a signature of the message by this algorithm and this key
+-- whether the algorithm is the one of the curve
+abbrev pub is_of_curve : EllipticCurve → SignatureAlgorithm → Bool
+is_of_curve curve algorithm = bytes_eq (algorithm_name algorithm) (curve_algorithm curve)
+
+-- the octets are a signature of the message by the RSA key and this scheme; without a scheme, no
+-- octets are one
+abbrev pub IsSignatureIn : Option SignatureScheme → RsaKey → List ℕ → List ℕ → Type 0
+IsSignatureIn (Some scheme) key message signature = IsRsaSignature scheme key.modulus key.exponent message signature
+IsSignatureIn None key message signature = ⊥
+
+-- the octets are a signature of the message by this algorithm and this key: by the RSA scheme of the
+-- algorithm, or by ECDSA if the algorithm is the one of the key's curve
 abbrev pub IsSignatureBy : SignatureAlgorithm → PublicKey → List ℕ → List ℕ → Type 0
-IsSignatureBy algorithm key message signature = IsSignatureIn (rsa_scheme algorithm) key message signature
+IsSignatureBy algorithm (Rsa key) message signature = IsSignatureIn (rsa_scheme algorithm) key message signature
+IsSignatureBy algorithm (Ecdsa key) message signature =
+    IsTrue (is_of_curve key.curve algorithm) × IsEcdsaSignature key message signature

@@ -1,10 +1,10 @@
 -- The texts that `Display` writes for the errors.
 use Rattle.std.specs.Prelude.{ℕ, List, ◌++◌, codes}
 use Rattle.rsa_signatures.specs.ErrorTexts.{key_error_text as rsa_error_text}
-use Rattle.ecdsa_signatures.specs.ErrorTexts.{key_error_text as p256_error_text}
+use Rattle.ecdsa_signatures.specs.ErrorTexts.{key_error_text as ecdsa_error_text}
 use Rattle.oauth2_keys.specs.Members.{member_name}
 use Rattle.oauth2_keys.specs.declared.key_error.KeyError.{KeyError}
-use Rattle.oauth2_keys.specs.declared.key_error.KeyError.TheVariants.{Private, Missing, WrongType, NotBase64, UnknownType, UnknownCurve, WrongSize, Rsa, P256}
+use Rattle.oauth2_keys.specs.declared.key_error.KeyError.TheVariants.{Private, Missing, WrongType, NotBase64, UnknownType, UnknownCurve, WrongSize, Rsa, Ecdsa}
 use Rattle.oauth2_keys.specs.declared.key_members.KeyReadError.{KeyReadError}
 use Rattle.oauth2_keys.specs.declared.key_members.KeyReadError.TheVariants.{Fault, Memory}
 use Rattle.oauth2_keys.specs.declared.signature_error.SignatureError.{SignatureError}
@@ -17,10 +17,10 @@ key_error_text (Missing member) = codes "the key has no member " ++ member_name 
 key_error_text (WrongType member) = codes "the member " ++ member_name member ++ codes " has another type"
 key_error_text (NotBase64 member) = codes "the member " ++ member_name member ++ codes " is not base64url"
 key_error_text UnknownType = codes "the key type is not RSA or EC"
-key_error_text UnknownCurve = codes "the curve is not P-256"
-key_error_text (WrongSize member) = codes "the member " ++ member_name member ++ codes " is not 32 octets long"
+key_error_text UnknownCurve = codes "the curve is not P-256 or P-384"
+key_error_text (WrongSize member) = codes "the member " ++ member_name member ++ codes " is not as long as the curve says"
 key_error_text (Rsa error) = rsa_error_text error
-key_error_text (P256 error) = p256_error_text error
+key_error_text (Ecdsa error) = ecdsa_error_text error
 
 -- the text for each reason why a key could not be read
 abbrev pub key_read_error_text : KeyReadError → List ℕ

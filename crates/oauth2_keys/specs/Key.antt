@@ -1,18 +1,21 @@
 -- A JSON Web Key that signatures can be checked with (RFC 7517, 4; RFC 7518, 6).
-use Rattle.std.specs.Prelude.{ℕ, List, length, codes, bytes_eq, ◌==◌, if◌then◌else◌, Option, option_and_then, Result, Ok, Err}
+use Rattle.std.specs.Prelude.{ℕ, List, length, codes, bytes_eq, ◌==◌, if◌then◌else◌, Option, Some, None, option_and_then, Result, Ok, Err}
 use Rattle.serde_json.specs.Data.{Data}
 use Rattle.serde_json.specs.Find.{get, as_str}
 use Rattle.modular_arithmetic.specs.Octets.{number}
 use Rattle.rsa_signatures.specs.PublicKey.{PublicKey as RsaKey, key_of as rsa_key_of}
 use Rattle.rsa_signatures.specs.declared.key_error.RsaKeyError.{RsaKeyError}
-use Rattle.ecdsa_signatures.specs.PublicKey.{PublicKey as P256Key, key_of as p256_key_of}
-use Rattle.ecdsa_signatures.specs.declared.key_error.P256KeyError.{P256KeyError}
+use Rattle.ecdsa_signatures.specs.Curve.{coordinate_size}
+use Rattle.ecdsa_signatures.specs.PublicKey.{PublicKey as EcdsaKey, key_of as ecdsa_key_of}
+use Rattle.ecdsa_signatures.specs.declared.curve.EllipticCurve.{EllipticCurve}
+use Rattle.ecdsa_signatures.specs.declared.key_error.EcdsaKeyError.{EcdsaKeyError}
 use Rattle.oauth2_keys.specs.declared.key_error.KeyMember.{KeyMember}
 use Rattle.oauth2_keys.specs.declared.key_error.KeyMember.TheVariants as member
 use Rattle.oauth2_keys.specs.declared.key_error.KeyError.{KeyError}
 use Rattle.oauth2_keys.specs.declared.key_error.KeyError.TheVariants as error
 use Rattle.oauth2_keys.specs.declared.public_key.PublicKey.{PublicKey}
 use Rattle.oauth2_keys.specs.declared.public_key.PublicKey.TheVariants as kind
+use Rattle.oauth2_keys.specs.Curves.{curve_named}
 use Rattle.oauth2_keys.specs.Members.{KeyReading, ◌⊛◌, key_then, is_private, optional_text, optional_texts, needed_text, octets}
 
 -- the members `use`, `key_ops`, `alg` and `kid` (RFC 7517, 4.2 to 4.5), and the public key
@@ -38,26 +41,30 @@ rsa_key d =
     key_then (octets member.Modulus d) (λ n.
     key_then (octets member.Exponent d) (λ e. rsa_of (rsa_key_of (number n) (number e))))
 
--- a coordinate `x` or `y`, which has 32 octets on P-256 (RFC 7518, 6.2.1.2 and 6.2.1.3)
-abbrev pub coordinate : KeyMember → Data → KeyReading (List ℕ)
-coordinate m d = key_then (octets m d) (λ c. if length c == 32 then Ok c else Err (error.WrongSize m))
+-- a coordinate `x` or `y`, which has as many octets as those of the curve: 32 on P-256 and 48 on
+-- P-384 (RFC 7518, 6.2.1.2 and 6.2.1.3)
+abbrev pub coordinate : EllipticCurve → KeyMember → Data → KeyReading (List ℕ)
+coordinate curve m d = key_then (octets m d) (λ c. if length c == coordinate_size curve then Ok c else Err (error.WrongSize m))
 
--- a key on P-256, or its fault as a `KeyError`
-abbrev pub p256_of : Result P256Key P256KeyError → KeyReading PublicKey
-p256_of (Ok k) = Ok (kind.P256 k)
-p256_of (Err e) = Err (error.P256 e)
+-- a key on a curve, or its fault as a `KeyError`
+abbrev pub ecdsa_of : Result EcdsaKey EcdsaKeyError → KeyReading PublicKey
+ecdsa_of (Ok k) = Ok (kind.Ecdsa k)
+ecdsa_of (Err e) = Err (error.Ecdsa e)
 
--- the key on P-256 of the members `x` and `y` (RFC 7518, 6.2.1)
-abbrev pub curve_key : Data → KeyReading PublicKey
-curve_key d =
-    key_then (coordinate member.X d) (λ x.
-    key_then (coordinate member.Y d) (λ y. p256_of (p256_key_of (number x) (number y))))
+-- the key on this curve of the members `x` and `y` (RFC 7518, 6.2.1)
+abbrev pub curve_key : EllipticCurve → Data → KeyReading PublicKey
+curve_key curve d =
+    key_then (coordinate curve member.X d) (λ x.
+    key_then (coordinate curve member.Y d) (λ y. ecdsa_of (ecdsa_key_of curve x y)))
 
--- the key of the members `crv`, `x` and `y`; the curve has to be P-256 (RFC 7518, 6.2.1)
+-- the key on this curve, if it is one of these
+abbrev pub key_on : Option EllipticCurve → Data → KeyReading PublicKey
+key_on None d = Err error.UnknownCurve
+key_on (Some curve) d = curve_key curve d
+
+-- the key of the members `crv`, `x` and `y` (RFC 7518, 6.2.1)
 abbrev pub elliptic_key : Data → KeyReading PublicKey
-elliptic_key d =
-    key_then (needed_text member.Curve d) (λ curve.
-    if bytes_eq curve (codes "P-256") then curve_key d else Err error.UnknownCurve)
+elliptic_key d = key_then (needed_text member.Curve d) (λ name. key_on (curve_named name) d)
 
 -- the public key of this key type, which has to be `RSA` or `EC` (RFC 7517, 4.1; RFC 7518, 6.1)
 abbrev pub of_type : List ℕ → Data → KeyReading PublicKey

@@ -1,3 +1,4 @@
+pub mod Curves
 pub mod Algorithm
 pub mod Choice
 pub mod ErrorTexts

@@ -1,31 +1,35 @@
 -- The thumbprint of a JSON Web Key (RFC 7638).
-use Rattle.std.specs.Prelude.{ℕ, List, ◌++◌, codes, bytes_eq, if◌then◌else◌, Ok, Err}
+use Rattle.std.specs.Prelude.{ℕ, List, ◌++◌, codes, bytes_eq, if◌then◌else◌, Option, Some, None, Ok, Err}
 use Rattle.serde_json.specs.Data.{Data}
+use Rattle.ecdsa_signatures.specs.declared.curve.EllipticCurve.{EllipticCurve}
 use Rattle.sha2.specs.Sha256.{sha256}
 use Rattle.oauth2_types.specs.Pkce.{base64url}
 use Rattle.oauth2_keys.specs.declared.key_error.KeyMember.TheVariants as member
 use Rattle.oauth2_keys.specs.declared.key_error.KeyError.TheVariants as error
+use Rattle.oauth2_keys.specs.Curves.{curve_name, curve_named}
 use Rattle.oauth2_keys.specs.Members.{KeyReading, ◌⊛◌, key_then, needed_text, base64_text}
 
 -- 3.2 and 3.3: an RSA key as JSON: only the required members, ordered by name, without white space
 abbrev pub rsa_text : List ℕ → List ℕ → List ℕ
 rsa_text e n = codes "{\"e\":\"" ++ e ++ codes "\",\"kty\":\"RSA\",\"n\":\"" ++ n ++ codes "\"}"
 
--- 3.2 and 3.3: the same for a key on P-256
-abbrev pub elliptic_text : List ℕ → List ℕ → List ℕ
-elliptic_text x y = codes "{\"crv\":\"P-256\",\"kty\":\"EC\",\"x\":\"" ++ x ++ codes "\",\"y\":\"" ++ y ++ codes "\"}"
+-- 3.2 and 3.3: the same for a key on a curve
+abbrev pub elliptic_text : EllipticCurve → List ℕ → List ℕ → List ℕ
+elliptic_text curve x y =
+    codes "{\"crv\":\"" ++ curve_name curve ++ codes "\",\"kty\":\"EC\",\"x\":\"" ++ x ++ codes "\",\"y\":\"" ++ y ++ codes "\"}"
 
 -- that text of an RSA key; its members have to be base64url, which needs no escape in JSON
 abbrev pub rsa_canonical : Data → KeyReading (List ℕ)
 rsa_canonical key = Ok rsa_text ⊛ base64_text member.Exponent key ⊛ base64_text member.Modulus key
 
--- that text of an elliptic curve key, whose curve has to be P-256
+-- that text of a key on this curve, if it is one of these
+abbrev pub canonical_on : Option EllipticCurve → Data → KeyReading (List ℕ)
+canonical_on None key = Err error.UnknownCurve
+canonical_on (Some curve) key = Ok (elliptic_text curve) ⊛ base64_text member.X key ⊛ base64_text member.Y key
+
+-- that text of an elliptic curve key
 abbrev pub elliptic_canonical : Data → KeyReading (List ℕ)
-elliptic_canonical key =
-    key_then (needed_text member.Curve key) (λ curve.
-    if bytes_eq curve (codes "P-256")
-    then Ok elliptic_text ⊛ base64_text member.X key ⊛ base64_text member.Y key
-    else Err error.UnknownCurve)
+elliptic_canonical key = key_then (needed_text member.Curve key) (λ name. canonical_on (curve_named name) key)
 
 -- that text of a key, whose key type has to be `RSA` or `EC`
 abbrev pub canonical : Data → KeyReading (List ℕ)

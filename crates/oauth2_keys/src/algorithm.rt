@@ -1,8 +1,15 @@
 //! The algorithms that a client can register for the signature of its ID tokens.
 
 ghost use Rattle.std.specs.Prelude.{◌≡◌};
-ghost use Rattle.oauth2_keys.specs.Algorithm.{algorithm_name, algorithm_named, rsa_scheme};
+ghost use Rattle.oauth2_keys.specs.Algorithm.{
+  algorithm_name,
+  algorithm_named,
+  curve_algorithm,
+  is_of_curve,
+  rsa_scheme,
+};
 
+use ecdsa_signatures::EllipticCurve;
 use rsa_signatures::{HashFunction, SignatureScheme};
 
 /// An algorithm for signatures that a public key checks (RFC 7518, 3.1). `none` is not one of them.
@@ -22,6 +29,8 @@ pub enum SignatureAlgorithm {
     Ps512,
     /// `ES256`
     Es256,
+    /// `ES384`
+    Es384,
 }
 
 impl SignatureAlgorithm {
@@ -37,6 +46,7 @@ impl SignatureAlgorithm {
             "PS384" => Some(SignatureAlgorithm::Ps384),
             "PS512" => Some(SignatureAlgorithm::Ps512),
             "ES256" => Some(SignatureAlgorithm::Es256),
+            "ES384" => Some(SignatureAlgorithm::Es384),
             _ => None,
         }
     }
@@ -53,6 +63,7 @@ impl SignatureAlgorithm {
             SignatureAlgorithm::Ps384 => "PS384",
             SignatureAlgorithm::Ps512 => "PS512",
             SignatureAlgorithm::Es256 => "ES256",
+            SignatureAlgorithm::Es384 => "ES384",
         }
     }
 
@@ -67,7 +78,24 @@ impl SignatureAlgorithm {
             SignatureAlgorithm::Ps256 => Some(SignatureScheme::Pss(HashFunction::Sha256)),
             SignatureAlgorithm::Ps384 => Some(SignatureScheme::Pss(HashFunction::Sha384)),
             SignatureAlgorithm::Ps512 => Some(SignatureScheme::Pss(HashFunction::Sha512)),
-            SignatureAlgorithm::Es256 => None,
+            SignatureAlgorithm::Es256 | SignatureAlgorithm::Es384 => None,
         }
+    }
+
+    // Whether the algorithm is the one of this curve.
+    pub(crate) fn is_of_curve(self, curve: EllipticCurve) -> bool
+        ensures { result ≡ is_of_curve curve self }
+    {
+        self.name() == curve_algorithm(curve)
+    }
+}
+
+// The name of the algorithm of a curve.
+fn curve_algorithm(curve: EllipticCurve) -> &'static str
+    ensures { result.now ≡ curve_algorithm curve }
+{
+    match curve {
+        EllipticCurve::P256 => "ES256",
+        EllipticCurve::P384 => "ES384",
     }
 }

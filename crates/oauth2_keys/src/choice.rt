@@ -87,7 +87,7 @@ pub(crate) fn fits_type(key: &PublicKey, algorithm: SignatureAlgorithm) -> bool
 {
     match key {
         PublicKey::Rsa(_) => algorithm.rsa_scheme().is_some(),
-        PublicKey::P256(_) => algorithm.rsa_scheme().is_none(),
+        PublicKey::Ecdsa(key) => algorithm.is_of_curve(key.curve()),
     }
 }
 

@@ -27,10 +27,11 @@ ghost use Rattle.oauth2_keys.specs.Members.{KeyReadsAs};
 
 use crate::algorithm::SignatureAlgorithm;
 use crate::choice::{fits_algorithm, fits_key_id, fits_operations, fits_type, fits_use};
+use crate::curves::curve_named;
 use crate::key_error::{KeyError, KeyMember};
 use crate::key_members::{KeyReadError, is_private, needed_text, octets, own_text, own_texts};
 use crate::public_key::PublicKey;
-use ecdsa_signatures::P256PublicKey;
+use ecdsa_signatures::{EcdsaPublicKey, EllipticCurve};
 use rsa_signatures::RsaPublicKey;
 use serde_json::Value;
 use std::alloc::{AllocError, Global};
@@ -100,27 +101,30 @@ fn rsa_key(alloc: Global, key: &Value) -> Result<PublicKey, KeyReadError>
     }
 }
 
-fn coordinate(alloc: Global, key: &Value, member: KeyMember) -> Result<[u8; 32], KeyReadError>
-    ensures { KeyReadsAs (λ c. c) result (coordinate member (view key.now)) }
+fn coordinate(
+    alloc: Global,
+    key: &Value,
+    curve: EllipticCurve,
+    member: KeyMember,
+) -> Result<Vec<u8>, KeyReadError>
+    ensures { KeyReadsAs (λ c. c.items) result (coordinate curve member (view key.now)) }
 {
     let octets = octets(alloc, key, member)?;
-    if octets.len() == 32 {
-        let mut coordinate = [0; 32];
-        coordinate.copy_from_slice(octets.as_slice());
-        Ok(coordinate)
+    if octets.len() == curve.coordinate_size() {
+        Ok(octets)
     } else {
         Err(KeyReadError::Fault(KeyError::WrongSize(member)))
     }
 }
 
-fn curve_key(alloc: Global, key: &Value) -> Result<PublicKey, KeyReadError>
-    ensures { KeyReadsAs (λ k. k) result (curve_key (view key.now)) }
+fn curve_key(alloc: Global, key: &Value, curve: EllipticCurve) -> Result<PublicKey, KeyReadError>
+    ensures { KeyReadsAs (λ k. k) result (curve_key curve (view key.now)) }
 {
-    let x = coordinate(alloc, key, KeyMember::X)?;
-    let y = coordinate(alloc, key, KeyMember::Y)?;
-    match P256PublicKey::new(&x, &y) {
-        Ok(key) => Ok(PublicKey::P256(key)),
-        Err(error) => Err(KeyReadError::Fault(KeyError::P256(error))),
+    let x = coordinate(alloc, key, curve, KeyMember::X)?;
+    let y = coordinate(alloc, key, curve, KeyMember::Y)?;
+    match EcdsaPublicKey::new(curve, x.as_slice(), y.as_slice()) {
+        Ok(key) => Ok(PublicKey::Ecdsa(key)),
+        Err(error) => Err(KeyReadError::Fault(KeyError::Ecdsa(error))),
     }
 }
 
@@ -128,10 +132,9 @@ fn elliptic_key(alloc: Global, key: &Value) -> Result<PublicKey, KeyReadError>
     ensures { KeyReadsAs (λ k. k) result (elliptic_key (view key.now)) }
 {
     match needed_text(key, KeyMember::Curve) {
-        Ok(curve) => if curve == "P-256" {
-            curve_key(alloc, key)
-        } else {
-            Err(KeyReadError::Fault(KeyError::UnknownCurve))
+        Ok(name) => match curve_named(name) {
+            Some(curve) => curve_key(alloc, key, curve),
+            None => Err(KeyReadError::Fault(KeyError::UnknownCurve)),
         },
         Err(fault) => Err(KeyReadError::Fault(fault)),
     }

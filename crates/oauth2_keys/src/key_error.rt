@@ -4,7 +4,7 @@ ghost use Rattle.std.specs.Prelude.{◌≡◌, Some};
 ghost use Rattle.oauth2_keys.specs.ErrorTexts.{key_error_text};
 ghost use Rattle.oauth2_keys.specs.Members.{member_name};
 
-use ecdsa_signatures::P256KeyError;
+use ecdsa_signatures::EcdsaKeyError;
 use oauth2_types::display::write_display;
 use rsa_signatures::RsaKeyError;
 use std::fmt;
@@ -48,14 +48,15 @@ pub enum KeyError {
     NotBase64(KeyMember),
     /// The key type (`kty`) is neither `RSA` nor `EC`.
     UnknownType,
-    /// The curve (`crv`) is not `P-256`.
+    /// The curve (`crv`) is neither `P-256` nor `P-384`.
     UnknownCurve,
-    /// The coordinate does not have 32 octets, the length of P-256 (RFC 7518, 6.2.1.2 and 6.2.1.3).
+    /// The coordinate does not have as many octets as those of the curve, which is 32 for `P-256` and
+    /// 48 for `P-384` (RFC 7518, 6.2.1.2 and 6.2.1.3).
     WrongSize(KeyMember),
     /// The modulus or the exponent of an RSA key is refused.
     Rsa(RsaKeyError),
-    /// The coordinates of a key on P-256 are refused.
-    P256(P256KeyError),
+    /// The coordinates of a key on a curve are refused.
+    Ecdsa(EcdsaKeyError),
 }
 
 impl KeyMember {
@@ -108,13 +109,13 @@ impl fmt::Display for KeyError {
                 format_args!("the member {member} is not base64url"),
             ),
             KeyError::UnknownType => f.write_str("the key type is not RSA or EC"),
-            KeyError::UnknownCurve => f.write_str("the curve is not P-256"),
+            KeyError::UnknownCurve => f.write_str("the curve is not P-256 or P-384"),
             KeyError::WrongSize(member) => write_display(
                 f,
-                format_args!("the member {member} is not 32 octets long"),
+                format_args!("the member {member} is not as long as the curve says"),
             ),
             KeyError::Rsa(error) => write_display(f, error),
-            KeyError::P256(error) => write_display(f, error),
+            KeyError::Ecdsa(error) => write_display(f, error),
         }
     }
 }

@@ -4,6 +4,7 @@
 
 mod algorithm;
 mod choice;
+mod curves;
 mod json_web_key;
 mod key_error;
 mod key_members;

@@ -4,7 +4,7 @@ ghost use Rattle.std.specs.Prelude.{◌↔◌, IsTrue};
 ghost use Rattle.oauth2_keys.specs.Algorithm.{IsSignatureBy};
 
 use crate::algorithm::SignatureAlgorithm;
-use ecdsa_signatures::P256PublicKey;
+use ecdsa_signatures::EcdsaPublicKey;
 use rsa_signatures::RsaPublicKey;
 
 /// A public key. There is a variant for each type of key that signatures can be checked with.
@@ -12,8 +12,8 @@ use rsa_signatures::RsaPublicKey;
 pub enum PublicKey {
     /// `kty` is `RSA` (RFC 7518, 6.3).
     Rsa(RsaPublicKey),
-    /// `kty` is `EC`, and `crv` is `P-256` (RFC 7518, 6.2).
-    P256(P256PublicKey),
+    /// `kty` is `EC` (RFC 7518, 6.2).
+    Ecdsa(EcdsaPublicKey),
 }
 
 impl PublicKey {
@@ -22,10 +22,14 @@ impl PublicKey {
     pub fn verify(&self, algorithm: SignatureAlgorithm, message: &[u8], signature: &[u8]) -> bool
         ensures { IsTrue result ↔ IsSignatureBy algorithm self.now message.now signature.now }
     {
-        match (self, algorithm.rsa_scheme()) {
-            (PublicKey::Rsa(key), Some(scheme)) => key.verify(scheme, message, signature),
-            (PublicKey::P256(key), None) => key.verify(message, signature),
-            _ => false,
+        match self {
+            PublicKey::Rsa(key) => match algorithm.rsa_scheme() {
+                Some(scheme) => key.verify(scheme, message, signature),
+                None => false,
+            },
+            PublicKey::Ecdsa(key) => {
+                algorithm.is_of_curve(key.curve()) && key.verify(message, signature)
+            }
         }
     }
 }

@@ -1,12 +1,13 @@
 //! The thumbprint of a key (RFC 7638).
 
-ghost use Rattle.std.specs.Prelude.{◌≡◌, IfOk, codes, string_bytes};
+ghost use Rattle.std.specs.Prelude.{◌≡◌, IfOk, Some, codes, string_bytes};
 ghost use Rattle.serde_json.specs.View.{view};
 ghost use Rattle.oauth2_types.specs.Pkce.{base64url};
 ghost use Rattle.sha2.specs.Sha256.{sha256};
 ghost use Rattle.oauth2_keys.specs.Members.{KeyReadsAs};
 ghost use Rattle.oauth2_keys.specs.Thumbprint.{
   canonical,
+  canonical_on,
   elliptic_canonical,
   elliptic_text,
   rsa_canonical,
@@ -14,9 +15,11 @@ ghost use Rattle.oauth2_keys.specs.Thumbprint.{
   thumbprint,
 };
 
+use crate::curves::{curve_name, curve_named};
 use crate::key_error::{KeyError, KeyMember};
 use crate::key_members::{KeyReadError, base64_text, needed_text};
 use base64::engine::general_purpose::URL_SAFE_NO_PAD;
+use ecdsa_signatures::EllipticCurve;
 use serde_json::Value;
 use sha2::{Digest, Sha256};
 use std::alloc::{AllocError, Global};
@@ -32,10 +35,17 @@ fn rsa_text(alloc: Global, exponent: &str, modulus: &str) -> Result<String, Allo
     Ok(text)
 }
 
-fn elliptic_text(alloc: Global, x: &str, y: &str) -> Result<String, AllocError>
-    ensures { IfOk result (λ text. string_bytes text ≡ elliptic_text x.now y.now) }
+fn elliptic_text(
+    alloc: Global,
+    curve: EllipticCurve,
+    x: &str,
+    y: &str,
+) -> Result<String, AllocError>
+    ensures { IfOk result (λ text. string_bytes text ≡ elliptic_text curve x.now y.now) }
 {
-    let mut text = String::from_str(alloc, "{\"crv\":\"P-256\",\"kty\":\"EC\",\"x\":\"")?;
+    let mut text = String::from_str(alloc, "{\"crv\":\"")?;
+    text.push_str(curve_name(curve))?;
+    text.push_str("\",\"kty\":\"EC\",\"x\":\"")?;
     text.push_str(x)?;
     text.push_str("\",\"y\":\"")?;
     text.push_str(y)?;
@@ -51,16 +61,21 @@ fn rsa_canonical(alloc: Global, key: &Value) -> Result<String, KeyReadError>
     Ok(rsa_text(alloc, exponent, modulus)?)
 }
 
+fn canonical_on(alloc: Global, curve: EllipticCurve, key: &Value) -> Result<String, KeyReadError>
+    ensures { KeyReadsAs string_bytes result (canonical_on (Some curve) (view key.now)) }
+{
+    let x = base64_text(alloc, key, KeyMember::X)?;
+    let y = base64_text(alloc, key, KeyMember::Y)?;
+    Ok(elliptic_text(alloc, curve, x, y)?)
+}
+
 fn elliptic_canonical(alloc: Global, key: &Value) -> Result<String, KeyReadError>
     ensures { KeyReadsAs string_bytes result (elliptic_canonical (view key.now)) }
 {
     match needed_text(key, KeyMember::Curve) {
-        Ok(curve) => if curve == "P-256" {
-            let x = base64_text(alloc, key, KeyMember::X)?;
-            let y = base64_text(alloc, key, KeyMember::Y)?;
-            Ok(elliptic_text(alloc, x, y)?)
-        } else {
-            Err(KeyReadError::Fault(KeyError::UnknownCurve))
+        Ok(name) => match curve_named(name) {
+            Some(curve) => canonical_on(alloc, curve, key),
+            None => Err(KeyReadError::Fault(KeyError::UnknownCurve)),
         },
         Err(fault) => Err(KeyReadError::Fault(fault)),
     }
@@ -88,7 +103,7 @@ fn base64url(alloc: Global, octets: &[u8]) -> Result<String, AllocError>
     URL_SAFE_NO_PAD.encode(alloc, octets)
 }
 
-/// The SHA-256 thumbprint of a JSON Web Key in base64url, for an RSA key or a key on P-256. For a
+/// The SHA-256 thumbprint of a JSON Web Key in base64url, for an RSA key or a key on a curve. For a
 /// private key it is that of the public key. The members are taken as they are written, so they
 /// have to be written as RFC 7518 requires: `n` and `e` without leading zeros.
 pub fn thumbprint(alloc: Global, key: &Value) -> Result<String, KeyReadError>
