@@ -1,41 +1,53 @@
 -- The command `id_token`, from what was read and what was checked.
-use Rattle.std.proofs.Common.{◌≡◌, ℕ, ℤ, List, Result, Ok, refl}
+use Rattle.std.proofs.Common.{◌≡◌, ℕ, ℤ, List, Ok, Err, refl, subst}
 use Rattle.oauth2.specs.Settings.{Settings}
+use Rattle.oauth2_json.specs.ErrorTexts.{parse_fault_text, read_error_text}
+use Rattle.oauth2_json.specs.Reading.{ErrsAs, Fault, Reading, fault_of}
+use Rattle.oauth2_json.specs.declared.read.ReadError.{ReadError}
+use Rattle.oauth2_json.specs.declared.read.ReadError.TheVariants as reading
+use Rattle.oauth2_keys.specs.declared.json_web_key.ListedKey.{ListedKey}
 use Rattle.oauth2_openid.specs.ErrorTexts.{id_token_read_error_text}
 use Rattle.oauth2_openid.specs.Reading.{compact_token_reading}
-use Rattle.oauth2_openid.specs.Token.{DecodedToken, TokenErrsAs, TokenReading}
+use Rattle.oauth2_openid.specs.Token.{DecodedToken, TokenErrsAs, TokenFault, TokenReading, not_three_parts, not_base64, at_fault}
 use Rattle.oauth2_openid.specs.TokenRules.{token_checked}
-use Rattle.oauth2_openid.specs.declared.access_token_hash.AccessTokenHash.{AccessTokenHash}
-use Rattle.oauth2_openid.specs.declared.claims_error.ClaimsError.{ClaimsError}
 use Rattle.oauth2_openid.specs.declared.read_error.IdTokenReadError.{IdTokenReadError}
 use Rattle.oauth2_openid.specs.declared.read_error.IdTokenReadError.TheVariants as errors
 use Rattle.oauth2_script.specs.IdTokenParams.{IdTokenParams}
 use Rattle.oauth2_world.specs.Clock.{Clock, reading_of}
-use Rattle.oauth2_commands.specs.IdToken.{IsIdTokenOutput, params_expectation, reading_output, token_output, verdict_output}
+use Rattle.oauth2_commands.specs.IdToken.{IsCheckedOutput, IsIdTokenOutput, params_expectation, signature_algorithm, token_fault_text}
 use Rattle.oauth2_request_commands.specs.Out.{Output, failure_output, Adds, AddsOutput}
 use Rattle.oauth2_request_commands.specs.declared.status.RunStatus.{RunStatus}
 
+-- one output that is allowed, added
+pub added : {IsOutput : Output → Type 0} (old new : List ℕ) (s : RunStatus) (o : Output) → IsOutput o → AddsOutput old new s o → Adds old new s IsOutput
+added old new s o is printed = (o, is, printed.0, printed.1)
+
 -- why a text is no ID token
-pub read_error_shown : (error : IdTokenReadError) (shown : DecodedToken → Output) (read : TokenReading DecodedToken) (old new : List ℕ) (s : RunStatus) → (error ≡ errors.Memory → ⊥)
-    → TokenErrsAs error read → AddsOutput old new s (failure_output (id_token_read_error_text error)) → AddsOutput old new s (reading_output shown read)
-read_error_shown errors.NotThreeParts shown read old new s other tells printed = rw tells printed
-read_error_shown (errors.NotBase64 part) shown read old new s other tells printed = rw tells printed
-read_error_shown (errors.Fault part fault) shown read old new s other tells printed = rw tells printed
-read_error_shown errors.Memory shown read old new s other tells printed = absurd (other refl)
+pub read_error_shown : (error : IdTokenReadError) (read : TokenReading DecodedToken) (old new : List ℕ) (s : RunStatus) → (error ≡ errors.Memory → ⊥)
+    → TokenErrsAs error read → AddsOutput old new s (failure_output (id_token_read_error_text error))
+    → (fault : TokenFault) × (read ≡ Err fault) × AddsOutput old new s (failure_output (token_fault_text fault))
+read_error_shown errors.NotThreeParts read old new s other tells printed = (not_three_parts, tells, printed)
+read_error_shown (errors.NotBase64 part) read old new s other tells printed = (not_base64 part, tells, printed)
+read_error_shown (errors.Fault part fault) read old new s other tells printed = (at_fault part (fault_of fault), tells, printed)
+read_error_shown errors.Memory read old new s other tells printed = absurd (other refl)
+
+-- why a value is no key set
+pub keys_error_shown : (error : ReadError) (read : Reading (List ListedKey)) (old new : List ℕ) (s : RunStatus) → (error ≡ reading.Memory → ⊥) → ErrsAs error read
+    → AddsOutput old new s (failure_output (read_error_text error)) → (fault : Fault) × (read ≡ Err fault) × AddsOutput old new s (failure_output (parse_fault_text fault))
+keys_error_shown (reading.Fault f) read old new s other tells printed = (fault_of f, tells, printed)
+keys_error_shown reading.Memory read old new s other tells printed = absurd (other refl)
 
 module _ (client : Settings) (p : IdTokenParams) (clock : Clock) (old new : List ℕ) (s : RunStatus) where
-  abbrev IsOutput : Output → Type 0
-  IsOutput o = IsIdTokenOutput client p clock o
-
-  -- a text that reads to a token, of which the rules say this
-  pub token_shown : (token : DecodedToken) (now : ℤ) (verdict : Result AccessTokenHash ClaimsError) → compact_token_reading p.id_token ≡ Ok token → now ≡ reading_of clock
-      → verdict ≡ token_checked (params_expectation client p) p.access_token now token → AddsOutput old new s (verdict_output token.claims.own verdict) → Adds old new s IsOutput
-  unfolding token_output
-  token_shown token now verdict read at told printed =
-      let shown : verdict_output token.claims.own verdict ≡ reading_output (token_output (params_expectation client p) p.access_token (reading_of clock)) (compact_token_reading p.id_token) =
-      rw (read, told, at) refl in
-      (verdict_output token.claims.own verdict, shown, printed.0, printed.1)
+  -- a text that reads to a token, of which the checks say this
+  pub token_shown : (token : DecodedToken) (now : ℤ) → compact_token_reading p.id_token ≡ Ok token → now ≡ reading_of clock
+      → Adds old new s (IsCheckedOutput p.keys (signature_algorithm p.algorithm) token (token_checked (params_expectation client p) p.access_token now token))
+      → Adds old new s (IsIdTokenOutput client p clock)
+  token_shown token now read at (o, is, lines, status) =
+      let checked : IsCheckedOutput p.keys (signature_algorithm p.algorithm) token (token_checked (params_expectation client p) p.access_token (reading_of clock) token) o =
+      subst (λ n. IsCheckedOutput p.keys (signature_algorithm p.algorithm) token (token_checked (params_expectation client p) p.access_token n token) o) at is in
+      (o, rw read checked, lines, status)
 
   -- a text that reads to none
-  pub unread_shown : AddsOutput old new s (reading_output (token_output (params_expectation client p) p.access_token (reading_of clock)) (compact_token_reading p.id_token)) → Adds old new s IsOutput
-  unread_shown printed = (reading_output (token_output (params_expectation client p) p.access_token (reading_of clock)) (compact_token_reading p.id_token), refl, printed.0, printed.1)
+  pub unread_shown : (fault : TokenFault) → compact_token_reading p.id_token ≡ Err fault → AddsOutput old new s (failure_output (token_fault_text fault))
+      → Adds old new s (IsIdTokenOutput client p clock)
+  unread_shown fault read printed = (failure_output (token_fault_text fault), rw read refl, printed.0, printed.1)

@@ -1,11 +1,20 @@
 -- The command `id_token`: an ID token is read, and its claims are checked (OpenID Connect Core 1.0,
 -- 3.1.3.7).
-use Rattle.std.specs.Prelude.{◌≡◌, ℕ, ℤ, List, [], ◌∷◌, ◌++◌, Some, Result, Ok, Err, codes}
+use Rattle.std.specs.Prelude.{◌≡◌, ◌⊎◌, ℕ, List, [], ◌∷◌, ◌++◌, Option, Some, None, Result, Ok, Err, codes}
 use Rattle.serde_json.specs.Data.{Data, string, object, no_members}
 use Rattle.serde_json.specs.Written.{compact_text}
 use Rattle.oauth2.specs.Settings.{Settings}
 use Rattle.oauth2_json.specs.ErrorTexts.{parse_fault_text}
 use Rattle.oauth2_json.specs.Puts.{put_all}
+use Rattle.oauth2_json.specs.Reading.{Reading}
+use Rattle.oauth2_keys.specs.Algorithm.{algorithm_named}
+use Rattle.oauth2_keys.specs.ErrorTexts.{signature_error_text}
+use Rattle.oauth2_keys.specs.KeySet.{set_reading}
+use Rattle.oauth2_keys.specs.Verified.{IsVerified, IsRefusal}
+use Rattle.oauth2_keys.specs.declared.algorithm.SignatureAlgorithm.{SignatureAlgorithm}
+use Rattle.oauth2_keys.specs.declared.algorithm.SignatureAlgorithm.TheVariants.{Rs256}
+use Rattle.oauth2_keys.specs.declared.json_web_key.ListedKey.{ListedKey}
+use Rattle.oauth2_keys.specs.declared.signature_error.SignatureError.{SignatureError}
 use Rattle.oauth2_openid.specs.Claims.{Claims, Expectation, NamedIssuers}
 use Rattle.oauth2_openid.specs.Claims as named
 use Rattle.oauth2_openid.specs.ErrorTexts.{claims_error_text, part_text}
@@ -62,30 +71,46 @@ checked_json hash c = compact_text (checked_data hash c)
 
 -- ---- the output of each case
 
--- the output of the checks (OpenID Connect Core 1.0, 3.1.3.7): the claims, or the first rule that
--- is broken
-abbrev pub verdict_output : Claims → Result AccessTokenHash ClaimsError → Output
-verdict_output c (Ok hash) = success_output (checked_json hash c)
-verdict_output c (Err broken) = failure_output (claims_error_text broken)
-
 -- why a text is not an ID token (RFC 7515, 7.1; OpenID Connect Core 1.0, 2)
 abbrev pub token_fault_text : TokenFault → List ℕ
 token_fault_text not_three_parts = codes "not three parts"
 token_fault_text (not_base64 part) = part_text part ++ codes ": not base64url"
 token_fault_text (at_fault part fault) = part_text part ++ codes ": " ++ parse_fault_text fault
 
--- what is shown of a text: `shown` of its token, or why the text is not an ID token
-abbrev pub reading_output : (DecodedToken → Output) → TokenReading DecodedToken → Output
-reading_output shown (Ok token) = shown token
-reading_output shown (Err fault) = failure_output (token_fault_text fault)
+-- the algorithm of the signature: the registered one, or RS256 if none is (OpenID Connect Core 1.0,
+-- 3.1.3.7, 7)
+abbrev pub signature_algorithm : Option (List ℕ) → Option SignatureAlgorithm
+signature_algorithm None = Some Rs256
+signature_algorithm (Some name) = algorithm_named name
 
--- the output of the checks of a token that came with this access token, at the moment `now` in
--- nanoseconds since 1970
-unfoldable pub token_output : Expectation → List ℕ → ℤ → DecodedToken → Output
-token_output expected access_token now token =
-    verdict_output token.claims.own (token_checked expected access_token now token)
+-- the output of a token whose claims are good, by the keys of the issuer: `good` if the signature
+-- is good, else why it is not (OpenID Connect Core 1.0, 3.1.3.7, 6)
+abbrev pub IsVerifiedOutput : Reading (List ListedKey) → Option SignatureAlgorithm → DecodedToken → Output → Output → Type 0
+IsVerifiedOutput (Err fault) algorithm token good o = o ≡ failure_output (parse_fault_text fault)
+IsVerifiedOutput (Ok keys) None token good o = o ≡ failure_output (codes "no signature of the registered algorithm is checked")
+IsVerifiedOutput (Ok keys) (Some algorithm) token good o =
+    (IsVerified keys algorithm token × (o ≡ good))
+    ⊎ ((error : SignatureError) × IsRefusal keys algorithm token error × (o ≡ failure_output (signature_error_text error)))
+
+-- the same for keys that a script may leave out: then no signature is checked
+abbrev pub IsSignedOutput : Option Data → Option SignatureAlgorithm → DecodedToken → Output → Output → Type 0
+IsSignedOutput None algorithm token good o = o ≡ good
+IsSignedOutput (Some keys) algorithm token good o = IsVerifiedOutput (set_reading keys) algorithm token good o
+
+-- the output of a token by the checks of its claims: the first rule that is broken, or that of its
+-- signature
+abbrev pub IsCheckedOutput : Option Data → Option SignatureAlgorithm → DecodedToken → Result AccessTokenHash ClaimsError → Output → Type 0
+IsCheckedOutput keys algorithm token (Ok hash) o =
+    IsSignedOutput keys algorithm token (success_output (checked_json hash token.claims.own)) o
+IsCheckedOutput keys algorithm token (Err broken) o = o ≡ failure_output (claims_error_text broken)
+
+-- the output of a text: that of its token, or why the text is not an ID token
+abbrev pub IsReadOutput : (DecodedToken → Output → Type 0) → TokenReading DecodedToken → Output → Type 0
+IsReadOutput IsShown (Ok token) o = IsShown token o
+IsReadOutput IsShown (Err fault) o = o ≡ failure_output (token_fault_text fault)
 
 -- the output of `id_token`; the clock is read once for the moment of the checks
 abbrev pub IsIdTokenOutput : Settings → IdTokenParams → Clock → Output → Type 0
 IsIdTokenOutput client p clock o =
-    o ≡ reading_output (token_output (params_expectation client p) p.access_token (reading_of clock)) (compact_token_reading p.id_token)
+    IsReadOutput (λ token o. IsCheckedOutput p.keys (signature_algorithm p.algorithm) token
+    (token_checked (params_expectation client p) p.access_token (reading_of clock) token) o) (compact_token_reading p.id_token) o

@@ -4,6 +4,7 @@ use Rattle.oauth2.specs.Settings.{Settings}
 use Rattle.oauth2_request_commands.specs.Authorize.{IsAuthorizeOutput}
 use Rattle.oauth2_request_commands.specs.ClientCredentials.{IsClientCredentialsOutput}
 use Rattle.oauth2_request_commands.specs.Code.{IsCodeOutput}
+use Rattle.oauth2_world.specs.Adapted.{adapted_replies}
 use Rattle.oauth2_world.specs.Clock.{Clock, new_clock}
 use Rattle.oauth2_request_commands.specs.DeviceAuthorization.{IsDeviceAuthorizationOutput}
 use Rattle.oauth2_request_commands.specs.DevicePoll.{IsDevicePollOutput}
@@ -47,7 +48,8 @@ bad_script = record { lines = line (codes "bad script"); status = status.BadScri
 -- the output of a script; `None` is a bad script
 abbrev pub IsScriptOutput : Option Script → Output → Type 0
 IsScriptOutput None o = o ≡ bad_script
-IsScriptOutput (Some s) o = IsCommandOutput (settings_of s.client) (new_clock s.readings) s.replies s.command o
+IsScriptOutput (Some s) o =
+    IsCommandOutput (settings_of s.client) (new_clock s.readings) (adapted_replies s.client.adapters s.replies) s.command o
 
 -- `written` is the lines of an output that `IsOutput` allows, and `s` is its status
 abbrev pub Shows : List ℕ → RunStatus → (Output → Type 0) → Type 0

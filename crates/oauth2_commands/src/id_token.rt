@@ -1,24 +1,29 @@
-//! The command `id_token`: an ID token is read, and its claims are checked.
+//! The command `id_token`: an ID token is read, and its claims and its signature are checked.
 
-ghost use Rattle.std.specs.Prelude.{◌≡◌, IfOk, option_map, string_bytes};
+ghost use Rattle.std.specs.Prelude.{◌≡◌, Err, List, IfOk, Ok, codes, option_map, string_bytes};
+ghost use Rattle.serde_json.specs.View.{view};
+ghost use Rattle.oauth2_json.specs.ErrorTexts.{parse_fault_text};
+ghost use Rattle.oauth2_json.specs.Reading.{ErrsAs, Fault, Reading};
+ghost use Rattle.oauth2_keys.specs.declared.json_web_key.ListedKey.{ListedKey};
 ghost use Rattle.oauth2_commands.specs.IdToken as spec;
-ghost use Rattle.oauth2_request_commands.specs.Out.{Output, Adds, AddsOutput};
+ghost use Rattle.oauth2_request_commands.specs.Out.{Adds, AddsOutput, failure_output, success_output};
 ghost use Rattle.oauth2_openid.specs.Issuers.{named_issuers};
 ghost use Rattle.oauth2_openid.specs.Seen.{token_of};
-ghost use Rattle.oauth2_openid.specs.Token.{DecodedToken, TokenErrsAs, TokenReading};
+ghost use Rattle.oauth2_openid.specs.Token.{DecodedToken, TokenErrsAs, TokenFault, TokenReading};
 ghost use Rattle.oauth2_openid.specs.TokenRules.{token_checked};
 ghost use Rattle.oauth2_script.specs.Views.{id_token_view, issuer_view};
 
 use crate::id_token_json::CheckedToken;
 use jiff::Timestamp;
-use oauth2::TryClone;
+use oauth2::{FromJson, ReadError, TryClone};
+use oauth2_keys::{JsonWebKeySet, SignatureAlgorithm};
 use oauth2_openid::{
-    AccessTokenHash, ClaimsError, Expected, IdToken, IdTokenClaims, IdTokenReadError, IssuerRule,
-    Nonce,
+    AccessTokenHash, ClaimsError, Expected, IdToken, IdTokenReadError, IssuerRule, Nonce,
 };
 use oauth2_request_commands::{RunStatus, ScriptClient, show_answer, show_error_text};
 use oauth2_script::{IdTokenParams, IssuerParam};
-use oauth2_world::ScriptedClock;
+use oauth2_world::{ScriptedClock, print_fault};
+use serde_json::Value;
 use std::alloc::{AllocError, Global};
 
 fn nonce_of(text: Option<String>) -> Option<Nonce>
@@ -66,17 +71,126 @@ fn check(
     Ok(token.check(&expected, &params.access_token, now))
 }
 
-fn show_verdict(
+// The algorithm of the signature: the registered one, or RS256 if none is.
+fn signature_algorithm(registered: &Option<String>) -> Option<SignatureAlgorithm>
+    ensures { result ≡ spec.signature_algorithm (option_map string_bytes registered.now) }
+{
+    match registered {
+        Some(name) => SignatureAlgorithm::from_name(name.as_str()),
+        None => Some(SignatureAlgorithm::Rs256),
+    }
+}
+
+// Adds the line of a token that passes all checks.
+fn show_claims(
     alloc: Global,
     lines: &mut String,
-    claims: &IdTokenClaims,
-    verdict: Result<AccessTokenHash, ClaimsError>,
+    token: &IdToken,
+    hash: AccessTokenHash,
 ) -> Result<RunStatus, AllocError>
     ensures { IfOk result (λ status. AddsOutput (string_bytes lines.old) (string_bytes lines.new)
-        status (spec.verdict_output claims.now verdict)) }
+        status (success_output (spec.checked_json hash (token_of token.now).claims.own))) }
 {
-    match verdict {
-        Ok(hash) => show_answer(alloc, lines, &CheckedToken { hash, claims }),
+    let claims = token.claims();
+    show_answer(alloc, lines, &CheckedToken { hash, claims })
+}
+
+// Adds the line for an algorithm whose signatures are not checked.
+fn show_unchecked(alloc: Global, lines: &mut String) -> Result<RunStatus, AllocError>
+    ensures { IfOk result (λ status. AddsOutput (string_bytes lines.old) (string_bytes lines.new)
+        status
+        (failure_output (codes "no signature of the registered algorithm is checked"))) }
+{
+    print_fault(
+        alloc,
+        lines,
+        "no signature of the registered algorithm is checked",
+    )?;
+    Ok(RunStatus::Fault)
+}
+
+// Adds the line of a token whose claims are good, after the check of its signature.
+fn show_verified(
+    alloc: Global,
+    lines: &mut String,
+    keys: &JsonWebKeySet,
+    algorithm: Option<SignatureAlgorithm>,
+    token: &IdToken,
+    hash: AccessTokenHash,
+) -> Result<RunStatus, AllocError>
+    ensures { IfOk result (λ status. Adds (string_bytes lines.old) (string_bytes lines.new) status
+        (spec.IsVerifiedOutput (Ok keys.now) algorithm (token_of token.now)
+        (success_output (spec.checked_json hash (token_of token.now).claims.own)))) }
+{
+    match algorithm {
+        Some(algorithm) => match keys.verify(token, algorithm) {
+            Ok(()) => show_claims(alloc, lines, token, hash),
+            Err(error) => show_error_text(alloc, lines, &error),
+        },
+        None => show_unchecked(alloc, lines),
+    }
+}
+
+// Adds the line why a value is not a key set.
+fn show_keys_error(
+    alloc: Global,
+    lines: &mut String,
+    error: &ReadError,
+) -> Result<RunStatus, AllocError>
+    ensures { IfOk result (λ status.
+        (read : Reading (List ListedKey)) → ErrsAs error.now read
+        → (fault : Fault) × (read ≡ Err fault)
+        × AddsOutput (string_bytes lines.old) (string_bytes lines.new) status
+        (failure_output (parse_fault_text fault))) }
+{
+    if let ReadError::Memory = error {
+        return Err(AllocError);
+    }
+    show_error_text(alloc, lines, error)
+}
+
+// Adds the line of a token whose claims are good; with keys, after the check of its signature.
+fn show_signed(
+    alloc: Global,
+    lines: &mut String,
+    keys: Option<Value>,
+    algorithm: Option<SignatureAlgorithm>,
+    token: &IdToken,
+    hash: AccessTokenHash,
+) -> Result<RunStatus, AllocError>
+    ensures { IfOk result (λ status. Adds (string_bytes lines.old) (string_bytes lines.new) status
+        (spec.IsSignedOutput (option_map view keys) algorithm (token_of token.now)
+        (success_output (spec.checked_json hash (token_of token.now).claims.own)))) }
+{
+    match keys {
+        Some(keys) => match JsonWebKeySet::from_json(alloc, keys) {
+            Ok(keys) => show_verified(alloc, lines, &keys, algorithm, token, hash),
+            Err(error) => show_keys_error(alloc, lines, &error),
+        },
+        None => show_claims(alloc, lines, token, hash),
+    }
+}
+
+// Adds the line of a token: its claims, or the first check that fails.
+fn show_checked(
+    alloc: Global,
+    client: &ScriptClient,
+    params: IdTokenParams,
+    token: &IdToken,
+    now: Timestamp,
+    lines: &mut String,
+) -> Result<RunStatus, AllocError>
+    ensures { let p = id_token_view params in
+        IfOk result (λ status. Adds (string_bytes lines.old) (string_bytes lines.new) status
+        (spec.IsCheckedOutput p.keys (spec.signature_algorithm p.algorithm) (token_of token.now)
+        (token_checked (spec.params_expectation client.now p) p.access_token now.nanosecond
+        (token_of token.now)))) }
+{
+    let mut params = params;
+    let algorithm = signature_algorithm(&params.algorithm);
+    let keys = params.keys.take();
+    match check(alloc, client, params, token, now)? {
+        Ok(hash) => show_signed(alloc, lines, keys, algorithm, token, hash),
         Err(broken) => show_error_text(alloc, lines, &broken),
     }
 }
@@ -88,10 +202,10 @@ fn show_read_error(
     error: &IdTokenReadError,
 ) -> Result<RunStatus, AllocError>
     ensures { IfOk result (λ status.
-        (shown : DecodedToken → Output) (read : TokenReading DecodedToken)
-        → TokenErrsAs error.now read
-        → AddsOutput (string_bytes lines.old) (string_bytes lines.new) status
-        (spec.reading_output shown read)) }
+        (read : TokenReading DecodedToken) → TokenErrsAs error.now read
+        → (fault : TokenFault) × (read ≡ Err fault)
+        × AddsOutput (string_bytes lines.old) (string_bytes lines.new) status
+        (failure_output (spec.token_fault_text fault))) }
 {
     if let IdTokenReadError::Memory = error {
         return Err(AllocError);
@@ -99,8 +213,8 @@ fn show_read_error(
     show_error_text(alloc, lines, error)
 }
 
-/// Shows the claims of an ID token, or the first rule that it breaks, or why the text is not an ID
-/// token (OpenID Connect Core 1.0, section 3.1.3.7).
+/// Shows the claims of an ID token, or the first check that it fails, or why the text is not an ID
+/// token (OpenID Connect Core 1.0, section 3.1.3.7). If there are keys, its signature is checked.
 pub fn run_id_token(
     alloc: Global,
     client: &ScriptClient,
@@ -112,10 +226,7 @@ pub fn run_id_token(
         (spec.IsIdTokenOutput client.now (id_token_view params) clock.old)) }
 {
     match IdToken::from_text(alloc, params.id_token.as_str()) {
-        Ok(token) => {
-            let verdict = check(alloc, client, params, &token, clock.read())?;
-            show_verdict(alloc, lines, token.claims(), verdict)
-        }
+        Ok(token) => show_checked(alloc, client, params, &token, clock.read(), lines),
         Err(error) => show_read_error(alloc, lines, &error),
     }
 }

@@ -1,21 +1,23 @@
 //! A whole run: reads the input, runs the script, and writes the output.
 
-ghost use Rattle.std.specs.Prelude.{◌≡◌, List, ℕ, Some, false, string_bytes, IfOk, IfSome};
+ghost use Rattle.std.specs.Prelude.{◌≡◌, List, ℕ, Some, false, map, string_bytes, IfOk, IfSome};
 ghost use Rattle.std.specs.Io.KnownBytes.{Appends};
 ghost use Rattle.oauth2_request_commands.specs.Out.{Adds};
 ghost use Rattle.oauth2_request_commands.specs.Client.{settings_of};
 ghost use Rattle.oauth2_commands.specs.Input.{Calls};
 ghost use Rattle.oauth2_commands.specs.Run.{IsCommandOutput, IsScriptOutput, IsOutputOf, Shows};
-ghost use Rattle.oauth2_script.specs.Views.{client_view, command_view, script_view};
+ghost use Rattle.oauth2_script.specs.Views.{client_view, command_view, script_view, stored_reply};
+ghost use Rattle.oauth2_world.specs.Adapted.{adapted_replies};
 ghost use Rattle.oauth2_world.specs.Replay.{client_replies};
 
 use crate::command::run_command;
 use crate::input::{ScriptReader, read_input};
 use crate::status::RunFault;
 use oauth2_request_commands::{RunStatus, client_of};
-use oauth2_script::{ClientPart, Command, Script, ScriptError, script_in};
-use oauth2_world::{ScriptedClient, ScriptedClock, ScriptedWorld};
+use oauth2_script::{ClientPart, Command, Reply, Script, ScriptError, script_in};
+use oauth2_world::{ScriptedClient, ScriptedClock, ScriptedWorld, adapt_replies};
 use std::alloc::{AllocError, Global};
+use std::collections::VecDeque;
 use std::io::Write;
 
 // Makes the client of the script, runs the command with it, and drops the client.
@@ -34,6 +36,18 @@ fn run_by(
     run_command(alloc, &client_of(client), command, world)
 }
 
+// The replies as the adapters of this client change them.
+fn adapt_for(
+    alloc: Global,
+    client: &ClientPart,
+    replies: Vec<Reply>,
+) -> Result<Vec<Reply>, AllocError>
+    ensures { IfOk result (λ new. map stored_reply new.items
+        ≡ adapted_replies (client_view client.now).adapters (map stored_reply replies.items)) }
+{
+    adapt_replies(alloc, client.adapters.as_slice(), replies)
+}
+
 // Runs a script; returns its lines and its status.
 fn run_lines(alloc: Global, script: Script) -> Result<(String, RunStatus), AllocError>
     ensures { IfOk result (λ r. Shows (string_bytes r.0) r.1
@@ -45,10 +59,11 @@ fn run_lines(alloc: Global, script: Script) -> Result<(String, RunStatus), Alloc
         replies,
         readings,
     } = script;
+    let replies = adapt_for(alloc, &client, replies)?;
     let mut world = ScriptedWorld {
         http_client: ScriptedClient {
             alloc,
-            replies,
+            replies: VecDeque::from(replies),
             lines: String::new(alloc),
             is_starved: false,
         },

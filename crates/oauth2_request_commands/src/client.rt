@@ -28,6 +28,7 @@ pub fn client_of(part: ClientPart) -> ScriptClient
         reply_rule,
         redirect,
         endpoints,
+        adapters: _,
     } = part;
     let ClientEndpoints {
         auth,

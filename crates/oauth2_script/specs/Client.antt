@@ -8,7 +8,9 @@ use Rattle.oauth2_wire.specs.declared.request.AuthType.{AuthType}
 use Rattle.oauth2_wire.specs.declared.request.AuthType.TheVariants.{BasicAuth, RequestBody}
 use Rattle.oauth2_wire.specs.declared.content_type.ReplyRule.{ReplyRule}
 use Rattle.oauth2_wire.specs.declared.content_type.ReplyRule.TheVariants.{Prefix, MediaType}
-use Rattle.oauth2_script.specs.Part.{◌>>=◌, needed_part, present_part, address}
+use Rattle.oauth2_script.specs.Adapter.{adapter}
+use Rattle.oauth2_script.specs.declared.adapter.Adapter.{Adapter}
+use Rattle.oauth2_script.specs.Part.{◌>>=◌, needed_part, present_part, list_part, address}
 
 -- the endpoints of the client that the script sets: members `auth_url`, `token_url` and so on
 pub record ClientEndpoints : Type 0 where
@@ -26,6 +28,7 @@ pub record Client : Type 0 where
   pub reply_rule : ReplyRule
   pub redirect : Option Addressed
   pub endpoints : ClientEndpoints
+  pub adapters : List Adapter
 
 -- where the client sends its secret (RFC 6749, 2.3.1): `basic` or `body`; `None` for other texts
 unfoldable pub auth_type_of : List ℕ → Option AuthType
@@ -57,7 +60,8 @@ endpoints d = do
   revocation ← present_part address (codes "revocation_url") d
   Some (record { auth = auth; token = token; device = device; introspection = introspection; revocation = revocation })
 
--- reads the object `client`; `auth` is `basic` and `reply_rule` is `prefix` if absent
+-- reads the object `client`; `auth` is `basic`, `reply_rule` is `prefix` and `adapters` are none if
+-- absent
 unfoldable pub client : Data → Option Client
 client d = do
   id ← needed_part as_str (codes "id") d
@@ -66,6 +70,7 @@ client d = do
   reply_rule ← present_part reply_rule_part (codes "reply_rule") d
   redirect ← present_part address (codes "redirect") d
   endpoints ← endpoints d
+  adapters ← list_part adapter (codes "adapters") d
   Some (record {
     id = id;
     secret = secret;
@@ -73,4 +78,5 @@ client d = do
     reply_rule = unwrap_or reply_rule Prefix;
     redirect = redirect;
     endpoints = endpoints;
+    adapters = adapters;
   })

@@ -2,7 +2,7 @@
 use Rattle.std.specs.Prelude.{ℕ, List, Option, Some, None, option_map, unwrap_or, codes}
 use Rattle.serde_json.specs.Data.{Data, null, boolean, number, string, array, object}
 use Rattle.serde_json.specs.Find.{as_str}
-use Rattle.oauth2_script.specs.Part.{◌>>=◌, needed_part, present_part, list_part, each_item, duration}
+use Rattle.oauth2_script.specs.Part.{◌>>=◌, needed_part, present_part, list_part, each_item, any_value, duration}
 
 -- the issuers that are expected: one; any of a list; or a text that goes before the name of the
 -- tenant (claim `tid`) and a text that goes after it
@@ -42,6 +42,8 @@ pub record IdTokenParams : Type 0 where
   pub nonce : Option (List ℕ)
   -- how far the clocks may be apart
   pub leeway : ℕ
+  -- the issuer's key set, as JSON (RFC 7517, 5)
+  pub keys : Option Data
   -- the maximum age that was sent
   pub greatest_age : Option ℕ
   -- the audiences other than the client that the client trusts
@@ -56,6 +58,7 @@ id_token_params d = do
   access_token ← needed_part as_str (codes "access_token") d
   issuer ← needed_part issuer_part (codes "issuer") d
   algorithm ← present_part as_str (codes "algorithm") d
+  keys ← present_part any_value (codes "keys") d
   nonce ← present_part as_str (codes "nonce") d
   leeway ← present_part duration (codes "leeway") d
   max_age ← present_part duration (codes "max_age") d
@@ -66,6 +69,7 @@ id_token_params d = do
     access_token = access_token;
     issuer = issuer;
     algorithm = algorithm;
+    keys = keys;
     nonce = nonce;
     leeway = unwrap_or leeway 0;
     greatest_age = max_age;

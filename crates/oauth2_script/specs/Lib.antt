@@ -1,5 +1,6 @@
 pub mod Part
 pub mod Gives
+pub mod Adapter
 pub mod Client
 pub mod Replies
 pub mod AuthorizeParams

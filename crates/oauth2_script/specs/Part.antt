@@ -76,6 +76,10 @@ verifier d = as_str d >>= verifier_of
 abbrev pub challenge_part : Data → Option Challenge
 challenge_part d = option_map sha256_challenge (verifier d)
 
+-- a value of any kind, as it is
+abbrev pub any_value : Data → Option Data
+any_value d = Some d
+
 -- a status code of HTTP, 100 to 999
 abbrev pub status_in_range : ℕ → Option ℕ
 status_in_range n = if nat_le 100 n && nat_le n 999 then Some n else None

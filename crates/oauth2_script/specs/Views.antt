@@ -2,6 +2,7 @@
 use Rattle.std.specs.Prelude.{map, option_map, string_bytes}
 use Rattle.std.specs.Duration.{as_nanos}
 use Rattle.std.specs.Int.NonZero.{non_zero_u64_get}
+use Rattle.serde_json.specs.View.{view}
 use Rattle.oauth2_replies.specs.Device.{device_seen}
 use Rattle.oauth2_script.specs.Client as client_spec
 use Rattle.oauth2_script.specs.Command as command_spec
@@ -172,6 +173,7 @@ id_token_view p = record {
   algorithm = option_map string_bytes p.algorithm;
   nonce = option_map string_bytes p.nonce;
   leeway = as_nanos p.leeway;
+  keys = option_map view p.keys;
   greatest_age = option_map as_nanos p.max_age;
   other_audiences = map string_bytes p.other_audiences.items;
   authorized_parties = map string_bytes p.authorized_parties.items;
@@ -190,6 +192,7 @@ client_view c = record {
   reply_rule = c.reply_rule;
   redirect = c.redirect;
   endpoints = endpoints_view c.endpoints;
+  adapters = c.adapters.items;
 }
 
 -- an HTTP reply of the script as contracts see it
@@ -197,7 +200,7 @@ abbrev pub http_reply_view : HttpReply → replies_spec.HttpReply
 http_reply_view r = record {
   status = r.status;
   content_type = option_map (λ v. v.bytes) r.content_type;
-  body = string_bytes r.body;
+  body = r.body.items;
 }
 
 -- an entry of `replies` as contracts see it: a reply, or a failed call

@@ -2,7 +2,8 @@
 
 ghost use Rattle.oauth2_script.specs.Client as spec;
 
-use crate::part::{Part, needed, optional};
+use crate::adapter::Adapter;
+use crate::part::{Part, listed, needed, optional};
 use crate::script_error::ScriptError;
 use oauth2_types::{ClientId, ClientSecret};
 use oauth2_urls::{
@@ -21,6 +22,8 @@ pub struct ClientPart {
     pub reply_rule: ReplyRule,
     pub redirect: Option<RedirectUrl>,
     pub endpoints: ClientEndpoints,
+    /// What changes each reply, one after the other; the first one sees the reply as it came.
+    pub adapters: Vec<Adapter>,
 }
 
 /// The endpoints that a script sets.
@@ -120,6 +123,7 @@ impl Part for ClientPart {
         let reply_rule = optional(alloc, value, "reply_rule")?;
         let redirect = optional(alloc, value, "redirect")?;
         let endpoints = ClientEndpoints::from_value(alloc, value)?;
+        let adapters = listed(alloc, value, "adapters")?;
         Ok(ClientPart {
             id,
             secret,
@@ -127,6 +131,7 @@ impl Part for ClientPart {
             reply_rule: reply_rule.unwrap_or(ReplyRule::Prefix),
             redirect,
             endpoints,
+            adapters,
         })
     }
 }

@@ -32,6 +32,8 @@ pub struct IdTokenParams {
     pub issuer: IssuerParam,
     /// The algorithm that the client registered.
     pub algorithm: Option<String>,
+    /// The issuer's key set, by which the signature is checked.
+    pub keys: Option<Value>,
     /// The nonce that was sent.
     pub nonce: Option<String>,
     /// How far the clocks of the issuer and of the client may be apart.
@@ -85,6 +87,7 @@ impl Part for IdTokenParams {
         let access_token = needed(alloc, value, "access_token")?;
         let issuer = needed(alloc, value, "issuer")?;
         let algorithm = optional(alloc, value, "algorithm")?;
+        let keys = optional(alloc, value, "keys")?;
         let nonce = optional(alloc, value, "nonce")?;
         let leeway = optional(alloc, value, "leeway")?;
         let max_age = optional(alloc, value, "max_age")?;
@@ -95,6 +98,7 @@ impl Part for IdTokenParams {
             access_token,
             issuer,
             algorithm,
+            keys,
             nonce,
             leeway: leeway.unwrap_or(Duration::ZERO),
             max_age,

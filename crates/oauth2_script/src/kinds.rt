@@ -92,6 +92,22 @@ impl Part for HeaderValue {
     }
 }
 
+/// A value of any kind, as it is.
+impl Part for Value {
+    ghost use Rattle.serde_json.specs.Data.{Data};
+    ghost use Rattle.serde_json.specs.View.{view};
+
+    ghost Meaning = { Data };
+
+    ghost meaning = { view };
+
+    ghost reading = { spec.any_value };
+
+    fn from_value(_alloc: Global, value: &Value) -> Result<Value, ScriptError> {
+        Ok(value.clone()?)
+    }
+}
+
 /// A status code of HTTP, 100 to 999.
 impl Part for StatusCode {
     ghost Meaning = { ℕ };

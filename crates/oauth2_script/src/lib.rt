@@ -2,6 +2,7 @@
 
 #![tactic(auto)]
 
+mod adapter;
 mod authorize_params;
 mod client_credentials_params;
 mod client_part;
@@ -25,6 +26,7 @@ mod script_error;
 mod texts;
 mod urls;
 
+pub use adapter::Adapter;
 pub use authorize_params::AuthorizeParams;
 pub use client_credentials_params::ClientCredentialsParams;
 pub use client_part::{ClientEndpoints, ClientPart};

@@ -14,7 +14,7 @@ use std::alloc::Global;
 pub struct HttpReply {
     pub status: StatusCode,
     pub content_type: Option<HeaderValue>,
-    pub body: String,
+    pub body: Vec<u8>,
 }
 
 /// What one call of the scripted client returns.
@@ -37,11 +37,11 @@ impl Part for HttpReply {
     fn from_value(alloc: Global, value: &Value) -> Result<HttpReply, ScriptError> {
         let status = needed(alloc, value, "status")?;
         let content_type = optional(alloc, value, "content_type")?;
-        let body = needed(alloc, value, "body")?;
+        let body: String = needed(alloc, value, "body")?;
         Ok(HttpReply {
             status,
             content_type,
-            body,
+            body: body.into_bytes(),
         })
     }
 }

@@ -15,7 +15,6 @@ use crate::script_error::ScriptError;
 use jiff_core::Timestamp;
 use serde_json::{Map, Value};
 use std::alloc::Global;
-use std::collections::VecDeque;
 
 /// A script: the client, one command, the replies of the server and the readings of the clock.
 #[derive(Drop)]
@@ -23,7 +22,7 @@ pub struct Script {
     pub client: ClientPart,
     pub command: Command,
     /// One reply for each call, in order; after the last one a call fails.
-    pub replies: VecDeque<Reply>,
+    pub replies: Vec<Reply>,
     /// What the clock shows, one after the other.
     pub readings: Vec<Timestamp>,
 }
@@ -60,7 +59,7 @@ fn script_of(alloc: Global, value: &Value) -> Result<Script, ScriptError>
     Ok(Script {
         client,
         command,
-        replies: VecDeque::from(replies),
+        replies,
         readings,
     })
 }

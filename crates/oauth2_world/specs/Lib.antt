@@ -1,3 +1,4 @@
+pub mod Adapted
 pub mod Lines
 pub mod RequestLines
 pub mod Replies

@@ -3,11 +3,13 @@
 
 #![tactic(auto)]
 
+mod adapted;
 mod clock;
 mod lines;
 mod replay;
 mod world;
 
+pub use adapted::adapt_replies;
 pub use clock::ScriptedClock;
 pub use lines::{print_answer, print_fault, print_request, print_sleep, quoted};
 pub use replay::{NoReply, ScriptedClient};

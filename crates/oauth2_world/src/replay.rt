@@ -47,7 +47,7 @@ fn response_of(alloc: Global, reply: HttpReply) -> Result<HttpResponse, AllocErr
             Err(HeaderMapError::MaxSizeReached) => unreachable!(),
         }
     }
-    Ok(Response::from_parts(parts, body.into_bytes()))
+    Ok(Response::from_parts(parts, body))
 }
 
 impl SyncHttpClient for ScriptedClient {
