@@ -118,8 +118,8 @@ fn refusal(url: &Url) -> Option<IssuerError>
     }
 }
 
-// Whether the scheme is `https`, or `http` with a loopback host.
-pub(crate) fn is_secure(url: &Url) -> bool
+/// Whether the scheme is `https`, or `http` with a loopback host.
+pub fn is_secure(url: &Url) -> bool
     ensures { result ≡ is_secure url.now }
 {
     match url.scheme() {

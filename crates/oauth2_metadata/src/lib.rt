@@ -22,7 +22,7 @@ pub use endpoint_fault::{Endpoint, EndpointCause, EndpointFault};
 pub use endpoints::{
     DiscoveredClient, DiscoveredDeviceClient, DiscoveredLoginClient, DiscoveredTokenClient,
 };
-pub use issuer::{IssuerError, metadata_url, openid_metadata_url};
+pub use issuer::{IssuerError, is_secure, metadata_url, openid_metadata_url};
 pub use metadata::ServerMetadata;
 pub use metadata_error::MetadataError;
 pub use reply::OtherReply;

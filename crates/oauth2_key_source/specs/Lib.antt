@@ -1,0 +1,4 @@
+pub mod Request
+pub mod Source
+pub mod Runs
+pub mod ErrorTexts

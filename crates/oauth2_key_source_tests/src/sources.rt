@@ -1,0 +1,216 @@
+//! Calls of a source of keys, and what is printed of them.
+
+use crate::canned::{Canned, NoReply};
+use http_header::ACCEPT;
+use jiff::Timestamp;
+use oauth2_key_source::{KeySetRequest, KeySource, KeySourceError, VerifyError};
+use oauth2_keys::{JsonWebKeySet, ListedKey, SignatureAlgorithm};
+use oauth2_openid::IdToken;
+use oauth2_wire::HttpRequest;
+use std::alloc::Global;
+use std::io::{self, Write};
+use std::time::Duration;
+
+// Why a line has no source, or the source.
+enum Made {
+    Source(KeySource),
+    Refused(oauth2_key_source::KeySetUrlError),
+    NoSource,
+}
+
+fn made_source(alloc: Global, text: &str) -> Made {
+    let mut words = text.split(' ');
+    let Ok(lifetime) = words.next().unwrap_or("").parse::<u32>() else {
+        return Made::NoSource;
+    };
+    let Ok(wait) = words.next().unwrap_or("").parse::<u32>() else {
+        return Made::NoSource;
+    };
+    match KeySetRequest::new(alloc, words.next().unwrap_or("")) {
+        Ok(request) => Made::Source(KeySource::new(
+            request,
+            Duration::from_secs(u64::from(lifetime)),
+            Duration::from_secs(u64::from(wait)),
+        )),
+        Err(error) => Made::Refused(error),
+    }
+}
+
+fn read_moment(text: &str) -> Option<Timestamp> {
+    Timestamp::from_second(text.parse::<i64>().ok()?).ok()
+}
+
+fn name_of(key: &ListedKey) -> &str {
+    let name = match key {
+        ListedKey::Usable(key) => key.key_id(),
+        ListedKey::Unusable(key) => key.key_id(),
+    };
+    name.unwrap_or("?")
+}
+
+fn write_keys<W: Write>(keys: &JsonWebKeySet, writer: &mut W) -> io::Result<()> {
+    write!(writer, "keys:")?;
+    for key in keys.keys() {
+        write!(writer, " {}", name_of(key))?;
+    }
+    Ok(())
+}
+
+fn write_source_error<W: Write>(error: &KeySourceError<NoReply>, writer: &mut W) -> io::Result<()> {
+    match error {
+        KeySourceError::Waits(Some(until)) => {
+            write!(writer, "{error}, before {}", until.as_second())
+        }
+        _ => write!(writer, "{error}"),
+    }
+}
+
+fn write_answer<W: Write>(
+    answer: Result<&JsonWebKeySet, KeySourceError<NoReply>>,
+    writer: &mut W,
+) -> io::Result<()> {
+    match answer {
+        Ok(keys) => write_keys(keys, writer),
+        Err(error) => write_source_error(&error, writer),
+    }
+}
+
+fn write_request<W: Write>(request: &HttpRequest, writer: &mut W) -> io::Result<()> {
+    let accept = match request.headers().get(ACCEPT) {
+        Some(value) => value.to_str().unwrap_or("?"),
+        None => "-",
+    };
+    writeln!(
+        writer,
+        "{} {} accept {accept}",
+        request.method(),
+        request.uri()
+    )
+}
+
+/// The calls of a run.
+#[derive(Drop)]
+pub struct Sources {
+    client: Canned,
+    source: Option<KeySource>,
+}
+
+impl Sources {
+    /// No source yet.
+    pub fn new() -> Sources {
+        Sources {
+            client: Canned::new(),
+            source: None,
+        }
+    }
+
+    /// Does what a line says. For a line that says nothing it prints a question mark.
+    pub fn run_line<W: Write>(
+        &mut self,
+        alloc: Global,
+        line: &str,
+        writer: &mut W,
+    ) -> io::Result<()> {
+        if let Some(text) = line.strip_prefix("source ") {
+            self.make(alloc, text, writer)
+        } else if let Some(text) = line.strip_prefix("reply ") {
+            self.set_reply(alloc, text, writer)
+        } else {
+            self.call_line(alloc, line, writer)
+        }
+    }
+
+    fn make<W: Write>(&mut self, alloc: Global, text: &str, writer: &mut W) -> io::Result<()> {
+        match made_source(alloc, text) {
+            Made::Source(source) => {
+                self.source = Some(source);
+                Ok(())
+            }
+            Made::Refused(error) => writeln!(writer, "{error}"),
+            Made::NoSource => writeln!(writer, "?"),
+        }
+    }
+
+    fn set_reply<W: Write>(&mut self, alloc: Global, text: &str, writer: &mut W) -> io::Result<()> {
+        let mut words = text.splitn(3, ' ');
+        let Ok(status) = words.next().unwrap_or("").parse::<u16>() else {
+            return writeln!(writer, "?");
+        };
+        let media_type = words.next().unwrap_or("-");
+        let body = words.next().unwrap_or("");
+        if self.client.set_reply(alloc, status, media_type, body) {
+            Ok(())
+        } else {
+            writeln!(writer, "?")
+        }
+    }
+
+    fn call_line<W: Write>(&mut self, alloc: Global, line: &str, writer: &mut W) -> io::Result<()> {
+        let Some(mut source) = self.source.take() else {
+            return writeln!(writer, "?");
+        };
+        let written = self.call(alloc, &mut source, line, writer);
+        self.source = Some(if line == "old" {
+            source.use_old_keys()
+        } else {
+            source
+        });
+        written
+    }
+
+    fn call<W: Write>(
+        &mut self,
+        alloc: Global,
+        source: &mut KeySource,
+        line: &str,
+        writer: &mut W,
+    ) -> io::Result<()> {
+        let mut words = line.split(' ');
+        let command = words.next().unwrap_or("");
+        let moment = read_moment(words.next().unwrap_or(""));
+        let text = words.next().unwrap_or("");
+        match (command, moment) {
+            ("keys", Some(now)) => {
+                write_answer(source.keys(alloc, now, &mut self.client), writer)?;
+            }
+            ("for", Some(now)) => {
+                write_answer(source.keys_for(alloc, text, now, &mut self.client), writer)?;
+            }
+            ("verify", Some(now)) => self.verify(alloc, source, now, text, writer)?,
+            ("kept", None) => match source.kept_keys() {
+                Some(keys) => write_keys(keys, writer)?,
+                None => write!(writer, "none")?,
+            },
+            ("request", None) => return self.show_request(writer),
+            ("old", None) => return Ok(()),
+            _ => return writeln!(writer, "?"),
+        }
+        writeln!(writer, "; sent {}", self.client.sent)
+    }
+
+    fn verify<W: Write>(
+        &mut self,
+        alloc: Global,
+        source: &mut KeySource,
+        now: Timestamp,
+        text: &str,
+        writer: &mut W,
+    ) -> io::Result<()> {
+        let Ok(token) = IdToken::from_text(alloc, text) else {
+            return write!(writer, "no token");
+        };
+        let algorithm = SignatureAlgorithm::Rs256;
+        match source.verify(alloc, &token, algorithm, now, &mut self.client) {
+            Ok(()) => write!(writer, "verified"),
+            Err(VerifyError::Keys(error)) => write_source_error(&error, writer),
+            Err(error) => write!(writer, "{error}"),
+        }
+    }
+
+    fn show_request<W: Write>(&self, writer: &mut W) -> io::Result<()> {
+        match &self.client.request {
+            Some(request) => write_request(request, writer),
+            None => writeln!(writer, "none"),
+        }
+    }
+}
