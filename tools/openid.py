@@ -3,20 +3,24 @@ import json
 import time
 
 import answers
-from endings import BAD_SETTING, FAULT, NO_ANSWER, NO_ID_TOKEN, REFUSED_ID_TOKEN, Stop
-from settings import flag_of
+from conversation import Event
+from endings import BAD_SETTING, FAULT, NO_ANSWER, NO_ID_TOKEN, NOT_DISCOVERED, REFUSED_ID_TOKEN, TRY_AGAIN, Stop, note
+from http_requests import reply_to
+from settings import check_url, flag_of
 
 LEEWAY = 60  # seconds, unless --leeway says otherwise
 CLOCK = 'is the clock of this machine right? --leeway allows for a difference'
 OTHER_LOGIN = 'it does not belong to this login: do not use it, and begin anew'
 ALGORITHM = '--algorithm says which one the client is registered with'
 OTHER_CLIENT = 'it is not for this client alone'
+OTHER_KEYS = 'are the keys those of this issuer? ' + ALGORITHM
 # What may be done where a rule does not hold, by the program's text.
 HINTS = {'the token has no signature': ALGORITHM, 'the algorithm is not the registered one': ALGORITHM,
          'the client is not in the audience': OTHER_CLIENT, 'an audience is not trusted': OTHER_CLIENT,
          'several audiences, and no authorized party': OTHER_CLIENT,
          'the authorized party is another one': OTHER_CLIENT, 'the token has expired': CLOCK, 'the token was issued in the future': CLOCK,
-         'the token has no nonce': OTHER_LOGIN, 'the nonce is another one': OTHER_LOGIN}
+         'the token has no nonce': OTHER_LOGIN, 'the nonce is another one': OTHER_LOGIN,
+         'no key of the set is for the token': OTHER_KEYS, 'no signature of the registered algorithm is checked': OTHER_KEYS}
 LEFT_OUT = 'nothing of the reply is shown or kept'
 
 
@@ -43,12 +47,34 @@ def text_in(outcome):
     return json.loads(value)
 
 
+def keys_of(session):
+    """The issuer's keys, as JSON, by which the signature is checked; None where nothing says where they are, or for a client with a secret
+    key of its own (10.1)."""
+    settings, issuer = session.settings, issuer_of(session.settings)[0]
+    url, label = settings['jwks_url'], flag_of('jwks_url')
+    if not url and session.metadata and session.metadata['issuer'] == issuer:
+        url, label = session.metadata.get('jwks_uri'), '"jwks_uri" in the metadata of the issuer'
+    if not url or (session.given.algorithm or '').startswith('HS'):
+        note('the signature of the ID token is not checked: %s' % ('give --jwks-url' if not url else 'the algorithm has no public keys'))
+        return None
+    check_url('jwks_url', url, label, NOT_DISCOVERED)
+    got = reply_to(Event('request', url, 'GET'), session.given.timeout)
+    if got.note or got.reply['status'] != 200:
+        raise Stop("the issuer's keys can not be had: %s; %s" % (got.note or '%s: HTTP status %d' % (url, got.reply['status']), LEFT_OUT),
+                   TRY_AGAIN if got.may_retry else NOT_DISCOVERED)
+    try:
+        return json.loads(got.reply['body'])
+    except (ValueError, RecursionError):
+        raise Stop("%s: %s; %s" % (url, answers.no_object(got.reply), LEFT_OUT), NOT_DISCOVERED)
+
+
 def user_of(session, outcome, nonce):
     """Who has signed in, by the ID token of a token response: its issuer and subject. Stops where the program refuses it."""
     given, (issuer, name) = session.given, issuer_of(session.settings)
     access_token = json.loads(outcome.answer.partition(' ')[2])['access_token']
     params = {'id_token': text_in(outcome), 'access_token': access_token, 'issuer': issuer, 'nonce': nonce,
-              'leeway': LEEWAY if given.leeway is None else given.leeway, 'max_age': given.max_age, 'algorithm': given.algorithm}
+              'leeway': LEEWAY if given.leeway is None else given.leeway, 'max_age': given.max_age, 'algorithm': given.algorithm,
+              'keys': keys_of(session)}
     params = {name: value for name, value in params.items() if value is not None}
     script, status, events = session.runs('id_token', params, readings=[int(time.time())])
     if status == BAD_SETTING:

@@ -6,6 +6,7 @@ import sys
 import urllib.parse
 
 import endings
+import servers
 import terminal
 import wire_log
 from addresses import has_login
@@ -14,13 +15,15 @@ from endings import BAD_SETTING, Stop, status_at, tell
 LOOPBACK = ('localhost', '127.0.0.1', '::1')
 URLS = {'auth_url': 'the authorization endpoint', 'token_url': 'the token endpoint', 'device_url': 'the device authorization endpoint',
         'introspection_url': 'the introspection endpoint', 'revocation_url': 'the revocation endpoint',
-        'userinfo_url': 'the UserInfo endpoint',
+        'userinfo_url': 'the UserInfo endpoint', 'jwks_url': 'where the issuer has its keys (RFC 7517)',
         'redirect': 'where the server sends the user back (with --listen: http://127.0.0.1/ if not given)'}
 # The member of an issuer's metadata that has each endpoint (RFC 8414, 2; RFC 8628, 4; OpenID Connect Discovery 1.0, 3).
 ENDPOINTS = {'auth_url': 'authorization_endpoint', 'token_url': 'token_endpoint', 'device_url': 'device_authorization_endpoint',
-             'introspection_url': 'introspection_endpoint', 'revocation_url': 'revocation_endpoint', 'userinfo_url': 'userinfo_endpoint'}
+             'introspection_url': 'introspection_endpoint', 'revocation_url': 'revocation_endpoint', 'userinfo_url': 'userinfo_endpoint',
+             'jwks_url': 'jwks_uri'}
 # The settings that are texts, each with what it is.
-TEXTS = {'client_id': "the client's identifier", 'auth': 'where the secret goes: basic (a header; the default) or body',
+TEXTS = {'client_id': "the client's identifier",
+         'server': 'a server that the tool knows, with its endpoints: %s' % ', '.join(servers.SERVERS), 'auth': 'where the secret goes: basic (a header; the default) or body',
          'issuer': 'the issuer, whose metadata names the endpoints that are not set (RFC 8414)',
          'id_token_issuer': 'the issuer of the ID token of --openid, if it is not --issuer', 'username': "the user's name", **URLS}
 # The settings that are paths of files, each with what it has (RFC 8705, 2).
@@ -32,7 +35,7 @@ NEEDED = {'login': ('auth_url', 'token_url', 'redirect'), 'token': ('token_url',
           'revoke': ('revocation_url',), 'logout': ('revocation_url',), 'whoami': ('userinfo_url',), 'status': (),
           'git-credential': ()}
 # Those that only some commands take, each with the commands that take it and can do without it.
-OPTIONAL = {'username': (), 'id_token_issuer': ('login',), **dict.fromkeys(URLS, ())}
+OPTIONAL = {'username': (), 'id_token_issuer': ('login',), **dict.fromkeys(URLS, ()), 'jwks_url': ('login',)}
 
 
 def takes(command, name):
@@ -70,6 +73,7 @@ def settings_of(given, kept):
     for name in kept.keys() & TEXTS.keys():
         if name not in ENDPOINTS or found['issuer'] in (None, kept['issuer']):
             found[name] = found[name] or kept[name]
+    servers.fill(found)
     found['scopes'] = getattr(given, 'scope', None) or scopes_of_environment() or found.get('scopes') or []
     if not isinstance(found['scopes'], list) or not all(isinstance(it, str) for it in found['scopes']):
         raise Stop('%s: "scopes" is no list of texts' % path, BAD_SETTING)

@@ -15,7 +15,7 @@ SPARE = 1 << 14  # bytes that a new file may have beyond twice those of the old 
 FORMAT = 'cache of tools/oauth2, 1'
 # What the file has: of which request the token came, when, until when it is good, the reply, the refresh token that is newest, and who
 # signed in by an ID token that was checked.
-TYPES = {'command': str, 'client_id': str, 'issuer': (str, type(None)), 'token_url': str, 'auth': (str, type(None)),
+TYPES = {'command': str, 'client_id': str, 'server': (str, type(None)), 'issuer': (str, type(None)), 'token_url': str, 'auth': (str, type(None)),
          'username': (str, type(None)), 'scopes': list, 'extra': list, 'obtained_at': int, 'expires_at': int, 'answer': str,
          'refresh_token': (str, type(None)), 'user': (dict, type(None))}
 
@@ -25,7 +25,7 @@ def entry_in(text, path):
     if not text:
         return None
     try:
-        found = {'issuer': None, 'user': None, **json.loads(text)}  # the files of earlier versions have none
+        found = {'server': None, 'issuer': None, 'user': None, **json.loads(text)}  # the files of earlier versions have none
         is_ours = found.pop('format') == FORMAT and found.keys() == TYPES.keys() and all(isinstance(found[it], TYPES[it]) for it in TYPES)
         texts = [*found['scopes'], *(it for pair in found['extra'] for it in pair), answers.member(found['answer'], 'access_token')]
         texts += [found['user'][name] for name in ('iss', 'sub')] if found['user'] is not None else []

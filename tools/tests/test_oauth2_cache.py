@@ -309,7 +309,7 @@ class Whole(unittest.TestCase):
         oauth2, outcome = tool.load('oauth2'), mock.Mock(status=0)
         cache = mock.Mock(path='/c', **{'write.side_effect': OSError(28, 'no space')})
         session = mock.Mock(given=mock.Mock(command='token', extra=None, life=1), settings=dict.fromkeys(
-            ('client_id', 'issuer', 'token_url', 'auth', 'username', 'scopes')))
+            ('client_id', 'server', 'issuer', 'token_url', 'auth', 'username', 'scopes')))
         entry = {'answer': '{}'}
         with mock.patch.object(token_cache, 'entry_of', return_value=entry), mock.patch.object(oauth2, 'write') as write, \
                 mock.patch.object(oauth2, 'tell') as say:

@@ -75,7 +75,8 @@ class Login(Case):
     def test_a_token_that_is_good(self):
         status, out, err = self.login('--openid')
         self.assertEqual((status, json.loads(out)), (0, self.server.reply))
-        self.assertEqual(err, 'signed in as "u-1" at https://as.example\n')
+        self.assertEqual(err, 'tools/oauth2: the signature of the ID token is not checked: give --jwks-url\n'
+                              'signed in as "u-1" at https://as.example\n')
         self.assertEqual(self.params('authorize')['scopes'], ['openid'])
         self.assertGreaterEqual(len(self.asked['nonce']), 22)
         self.assertEqual(self.params('id_token'), {'id_token': self.server.reply['id_token'], 'access_token': 't1', 'issuer': ISSUER,
@@ -217,6 +218,32 @@ class Cache(Case):
         with open(self.path, 'w', encoding='utf-8') as f:
             json.dump(found, f)
         self.assertEqual(self.again()[0], 0)
+
+
+class Keys(Case):
+    """The issuer's keys, by which the program checks the signature."""
+    KEYS = {'keys': [{'kty': 'RSA', 'n': 'AQAB', 'e': 'AQAB'}]}
+
+    def test_the_keys_go_to_the_program(self):
+        self.server.documents['/jwks'] = (200, {}, self.KEYS)
+        self.assertEqual(self.login('--openid', '--jwks-url', self.server.url + '/jwks')[0], 0)
+        self.assertEqual(self.params('id_token')['keys'], self.KEYS)
+        self.assertEqual([path for path, _ in self.server.looked_at], ['/jwks'])
+        self.assertNotIn('Authorization', self.server.looked_at[0][1])
+
+    def test_no_keys_no_check_of_the_signature(self):
+        for words, why in ((), 'give --jwks-url'), (('--algorithm', 'HS256', '--jwks-url', self.server.url), 'the algorithm has no public keys'):
+            with self.subTest(why):
+                err = self.login('--openid', *words)[2]
+                self.assertIn('the signature of the ID token is not checked: ' + why, err)
+                self.assertNotIn('keys', self.params('id_token'))
+
+    def test_keys_that_can_not_be_had(self):
+        for reply, why in ((404, {}, ''), 'HTTP status 404'), ((200, {}, '<p>'), 'not a JSON object'):
+            with self.subTest(why):
+                self.server.documents['/jwks'] = reply
+                err = self.refused('--openid', '--jwks-url', self.server.url + '/jwks', status=6)
+                self.assertIn(why, err)
 
 
 if __name__ == '__main__':

@@ -15,6 +15,7 @@ import tool
 sys.path.insert(0, tool.TOOLS)
 import packages
 import program
+import repository
 import version
 
 
@@ -24,12 +25,20 @@ class Packages(stand_in.Case):
         self.to = self.folder()
         self.env = {'HOME': '/none', 'PATH': '/usr/bin:/bin'}
 
-    def package(self, kind):
-        """The path of a package with the stand-in."""
-        words = [os.path.join(tool.TOOLS, 'package'), '--program', self.program, '--to', self.to, kind]
-        run = subprocess.run(words, capture_output=True, text=True, timeout=300)
-        self.assertEqual((run.returncode, run.stderr), (0, ''))
+    def package(self, kind, *which):
+        """The path of a package with the stand-in, unless words say which program."""
+        words = [os.path.join(tool.TOOLS, 'package'), *(which or ('--program', self.program)), '--to', self.to, kind]
+        run = subprocess.run(words, capture_output=True, text=True, timeout=900)
+        self.assertEqual(run.returncode, 0, run.stderr)
         return run.stdout.strip()
+
+    def installed(self, path):
+        """The command of a wheel that is installed in an empty environment."""
+        room = self.folder()
+        subprocess.run([sys.executable, '-m', 'venv', room], check=True, capture_output=True)
+        subprocess.run([room + '/bin/pip', 'install', '--quiet', '--no-index', '--no-deps', path], check=True, capture_output=True)
+        self.assertTrue(os.path.exists(room + '/share/man/man1/lifecrib.1'))
+        return room + '/bin/lifecrib'
 
     def gets_a_token(self, *command):
         """A run of what is installed gets a token at a server."""
@@ -63,12 +72,11 @@ class Packages(stand_in.Case):
 
     @unittest.skipUnless(importlib.util.find_spec('ensurepip'), 'this Python has no pip for a virtual environment')
     def test_an_installed_wheel(self):
-        room = self.folder()
-        subprocess.run([sys.executable, '-m', 'venv', room], check=True, capture_output=True)
-        words = [room + '/bin/pip', 'install', '--quiet', '--no-index', '--no-deps', self.package('wheel')]
-        subprocess.run(words, check=True, capture_output=True)
-        self.gets_a_token(room + '/bin/lifecrib')
-        self.assertTrue(os.path.exists(room + '/share/man/man1/lifecrib.1'))
+        self.gets_a_token(self.installed(self.package('wheel')))
+
+    @unittest.skipUnless(importlib.util.find_spec('ensurepip') and repository.has_kit(), 'no pip for a virtual environment, or no kit')
+    def test_an_installed_wheel_of_the_program(self):
+        self.gets_a_token(self.installed(self.package('wheel', '--unproved')))
 
     @unittest.skipUnless(shutil.which('dpkg-deb'), 'there is no dpkg-deb here')
     def test_a_deb(self):
