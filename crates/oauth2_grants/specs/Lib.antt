@@ -1,0 +1,5 @@
+pub mod AbsoluteUri
+pub mod Extension
+pub mod GrantText
+pub mod TokenExchange
+pub mod private

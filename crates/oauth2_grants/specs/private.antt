@@ -1,0 +1,3 @@
+-- What only private clauses cite.
+pub mod Colon
+pub mod Params

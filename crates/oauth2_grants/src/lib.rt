@@ -1,0 +1,20 @@
+//! Grants whose type is a URI (RFC 6749, section 4.5): any such grant, and the exchange of tokens
+//! (RFC 8693).
+
+#![tactic(auto)]
+
+mod absolute_uri;
+mod extension_token_request;
+mod grant_fault;
+mod issued_token_type;
+mod token_client;
+mod token_exchange;
+mod token_type;
+
+pub use absolute_uri::is_absolute_uri;
+pub use extension_token_request::ExtensionTokenRequest;
+pub use grant_fault::GrantFault;
+pub use issued_token_type::{IssuedTokenType, TokenExchangeResponse};
+pub use token_client::TokenClient;
+pub use token_exchange::{TOKEN_EXCHANGE, TokenExchange};
+pub use token_type::TokenTypeIdentifier;
