@@ -1,5 +1,7 @@
 //! Checks that return a failure. (A call is much cheaper to prove than an assertion.)
 
+ghost use Rattle.std.specs.Prelude.{◌≡◌, true, OnOk};
+
 use crate::values::read;
 use oauth2_json::{FromJson, ParseCause, ReadError, ToJson, compact};
 use std::alloc::Global;
@@ -7,7 +9,9 @@ use std::fmt::{Debug, Display};
 use std::test::Fail;
 
 /// Checks a condition, for one row of a table.
-pub fn check(is_so: bool, row: &str) -> Result<(), Fail> {
+pub fn check(is_so: bool, row: &str) -> Result<(), Fail>
+    ensures { OnOk result (is_so ≡ true) }
+{
     if is_so {
         Ok(())
     } else {
