@@ -20,7 +20,7 @@ use oauth2_openid_login::{
     OpenIdClient, OpenIdLogin, OpenIdLoginEnd, OpenIdLoginError, OpenIdTokenResponse,
 };
 use oauth2_redirect::{ExpectedIssuer, RedirectError};
-use oauth2_refused_memory_values_tests::{Repeated, VERIFIER};
+use oauth2_refusals_support::{Repeated, VERIFIER};
 use std::process::Abort;
 
 const AUTH: &str = "https://example.com/auth";

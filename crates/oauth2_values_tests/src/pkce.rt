@@ -2,7 +2,7 @@
 
 use crate::support::check_debug_in_lines;
 use oauth2::{CsrfToken, PkceCodeChallenge, PkceCodeChallengeMethod, PkceCodeVerifier, TryClone};
-use oauth2_refused_memory_values_tests::{Repeated, VERIFIER};
+use oauth2_refusals_support::{Repeated, VERIFIER};
 use oauth2_tests_support::{check, check_debug, check_text, text};
 use std::alloc::{AllocError, Global};
 use std::test::Fail;
