@@ -13,10 +13,10 @@ import program
 import repository
 import version
 from endings import BAD_SETTING, Stop
-from settings import FILES, NO_FLAGS, TEXTS, flag_of, takes
+from settings import FILES, NO_FLAGS, TEXTS, WITHOUT_CLIENT, flag_of, takes
 
 OF_KEPT = ('status', 'whoami', 'logout', 'git-credential')  # the commands that are about a token that is kept, so that its place has to be known
-GIVES_NO_TOKEN = ('introspect', 'revoke', *OF_KEPT)
+GIVES_NO_TOKEN = ('introspect', 'revoke', 'verify-token', *OF_KEPT)
 # The one place to which a further parameter goes, of a command that has several.
 EXTRA_GOES = {'login': ', of the authorization URL alone', 'device': ', of the first request alone, which asks for the code'}
 MORE = 'tools/oauth2 --help says where settings and secrets come from, and what the exit status means.'
@@ -45,6 +45,11 @@ ABOUT = {
     'revoke': ('revokes a token', 'The token is the one of --cache, OAUTH2_TOKEN' + STDIN % '' + '\n'
                'With --cache the refresh token of the file is revoked, or its access token if it has no other; then the file is removed.',
                'tools/oauth2 revoke --cache ~/.token --revocation-url https://as.example/revoke'),
+    'verify-token': ('checks a JWT access token as a resource server does',
+                     'The token is ' + STDIN % 'OAUTH2_TOKEN' + ' Its signature is checked by the keys of --jwks-url, or\n'
+                     'those of the metadata of --issuer. Prints what an introspection would say of it. What is accepted is one of this issuer\n'
+                     'for this audience that has not expired (RFC 9068, 4); whether it was revoked only the issuer knows.',
+                     'tools/oauth2 verify-token --issuer https://as.example --audience https://api.example'),
     'status': ('says whose token is kept, from which server, and until when it is good',
                'No secret is shown, and no request is made. The exit status is 5 if a user has to sign in for a good token.',
                'tools/oauth2 status --profile work'),
@@ -103,7 +108,7 @@ def port_of(text):
 
 
 def add_for_all(it, name):
-    it.set_defaults(cache=None, extra=None, openid=False, anew=False)
+    it.set_defaults(cache=None, extra=None, openid=False, anew=False, ask_secret=False, client_secret_file=None)
     it.add_argument('--profile', metavar='NAME', help='the profile whose settings are used, and whose token is kept')
     it.add_argument('--no-profile', action='store_true', help='use no profile, also if the file of profiles names a default one')
     it.add_argument('--config', type=file_of, metavar='FILE', help='the file of settings: JSON, or profiles if it ends in .toml')
@@ -119,10 +124,11 @@ def add_for_requests(it, name):
         it.add_argument(flag_of(setting), type=file_of, metavar='FILE', help=what)
     it.add_argument('--verbose', action='store_true',
                     help='show each request and reply on standard error, with *** in the place of each secret')
-    it.add_argument('--ask-secret', action='store_true', help="read the client's secret first")
-    it.add_argument('--client-secret-file', type=file_of, metavar='FILE',
-                    help="a file with the client's secret; a newline at its end is left out")
-    if name not in ('whoami', 'git-credential'):
+    if name not in WITHOUT_CLIENT:
+        it.add_argument('--ask-secret', action='store_true', help="read the client's secret first")
+        it.add_argument('--client-secret-file', type=file_of, metavar='FILE',
+                        help="a file with the client's secret; a newline at its end is left out")
+    if name not in ('whoami', 'git-credential', *WITHOUT_CLIENT):
         it.add_argument('--extra', action='append', type=pair_of, metavar='NAME=VALUE',
                         help='a further parameter%s; may be given again' % EXTRA_GOES.get(name, ''))
     it.add_argument('--timeout', type=seconds_of, default=30, metavar='SECONDS', help='how long a reply may take (%(default)s)')
@@ -175,6 +181,11 @@ def add_for_one(it, name):
         it.add_argument('--algorithm', help='with --openid: the algorithm of the ID token that is registered (else any but none)')
     if name == 'introspect':
         it.add_argument('--hint', help='what the token is, as access_token')
+    if name == 'verify-token':
+        it.add_argument('--audience', required=True, metavar='NAME', help='the resource server, as the issuer names it in "aud"')
+        it.add_argument('--algorithm', help='the algorithm with which the issuer signs access tokens (RS256)')
+        it.add_argument('--leeway', type=whole_from(0), metavar='SECONDS',
+                        help="how far this clock and the issuer's may differ (%d)" % openid.LEEWAY)
     if name == 'revoke':
         it.add_argument('--kind', choices=('access', 'refresh'), help='what the token is (access)')
         it.add_argument('--cache', type=file_of, metavar='FILE', help='revoke the token of this file, and remove the file')

@@ -4,7 +4,7 @@ import time
 
 import answers
 from conversation import Event
-from endings import BAD_SETTING, FAULT, NO_ANSWER, NO_ID_TOKEN, NOT_DISCOVERED, REFUSED_ID_TOKEN, TRY_AGAIN, Stop, note
+from endings import BAD_SETTING, FAULT, NO_ANSWER, NO_ID_TOKEN, NOT_DISCOVERED, REFUSED_TOKEN, TRY_AGAIN, Stop, note
 from http_requests import reply_to
 from settings import check_url, flag_of
 
@@ -43,7 +43,7 @@ def text_in(outcome):
         raise Stop('the server sent no ID token: is it one of OpenID Connect, and may this client have the scope openid? '
                    + LEFT_OUT, NO_ID_TOKEN)
     if not value.startswith('"'):
-        raise Stop('the ID token is refused: it is no text; ' + LEFT_OUT, REFUSED_ID_TOKEN)
+        raise Stop('the ID token is refused: it is no text; ' + LEFT_OUT, REFUSED_TOKEN)
     return json.loads(value)
 
 
@@ -57,15 +57,20 @@ def keys_of(session):
     if not url or (session.given.algorithm or '').startswith('HS'):
         note('the signature of the ID token is not checked: %s' % ('give --jwks-url' if not url else 'the algorithm has no public keys'))
         return None
+    return keys_at(url, label, session.given.timeout, LEFT_OUT)
+
+
+def keys_at(url, label, timeout, then):
+    """The keys at a URL, as JSON. Stops where there are none: the label says which URL it is, and then what comes of it."""
     check_url('jwks_url', url, label, NOT_DISCOVERED)
-    got = reply_to(Event('request', url, 'GET'), session.given.timeout)
+    got = reply_to(Event('request', url, 'GET'), timeout)
     if got.note or got.reply['status'] != 200:
-        raise Stop("the issuer's keys can not be had: %s; %s" % (got.note or '%s: HTTP status %d' % (url, got.reply['status']), LEFT_OUT),
+        raise Stop("the issuer's keys can not be had: %s; %s" % (got.note or '%s: HTTP status %d' % (url, got.reply['status']), then),
                    TRY_AGAIN if got.may_retry else NOT_DISCOVERED)
     try:
         return json.loads(got.reply['body'])
     except (ValueError, RecursionError):
-        raise Stop("%s: %s; %s" % (url, answers.no_object(got.reply), LEFT_OUT), NOT_DISCOVERED)
+        raise Stop("%s: %s; %s" % (url, answers.no_object(got.reply), then), NOT_DISCOVERED)
 
 
 def user_of(session, outcome, nonce):
@@ -90,7 +95,7 @@ def user_of(session, outcome, nonce):
 def refused(why, issuer, name):
     """The error about an ID token, which is not to be from another issuer than the one that a setting of this name has."""
     hint = 'it has to be %s (%s)' % (issuer, flag_of(name)) if why == 'the issuer is another one' else HINTS.get(why)
-    return Stop('; '.join(filter(None, ('the ID token is refused: ' + why, hint, LEFT_OUT))), REFUSED_ID_TOKEN)
+    return Stop('; '.join(filter(None, ('the ID token is refused: ' + why, hint, LEFT_OUT))), REFUSED_TOKEN)
 
 
 def told(user):

@@ -33,13 +33,16 @@ FILES = {'cacert': 'a file with the certificates of the authorities that are tru
 NEEDED = {'login': ('auth_url', 'token_url', 'redirect'), 'token': ('token_url',), 'password': ('token_url', 'username'),
           'refresh': ('token_url',), 'device': ('device_url', 'token_url'), 'introspect': ('introspection_url',),
           'revoke': ('revocation_url',), 'logout': ('revocation_url',), 'whoami': ('userinfo_url',), 'status': (),
-          'git-credential': ()}
+          'git-credential': (), 'verify-token': ('jwks_url',)}
+WITHOUT_CLIENT = ('verify-token',)  # the commands for which no client is registered
 # Those that only some commands take, each with the commands that take it and can do without it.
 OPTIONAL = {'username': (), 'id_token_issuer': ('login',), **dict.fromkeys(URLS, ()), 'jwks_url': ('login',)}
 
 
 def takes(command, name):
     """Whether a command takes a setting."""
+    if command in WITHOUT_CLIENT:
+        return name == 'issuer' or name in NEEDED[command]
     return name not in OPTIONAL or command in OPTIONAL[name] or name in NEEDED[command]
 
 
@@ -56,7 +59,7 @@ TO_TOKEN = ('grant_type', 'client_secret')
 SENT = {'login': ('response_type', 'client_id', 'redirect_uri', 'state', 'code_challenge', 'code_challenge_method'), 'token': TO_TOKEN,
         'password': (*TO_TOKEN, 'username', 'password'), 'refresh': (*TO_TOKEN, 'refresh_token'), 'device': TO_TOKEN,
         'introspect': ('client_secret', 'token'), 'revoke': ('client_secret', 'token', 'token_type_hint'),
-        'logout': ('client_secret', 'token', 'token_type_hint'), 'whoami': (), 'git-credential': ()}
+        'logout': ('client_secret', 'token', 'token_type_hint'), 'whoami': (), 'git-credential': (), 'verify-token': ()}
 
 
 def settings_of(given, kept):
@@ -80,6 +83,8 @@ def settings_of(given, kept):
     found['scopes'] = ' '.join(found['scopes']).split()  # a scope has no space (RFC 6749, 3.3)
     if given.openid:
         check_openid(found)
+    if given.command in WITHOUT_CLIENT and not found['issuer']:
+        raise Stop('the issuer of the token is not set: give --issuer', BAD_SETTING)
     if getattr(given, 'listen', None) is not None:
         found['redirect'] = found['redirect'] or 'http://127.0.0.1/'
     if given.client_secret_file:
@@ -118,7 +123,8 @@ def secret_in(path, label):
 
 def missing_of(command, found):
     """What a command needs and no setting has, unless the issuer's metadata may have it."""
-    needed = [name for name in ('client_id', *NEEDED[command]) if not found[name]]
+    of_client = () if command in WITHOUT_CLIENT else ('client_id',)
+    needed = [name for name in of_client + NEEDED[command] if not found[name]]
     return [name for name in needed if not found['issuer'] or name not in ENDPOINTS]
 
 

@@ -8,7 +8,7 @@ import json
 
 import answers
 from conversation import Event
-from endings import FAULT, REFUSED_ID_TOKEN, SIGN_IN, TRY_AGAIN, Stop
+from endings import FAULT, REFUSED_TOKEN, SIGN_IN, TRY_AGAIN, Stop
 from http_requests import reply_to
 
 
@@ -33,5 +33,5 @@ def asked(url: str, token: str, limit: float, sub: str) -> str:
         raise Stop('%s: %s' % (url, answers.no_object(got.reply)), FAULT)
     if named != sub:
         raise Stop('the answer of %s is refused: it is not about the user of the ID token; nothing '
-                   'of it is shown' % url, REFUSED_ID_TOKEN)
+                   'of it is shown' % url, REFUSED_TOKEN)
     return answers.object_of(found)

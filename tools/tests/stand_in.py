@@ -110,6 +110,19 @@ def id_token():
             end(1, 'fault', json.dumps(why))
     end(0, 'ok', json.dumps({'access_token_hash': 'absent', 'claims': claims}, separators=(',', ':')))
 
+def access_token():
+    """Reads a JWT access token, and looks at some of the rules."""
+    parts = params['access_token'].split('.')
+    if len(parts) != 3:
+        end(1, 'fault "not three parts"')
+    claims = json.loads(base64.urlsafe_b64decode(parts[1] + '=='))
+    for name, why in (('iss', 'the issuer is another one'), ('aud', 'the resource server is not in the audience')):
+        if claims[name] != params['issuer' if name == 'iss' else 'audience']:
+            end(1, 'fault', json.dumps(why))
+    if script['readings'][0] >= claims['exp'] + params['leeway']:
+        end(1, 'fault "the token has expired"')
+    end(0, 'ok', json.dumps(dict(claims, active=True), separators=(',', ':')))
+
 if client.get('id') == 'bad':
     print('bad script')
     sys.exit(2)
@@ -131,6 +144,8 @@ elif command == 'metadata':
     metadata()
 elif command == 'id_token':
     id_token()
+elif command == 'access_token':
+    access_token()
 elif command == 'device_authorization':
     read(reply_of(client['device_url'], [('client_id', client['id'])]))
 elif command == 'device_poll':

@@ -1,5 +1,5 @@
 -- The command `id_token`, from what was read and what was checked.
-use Rattle.std.proofs.Common.{◌≡◌, ℕ, ℤ, List, Ok, Err, refl, subst}
+use Rattle.std.proofs.Common.{◌≡◌, ℕ, ℤ, List, IsSomeAnd, Ok, Err, refl, subst}
 use Rattle.oauth2.specs.Settings.{Settings}
 use Rattle.oauth2_json.specs.ErrorTexts.{parse_fault_text, read_error_text}
 use Rattle.oauth2_json.specs.Reading.{ErrsAs, Fault, Reading, fault_of}
@@ -8,13 +8,14 @@ use Rattle.oauth2_json.specs.declared.read.ReadError.TheVariants as reading
 use Rattle.oauth2_keys.specs.declared.json_web_key.ListedKey.{ListedKey}
 use Rattle.oauth2_openid.specs.ErrorTexts.{id_token_read_error_text}
 use Rattle.oauth2_openid.specs.Reading.{compact_token_reading}
-use Rattle.oauth2_openid.specs.Token.{DecodedToken, TokenErrsAs, TokenFault, TokenReading, not_three_parts, not_base64, at_fault}
+use Rattle.oauth2_openid.specs.Token.{DecodedToken, TokenErrsAs, TokenReading}
 use Rattle.oauth2_openid.specs.TokenRules.{token_checked}
 use Rattle.oauth2_openid.specs.declared.read_error.IdTokenReadError.{IdTokenReadError}
 use Rattle.oauth2_openid.specs.declared.read_error.IdTokenReadError.TheVariants as errors
 use Rattle.oauth2_script.specs.IdTokenParams.{IdTokenParams}
 use Rattle.oauth2_world.specs.Clock.{Clock, reading_of}
-use Rattle.oauth2_commands.specs.IdToken.{IsCheckedOutput, IsIdTokenOutput, params_expectation, signature_algorithm, token_fault_text}
+use Rattle.oauth2_commands.specs.IdToken.{IsCheckedOutput, IsIdTokenOutput, IsReadOutput, params_expectation, signature_algorithm, token_fault_text}
+use Rattle.oauth2_commands.specs.private.ReadErrors.{token_fault_in}
 use Rattle.oauth2_request_commands.specs.Out.{Output, failure_output, Adds, AddsOutput}
 use Rattle.oauth2_request_commands.specs.declared.status.RunStatus.{RunStatus}
 
@@ -22,14 +23,23 @@ use Rattle.oauth2_request_commands.specs.declared.status.RunStatus.{RunStatus}
 pub added : {IsOutput : Output → Type 0} (old new : List ℕ) (s : RunStatus) (o : Output) → IsOutput o → AddsOutput old new s o → Adds old new s IsOutput
 added old new s o is printed = (o, is, printed.0, printed.1)
 
--- why a text is no ID token
-pub read_error_shown : (error : IdTokenReadError) (read : TokenReading DecodedToken) (old new : List ℕ) (s : RunStatus) → (error ≡ errors.Memory → ⊥)
-    → TokenErrsAs error read → AddsOutput old new s (failure_output (id_token_read_error_text error))
-    → (fault : TokenFault) × (read ≡ Err fault) × AddsOutput old new s (failure_output (token_fault_text fault))
-read_error_shown errors.NotThreeParts read old new s other tells printed = (not_three_parts, tells, printed)
-read_error_shown (errors.NotBase64 part) read old new s other tells printed = (not_base64 part, tells, printed)
-read_error_shown (errors.Fault part fault) read old new s other tells printed = (at_fault part (fault_of fault), tells, printed)
-read_error_shown errors.Memory read old new s other tells printed = absurd (other refl)
+-- why a text is no token
+pub read_error_shown : (error : IdTokenReadError) (old new : List ℕ) (s : RunStatus) → (error ≡ errors.Memory → ⊥)
+    → AddsOutput old new s (failure_output (id_token_read_error_text error))
+    → IsSomeAnd (token_fault_in error) (λ fault. AddsOutput old new s (failure_output (token_fault_text fault)))
+read_error_shown errors.NotThreeParts old new s other printed = printed
+read_error_shown (errors.NotBase64 part) old new s other printed = printed
+read_error_shown (errors.Fault part fault) old new s other printed = printed
+read_error_shown errors.Memory old new s other printed = absurd (other refl)
+
+-- the output of a text that reads to none
+pub unread_shown : {T : Type 0} (IsShown : T → Output → Type 0) (error : IdTokenReadError) (read : TokenReading T) (old new : List ℕ) (s : RunStatus)
+    → TokenErrsAs error read → IsSomeAnd (token_fault_in error) (λ fault. AddsOutput old new s (failure_output (token_fault_text fault)))
+    → Adds old new s (IsReadOutput IsShown read)
+unread_shown IsShown errors.NotThreeParts read old new s tells printed = rw tells (added _ _ s _ refl printed)
+unread_shown IsShown (errors.NotBase64 part) read old new s tells printed = rw tells (added _ _ s _ refl printed)
+unread_shown IsShown (errors.Fault part fault) read old new s tells printed = rw tells (added _ _ s _ refl printed)
+unread_shown IsShown errors.Memory read old new s tells printed = absurd printed
 
 -- why a value is no key set
 pub keys_error_shown : (error : ReadError) (read : Reading (List ListedKey)) (old new : List ℕ) (s : RunStatus) → (error ≡ reading.Memory → ⊥) → ErrsAs error read
@@ -46,8 +56,3 @@ module _ (client : Settings) (p : IdTokenParams) (clock : Clock) (old new : List
       let checked : IsCheckedOutput p.keys (signature_algorithm p.algorithm) token (token_checked (params_expectation client p) p.access_token (reading_of clock) token) o =
       subst (λ n. IsCheckedOutput p.keys (signature_algorithm p.algorithm) token (token_checked (params_expectation client p) p.access_token n token) o) at is in
       (o, rw read checked, lines, status)
-
-  -- a text that reads to none
-  pub unread_shown : (fault : TokenFault) → compact_token_reading p.id_token ≡ Err fault → AddsOutput old new s (failure_output (token_fault_text fault))
-      → Adds old new s (IsIdTokenOutput client p clock)
-  unread_shown fault read printed = (failure_output (token_fault_text fault), rw read refl, printed.0, printed.1)

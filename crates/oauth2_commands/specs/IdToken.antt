@@ -71,7 +71,7 @@ checked_json hash c = compact_text (checked_data hash c)
 
 -- ---- the output of each case
 
--- why a text is not an ID token (RFC 7515, 7.1; OpenID Connect Core 1.0, 2)
+-- why a text is not a token (RFC 7515, 7.1; OpenID Connect Core 1.0, 2)
 abbrev pub token_fault_text : TokenFault → List ℕ
 token_fault_text not_three_parts = codes "not three parts"
 token_fault_text (not_base64 part) = part_text part ++ codes ": not base64url"
@@ -83,11 +83,15 @@ abbrev pub signature_algorithm : Option (List ℕ) → Option SignatureAlgorithm
 signature_algorithm None = Some Rs256
 signature_algorithm (Some name) = algorithm_named name
 
+-- the output for an algorithm whose signatures are not checked
+abbrev pub unchecked_output : Output
+unchecked_output = failure_output (codes "no signature of the registered algorithm is checked")
+
 -- the output of a token whose claims are good, by the keys of the issuer: `good` if the signature
 -- is good, else why it is not (OpenID Connect Core 1.0, 3.1.3.7, 6)
 abbrev pub IsVerifiedOutput : Reading (List ListedKey) → Option SignatureAlgorithm → DecodedToken → Output → Output → Type 0
 IsVerifiedOutput (Err fault) algorithm token good o = o ≡ failure_output (parse_fault_text fault)
-IsVerifiedOutput (Ok keys) None token good o = o ≡ failure_output (codes "no signature of the registered algorithm is checked")
+IsVerifiedOutput (Ok keys) None token good o = o ≡ unchecked_output
 IsVerifiedOutput (Ok keys) (Some algorithm) token good o =
     (IsVerified keys algorithm token × (o ≡ good))
     ⊎ ((error : SignatureError) × IsRefusal keys algorithm token error × (o ≡ failure_output (signature_error_text error)))
@@ -104,8 +108,8 @@ IsCheckedOutput keys algorithm token (Ok hash) o =
     IsSignedOutput keys algorithm token (success_output (checked_json hash token.claims.own)) o
 IsCheckedOutput keys algorithm token (Err broken) o = o ≡ failure_output (claims_error_text broken)
 
--- the output of a text: that of its token, or why the text is not an ID token
-abbrev pub IsReadOutput : (DecodedToken → Output → Type 0) → TokenReading DecodedToken → Output → Type 0
+-- the output of a text: that of its token, or why the text is not a token
+abbrev pub IsReadOutput : {T : Type 0} → (T → Output → Type 0) → TokenReading T → Output → Type 0
 IsReadOutput IsShown (Ok token) o = IsShown token o
 IsReadOutput IsShown (Err fault) o = o ≡ failure_output (token_fault_text fault)
 

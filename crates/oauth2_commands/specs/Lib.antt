@@ -1,3 +1,4 @@
+pub mod AccessToken
 pub mod IdToken
 pub mod Keeper
 pub mod Metadata

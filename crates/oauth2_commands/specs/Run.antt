@@ -8,6 +8,7 @@ use Rattle.oauth2_world.specs.Adapted.{adapted_replies}
 use Rattle.oauth2_world.specs.Clock.{Clock, new_clock}
 use Rattle.oauth2_request_commands.specs.DeviceAuthorization.{IsDeviceAuthorizationOutput}
 use Rattle.oauth2_request_commands.specs.DevicePoll.{IsDevicePollOutput}
+use Rattle.oauth2_commands.specs.AccessToken.{IsAccessTokenOutput}
 use Rattle.oauth2_commands.specs.IdToken.{IsIdTokenOutput}
 use Rattle.oauth2_request_commands.specs.Introspect.{IsIntrospectOutput}
 use Rattle.oauth2_commands.specs.Keeper.{IsKeeperOutput}
@@ -18,7 +19,7 @@ use Rattle.oauth2_request_commands.specs.Refresh.{IsRefreshOutput}
 use Rattle.oauth2_request_commands.specs.Revoke.{IsRevokeOutput}
 use Rattle.oauth2_world.specs.Lines.{line}
 use Rattle.oauth2_request_commands.specs.Out.{Output}
-use Rattle.oauth2_script.specs.Command.{Command, code, refresh, password, client_credentials, introspect, revoke, device_authorization, device_poll, keeper, metadata, id_token, authorize, redirect}
+use Rattle.oauth2_script.specs.Command.{Command, code, refresh, password, client_credentials, introspect, revoke, device_authorization, device_poll, keeper, metadata, id_token, access_token, authorize, redirect}
 use Rattle.oauth2_script.specs.Script.{Script, script_in}
 use Rattle.oauth2_request_commands.specs.Client.{settings_of}
 use Rattle.oauth2_script.specs.Replies.{Reply}
@@ -38,6 +39,7 @@ IsCommandOutput client clock replies (device_poll p) o = IsDevicePollOutput clie
 IsCommandOutput client clock replies (keeper p) o = IsKeeperOutput client p clock.moments replies o
 IsCommandOutput client clock replies (metadata p) o = IsMetadataOutput client p replies o
 IsCommandOutput client clock replies (id_token p) o = IsIdTokenOutput client p clock o
+IsCommandOutput client clock replies (access_token p) o = IsAccessTokenOutput p clock o
 IsCommandOutput client clock replies (authorize p) o = IsAuthorizeOutput client p o
 IsCommandOutput client clock replies (redirect p) o = IsRedirectOutput p o
 

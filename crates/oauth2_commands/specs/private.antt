@@ -2,3 +2,4 @@
 pub mod ClaimRows
 pub mod Discovery
 pub mod Kept
+pub mod ReadErrors

@@ -6,6 +6,7 @@ ghost use Rattle.oauth2_world.specs.Replay.{client_replies};
 ghost use Rattle.oauth2_commands.specs.Run.{IsCommandOutput};
 ghost use Rattle.oauth2_script.specs.Views.{command_view};
 
+use crate::access_token::run_access_token;
 use crate::id_token::run_id_token;
 use crate::keeper::run_keeper;
 use crate::metadata::run_metadata;
@@ -63,6 +64,12 @@ pub fn run_command(
         Command::IdToken(params) => run_id_token(
             alloc,
             client,
+            params,
+            &mut world.clock,
+            &mut http_client.lines,
+        ),
+        Command::AccessToken(params) => run_access_token(
+            alloc,
             params,
             &mut world.clock,
             &mut http_client.lines,

@@ -1,15 +1,24 @@
 //! The command `id_token`: an ID token is read, and its claims and its signature are checked.
 
-ghost use Rattle.std.specs.Prelude.{◌≡◌, Err, List, IfOk, Ok, codes, option_map, string_bytes};
+ghost use Rattle.std.specs.Prelude.{
+  ◌≡◌,
+  Err,
+  List,
+  IfOk,
+  IsSomeAnd,
+  Ok,
+  option_map,
+  string_bytes,
+};
 ghost use Rattle.serde_json.specs.View.{view};
 ghost use Rattle.oauth2_json.specs.ErrorTexts.{parse_fault_text};
 ghost use Rattle.oauth2_json.specs.Reading.{ErrsAs, Fault, Reading};
 ghost use Rattle.oauth2_keys.specs.declared.json_web_key.ListedKey.{ListedKey};
 ghost use Rattle.oauth2_commands.specs.IdToken as spec;
+ghost use Rattle.oauth2_commands.specs.private.ReadErrors.{token_fault_in};
 ghost use Rattle.oauth2_request_commands.specs.Out.{Adds, AddsOutput, failure_output, success_output};
 ghost use Rattle.oauth2_openid.specs.Issuers.{named_issuers};
 ghost use Rattle.oauth2_openid.specs.Seen.{token_of};
-ghost use Rattle.oauth2_openid.specs.Token.{DecodedToken, TokenErrsAs, TokenFault, TokenReading};
 ghost use Rattle.oauth2_openid.specs.TokenRules.{token_checked};
 ghost use Rattle.oauth2_script.specs.Views.{id_token_view, issuer_view};
 
@@ -72,7 +81,7 @@ fn check(
 }
 
 // The algorithm of the signature: the registered one, or RS256 if none is.
-fn signature_algorithm(registered: &Option<String>) -> Option<SignatureAlgorithm>
+pub(crate) fn signature_algorithm(registered: &Option<String>) -> Option<SignatureAlgorithm>
     ensures { result ≡ spec.signature_algorithm (option_map string_bytes registered.now) }
 {
     match registered {
@@ -96,10 +105,9 @@ fn show_claims(
 }
 
 // Adds the line for an algorithm whose signatures are not checked.
-fn show_unchecked(alloc: Global, lines: &mut String) -> Result<RunStatus, AllocError>
+pub(crate) fn show_unchecked(alloc: Global, lines: &mut String) -> Result<RunStatus, AllocError>
     ensures { IfOk result (λ status. AddsOutput (string_bytes lines.old) (string_bytes lines.new)
-        status
-        (failure_output (codes "no signature of the registered algorithm is checked"))) }
+        status spec.unchecked_output) }
 {
     print_fault(
         alloc,
@@ -132,7 +140,7 @@ fn show_verified(
 }
 
 // Adds the line why a value is not a key set.
-fn show_keys_error(
+pub(crate) fn show_keys_error(
     alloc: Global,
     lines: &mut String,
     error: &ReadError,
@@ -195,17 +203,15 @@ fn show_checked(
     }
 }
 
-// Adds the line why a text is not an ID token.
-fn show_read_error(
+// Adds the line why a text is not a token.
+pub(crate) fn show_read_error(
     alloc: Global,
     lines: &mut String,
     error: &IdTokenReadError,
 ) -> Result<RunStatus, AllocError>
-    ensures { IfOk result (λ status.
-        (read : TokenReading DecodedToken) → TokenErrsAs error.now read
-        → (fault : TokenFault) × (read ≡ Err fault)
-        × AddsOutput (string_bytes lines.old) (string_bytes lines.new) status
-        (failure_output (spec.token_fault_text fault))) }
+    ensures { IfOk result (λ status. IsSomeAnd (token_fault_in error.now) (λ fault.
+        AddsOutput (string_bytes lines.old) (string_bytes lines.new) status
+        (failure_output (spec.token_fault_text fault)))) }
 {
     if let IdTokenReadError::Memory = error {
         return Err(AllocError);

@@ -2,6 +2,7 @@
 
 #![tactic(auto)]
 
+mod access_token;
 mod command;
 mod id_token;
 mod id_token_json;

@@ -2,6 +2,7 @@
 use Rattle.std.specs.Prelude.{ℕ, List, Option, None, option_map, if◌then◌else◌, codes}
 use Rattle.std.specs.Str.{bytes_eq}
 use Rattle.serde_json.specs.Data.{Data}
+use Rattle.oauth2_script.specs.AccessTokenParams.{AccessTokenParams, access_token_params}
 use Rattle.oauth2_script.specs.AuthorizeParams.{AuthorizeParams, authorize_params}
 use Rattle.oauth2_script.specs.ClientCredentialsParams.{ClientCredentialsParams, client_credentials_params}
 use Rattle.oauth2_script.specs.CodeParams.{CodeParams, code_params}
@@ -31,6 +32,7 @@ pub data Command : Type 0 where
   keeper : KeeperParams → Command
   metadata : MetadataParams → Command
   id_token : IdTokenParams → Command
+  access_token : AccessTokenParams → Command
 
 -- the command of this name, with its parameters read from `params`; `None` for other names
 unfoldable pub command_of : List ℕ → Data → Option Command
@@ -48,4 +50,5 @@ command_of name params =
     else (if bytes_eq name (codes "keeper") then option_map keeper (keeper_params params)
     else (if bytes_eq name (codes "metadata") then option_map metadata (metadata_params params)
     else (if bytes_eq name (codes "id_token") then option_map id_token (id_token_params params)
-    else None))))))))))))
+    else (if bytes_eq name (codes "access_token") then option_map access_token (access_token_params params)
+    else None)))))))))))))

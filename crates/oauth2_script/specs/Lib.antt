@@ -3,6 +3,7 @@ pub mod Gives
 pub mod Adapter
 pub mod Client
 pub mod Replies
+pub mod AccessTokenParams
 pub mod AuthorizeParams
 pub mod ClientCredentialsParams
 pub mod CodeParams

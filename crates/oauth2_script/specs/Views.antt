@@ -21,6 +21,7 @@ use Rattle.oauth2_script.specs.RedirectParams as redirect_spec
 use Rattle.oauth2_script.specs.KeeperParams as keeper_spec
 use Rattle.oauth2_script.specs.MetadataParams as metadata_spec
 use Rattle.oauth2_script.specs.IdTokenParams as id_token_spec
+use Rattle.oauth2_script.specs.AccessTokenParams as access_token_spec
 use Rattle.oauth2_script.specs.declared.code_params.CodeParams.{CodeParams}
 use Rattle.oauth2_script.specs.declared.refresh_params.RefreshParams.{RefreshParams}
 use Rattle.oauth2_script.specs.declared.password_params.PasswordParams.{PasswordParams}
@@ -35,13 +36,14 @@ use Rattle.oauth2_script.specs.declared.redirect_params.ExpectedIssuerParam.TheV
 use Rattle.oauth2_script.specs.declared.redirect_params.RedirectParams.{RedirectParams}
 use Rattle.oauth2_script.specs.declared.keeper_params.KeeperParams.{KeeperParams}
 use Rattle.oauth2_script.specs.declared.metadata_params.MetadataParams.{MetadataParams}
+use Rattle.oauth2_script.specs.declared.access_token_params.AccessTokenParams.{AccessTokenParams}
 use Rattle.oauth2_script.specs.declared.id_token_params.IdTokenParams.{IdTokenParams}
 use Rattle.oauth2_script.specs.declared.id_token_params.IssuerParam.{IssuerParam}
 use Rattle.oauth2_script.specs.declared.id_token_params.IssuerParam.TheVariants.{Is, OneOf, PerTenant}
 use Rattle.oauth2_script.specs.declared.client_part.ClientPart.{ClientPart}
 use Rattle.oauth2_script.specs.declared.client_part.ClientEndpoints.{ClientEndpoints}
 use Rattle.oauth2_script.specs.declared.command.Command.{Command}
-use Rattle.oauth2_script.specs.declared.command.Command.TheVariants.{Code, Refresh, Password, ClientCredentials, Introspect, Revoke, DeviceAuthorization, DevicePoll, Authorize, Redirect, Keeper, Metadata, IdToken}
+use Rattle.oauth2_script.specs.declared.command.Command.TheVariants.{Code, Refresh, Password, ClientCredentials, Introspect, Revoke, DeviceAuthorization, DevicePoll, Authorize, Redirect, Keeper, Metadata, IdToken, AccessToken}
 use Rattle.oauth2_script.specs.declared.reply.HttpReply.{HttpReply}
 use Rattle.oauth2_script.specs.declared.reply.Reply.{Reply}
 use Rattle.oauth2_script.specs.declared.reply.Reply.TheVariants.{Replied, Failed}
@@ -179,6 +181,17 @@ id_token_view p = record {
   authorized_parties = map string_bytes p.authorized_parties.items;
 }
 
+-- the parameters of `access_token` as contracts see them; `leeway` in nanoseconds
+abbrev pub access_token_view : AccessTokenParams → access_token_spec.AccessTokenParams
+access_token_view p = record {
+  access_token = string_bytes p.access_token;
+  issuer = string_bytes p.issuer;
+  audience = string_bytes p.audience;
+  keys = view p.keys;
+  algorithm = option_map string_bytes p.algorithm;
+  leeway = as_nanos p.leeway;
+}
+
 -- the endpoints of the client as contracts see them
 abbrev pub endpoints_view : ClientEndpoints → client_spec.ClientEndpoints
 endpoints_view e = record { auth = e.auth; token = e.token; device = e.device; introspection = e.introspection; revocation = e.revocation }
@@ -223,6 +236,7 @@ command_view (Redirect p) = command_spec.redirect (redirect_view p)
 command_view (Keeper p) = command_spec.keeper (keeper_view p)
 command_view (Metadata p) = command_spec.metadata (metadata_view p)
 command_view (IdToken p) = command_spec.id_token (id_token_view p)
+command_view (AccessToken p) = command_spec.access_token (access_token_view p)
 
 -- the whole script as contracts see it; the readings in nanoseconds since 1970
 abbrev pub script_view : Script → script_spec.Script

@@ -5,6 +5,7 @@ ghost use Rattle.oauth2_script.specs.Command as spec;
 ghost use Rattle.oauth2_script.specs.Gives.{Gives};
 ghost use Rattle.oauth2_script.specs.Views.{command_view};
 
+use crate::access_token_params::AccessTokenParams;
 use crate::authorize_params::AuthorizeParams;
 use crate::client_credentials_params::ClientCredentialsParams;
 use crate::code_params::CodeParams;
@@ -39,6 +40,7 @@ pub enum Command {
     Keeper(KeeperParams),
     Metadata(MetadataParams),
     IdToken(IdTokenParams),
+    AccessToken(AccessTokenParams),
 }
 
 /// Reads the command of this name from the object `params`; another name is `Bad`.
@@ -64,6 +66,7 @@ pub fn command_of(alloc: Global, name: &str, params: &Value) -> Result<Command, 
         "keeper" => Ok(Command::Keeper(KeeperParams::from_value(alloc, params)?)),
         "metadata" => Ok(Command::Metadata(MetadataParams::from_value(alloc, params)?)),
         "id_token" => Ok(Command::IdToken(IdTokenParams::from_value(alloc, params)?)),
+        "access_token" => Ok(Command::AccessToken(AccessTokenParams::from_value(alloc, params)?)),
         _ => Err(ScriptError::Bad),
     }
 }

@@ -2,6 +2,7 @@
 
 #![tactic(auto)]
 
+mod access_token_params;
 mod adapter;
 mod authorize_params;
 mod client_credentials_params;
@@ -26,6 +27,7 @@ mod script_error;
 mod texts;
 mod urls;
 
+pub use access_token_params::AccessTokenParams;
 pub use adapter::Adapter;
 pub use authorize_params::AuthorizeParams;
 pub use client_credentials_params::ClientCredentialsParams;

@@ -25,6 +25,9 @@ returns-in-Authorize c = IfOk-weaker c.run_authorize.result _ _ (λ status adds.
 pub returns-in-IdToken : goal.returns-in-IdToken
 returns-in-IdToken c = IfOk-weaker c.run_id_token.result _ _ (λ status adds. λ fed. rw c.in-IdToken.is adds) c.run_id_token.ensures
 
+pub returns-in-AccessToken : goal.returns-in-AccessToken
+returns-in-AccessToken c = IfOk-weaker c.run_access_token.result _ _ (λ status adds. λ fed. rw c.in-AccessToken.is adds) c.run_access_token.ensures
+
 pub returns-in-Redirect : goal.returns-in-Redirect
 returns-in-Redirect c = IfOk-weaker c.run_redirect.result _ _ (λ status adds. λ fed. rw c.in-Redirect.is adds) c.run_redirect.ensures
 

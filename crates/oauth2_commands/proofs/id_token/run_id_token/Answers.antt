@@ -16,8 +16,5 @@ returns-in-Ok c =
 pub returns-in-Err : goal.returns-in-Err
 returns-in-Err c =
     IfOk-weaker c.show_read_error.result _ _
-    (λ status shows.
-    let told = shows _ (rw c.as_str.ensures.value at c.in-Err.ensures.read) in
-    unread_shown c.args.client.now (id_token_view c.args.params) c.args.clock.now (string_bytes c.args.lines.now) (string_bytes c.show_read_error.new.lines) status
-    told.0 told.1 told.2)
+    (λ status shown. unread_shown _ c.in-Err.error _ _ _ status (rw c.as_str.ensures.value at c.in-Err.ensures.read) shown)
     c.show_read_error.ensures

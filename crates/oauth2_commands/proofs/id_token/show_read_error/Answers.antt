@@ -6,6 +6,6 @@ use Rattle.oauth2_commands.proofs.id_token.show_read_error.Goals as goal
 pub returns : goal.returns
 returns c =
     IfOk-weaker c.show_error_text.result _ _
-    (λ status printed. λ read tells.
-    read_error_shown c.args.error.now read (string_bytes c.args.lines.now) (string_bytes c.show_error_text.new.lines) status c.in_default.not-Memory tells printed)
+    (λ status printed.
+    read_error_shown c.args.error.now (string_bytes c.args.lines.now) (string_bytes c.show_error_text.new.lines) status c.in_default.not-Memory printed)
     c.show_error_text.ensures

@@ -1,0 +1,24 @@
+use Rattle.std.proofs.Common.{refl, inl, inr, string_bytes, subst}
+use Rattle.std.proofs.lemmas.Result.{IfOk-weaker}
+use Rattle.oauth2_jwt_access_tokens.specs.AccessToken.{AccessToken}
+use Rattle.oauth2_jwt_access_tokens.specs.Introspected.{introspected}
+use Rattle.oauth2_request_commands.specs.Introspect.{introspection_json}
+use Rattle.oauth2_request_commands.specs.Out.{AddsOutput, success_output}
+use Rattle.oauth2_commands.proofs.IdTokens.{added}
+use Rattle.oauth2_commands.proofs.access_token.show_judged.Goals as goal
+
+pub returns-in-Ok : goal.returns-in-Ok
+returns-in-Ok c =
+    IfOk-weaker c.show_introspection.result _ _
+    (λ status printed.
+    added _ _ status _ (inl (c.in-Ok.ensures.succeeds.0 refl, refl))
+    (subst
+    (λ (t : AccessToken). AddsOutput (string_bytes c.args.lines.now) (string_bytes c.show_introspection.new.lines) status (success_output (introspection_json (introspected t tt))))
+    c.in-Ok.ensures.same printed))
+    c.show_introspection.ensures
+
+pub returns-in-Err : goal.returns-in-Err
+returns-in-Err c =
+    IfOk-weaker c.show_error_text.result _ _
+    (λ status printed. added _ _ status _ (inr (c.in-Err.refused.fault, c.in-Err.ensures.refused, refl)) printed)
+    c.show_error_text.ensures
