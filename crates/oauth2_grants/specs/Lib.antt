@@ -3,3 +3,5 @@ pub mod Extension
 pub mod GrantText
 pub mod TokenExchange
 pub mod private
+pub mod ExchangeErrors
+pub mod ExchangeFields

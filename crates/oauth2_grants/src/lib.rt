@@ -4,17 +4,19 @@
 #![tactic(auto)]
 
 mod absolute_uri;
+mod exchange_error;
+mod exchange_fields;
 mod extension_token_request;
 mod grant_fault;
-mod issued_token_type;
 mod token_client;
 mod token_exchange;
 mod token_type;
 
 pub use absolute_uri::is_absolute_uri;
+pub use exchange_error::{TokenExchangeErrorResponse, TokenExchangeErrorType, exchange_error_laws};
+pub use exchange_fields::{ExchangeFields, TokenExchangeResponse};
 pub use extension_token_request::ExtensionTokenRequest;
 pub use grant_fault::GrantFault;
-pub use issued_token_type::{IssuedTokenType, TokenExchangeResponse};
 pub use token_client::TokenClient;
 pub use token_exchange::{TOKEN_EXCHANGE, TokenExchange};
 pub use token_type::TokenTypeIdentifier;

@@ -1,5 +1,8 @@
 //! The types of tokens (RFC 8693, section 3).
 
+ghost use Rattle.std.specs.Prelude.{◌≡◌};
+ghost use Rattle.oauth2_grants.specs.TokenExchange.{token_type_text};
+
 use std::convert::AsStr;
 
 /// The type of a token, named by a URI (RFC 8693, section 3).
@@ -21,9 +24,24 @@ pub enum TokenTypeIdentifier<'a> {
     Other(&'a str),
 }
 
-impl AsStr for TokenTypeIdentifier<'_> {
-    ghost use Rattle.oauth2_grants.specs.TokenExchange.{token_type_text};
+impl<'a> TokenTypeIdentifier<'a> {
+    // The type that the text names; case matters.
+    pub(crate) fn from_text(text: &'a str) -> TokenTypeIdentifier<'a>
+        ensures { token_type_text result ≡ text.now }
+    {
+        match text {
+            "urn:ietf:params:oauth:token-type:access_token" => TokenTypeIdentifier::AccessToken,
+            "urn:ietf:params:oauth:token-type:refresh_token" => TokenTypeIdentifier::RefreshToken,
+            "urn:ietf:params:oauth:token-type:id_token" => TokenTypeIdentifier::IdToken,
+            "urn:ietf:params:oauth:token-type:saml1" => TokenTypeIdentifier::Saml1,
+            "urn:ietf:params:oauth:token-type:saml2" => TokenTypeIdentifier::Saml2,
+            "urn:ietf:params:oauth:token-type:jwt" => TokenTypeIdentifier::Jwt,
+            _ => TokenTypeIdentifier::Other(text),
+        }
+    }
+}
 
+impl AsStr for TokenTypeIdentifier<'_> {
     ghost text = { token_type_text };
 
     fn as_str(&self) -> &str {
