@@ -1,0 +1,12 @@
+//! Tests of extension grants and of token exchanges: what is sent, and what a reply reads to.
+
+#![tactic(auto)]
+
+#[cfg(test)]
+mod asking;
+#[cfg(test)]
+mod exchanges;
+#[cfg(test)]
+mod extensions;
+#[cfg(test)]
+mod replies;
