@@ -1,6 +1,8 @@
 -- The commands, from their requests.
-use Rattle.std.proofs.Common.{◌≡◌, ◌⊎◌, inl, inr, ℕ, List, Bool, true, false, Option, Some, None, codes, refl, ap, ◌∙◌, subst}
-use Rattle.std.specs.Prelude.{IfSome, IfNone}
+use Rattle.std.proofs.Common.{◌≡◌, ◌⊎◌, inl, inr, ℕ, List, Bool, true, false, Option, Some, None, Result, codes, refl, ap}
+use Rattle.std.specs.Prelude.{IfSome, IfNone, IfOk}
+use Rattle.std.specs.declared.alloc.AllocError.{AllocError}
+use Rattle.std.proofs.lemmas.Result.{IfOk-weaker}
 use Rattle.std.specs.Str.{bytes_eq}
 use Rattle.std.proofs.lemmas.Slice.Eq.{bytes_eq-Decides}
 use Rattle.oauth2.specs.NewRequest.{IsHttps}
@@ -28,14 +30,16 @@ pub missing_told : (name : List ℕ) (IsOut : Addressed → Output → Type 0) (
 missing_told name IsOut (Some url) old new s e h m p = absurd h
 missing_told name IsOut None old new s e h m p = let told : AddsOutput old new s (missing name) = rw (missing_is name e m) at p in (missing name, refl, told.0, told.1)
 
--- what is shown of a request, from what `start` makes of the endpoint and `give` adds
-pub command_told : {R : Type 0} (name : List ℕ) (IsOut : R → Output → Type 0) (start : Addressed → R) (give : R → R) (made : Addressed → R) (old new : List ℕ) (s : RunStatus)
-    → ((u : Addressed) → give (start u) ≡ made u) → (url : Option Addressed) (started asked : R) → IfSome url (λ u. started ≡ start u) → IfNone url ⊥ → asked ≡ give started
-    → Adds old new s (IsOut asked) → Adds old new s (WithEndpoint name (λ u o. IsOut (made u) o) url)
-command_told name IsOut start give made old new s same None started asked there missing is adds = absurd missing
-command_told {R} name IsOut start give made old new s same (Some u) started asked there missing is adds =
-    let e : asked ≡ made u = is ∙ ap give there ∙ same u in
-    subst (λ (r : R). Adds old new s (IsOut r)) e adds
+-- what is shown of a request that is made for the URL of the endpoint
+pub command_told : (name : List ℕ) (IsAsked : Output → Type 0)
+    (IsOut : Addressed → Output → Type 0) (IsMade : Addressed → Type 0) (url : Option Addressed)
+    (old new : List ℕ) (s : RunStatus)
+    → IfSome url IsMade → IfNone url ⊥ → Adds old new s IsAsked
+    → ((u : Addressed) → IsMade u → (o : Output) → IsAsked o → IsOut u o)
+    → Adds old new s (WithEndpoint name IsOut url)
+command_told name IsAsked IsOut IsMade None old new s there missing adds shows = absurd missing
+command_told name IsAsked IsOut IsMade (Some u) old new s there missing adds shows =
+    (adds.0, shows u there adds.0 adds.1, adds.2, adds.3)
 
 https_by : (url : Addressed) (b : Bool) → bytes_eq url.url.scheme (codes "https") ≡ b → IsHttps url ⊎ (¬ (IsHttps url))
 https_by url true e = inl ((bytes_eq-Decides url.url.scheme (codes "https")).0 e)
@@ -55,21 +59,47 @@ refusal_told name IsOut (Some u) old new s e secure is_insecure is_missing p = g
     go (inl https) = absurd (secure https)
     go (inr other) = let told : AddsOutput old new s (insecure name) = rw (insecure_is name e (is_insecure other)) at p in (insecure name, inr (other, refl), told.0, told.1)
 
--- what is shown of a request to an `https` endpoint
-pub https_told : {R : Type 0} (name : List ℕ) (IsOut : R → Output → Type 0) (start : Addressed → R) (give : R → R) (made : Addressed → R) (old new : List ℕ) (s : RunStatus)
-    → ((u : Addressed) → give (start u) ≡ made u) → (url : Option Addressed) (started asked : R)
-    → IfSome url (λ u. IsHttps u → started ≡ start u) → IfSome url (λ u. ¬ (IsHttps u) → ⊥) → IfNone url ⊥ → asked ≡ give started
-    → Adds old new s (IsOut asked) → Adds old new s (WithEndpoint name (WithHttps name (λ u o. IsOut (made u) o)) url)
-https_told name IsOut start give made old new s same None started asked secure is_insecure is_missing is adds = absurd is_missing
-https_told {R} name IsOut start give made old new s same (Some u) started asked secure is_insecure is_missing is adds = go (https_or_not u)
+-- what is shown of a request that is made for the URL of the endpoint if that is an `https` URL
+pub https_told : (name : List ℕ) (IsAsked : Output → Type 0)
+    (IsOut : Addressed → Output → Type 0) (IsMade : Addressed → Type 0) (url : Option Addressed)
+    (old new : List ℕ) (s : RunStatus)
+    → IfSome url (λ u. IsHttps u → IsMade u) → IfSome url (λ u. ¬ (IsHttps u) → ⊥) → IfNone url ⊥
+    → Adds old new s IsAsked → ((u : Addressed) → IsMade u → (o : Output) → IsAsked o → IsOut u o)
+    → Adds old new s (WithEndpoint name (WithHttps name IsOut) url)
+https_told name IsAsked IsOut IsMade None old new s secure is_insecure missing adds shows =
+    absurd missing
+https_told name IsAsked IsOut IsMade (Some u) old new s secure is_insecure missing adds shows =
+    go (https_or_not u)
   where
-    go : (IsHttps u ⊎ (¬ (IsHttps u))) → Adds old new s (WithEndpoint name (WithHttps name (λ u o. IsOut (made u) o)) (Some u))
+    go : (IsHttps u ⊎ (¬ (IsHttps u))) → Adds old new s (WithEndpoint name (WithHttps name IsOut) (Some u))
     go (inr other) = absurd (is_insecure other)
-    go (inl https) =
-        let e : asked ≡ made u = is ∙ ap give (secure https) ∙ same u in
-        let shown : Adds old new s (IsOut (made u)) = subst (λ (r : R). Adds old new s (IsOut r)) e adds in
-        (shown.0, inl (https, shown.1), shown.2, shown.3)
+    go (inl https) = (adds.0, inl (https, shows u (secure https) adds.0 adds.1), adds.2, adds.3)
 
 pub given_or-none : {A : Type 0} (o : Option A) → given_or o None ≡ o
 given_or-none None = refl
 given_or-none (Some a) = refl
+
+-- ---- a whole command, from what its last call ensures; `Fed` says that the client had memory
+
+module _ (Fed : Type 0) (name : List ℕ) (url : Option Addressed) (old new : List ℕ)
+    (result : Result RunStatus AllocError) where
+  abbrev Shows : (Output → Type 0) → Type 0
+  Shows IsOut = IfOk result (λ s. Fed → Adds old new s IsOut)
+
+  pub request_told : (IsAsked : Output → Type 0) (IsOut : Addressed → Output → Type 0)
+      (IsMade : Addressed → Type 0) → IfSome url IsMade → IfNone url ⊥ → Shows IsAsked
+      → ((u : Addressed) → IsMade u → (o : Output) → IsAsked o → IsOut u o)
+      → Shows (WithEndpoint name IsOut url)
+  request_told IsAsked IsOut IsMade there missing told shows =
+      IfOk-weaker result _ _
+      (λ s adds. λ fed.
+      command_told name IsAsked IsOut IsMade url old new s there missing (adds fed) shows)
+      told
+
+  pub no_endpoint_told : (IsOut : Addressed → Output → Type 0) (e : ConfigurationError)
+      → IfSome url (λ _. ⊥) → IfNone url (IsMissingUrl name e)
+      → IfOk result (λ s. AddsOutput old new s (configuration_output e))
+      → Shows (WithEndpoint name IsOut url)
+  no_endpoint_told IsOut e there missing told =
+      IfOk-weaker result _ _
+      (λ s adds. λ fed. missing_told name IsOut url old new s e there missing adds) told

@@ -1,3 +1,2 @@
 -- Definitions for contracts of functions that are not exported.
-pub mod Extra
 pub mod Results

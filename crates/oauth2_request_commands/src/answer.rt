@@ -2,21 +2,32 @@
 
 ghost use Rattle.std.specs.Prelude.{◌≡◌, ◌++◌, ℕ, List, Some, false, string_bytes, codes};
 ghost use Rattle.std.specs.Prelude.{IfOk, OnOk, IsOkAnd, IfSome};
+ghost use Rattle.url.specs.Parts.{serialize};
 ghost use Rattle.serde_json.specs.Data.{Data};
 ghost use Rattle.serde_json.specs.Written.{compact_text, has_float};
+ghost use Rattle.oauth2_codes.specs.ErrorCodes.{error_code};
+ghost use Rattle.oauth2_codes.specs.ErrorResponse.{parts_of};
+ghost use Rattle.oauth2_urls.specs.Addressed.{Addressed};
+ghost use Rattle.oauth2_wire.specs.declared.content_type.ReplyRule.{ReplyRule};
+ghost use Rattle.oauth2_wire.specs.Expected.{Configuration};
+ghost use Rattle.oauth2_wire.specs.Once.{AsksOnce};
+ghost use Rattle.oauth2_wire.specs.Request.{IsRequestOf};
 ghost use Rattle.oauth2_request_commands.specs.Exchange.{cause_name, unread_line};
-ghost use Rattle.oauth2_request_commands.specs.Out.{success_output, failure_output, AddsOutput};
+ghost use Rattle.oauth2_request_commands.specs.Exchange.{token_answer, IsTokenShown};
+ghost use Rattle.oauth2_request_commands.specs.Out.{success_output, failure_output, AddsOutput, Adds};
 ghost use Rattle.oauth2_world.specs.Lines.{line};
+ghost use Rattle.oauth2_world.specs.Replay.{ReplaysOrStarves, client_replies};
+ghost use Rattle.oauth2_world.specs.declared.replay.ScriptedClient.{ScriptedClient};
 ghost use Rattle.oauth2_request_commands.specs.Faults.{configuration_output, fault_output};
-ghost use Rattle.oauth2_request_commands.specs.private.Results.{end_output};
+ghost use Rattle.oauth2_request_commands.specs.private.Results.{end_output, token_meaning};
 ghost use Rattle.oauth2_request_commands.specs.private.Results.{revocation_output};
 
 use crate::status::RunStatus;
-use oauth2::basic::{BasicErrorResponse, BasicRevocationErrorResponse};
+use oauth2::basic::{BasicErrorResponse, BasicRevocationErrorResponse, BasicTokenResponse};
 use oauth2::{
     ConfigurationError, ParseCause, ParseFault, RequestTokenError, ToJson, WriteError, compact,
 };
-use oauth2_world::{NoReply, print_answer, print_fault, quoted};
+use oauth2_world::{NoReply, ScriptedClient, print_answer, print_fault, quoted};
 use std::alloc::{AllocError, Global};
 use std::fmt::Display;
 
@@ -173,6 +184,23 @@ pub fn show_end<A: ToJson, T: Display>(
         Ok(answer) => show_answer(alloc, lines, answer),
         Err(fault) => show_fault(alloc, lines, fault),
     }
+}
+
+/// Adds the line of the result of a token request, which the client has sent.
+pub fn show_token(
+    alloc: Global,
+    http_client: &mut ScriptedClient,
+    end: &Result<BasicTokenResponse, Fault>,
+) -> Result<RunStatus, AllocError>
+    ensures { (before : ScriptedClient) (rule : ReplyRule) (c : Configuration)
+        (endpoint : Addressed)
+        → AsksOnce token_meaning (parts_of error_code) ReplaysOrStarves (token_answer rule)
+        (IsRequestOf c) (serialize endpoint.url) before end.now http_client.old
+        → IfOk result (λ status. http_client.new.is_starved ≡ false
+        → Adds (string_bytes before.lines) (string_bytes http_client.new.lines) status
+        (IsTokenShown rule c endpoint (client_replies before))) }
+{
+    show_end(alloc, &mut http_client.lines, end)
 }
 
 /// Adds the line of the result of a revocation: `answer ok null` for a success.

@@ -1,7 +1,7 @@
 //! The command `authorize`: the URL that the user is sent to.
 
 ghost use Rattle.std.specs.Prelude.{◌≡◌, ◌++◌, Some, codes, option_copied, unwrap_or, string_bytes};
-ghost use Rattle.std.specs.Prelude.{IfSome, IfNone, IsOkAnd, IsErrAnd, OnOk, IfOk};
+ghost use Rattle.std.specs.Prelude.{IfSome, IfNone, IsOkAnd, IsErrAnd, OnOk, IfOk, refl};
 ghost use Rattle.oauth2_wire.specs.ConfigurationError.{IsMissingUrl};
 ghost use Rattle.oauth2_wire.specs.Expected.{optional_pair};
 ghost use Rattle.oauth2_request_commands.specs.Authorize as spec;
@@ -23,23 +23,11 @@ use oauth2_world::{print_answer, quoted};
 use std::alloc::{AllocError, Global};
 
 impl<'a> Extensible<'a> for AuthorizationRequest<'a> {
-    ghost use Rattle.std.proofs.Common.{List, ◌++◌, ap, append-nil, append_assoc};
-    ghost use Rattle.oauth2_form.specs.Pairs.{Pair};
+    ghost with_params = { λ r f. record r { extra_params = f r.extra_params } };
 
-    ghost extended = { λ r added. record r { extra_params = r.extra_params ++ added } };
+    ghost laws = { λ r f g. (refl, refl) };
 
-    ghost none = { λ r.
-        ap (λ (pairs : List Pair). record r { extra_params = pairs })
-        (append-nil r.extra_params) };
-
-    ghost more = { λ r p q. ap (λ (pairs : List Pair). record r { extra_params = pairs })
-        (append_assoc r.extra_params p q) };
-
-    fn with_pair(
-        self,
-        name: &'a str,
-        value: &'a str,
-    ) -> Result<AuthorizationRequest<'a>, AllocError> {
+    fn with_pair(self, name: &'a str, value: &'a str) -> Result<Self, AllocError> {
         self.add_extra_param(ParamText::Borrowed(name), ParamText::Borrowed(value))
     }
 }

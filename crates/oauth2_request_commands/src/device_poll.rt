@@ -1,6 +1,6 @@
 //! The command `device_poll`: a device polls for its token until the user decides.
 
-ghost use Rattle.std.specs.Prelude.{◌≡◌, false, unwrap_or, option_map, string_bytes, IfOk};
+ghost use Rattle.std.specs.Prelude.{◌≡◌, false, unwrap_or, option_map, string_bytes, IfOk, refl};
 ghost use Rattle.std.specs.Duration.{as_nanos};
 ghost use Rattle.std.specs.Int.NonZero.{non_zero_u64_get};
 ghost use Rattle.oauth2_device.specs.Poll.{timeout_of};
@@ -28,22 +28,15 @@ type DeviceRequest<'a> = DeviceAccessTokenRequest<
 >;
 
 impl<'a> Extensible<'a> for DeviceRequest<'a> {
-    ghost use Rattle.std.proofs.Common.{ap};
-    ghost use Rattle.oauth2_requests.specs.Base.{Base};
-    ghost use Rattle.oauth2_request_commands.specs.private.Extra.{with_pairs, with_pairs-none};
-    ghost use Rattle.oauth2_request_commands.specs.private.Extra.{with_pairs-more};
+    ghost with_params = { λ r f. record r {
+      request = record r.request {
+        base = record r.request.base { extra_params = f r.request.base.extra_params };
+      };
+    } };
 
-    ghost extended = { λ r added.
-        record r { request = record r.request { base = with_pairs r.request.base added } } };
+    ghost laws = { λ r f g. (refl, refl) };
 
-    ghost none = { λ r.
-        ap (λ (b : Base). record r { request = record r.request { base = b } })
-        (with_pairs-none r.request.base) };
-
-    ghost more = { λ r p q. ap (λ (b : Base). record r { request = record r.request { base = b } })
-        (with_pairs-more r.request.base p q) };
-
-    fn with_pair(self, name: &'a str, value: &'a str) -> Result<DeviceRequest<'a>, AllocError> {
+    fn with_pair(self, name: &'a str, value: &'a str) -> Result<Self, AllocError> {
         self.add_extra_param(ParamText::Borrowed(name), ParamText::Borrowed(value))
     }
 }

@@ -1,6 +1,6 @@
 //! Requests that extra parameters can be added to.
 
-ghost use Rattle.std.specs.Prelude.{◌≡◌, map, IfOk};
+ghost use Rattle.std.specs.Prelude.{◌≡◌, ◌++◌, map, IfOk};
 ghost use Rattle.oauth2_wire.specs.ServerView.{pair_texts};
 
 use std::alloc::AllocError;
@@ -10,16 +10,16 @@ pub trait Extensible<'a>: Sized {
     ghost use Rattle.std.specs.Prelude.{◌≡◌, ◌++◌, ◌∷◌, [], List, IfOk};
     ghost use Rattle.oauth2_form.specs.Pairs.{Pair};
 
-    /// The request with these parameters added after its own.
-    ghost extended: { Self → List Pair → Self };
+    /// The request with its extra parameters changed by this function.
+    ghost with_params: { Self → (List Pair → List Pair) → Self };
 
     /// Adds one extra parameter after the others.
     fn with_pair(self, name: &'a str, value: &'a str) -> Result<Self, AllocError>
-        ensures { IfOk result (λ r. r ≡ extended self ((name.now, value.now) ∷ [])) };
+        ensures { IfOk result (λ r. r
+            ≡ with_params self (λ own. own ++ ((name.now, value.now) ∷ []))) };
 
-    ghost none: { (r : Self) → extended r [] ≡ r };
-
-    ghost more: { (r : Self) (p q : List Pair) → extended (extended r p) q ≡ extended r (p ++ q) };
+    ghost laws: { (r : Self) (f g : List Pair → List Pair) → (with_params r (λ own. own) ≡ r)
+        × (with_params (with_params r f) g ≡ with_params r (λ own. g (f own))) };
 }
 
 /// Adds each of these extra parameters, in order.
@@ -27,7 +27,8 @@ pub fn with_extra<'a, T: Extensible<'a> + Drop>(
     request: T,
     extra_params: &'a [(String, String)],
 ) -> Result<T, AllocError>
-    ensures { IfOk result (λ r. r ≡ T.extended request (map pair_texts extra_params.now)) }
+    ensures { IfOk result (λ r. r
+        ≡ T.with_params request (λ own. own ++ map pair_texts extra_params.now)) }
 {
     let mut request = request;
     for (name, value) in extra_params {

@@ -1,7 +1,6 @@
 //! The command `introspect`: the client asks the server whether a token is active.
 
-ghost use Rattle.std.specs.Prelude.{◌≡◌, false, option_map, string_bytes, IfOk};
-ghost use Rattle.oauth2_requests.specs.TokenIntrospection.{introspection_configuration};
+ghost use Rattle.std.specs.Prelude.{◌≡◌, false, option_map, string_bytes, IfOk, refl};
 ghost use Rattle.oauth2_request_commands.specs.Client.{given_or};
 ghost use Rattle.oauth2_request_commands.specs.Introspect as spec;
 ghost use Rattle.oauth2_request_commands.specs.Out.{Adds};
@@ -25,19 +24,13 @@ type Introspection<'a> = IntrospectionRequest<
 >;
 
 impl<'a> Extensible<'a> for Introspection<'a> {
-    ghost use Rattle.std.proofs.Common.{ap};
-    ghost use Rattle.oauth2_requests.specs.Base.{Base};
-    ghost use Rattle.oauth2_request_commands.specs.private.Extra.{with_pairs, with_pairs-none};
-    ghost use Rattle.oauth2_request_commands.specs.private.Extra.{with_pairs-more};
+    ghost with_params = { λ r f. record r {
+      base = record r.base { extra_params = f r.base.extra_params };
+    } };
 
-    ghost extended = { λ r added. record r { base = with_pairs r.base added } };
+    ghost laws = { λ r f g. (refl, refl) };
 
-    ghost none = { λ r. ap (λ (b : Base). record r { base = b }) (with_pairs-none r.base) };
-
-    ghost more = { λ r p q.
-        ap (λ (b : Base). record r { base = b }) (with_pairs-more r.base p q) };
-
-    fn with_pair(self, name: &'a str, value: &'a str) -> Result<Introspection<'a>, AllocError> {
+    fn with_pair(self, name: &'a str, value: &'a str) -> Result<Self, AllocError> {
         self.add_extra_param(ParamText::Borrowed(name), ParamText::Borrowed(value))
     }
 }
@@ -51,22 +44,6 @@ fn with_hint<'a>(request: Introspection<'a>, hint: Option<String>) -> Introspect
         Some(hint) => request.set_token_type_hint(ParamText::Owned(hint)),
         None => request,
     }
-}
-
-// Sends the request, and shows it and its result.
-fn ask(
-    alloc: Global,
-    request: Introspection<'_>,
-    http_client: &mut ScriptedClient,
-) -> Result<RunStatus, AllocError>
-    ensures { IfOk result (λ status. http_client.new.is_starved ≡ false
-        → Adds (string_bytes http_client.old.lines) (string_bytes http_client.new.lines) status
-        (spec.IsIntrospected request.entry.base.reply_rule
-        (introspection_configuration request.entry)
-        request.entry.introspection_url (client_replies http_client.old))) }
-{
-    let end = request.request(alloc, http_client);
-    show_end(alloc, &mut http_client.lines, &end)
 }
 
 /// Asks whether a token is active, and shows the request and its result (RFC 7662, section 2.1).
@@ -86,7 +63,8 @@ pub fn run_introspect(
         Ok(request) => {
             let hinted = with_hint(request, params.hint);
             let asked = with_extra(hinted, params.extra_params.as_slice())?;
-            ask(alloc, asked, http_client)
+            let end = asked.request(alloc, http_client);
+            show_end(alloc, &mut http_client.lines, &end)
         }
         Err(error) => show_configuration_error(alloc, &mut http_client.lines, &error),
     }

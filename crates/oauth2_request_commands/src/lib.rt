@@ -19,7 +19,6 @@ mod password;
 mod refresh;
 mod revoke;
 mod status;
-mod token_request;
 
 pub use answer::{show_answer, show_configuration_error, show_error_text, show_fault};
 pub use authorize::run_authorize;

@@ -1,16 +1,15 @@
 //! The command `refresh`: a refresh token is exchanged for a token.
 
-ghost use Rattle.std.specs.Prelude.{◌≡◌, false, string_bytes, IfOk};
+ghost use Rattle.std.specs.Prelude.{◌≡◌, false, string_bytes, IfOk, refl};
 ghost use Rattle.oauth2_request_commands.specs.Refresh as spec;
 ghost use Rattle.oauth2_request_commands.specs.Out.{Adds};
 ghost use Rattle.oauth2_world.specs.Replay.{client_replies};
 ghost use Rattle.oauth2_script.specs.Views.{refresh_view};
 
-use crate::answer::{Fault, show_configuration_error};
+use crate::answer::{show_configuration_error, show_token};
 use crate::client::ScriptClient;
 use crate::extra::{Extensible, with_extra};
 use crate::status::RunStatus;
-use crate::token_request::{TokenRequest, exchange};
 use oauth2::basic::{BasicErrorResponse, BasicTokenResponse};
 use oauth2::{ParamText, RefreshTokenRequest};
 use oauth2_script::RefreshParams;
@@ -20,38 +19,14 @@ use std::alloc::{AllocError, Global};
 type RefreshRequest<'a> = RefreshTokenRequest<'a, BasicErrorResponse, BasicTokenResponse>;
 
 impl<'a> Extensible<'a> for RefreshRequest<'a> {
-    ghost use Rattle.std.proofs.Common.{ap};
-    ghost use Rattle.oauth2_requests.specs.Base.{Base};
-    ghost use Rattle.oauth2_request_commands.specs.private.Extra.{with_pairs, with_pairs-none};
-    ghost use Rattle.oauth2_request_commands.specs.private.Extra.{with_pairs-more};
+    ghost with_params = { λ r f. record r {
+      base = record r.base { extra_params = f r.base.extra_params };
+    } };
 
-    ghost extended = { λ r added. record r { base = with_pairs r.base added } };
+    ghost laws = { λ r f g. (refl, refl) };
 
-    ghost none = { λ r. ap (λ (b : Base). record r { base = b }) (with_pairs-none r.base) };
-
-    ghost more = { λ r p q.
-        ap (λ (b : Base). record r { base = b }) (with_pairs-more r.base p q) };
-
-    fn with_pair(self, name: &'a str, value: &'a str) -> Result<RefreshRequest<'a>, AllocError> {
+    fn with_pair(self, name: &'a str, value: &'a str) -> Result<Self, AllocError> {
         self.add_extra_param(ParamText::Borrowed(name), ParamText::Borrowed(value))
-    }
-}
-
-impl TokenRequest for RefreshRequest<'_> {
-    ghost use Rattle.oauth2_requests.specs.Refresh.{refresh_configuration};
-
-    ghost reply_rule = { λ r. r.base.reply_rule };
-
-    ghost configuration = { refresh_configuration };
-
-    ghost endpoint = { λ r. r.token_url };
-
-    fn send(
-        self,
-        alloc: Global,
-        http_client: &mut ScriptedClient,
-    ) -> Result<BasicTokenResponse, Fault> {
-        self.request(alloc, http_client)
     }
 }
 
@@ -71,7 +46,8 @@ pub fn run_refresh(
         Ok(request) => {
             let scoped = request.add_scopes(params.scopes)?;
             let asked = with_extra(scoped, params.extra_params.as_slice())?;
-            exchange(alloc, asked, http_client)
+            let end = asked.request(alloc, http_client);
+            show_token(alloc, http_client, &end)
         }
         Err(error) => show_configuration_error(alloc, &mut http_client.lines, &error),
     }

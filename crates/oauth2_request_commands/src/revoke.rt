@@ -1,8 +1,7 @@
 //! The command `revoke`: a token is revoked.
 
-ghost use Rattle.std.specs.Prelude.{◌≡◌, false, string_bytes, IfOk};
+ghost use Rattle.std.specs.Prelude.{◌≡◌, false, string_bytes, IfOk, refl};
 ghost use Rattle.oauth2_replies.specs.Revocable.{hint_of, secret_of};
-ghost use Rattle.oauth2_requests.specs.TokenRevocation.{revocation_configuration};
 ghost use Rattle.oauth2_request_commands.specs.Revoke as spec;
 ghost use Rattle.oauth2_request_commands.specs.Out.{Adds};
 ghost use Rattle.oauth2_world.specs.Replay.{client_replies};
@@ -21,19 +20,13 @@ use std::alloc::{AllocError, Global};
 type Revocation<'a> = RevocationRequest<'a, StandardRevocableToken, BasicRevocationErrorResponse>;
 
 impl<'a> Extensible<'a> for Revocation<'a> {
-    ghost use Rattle.std.proofs.Common.{ap};
-    ghost use Rattle.oauth2_requests.specs.Base.{Base};
-    ghost use Rattle.oauth2_request_commands.specs.private.Extra.{with_pairs, with_pairs-none};
-    ghost use Rattle.oauth2_request_commands.specs.private.Extra.{with_pairs-more};
+    ghost with_params = { λ r f. record r {
+      base = record r.base { extra_params = f r.base.extra_params };
+    } };
 
-    ghost extended = { λ r added. record r { base = with_pairs r.base added } };
+    ghost laws = { λ r f g. (refl, refl) };
 
-    ghost none = { λ r. ap (λ (b : Base). record r { base = b }) (with_pairs-none r.base) };
-
-    ghost more = { λ r p q.
-        ap (λ (b : Base). record r { base = b }) (with_pairs-more r.base p q) };
-
-    fn with_pair(self, name: &'a str, value: &'a str) -> Result<Revocation<'a>, AllocError> {
+    fn with_pair(self, name: &'a str, value: &'a str) -> Result<Self, AllocError> {
         self.add_extra_param(ParamText::Borrowed(name), ParamText::Borrowed(value))
     }
 }
@@ -46,21 +39,6 @@ fn token_of(text: String, kind: TokenKind) -> StandardRevocableToken
         TokenKind::Access => StandardRevocableToken::AccessToken(AccessToken::new(text)),
         TokenKind::Refresh => StandardRevocableToken::RefreshToken(RefreshToken::new(text)),
     }
-}
-
-// Sends the request, and shows it and its result.
-fn ask(
-    alloc: Global,
-    request: Revocation<'_>,
-    http_client: &mut ScriptedClient,
-) -> Result<RunStatus, AllocError>
-    ensures { IfOk result (λ status. http_client.new.is_starved ≡ false
-        → Adds (string_bytes http_client.old.lines) (string_bytes http_client.new.lines) status
-        (spec.IsRevoked (revocation_configuration request.entry) request.entry.revocation_url
-        (client_replies http_client.old))) }
-{
-    let end = request.request(alloc, http_client);
-    show_revocation(alloc, &mut http_client.lines, &end)
 }
 
 /// Revokes a token, and shows the request and its result (RFC 7009, section 2.1).
@@ -77,7 +55,8 @@ pub fn run_revoke(
     match client.revoke_token(alloc, token_of(params.token, params.kind)) {
         Ok(request) => {
             let asked = with_extra(request, params.extra_params.as_slice())?;
-            ask(alloc, asked, http_client)
+            let end = asked.request(alloc, http_client);
+            show_revocation(alloc, &mut http_client.lines, &end)
         }
         Err(error) => show_configuration_error(alloc, &mut http_client.lines, &error),
     }

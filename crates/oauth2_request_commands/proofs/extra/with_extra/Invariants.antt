@@ -1,6 +1,6 @@
-use Rattle.std.proofs.Common.{◌≡◌, map, take}
+use Rattle.std.proofs.Common.{◌≡◌, ◌++◌, map, take}
 use Rattle.oauth2_wire.specs.ServerView.{pair_texts}
 use Rattle.oauth2_request_commands.proofs.extra.with_extra.Given as goal
 
 abbrev pub invariant-loop-name : goal.invariant-loop-name
-invariant-loop-name g l = l.request ≡ g.T.Extensible.extended l.initial.request (map pair_texts (take l.name-index l.extra_params))
+invariant-loop-name g l = l.request ≡ g.T.Extensible.with_params l.initial.request (λ own. own ++ map pair_texts (take l.name-index l.extra_params))

@@ -6,17 +6,18 @@ use Rattle.oauth2_request_commands.specs.Exchange.{token_answer, token_json, err
 use Rattle.oauth2_request_commands.specs.private.Results.{token_meaning}
 use Rattle.oauth2_request_commands.proofs.Exchanges.{exchange_told}
 use Rattle.oauth2_request_commands.proofs.Results.{token_free, token_written-data, error_told}
-use Rattle.oauth2_request_commands.proofs.token_request.exchange.Goals as goal
+use Rattle.oauth2_request_commands.proofs.answer.show_token.Goals as goal
 
 pub show_end-requires : goal.show_end-requires
-show_end-requires g c = token_free
+show_end-requires c = token_free
 
 pub returns : goal.returns
 unfolding token_json
-returns g c =
+returns c = λ before rule configuration endpoint once.
     IfOk-weaker c.show_end.result _ _
     (λ status shows. λ fed.
-    exchange_told token_meaning (parts_of error_code) token_json (error_display error_code_text) (token_answer (g.T.TokenRequest.reply_rule c.args.request))
-    (g.T.TokenRequest.configuration c.args.request) (g.T.TokenRequest.endpoint c.args.request) c.args.http_client.now c.send-end.new.http_client
-    (string_bytes c.show_end.new.lines) status c.send-end.result c.send-end.ensures fed (shows _ token_written-data _ error_told))
+    exchange_told token_meaning (parts_of error_code) token_json (error_display error_code_text)
+    (token_answer rule) configuration endpoint before c.args.http_client.now
+    (string_bytes c.show_end.new.lines) status c.args.end.now once fed
+    (shows _ token_written-data _ error_told))
     c.show_end.ensures
