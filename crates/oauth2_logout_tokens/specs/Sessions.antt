@@ -1,0 +1,19 @@
+-- Which sessions a logout token ends (OpenID Connect Back-Channel Logout 1.0, 2.4 and 2.7).
+use Rattle.std.specs.Prelude.{ℕ, List, Bool, true, false, ◌&&◌, ◌||◌, Option, Some, None, is_some, bytes_eq}
+use Rattle.oauth2_logout_tokens.specs.LogoutToken.{LogoutClaims}
+
+-- whether a claim of the token agrees with what the session has, byte for byte; a claim that the
+-- token lacks agrees, and one that the session lacks does not
+abbrev pub agrees : Option (List ℕ) → Option (List ℕ) → Bool
+agrees None known = true
+agrees (Some told) None = false
+agrees (Some told) (Some known) = bytes_eq told known
+
+-- 2.4 and 2.7: whether the token ends a session of its issuer with this `sub` and this `sid`: each
+-- of the two claims that the token has is the session's. A token without `sid` ends all sessions of
+-- its `sub`.
+abbrev pub is_of : LogoutClaims → List ℕ → Option (List ℕ) → Bool
+is_of claims subject session_id =
+    (is_some claims.subject || is_some claims.session_id)
+    && agrees claims.subject (Some subject)
+    && agrees claims.session_id session_id

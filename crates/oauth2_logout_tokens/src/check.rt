@@ -1,0 +1,317 @@
+//! The rules for a logout token at a client (OpenID Connect Back-Channel Logout 1.0, 2.6).
+
+ghost use Rattle.std.specs.Prelude.{
+  ◌≡◌,
+  ◌↔◌,
+  ◌∷◌,
+  IfErr,
+  IsOk,
+  map,
+  option_map,
+  string_bytes,
+};
+ghost use Rattle.serde_json.specs.View.{view};
+ghost use Rattle.oauth2_keys.specs.Verified.{IsRefusal, IsVerified};
+ghost use Rattle.oauth2_openid.specs.Rules.{are_among, is_among};
+ghost use Rattle.oauth2_logout_tokens.specs.LogoutToken.{as_id_token};
+ghost use Rattle.oauth2_logout_tokens.specs.Rules.{
+  IsFirstFault,
+  IsSignatureFault,
+  LogoutTokenHolds,
+  algorithm_rule,
+  audience_rule,
+  claims_checked,
+  critical_rule,
+  event_rule,
+  expiry_rule,
+  header_checked,
+  issued_rule,
+  issuer_rule,
+  logout_checked,
+  logout_token_checked,
+  nonce_rule,
+  session_rule,
+  told_event,
+  trust_rule,
+  type_rule,
+};
+ghost use Rattle.oauth2_logout_tokens.specs.Seen.{logout_token_of};
+
+use crate::expected::ExpectedLogoutToken;
+use crate::fault::LogoutTokenFault;
+use crate::logout_token::LogoutToken;
+use jiff::Timestamp;
+use oauth2_keys::{JsonWebKeySet, SignatureAlgorithm, SignatureError};
+use oauth2_times::nanosecond_after;
+use serde_json::Value;
+use std::ops::Deref;
+use std::time::Duration;
+
+impl LogoutToken {
+    /// Checks each rule for the token at the moment `now`, for a client that expects this and has
+    /// these keys of the issuer. The error is the first broken rule, in the order of
+    /// `LogoutTokenFault`. It allocates nothing.
+    pub fn check(
+        &self,
+        expected: &ExpectedLogoutToken,
+        keys: &JsonWebKeySet,
+        now: Timestamp,
+    ) -> Result<(), LogoutTokenFault>
+        ensures succeeds { IsOk result
+            ↔ LogoutTokenHolds expected.now keys.now now.nanosecond (logout_token_of self.now) }
+        ensures refused { IfErr result
+            (IsFirstFault expected.now keys.now now.nanosecond (logout_token_of self.now)) }
+    {
+        match self.first_broken(expected, now) {
+            Ok(()) => self.check_signature(expected, keys),
+            Err(fault) => Err(fault),
+        }
+    }
+
+    // Checks each rule except that of the signature. The error is the first broken rule.
+    fn first_broken(
+        &self,
+        expected: &ExpectedLogoutToken,
+        now: Timestamp,
+    ) -> Result<(), LogoutTokenFault>
+        ensures { result
+            ≡ logout_token_checked expected.now now.nanosecond (logout_token_of self.now) }
+    {
+        self.check_header(expected)?;
+        self.check_claims(expected, now)?;
+        self.check_logout()
+    }
+
+    fn check_header(&self, expected: &ExpectedLogoutToken) -> Result<(), LogoutTokenFault>
+        ensures { result ≡ header_checked expected.now (logout_token_of self.now) }
+    {
+        self.check_type(expected)?;
+        self.check_algorithm(expected)?;
+        self.check_critical()
+    }
+
+    fn check_claims(
+        &self,
+        expected: &ExpectedLogoutToken,
+        now: Timestamp,
+    ) -> Result<(), LogoutTokenFault>
+        ensures { result ≡ claims_checked expected.now now.nanosecond (logout_token_of self.now) }
+    {
+        self.check_issuer(expected)?;
+        self.check_audience(expected)?;
+        self.check_trust(expected)?;
+        self.check_expiry(expected, now)?;
+        self.check_issued(expected, now)
+    }
+
+    fn check_logout(&self) -> Result<(), LogoutTokenFault>
+        ensures { result ≡ logout_checked (logout_token_of self.now) }
+    {
+        self.check_session()?;
+        self.check_event()?;
+        self.check_nonce()
+    }
+
+    fn check_type(&self, expected: &ExpectedLogoutToken) -> Result<(), LogoutTokenFault>
+        ensures { result ≡ type_rule expected.now (logout_token_of self.now) }
+    {
+        let token_type = self.other_header_members().get("typ");
+        if expected.type_rule.takes(token_type) {
+            Ok(())
+        } else {
+            Err(LogoutTokenFault::OtherType)
+        }
+    }
+
+    fn check_algorithm(&self, expected: &ExpectedLogoutToken) -> Result<(), LogoutTokenFault>
+        ensures { result ≡ algorithm_rule expected.now (logout_token_of self.now) }
+    {
+        if self.algorithm() == expected.algorithm.name() {
+            Ok(())
+        } else {
+            Err(LogoutTokenFault::OtherAlgorithm)
+        }
+    }
+
+    fn check_critical(&self) -> Result<(), LogoutTokenFault>
+        ensures { result ≡ critical_rule (logout_token_of self.now) }
+    {
+        if self.other_header_members().get("crit").is_none() {
+            Ok(())
+        } else {
+            Err(LogoutTokenFault::CriticalExtension)
+        }
+    }
+
+    fn check_issuer(&self, expected: &ExpectedLogoutToken) -> Result<(), LogoutTokenFault>
+        ensures { result ≡ issuer_rule expected.now (logout_token_of self.now) }
+    {
+        if self.issuer() == expected.issuer.as_str() {
+            Ok(())
+        } else {
+            Err(LogoutTokenFault::OtherIssuer)
+        }
+    }
+
+    fn check_audience(&self, expected: &ExpectedLogoutToken) -> Result<(), LogoutTokenFault>
+        ensures { result ≡ audience_rule expected.now (logout_token_of self.now) }
+    {
+        if is_among(self.audience(), expected.client_id.deref().as_str()) {
+            Ok(())
+        } else {
+            Err(LogoutTokenFault::OtherAudience)
+        }
+    }
+
+    fn check_trust(&self, expected: &ExpectedLogoutToken) -> Result<(), LogoutTokenFault>
+        ensures { result ≡ trust_rule expected.now (logout_token_of self.now) }
+    {
+        let client = expected.client_id.deref().as_str();
+        if are_known(self.audience(), client, expected.other_audiences.as_slice()) {
+            Ok(())
+        } else {
+            Err(LogoutTokenFault::UntrustedAudience)
+        }
+    }
+
+    fn check_expiry(
+        &self,
+        expected: &ExpectedLogoutToken,
+        now: Timestamp,
+    ) -> Result<(), LogoutTokenFault>
+        ensures { result ≡ expiry_rule expected.now now.nanosecond (logout_token_of self.now) }
+    {
+        if now.as_nanosecond() < nanosecond_after(self.expires_at(), expected.leeway) {
+            Ok(())
+        } else {
+            Err(LogoutTokenFault::Expired)
+        }
+    }
+
+    fn check_issued(
+        &self,
+        expected: &ExpectedLogoutToken,
+        now: Timestamp,
+    ) -> Result<(), LogoutTokenFault>
+        ensures { result ≡ issued_rule expected.now now.nanosecond (logout_token_of self.now) }
+    {
+        if self.issued_at().as_nanosecond() <= nanosecond_after(now, expected.leeway) {
+            Ok(())
+        } else {
+            Err(LogoutTokenFault::IssuedLater)
+        }
+    }
+
+    fn check_session(&self) -> Result<(), LogoutTokenFault>
+        ensures { result ≡ session_rule (logout_token_of self.now) }
+    {
+        if self.subject().is_some() || self.session_id().is_some() {
+            Ok(())
+        } else {
+            Err(LogoutTokenFault::NoSession)
+        }
+    }
+
+    // What the claim `events` tells of the logout.
+    fn told_event(&self) -> Option<&Value>
+        ensures { option_map (λ v. view v.now) result
+            ≡ told_event (logout_token_of self.now).claims.others }
+    {
+        match self.other_claims().get("events") {
+            Some(events) => events.get("http://schemas.openid.net/event/backchannel-logout"),
+            None => None,
+        }
+    }
+
+    fn check_event(&self) -> Result<(), LogoutTokenFault>
+        ensures { result ≡ event_rule (logout_token_of self.now) }
+    {
+        match self.told_event() {
+            Some(event) => if event.is_object() {
+                Ok(())
+            } else {
+                Err(LogoutTokenFault::NoLogoutEvent)
+            },
+            None => Err(LogoutTokenFault::NoLogoutEvent),
+        }
+    }
+
+    fn check_nonce(&self) -> Result<(), LogoutTokenFault>
+        ensures { result ≡ nonce_rule (logout_token_of self.now) }
+    {
+        if self.other_claims().get("nonce").is_none() {
+            Ok(())
+        } else {
+            Err(LogoutTokenFault::HasNonce)
+        }
+    }
+
+    fn check_signature(
+        &self,
+        expected: &ExpectedLogoutToken,
+        keys: &JsonWebKeySet,
+    ) -> Result<(), LogoutTokenFault>
+        ensures verified { IsOk result ↔ IsVerified keys.now expected.now.algorithm
+            (as_id_token (logout_token_of self.now)) }
+        ensures refused { IfErr result (IsSignatureFault keys.now expected.now.algorithm
+            (as_id_token (logout_token_of self.now))) }
+    {
+        match self.verify(keys, expected.algorithm) {
+            Ok(()) => Ok(()),
+            Err(error) => Err(LogoutTokenFault::Signature(error)),
+        }
+    }
+
+    // Whether the token has this algorithm, and is signed by the key that is chosen for it.
+    fn verify(
+        &self,
+        keys: &JsonWebKeySet,
+        algorithm: SignatureAlgorithm,
+    ) -> Result<(), SignatureError>
+        ensures verified { IsOk result
+            ↔ IsVerified keys.now algorithm (as_id_token (logout_token_of self.now)) }
+        ensures refused { IfErr result
+            (IsRefusal keys.now algorithm (as_id_token (logout_token_of self.now))) }
+    {
+        if self.algorithm() != algorithm.name() {
+            return Err(SignatureError::OtherAlgorithm);
+        }
+        let key = keys.chosen_key(algorithm, self.key_id())?;
+        if key.verify(algorithm, self.signed_part().as_bytes(), self.signature()) {
+            Ok(())
+        } else {
+            Err(SignatureError::WrongSignature)
+        }
+    }
+}
+
+fn is_among(texts: &[String], text: &str) -> bool
+    ensures { result ≡ is_among text.now (map string_bytes texts.now) }
+{
+    for each in texts {
+        if each.as_str() == text {
+            return true;
+        }
+    }
+    false
+}
+
+// Whether each of the texts is the first, or one of the others.
+fn are_known(texts: &[String], first: &str, others: &[String]) -> bool
+    ensures { result ≡ are_among (map string_bytes texts.now)
+        (first.now ∷ map string_bytes others.now) }
+{
+    for each in texts {
+        if !is_known(each.as_str(), first, others) {
+            return false;
+        }
+    }
+    true
+}
+
+// Whether a text is the first, or one of the others.
+fn is_known(text: &str, first: &str, others: &[String]) -> bool
+    ensures { result ≡ is_among text.now (first.now ∷ map string_bytes others.now) }
+{
+    first == text || is_among(others, text)
+}

@@ -1,0 +1,21 @@
+//! Logout tokens (OpenID Connect Back-Channel Logout 1.0) at a client: reading them, and checking
+//! them.
+
+#![tactic(auto)]
+
+mod check;
+mod claims;
+mod compact;
+mod expected;
+mod fault;
+mod header;
+mod logout_token;
+mod time;
+mod type_rule;
+mod verified;
+
+pub use expected::ExpectedLogoutToken;
+pub use fault::LogoutTokenFault;
+pub use logout_token::{LogoutToken, LogoutTokenReadError};
+pub use type_rule::TypeRule;
+pub use verified::{RefusedLogoutToken, VerifiedLogoutToken};
