@@ -28,18 +28,20 @@ def at(seconds, nanoseconds=0):
     return seconds * SECOND + nanoseconds
 
 
-# The replies: RFC 6749, 5.1, 4.4.3 and 5.2, and an error without a body.
+# The replies: RFC 6749, 5.1, 4.4.3 and 5.2, and an error without a body; and busy servers, with the Retry-After of RFC 9110, 10.2.3, and
+# RFC 6585, 4.
 TOKEN = (200, {'access_token': '2YotnFZFEjr1zCsicMWpAA', 'token_type': 'example', 'expires_in': 3600, 'example_parameter': 'example_value'})
 TOKENS = (200, {**TOKEN[1], 'refresh_token': 'tGzv3JOkF0XG5Qx2TlKWIA'})
 REFUSED = (400, {'error': 'invalid_request'})
 EMPTY = (500, None)
+BUSY, TOO_MANY, BUSY_TO_A_DATE = (503, '120'), (429, '3600'), (503, 'Fri, 31 Dec 1999 23:59:59 GMT')
 STORED = ('abc', at(100, 5), at(10, 1), 'tGzv3JOkF0XG5Qx2TlKWIA')
 LATE = ('abc', at(253402207100), at(200), None)
 AUDIENCE = ('audience', 'https://api.example.com/')
 ID, URL = 's6BhdRkqt3', 'https://server.example.com/token'
 # What a row has in place of these: what its keeper starts from and forgets of that, the scopes of client credentials and of a refresh, extra parameters, the
-# margin, the wait, whether the token is used to its end, the calls, and a moment at which the token is read.
-USUAL = dict(start=None, forgotten=None, scopes=[], refresh_scopes=[], extra=[], margin=at(10), wait=at(30), until_end=False, calls=[], last=0)
+# margin, the wait, the greatest that a server may ask for, whether the token is used to its end, the calls, and a moment at which the token is read.
+USUAL = dict(start=None, forgotten=None, scopes=[], refresh_scopes=[], extra=[], margin=at(10), wait=at(30), most_wait=0, until_end=False, calls=[], last=0)
 ROWS = {
     'scopes': dict(start=STORED, scopes=['read', 'write', 'admin'], refresh_scopes=['read', 'write'], extra=[AUDIENCE, ('resource', 'a b')],
                    calls=[(at(100, 5), TOKENS), (at(101), TOKENS), (at(3691), TOKEN)], last=at(3691)),
@@ -62,7 +64,13 @@ ROWS = {
                                                       (at(30), TOKEN)], last=at(30)),
     'waits_with_the_token': dict(until_end=True, last=at(3621), calls=[(0, TOKEN), (at(3591), REFUSED), (at(3600), TOKEN),
                                                                        (at(3600, 1), TOKEN), (at(3621), TOKEN)]),
-    'waits_past_the_end': dict(wait=MOST_SPAN, calls=[(0, REFUSED), (at(1), TOKEN)])}
+    'waits_past_the_end': dict(wait=MOST_SPAN, calls=[(0, REFUSED), (at(1), TOKEN)]),
+    'waits_as_the_server_asks': dict(most_wait=at(300), last=at(450), calls=[
+        (0, TOO_MANY), (at(299, 999999999), TOKEN), (at(300), BUSY_TO_A_DATE), (at(329, 999999999), TOKEN), (at(330), BUSY),
+        (at(449, 999999999), TOKEN), (at(450), TOKEN)]),
+    'waits_longer_than_the_server_asks': dict(wait=at(120, 1), most_wait=at(300), last=at(121),
+                                              calls=[(0, BUSY), (at(120), TOKEN), (at(120, 1), TOKEN)]),
+    'waits_no_longer_unasked': dict(last=at(30), calls=[(0, BUSY), (at(30), TOKEN)])}
 # The stored tokens that are only read and written; of which client and endpoint they are is not stored.
 TEXTS = {'stored_before_1970': ('abc', at(-377705023201, 1), MOST_SPAN, None, None, None),
          'stored_past_the_end': ('abc', at(253402207200, SECOND), 0, 'def', None, None)}
@@ -96,7 +104,7 @@ class Keeper:
         self.token, self.accepted_at, self.lifetime, self.refresh_token = row['start'] or (None, None, None, None)
         if row['forgotten']:
             setattr(self, row['forgotten'], None)
-        self.failed_at = None
+        self.failed_at, self.wait = None, row['wait']
 
     def lasts(self, now, margin):
         return self.token is not None and now + margin <= self.accepted_at + self.lifetime
@@ -113,23 +121,27 @@ class Keeper:
         """The lines of a call, by the table of `keeper`; `reply` is None for a client that fails."""
         if self.lasts(now, self.row['margin']):
             return ['token ' + self.token]
-        if self.failed_at is not None and now < min(self.failed_at, now) + self.row['wait']:
+        if self.failed_at is not None and now < min(self.failed_at, now) + self.wait:
             self.failed_at = min(self.failed_at, now)
             if self.row['until_end'] and self.lasts(now, 0):
                 return ['token ' + self.token]
-            return ['error The last request failed, and none is made yet', shown('waits until', self.failed_at + self.row['wait'])]
-        return ['body ' + self.body(), self.answer(now, *reply or (0, None))]
+            return ['error The last request failed, and none is made yet', shown('waits until', self.failed_at + self.wait)]
+        return ['body ' + self.body(), *self.answer(now, *reply or (0, None))]
 
     def answer(self, now, status, told):
         if status != 200:
-            self.failed_at = now
+            self.failed_at, self.wait = now, self.row['wait']
+            if status in (429, 503):
+                seconds = int(told) if told.isdigit() else None
+                self.wait = max(self.wait, min(self.row['most_wait'], at(seconds or 0)))
+                return ['error Request failed', 'status %d' % status, 'asks to wait ' + ('none' if seconds is None else '%d 0' % seconds)]
             if told:
-                return 'error Server returned error response: ' + told['error']
-            return 'error Other error: server returned empty error response' if status else 'error Request failed'
+                return ['error Server returned error response: ' + told['error']]
+            return ['error Other error: server returned empty error response' if status else 'error Request failed']
         self.token, self.accepted_at, self.failed_at = told['access_token'], now, None
         self.lifetime = at(told['expires_in']) if 'expires_in' in told else LIFE
         self.refresh_token = told.get('refresh_token', self.refresh_token)
-        return 'token ' + self.token
+        return ['token ' + self.token]
 
     def kept(self):
         """What it keeps, and how it is stored."""

@@ -23,7 +23,7 @@ use Rattle.oauth2_wire.specs.Request.{HttpRequest, RequestView, IsRequestOf, vie
 use Rattle.oauth2_wire.specs.declared.error.RequestTokenError.TheVariants.{ServerResponse, Request, Parse, Other, Memory}
 use Rattle.oauth2_wire.specs.declared.request.RequestFault.TheVariants as fault
 use Rattle.oauth2_keeper.specs.Keeper.{Keeper, AcceptedToken, quiet, accepted, failed, is_good, accept, renewal, KeeperCalls}
-use Rattle.oauth2_keeper.specs.Patience.{Patient, counts, waits_from, is_waiting_for, is_held_back, held_back, lasts, called, failed_call, IsUntil, PatientCalls}
+use Rattle.oauth2_keeper.specs.Patience.{Patient, counts, waits_from, is_waiting_for, is_held_back, held_back, lasts, called, failed_call, IsUntil, PatientCalls, wait_asked_by, wait_in_force}
 use Rattle.oauth2_keeper.specs.declared.patient_keeper.PatientError.{PatientError}
 use Rattle.oauth2_keeper.specs.declared.patient_keeper.PatientError.TheVariants as patient_error
 use Rattle.oauth2_keeper.proofs.SentFaults.{of_reply, shown as shown_counts, not_http_counts}
@@ -35,7 +35,7 @@ use Rattle.oauth2_request_commands.specs.Exchange.{BasicToken, other_text, token
 use Rattle.oauth2_commands.specs.Keeper.{Standing, is_early, end_at, end_text, waiting, IsCall, IsRenewal, IsSentAt, AreCalls, IsKeeperOutput, kept_after_reply, renewal_output, both, both_outputs, nothing}
 use Rattle.oauth2_world.specs.Lines.{expected_lines, quotation}
 use Rattle.oauth2_request_commands.specs.Out.{Output, after, success_output, failure_output as shown_fault, no_memory_output, Adds, AddsOutput}
-use Rattle.oauth2_commands.specs.private.Kept.{standing, end_of_wait, patient_standing, wait_after, told_by, AreKept, ShowsCall, ShowsError}
+use Rattle.oauth2_commands.specs.private.Kept.{standing, end_of_wait, patient_standing, wait_after, told_by, AreKept, ShowsCall, ShowsError, WaitsEachTime}
 use Rattle.oauth2_world.specs.Replay.{Replays, ReplaysOrStarves, client_replies}
 use Rattle.oauth2_request_commands.specs.Faults.{fault_output}
 use Rattle.oauth2_request_commands.specs.private.Results.{ShownFault, ErrorResponse, TokenSeen, token_meaning, error_seen}
@@ -316,35 +316,74 @@ end_of_if : (wait : ℕ) (b : Bool) (x y : Option ℤ) → end_of_wait wait (if 
 end_of_if wait true x y = refl
 end_of_if wait false x y = refl
 
-module _ (patient : Patient) (now : ℤ) (before mid : ScriptedClient) (lines : List ℕ) (s : RunStatus) (fed : mid.is_starved ≡ false) (hands_out_none : patient.until_end ≡ false) where
+-- the client of a script never says that the server asks for a wait
+abbrev pub asks_none : NoReply → Option ℕ
+asks_none error = None
+
+no_wait_asked : (error : ShownFault) → wait_asked_by asks_none error ≡ None
+no_wait_asked (ServerResponse e) = refl
+no_wait_asked (Request e) = refl
+no_wait_asked (Parse f body) = refl
+no_wait_asked (Other given) = refl
+no_wait_asked (Memory sent) = refl
+
+same_if : (b : Bool) {x y : ℕ} → x ≡ y → (if b then x else y) ≡ y
+same_if true e = e
+same_if false e = refl
+
+-- after a request that failed it waits as long as before
+waits_again : (patient : Patient) (now : ℤ) (error : ShownFault) → patient.least_wait ≡ patient.wait
+    → failed_call asks_none patient now error ≡ record patient { failed_at = if counts error then Some now else patient.failed_at }
+waits_again patient now error steady =
+    ap (λ (w : ℕ). record patient { wait = w; failed_at = if counts error then Some now else patient.failed_at })
+    (same_if (counts error) (ap (wait_in_force patient.least_wait patient.most_asked_wait) (no_wait_asked error) ∙ steady))
+
+-- each call leaves it waiting for as long
+pub still_waits : (patient kept : Patient) (now : ℤ) (before mid : ScriptedClient) (result : Result Unit (PatientError NoReply ErrorResponse))
+    → PatientCalls AsksForRenewal told_by asks_none patient now before result mid kept → (wait : Option ℕ) → WaitsEachTime patient wait → WaitsEachTime kept wait
+still_waits patient kept now before mid (Ok done) (inl (free, calls, is)) wait waits = subst (λ (p : Patient). WaitsEachTime p wait) (sym is) waits
+still_waits patient kept now before mid (Ok done) (inr (held, same, is)) wait waits = subst (λ (p : Patient). WaitsEachTime p wait) (sym is) waits
+still_waits patient kept now before mid (Err (patient_error.Request error)) (free, calls, is) wait waits =
+    subst (λ (p : Patient). WaitsEachTime p wait) (sym (is ∙ waits_again patient now error waits.1)) waits
+still_waits patient kept now before mid (Err (patient_error.Waits until)) (held, is_until, same, is) wait waits = subst (λ (p : Patient). WaitsEachTime p wait) (sym is) waits
+
+module _ (patient : Patient) (now : ℤ) (before mid : ScriptedClient) (lines : List ℕ) (s : RunStatus) (fed : mid.is_starved ≡ false) (retry_after : Option ℕ) (waits : WaitsEachTime patient retry_after) where
   abbrev until : Option ℤ
   until = end_of_wait patient.wait patient.failed_at
 
-  -- what is told of one call that leaves it so
-  abbrev IsPatientTold : Patient → Type 0
-  IsPatientTold kept =
+  -- what is told of one call that leaves it so, where it waits for so long after a failed request
+  abbrev IsPatientToldOf : Option ℕ → Patient → Type 0
+  IsPatientToldOf retry_after kept =
       (before.is_starved ≡ false)
-      × ((o : Output) × IsCall (Some patient.wait) (patient_standing patient before) now o (patient_standing kept mid) × AddsOutput (string_bytes before.lines) lines s o)
+      × ((o : Output) × IsCall retry_after (patient_standing patient before) now o (patient_standing kept mid) × AddsOutput (string_bytes before.lines) lines s o)
+
+  -- the same, for the wait that it has
+  abbrev IsPatientTold : Patient → Type 0
+  IsPatientTold kept = IsPatientToldOf retry_after kept
+
+  for_this : (kept : Patient) → IsPatientToldOf (Some patient.wait) kept → IsPatientTold kept
+  for_this kept told = rw waits.0 told
 
   free_if : is_held_back patient now ≡ false → is_good patient.keeper now ≡ false → is_early now (end_at now until (Some patient.wait)) ≡ false
   free_if free stale = early_is patient.wait now patient.failed_at ∙ free_to_ask (is_good patient.keeper now) (is_waiting_for patient.wait now patient.failed_at) free stale
 
-  pub got_told : (kept : Patient) → PatientCalls AsksForRenewal told_by patient now before (Ok tt) mid kept
+  pub got_told : (kept : Patient) → PatientCalls AsksForRenewal told_by asks_none patient now before (Ok tt) mid kept
       → IsSomeAnd kept.keeper.token (λ token. AddsOutput (string_bytes mid.lines) lines s (success_output (quotation token.access_token))) → IsPatientTold kept
   got_told kept (inl (free, calls, is)) p =
       let told =
       call_told (Some patient.wait) patient.keeper kept.keeper until (end_of_wait patient.wait (called patient now kept.keeper).failed_at) now before mid lines s fed (Ok tt) calls
       (end_of_if patient.wait (is_good patient.keeper now) patient.failed_at None) (free_if free) p in
-      subst IsPatientTold (sym is) told
-  got_told kept (inr (held, same, is)) p = absurd (none-lasts (is_held_back patient now) patient.until_end _ hands_out_none held)
+      subst IsPatientTold (sym is) (for_this (called patient now kept.keeper) told)
+  got_told kept (inr (held, same, is)) p = absurd (none-lasts (is_held_back patient now) patient.until_end _ waits.2 held)
 
-  fault_told : (kept : Patient) (error : ShownFault) → PatientCalls AsksForRenewal told_by patient now before (Err (patient_error.Request error)) mid kept
+  fault_told : (kept : Patient) (error : ShownFault) → PatientCalls AsksForRenewal told_by asks_none patient now before (Err (patient_error.Request error)) mid kept
       → AddsOutput (string_bytes mid.lines) lines s (fault_output error_seen error) → IsPatientTold kept
   fault_told kept error (free, calls, is) p =
+      let later : Patient = record patient { failed_at = if counts error then Some now else patient.failed_at } in
       let told =
-      call_told (Some patient.wait) patient.keeper patient.keeper until (end_of_wait patient.wait (failed_call patient now error).failed_at) now before mid lines s fed (Err error) calls
+      call_told (Some patient.wait) patient.keeper patient.keeper until (end_of_wait patient.wait later.failed_at) now before mid lines s fed (Err error) calls
       (end_of_if patient.wait (counts error) (Some now) patient.failed_at) (free_if free) p in
-      subst IsPatientTold (sym is) told
+      subst IsPatientTold (sym (is ∙ waits_again patient now error waits.1)) (for_this later told)
 
   waited_told : (failed_at : Option ℤ) → (held_back patient now).failed_at ≡ failed_at → IsTrue (is_held_back patient now) → (ends : Option Timestamp)
       → IsSomeAnd failed_at (λ moment. IsUntil (moment +ℤ pos patient.wait) ends) → mid ≡ before
@@ -352,18 +391,19 @@ module _ (patient : Patient) (now : ℤ) (before mid : ScriptedClient) (lines : 
   waited_told None e held ends is same p = absurd is
   waited_told (Some moment) e held ends is same p =
       let parts = both-true (not (is_good patient.keeper now)) (is_waiting_for patient.wait now patient.failed_at) held in
-      waited (Some patient.wait) patient.keeper patient.keeper until (end_of_wait patient.wait (held_back patient now).failed_at) now before mid lines s
+      for_this (held_back patient now)
+      (waited (Some patient.wait) patient.keeper patient.keeper until (end_of_wait patient.wait (held_back patient now).failed_at) now before mid lines s
       (not-true (is_good patient.keeper now) parts.0) (moment +ℤ pos patient.wait)
-      (ap (end_of_wait patient.wait) e) (early_is patient.wait now patient.failed_at ∙ parts.1) same refl (sym (end_is patient.wait now patient.failed_at)) fed (p (moment +ℤ pos patient.wait) is)
+      (ap (end_of_wait patient.wait) e) (early_is patient.wait now patient.failed_at ∙ parts.1) same refl (sym (end_is patient.wait now patient.failed_at)) fed (p (moment +ℤ pos patient.wait) is))
 
-  wait_told : (kept : Patient) (ends : Option Timestamp) → PatientCalls AsksForRenewal told_by patient now before (Err (patient_error.Waits ends)) mid kept
+  wait_told : (kept : Patient) (ends : Option Timestamp) → PatientCalls AsksForRenewal told_by asks_none patient now before (Err (patient_error.Waits ends)) mid kept
       → ((end : ℤ) → IsUntil end ends → AddsOutput (string_bytes mid.lines) lines s (waiting end)) → IsPatientTold kept
   wait_told kept ends (held, is_until, same, is) p =
       let until_here = subst (λ (k : Patient). IsSomeAnd k.failed_at (λ from. IsUntil (from +ℤ pos k.wait) ends)) is is_until in
       subst IsPatientTold (sym is)
       (waited_told (held_back patient now).failed_at refl (both-true (is_held_back patient now) (not (lasts patient now)) held).0 ends until_here same p)
 
-  pub no_token_told : (kept : Patient) (error : PatientError NoReply ErrorResponse) → PatientCalls AsksForRenewal told_by patient now before (Err error) mid kept
+  pub no_token_told : (kept : Patient) (error : PatientError NoReply ErrorResponse) → PatientCalls AsksForRenewal told_by asks_none patient now before (Err error) mid kept
       → ShowsError (string_bytes mid.lines) lines s error → IsPatientTold kept
   no_token_told kept (patient_error.Request error) calls p = fault_told kept error calls p
   no_token_told kept (patient_error.Waits ends) calls p = wait_told kept ends calls p

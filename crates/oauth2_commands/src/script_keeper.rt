@@ -153,13 +153,12 @@ fn show_waiting_call(
     now: Timestamp,
     http_client: &mut ScriptedClient,
 ) -> Result<RunStatus, AllocError>
-    ensures stays { (keeper.new.wait ≡ keeper.old.wait)
-        × (keeper.new.until_end ≡ keeper.old.until_end) }
-    ensures shown { IfOk result (λ status. keeper.old.until_end ≡ false
+    ensures waits { (wait : Option ℕ) → spec.WaitsEachTime keeper.old wait
+        → spec.WaitsEachTime keeper.new wait }
+    ensures shown { IfOk result (λ status. (wait : Option ℕ) → spec.WaitsEachTime keeper.old wait
         → http_client.new.is_starved ≡ false → (http_client.old.is_starved ≡ false)
-        × ((o : Output) × IsCall (Some keeper.old.wait)
-        (spec.patient_standing keeper.old http_client.old) now.nanosecond o
-        (spec.patient_standing keeper.new http_client.new)
+        × ((o : Output) × IsCall wait (spec.patient_standing keeper.old http_client.old)
+        now.nanosecond o (spec.patient_standing keeper.new http_client.new)
         × AddsOutput (string_bytes http_client.old.lines) (string_bytes http_client.new.lines)
         status o)) }
 {

@@ -1,6 +1,6 @@
 //! A service that keeps its token over a restart. It starts with the token that it stored, requests
 //! another when that one is about to expire, and stores its token before it ends. After a failed
-//! request it makes no other one for 30 seconds. Standard input and output are its connection, as
+//! request it makes no other one for 30 seconds, or longer if the server asks for that. Standard input and output are its connection, as
 //! in `over_connection`:
 //!
 //!     socat OPENSSL:as.example:443 EXEC:'oauth2_examples stored_token settings.json'
@@ -17,6 +17,7 @@ use oauth2::{ParamText, compact, read_body};
 use oauth2_keeper::{
     BasicPatientKeeper, BasicTokenKeeper, PatientError, RenewalTimes, TokenKeeper,
 };
+use oauth2_retry_after::TellsBusy;
 use oauth2_stored_token::{StoredToken, start_from_stored, to_stored};
 use serde_json::{Value, json};
 use std::alloc::{AllocError, Global};
@@ -33,6 +34,9 @@ const LIFETIME_SECONDS: u64 = 300;
 
 // After a failed request, no other request is made for this long.
 const WAIT_SECONDS: u64 = 30;
+
+// If a server that is busy asks for a longer wait, no other request is made for at most this long.
+const MOST_WAIT_SECONDS: u64 = 600;
 
 /// Does the jobs that the settings file at `path` names, and prints a list with their results.
 pub fn stored_token(rt: &HostRuntime, path: &str) -> ExitCode {
@@ -75,8 +79,10 @@ fn keeper<'a>(
         let name = ParamText::Borrowed("audience");
         keeper.add_extra_param(rt.alloc(), name, ParamText::Owned(audience))?;
     }
-    let wait = Duration::from_secs(WAIT_SECONDS);
-    Ok(keeper.set_retry_after(wait).use_token_until_end())
+    let keeper = keeper
+        .set_retry_after(Duration::from_secs(WAIT_SECONDS))
+        .heed_retry_after(Duration::from_secs(MOST_WAIT_SECONDS));
+    Ok(keeper.use_token_until_end())
 }
 
 // Starts with the stored token, which has to be of this client and of this token endpoint.
@@ -121,7 +127,7 @@ fn answers(
     settings: &mut Settings<'_>,
     keeper: &mut BasicPatientKeeper<'_>,
 ) -> Result<Vec<Value>, Fault> {
-    let mut http_client = connected(rt, settings)?;
+    let mut http_client = TellsBusy::new(connected(rt, settings)?);
     let mut answers = Vec::new(rt.alloc());
     for job in settings.texts("jobs")? {
         answers.push(answer(rt, keeper, &mut http_client, job)?)?;
@@ -133,7 +139,7 @@ fn answers(
 fn answer(
     rt: &HostRuntime,
     keeper: &mut BasicPatientKeeper<'_>,
-    http_client: &mut HttpClient,
+    http_client: &mut TellsBusy<HttpClient>,
     job: String,
 ) -> Result<Value, Fault> {
     let alloc = rt.alloc();

@@ -1,3 +1,4 @@
+pub mod AskedWaits
 pub mod Patience
 pub mod Renewals
 pub mod RunLaws

@@ -3,14 +3,13 @@ use Rattle.std.proofs.Common.{rules, ◌≡◌, List, [], ◌∷◌, map, Option
 use Rattle.std.specs.Prelude.{ℤ, pos, ◌+ℤ◌, int_le, int_lt, Bool, true, false, not, ◌&&◌, IsTrue, All, ◌⊎◌, IsSomeAnd, option_map, if◌then◌else◌}
 use Rattle.std.proofs.lemmas.List.Elements.{All-nil, All-cons, All-head, All-tail}
 use Rattle.jiff.proofs.SpanFacts.{signed_arith}
-use Rattle.jiff_core.specs.declared.timestamp.Timestamp.{Timestamp}
 use Rattle.oauth2_wire.specs.declared.content_type.ReplyRule.{ReplyRule}
 use Rattle.oauth2_wire.specs.declared.error.RequestTokenError.{RequestTokenError}
 use Rattle.oauth2_wire.specs.Request.{RequestView}
 use Rattle.oauth2_keeper.specs.declared.patient_keeper.PatientError.{PatientError}
 use Rattle.oauth2_keeper.specs.declared.patient_keeper.PatientError.TheVariants.{Request, Waits}
 use Rattle.oauth2_keeper.specs.Keeper.{Keeper, Given, quiet, accepted, failed, is_good, KeeperCalls}
-use Rattle.oauth2_keeper.specs.Patience.{Patient, PatientCall, waits_from, is_waiting_for, is_held_back, held_back, lasts, IsUntil, counts, called, failed_call, free_moments, AreWithinTheWait, PatientCalls, PatientRuns, EachPatientRunIsARun, EachFailureIsWaitedFor, EachSetBackIsWaitedFor, EachEndIsWithinTheWait, EachWaitEnds}
+use Rattle.oauth2_keeper.specs.Patience.{Patient, PatientCall, waits_from, is_waiting_for, is_held_back, held_back, lasts, counts, called, failed_call, free_moments, AreWithinTheWait, PatientCalls, PatientRuns, EachPatientRunIsARun, EachFailureIsWaitedFor, EachSetBackIsWaitedFor, EachEndIsWithinTheWait, EachWaitEnds}
 use Rattle.oauth2_keeper.specs.Runs.{Call, Runs}
 
 -- ---- the moment from which a call waits
@@ -55,16 +54,20 @@ is_held_if : (held other : Bool) → IsTrue (held && other) → held ≡ true
 is_held_if true other is = refl
 is_held_if false other is = cc
 
-module _ {D T RE C : Type 0} (asks : ReplyRule → (List ℕ → RequestView → Type 0) → List ℕ → C → Result D (RequestTokenError RE T) → C → Type 0) (told : D → Given) where
+if_counted : (counted : Bool) (begun before : Option ℤ) → IsTrue counted → (if counted then begun else before) ≡ begun
+if_counted true begun before is = refl
+if_counted false begun before is = cc
+
+module _ {D T RE C : Type 0} (asks : ReplyRule → (List ℕ → RequestView → Type 0) → List ℕ → C → Result D (RequestTokenError RE T) → C → Type 0) (told : D → Given) (asked : RE → Option ℕ) where
   pub by_success : (patient kept : Patient) (now : ℤ) (before after : C) (first keeper : Keeper) (done : Unit) → is_held_back patient now ≡ false → first ≡ patient.keeper
-      → KeeperCalls asks told first now before (Ok done) after keeper → kept ≡ called patient now keeper → PatientCalls asks told patient now before (Ok tt) after kept
+      → KeeperCalls asks told first now before (Ok done) after keeper → kept ≡ called patient now keeper → PatientCalls asks told asked patient now before (Ok tt) after kept
   by_success patient kept now before after first keeper done free same calls is =
       let ours = subst (λ k. KeeperCalls asks told k now before (Ok tt) after keeper) same calls in
       inl (free, subst (λ (p : Patient). KeeperCalls asks told patient.keeper now before (Ok tt) after p.keeper) (sym is) ours, is ∙ ap (λ (p : Patient). called patient now p.keeper) (sym is))
 
   pub by_fault : (patient kept : Patient) (now : ℤ) (before after : C) (first keeper : Keeper) (error : RequestTokenError RE T) → is_held_back patient now ≡ false → first ≡ patient.keeper
-      → KeeperCalls asks told first now before (Err error) after keeper → keeper ≡ patient.keeper → kept ≡ failed_call patient now error
-      → PatientCalls asks told patient now before (Err (Request error)) after kept
+      → KeeperCalls asks told first now before (Err error) after keeper → keeper ≡ patient.keeper → kept ≡ failed_call asked patient now error
+      → PatientCalls asks told asked patient now before (Err (Request error)) after kept
   by_fault patient kept now before after first keeper error free same calls back is =
       let ours = subst (λ k. KeeperCalls asks told k now before (Err error) after keeper) same calls in
       (free, subst (λ k. KeeperCalls asks told patient.keeper now before (Err error) after k) back ours, is)
@@ -89,7 +92,7 @@ module _ {D T RE C : Type 0} (asks : ReplyRule → (List ℕ → RequestView →
       (own, rw held moments, subst (λ k. Runs asks told k before own after kept.keeper) same (subst (λ m. Runs asks told next.keeper m own after kept.keeper) stays run))
 
   pub one_call : (patient next kept : Patient) (call : PatientCall) (calls : List PatientCall) (before middle after : C) (result : Result Unit (PatientError RE T))
-      → call.held ≡ is_held_back patient call.now → PatientCalls asks told patient call.now before result middle next
+      → call.held ≡ is_held_back patient call.now → PatientCalls asks told asked patient call.now before result middle next
       → IsOwnRun next.keeper middle calls after kept → IsOwnRun patient.keeper before (call ∷ calls) after kept
   one_call patient next kept call calls before middle after (Ok done) flag (inl (free, made, is)) rest =
       free_call patient next kept call calls before middle after (Ok tt) next.keeper (flag ∙ free) made refl rest
@@ -100,7 +103,7 @@ module _ {D T RE C : Type 0} (asks : ReplyRule → (List ℕ → RequestView →
   one_call patient next kept call calls before middle after (Err (Waits until)) flag (held, told_end, stays, is) rest =
       held_call patient next kept call calls before middle after (flag ∙ is_held_if (is_held_back patient call.now) (not (lasts patient call.now)) held) stays (ap (λ (p : Patient). p.keeper) is) rest
 
-  pub is_a_run : EachPatientRunIsARun asks told
+  pub is_a_run : EachPatientRunIsARun asks told asked
   is_a_run patient kept before after [] run = ([], refl, (run.0, ap (λ (p : Patient). p.keeper) run.1))
   is_a_run patient kept before after (call ∷ calls) (flag, (result, middle, next, made, rest)) =
       one_call patient next kept call calls before middle after result flag made (is_a_run next kept middle after calls rest)
@@ -109,7 +112,7 @@ module _ {D T RE C : Type 0} (asks : ReplyRule → (List ℕ → RequestView →
 
   -- a call while it waits: the kept token is good, or the call is held back
   quiet_call : (patient next : Patient) (now : ℤ) (before middle : C) (result : Result Unit (PatientError RE T)) → IsTrue (is_waiting_for patient.wait now patient.failed_at)
-      → PatientCalls asks told patient now before result middle next → (middle ≡ before) × ((next ≡ patient) ⊎ (next ≡ held_back patient now))
+      → PatientCalls asks told asked patient now before result middle next → (middle ≡ before) × ((next ≡ patient) ⊎ (next ≡ held_back patient now))
   quiet_call patient next now before middle (Ok done) waits (inl (free, (quiet, (good, answer, same), kept), is)) = (same, inl (search rules))
   quiet_call patient next now before middle (Ok done) waits (inl (free, (accepted given, (stale, answer, asked), kept), is)) = search rules
   quiet_call patient next now before middle (Ok done) waits (inl (free, (failed, (stale, asked), kept), is)) = search rules
@@ -132,7 +135,7 @@ module _ {D T RE C : Type 0} (asks : ReplyRule → (List ℕ → RequestView →
   IsWithin moment wait call = IsTrue (int_le moment call.now && int_lt call.now (moment +ℤ pos wait))
 
   quiet_run : (patient kept : Patient) (failed_at : ℤ) (before after : C) (calls : List PatientCall) → patient.failed_at ≡ Some failed_at
-      → All (IsWithin failed_at patient.wait) calls → PatientRuns asks told patient before calls after kept → (after ≡ before) × (kept ≡ patient)
+      → All (IsWithin failed_at patient.wait) calls → PatientRuns asks told asked patient before calls after kept → (after ≡ before) × (kept ≡ patient)
   quiet_run patient kept failed_at before after [] there early run = run
   quiet_run patient kept failed_at before after (call ∷ calls) there early (flag, (result, middle, next, made, rest)) =
       let head : IsWithin failed_at patient.wait call = All-head (IsWithin failed_at patient.wait) call calls early in
@@ -140,17 +143,17 @@ module _ {D T RE C : Type 0} (asks : ReplyRule → (List ℕ → RequestView →
       let waits : IsTrue (is_waiting_for patient.wait call.now patient.failed_at) = rw there (still_waits call.now failed_at patient.wait head) in
       let first = quiet_call patient next call.now before middle result waits made in
       let same = unchanged patient next call.now failed_at there (is_held_if (int_le failed_at call.now) (int_lt call.now (failed_at +ℤ pos patient.wait)) head) first.1 in
-      let later = quiet_run patient kept failed_at middle after calls there tail (subst (λ (p : Patient). PatientRuns asks told p middle calls after kept) same rest) in
+      let later = quiet_run patient kept failed_at middle after calls there tail (subst (λ (p : Patient). PatientRuns asks told asked p middle calls after kept) same rest) in
       (later.0 ∙ first.0, later.1)
 
-  pub counted : (patient : Patient) (moment : ℤ) (error : RequestTokenError RE T) → IsTrue (counts error) → failed_call patient moment error ≡ record patient { failed_at = Some moment }
-  counted patient moment error is = search rules
+  -- a fault that counts begins the wait
+  pub begins : (patient later : Patient) (moment : ℤ) (error : RequestTokenError RE T) → IsTrue (counts error) → later ≡ failed_call asked patient moment error
+      → later.failed_at ≡ Some moment
+  begins patient later moment error sent is = ap (λ (p : Patient). p.failed_at) is ∙ if_counted (counts error) (Some moment) patient.failed_at sent
 
-  pub waited_for : EachFailureIsWaitedFor asks told
+  pub waited_for : EachFailureIsWaitedFor asks told asked
   waited_for patient later kept before middle after moment error calls (free, made, is) sent early run =
-      let noted = is ∙ counted patient moment error sent in
-      let quiet = quiet_run (record patient { failed_at = Some moment }) kept moment middle after calls refl early (subst (λ (p : Patient). PatientRuns asks told p middle calls after kept) noted run) in
-      (quiet.0, quiet.1 ∙ sym noted)
+      quiet_run later kept moment middle after calls (begins patient later moment error sent is) early run
 
   -- where the clock is set back, the moment from which it waits is never before the calls' own
   next_moment : (patient next : Patient) (now from failed_at : ℤ) → patient.failed_at ≡ Some failed_at → IsTrue (int_le from failed_at)
@@ -162,30 +165,28 @@ module _ {D T RE C : Type 0} (asks : ReplyRule → (List ℕ → RequestView →
       (waits_from now failed_at, is ∙ rw there refl, both_not_after now from failed_at le)
 
   set_back_run : (patient kept : Patient) (from failed_at : ℤ) (before after : C) (calls : List PatientCall) → patient.failed_at ≡ Some failed_at → IsTrue (int_le from failed_at)
-      → AreWithinTheWait patient.wait from calls → PatientRuns asks told patient before calls after kept → (after ≡ before) × (kept.keeper ≡ patient.keeper)
+      → AreWithinTheWait patient.wait from calls → PatientRuns asks told asked patient before calls after kept → (after ≡ before) × (kept.keeper ≡ patient.keeper)
   set_back_run patient kept from failed_at before after [] there le early run = (run.0, ap (λ (p : Patient). p.keeper) run.1)
   set_back_run patient kept from failed_at before after (call ∷ calls) there le (early, tail) (flag, (result, middle, next, made, rest)) =
       let waits : IsTrue (is_waiting_for patient.wait call.now patient.failed_at) = rw there (waits_for_later call.now from failed_at patient.wait le early) in
       let first = quiet_call patient next call.now before middle result waits made in
       let noted = next_moment patient next call.now from failed_at there le first.1 in
-      let run' = subst (λ (p : Patient). PatientRuns asks told p middle calls after kept) noted.1 rest in
+      let run' = subst (λ (p : Patient). PatientRuns asks told asked p middle calls after kept) noted.1 rest in
       let later = set_back_run (record patient { failed_at = Some noted.0 }) kept (waits_from call.now from) noted.0 middle after calls refl noted.2 tail run' in
       (later.0 ∙ first.0, later.1)
 
   same_moment : (moment : ℤ) → IsTrue (int_le moment moment)
   same_moment moment = search (rules, signed_arith)
 
-  pub set_back : EachSetBackIsWaitedFor asks told
+  pub set_back : EachSetBackIsWaitedFor asks told asked
   set_back patient later kept before middle after moment error calls (free, made, is) sent early run =
-      let noted = is ∙ counted patient moment error sent in
-      let quiet = set_back_run (record patient { failed_at = Some moment }) kept moment moment middle after calls refl (same_moment moment) early (subst (λ (p : Patient). PatientRuns asks told p middle calls after kept) noted run) in
-      (quiet.0, quiet.1 ∙ ap (λ (p : Patient). p.keeper) (sym noted))
+      set_back_run later kept moment moment middle after calls (begins patient later moment error sent is) (same_moment moment) early run
 
   -- ---- how long it waits
 
   -- a call that is held back
   kept_back : (patient next : Patient) (now : ℤ) (before middle : C) (result : Result Unit (PatientError RE T)) → IsTrue (is_held_back patient now)
-      → PatientCalls asks told patient now before result middle next → next ≡ held_back patient now
+      → PatientCalls asks told asked patient now before result middle next → next ≡ held_back patient now
   kept_back patient next now before middle (Ok done) held (inl (free, made, is)) = absurd (not_held (is_held_back patient now) free held)
   kept_back patient next now before middle (Ok done) held (inr (handed_out, same, is)) = is
   kept_back patient next now before middle (Err (Request error)) held (free, made, is) = absurd (not_held (is_held_back patient now) free held)
@@ -195,19 +196,19 @@ module _ {D T RE C : Type 0} (asks : ReplyRule → (List ℕ → RequestView →
   ComesWithin bound wait call = IsTrue (int_lt call.now (bound +ℤ pos wait))
 
   held_run : (patient kept : Patient) (failed_at bound : ℤ) (before after : C) (calls : List PatientCall) → patient.failed_at ≡ Some failed_at → IsTrue (int_le failed_at bound)
-      → PatientRuns asks told patient before calls after kept → All (λ call. IsTrue call.held) calls → All (ComesWithin bound patient.wait) calls
+      → PatientRuns asks told asked patient before calls after kept → All (λ call. IsTrue call.held) calls → All (ComesWithin bound patient.wait) calls
   held_run patient kept failed_at bound before after [] there le run held = All-nil (ComesWithin bound patient.wait)
   held_run patient kept failed_at bound before after (call ∷ calls) there le (flag, (result, middle, next, made, rest)) held =
       let is_held : IsTrue (is_held_back patient call.now) = sym flag ∙ All-head (λ (call : PatientCall). IsTrue call.held) call calls held in
       let waits = subst (λ o. IsTrue (is_waiting_for patient.wait call.now o)) there (waits_if_held (is_good patient.keeper call.now) (is_waiting_for patient.wait call.now patient.failed_at) is_held) in
       let noted : next ≡ record patient { failed_at = Some (waits_from call.now failed_at) } = kept_back patient next call.now before middle result is_held made ∙ rw there refl in
-      let run' = subst (λ (p : Patient). PatientRuns asks told p middle calls after kept) noted rest in
+      let run' = subst (λ (p : Patient). PatientRuns asks told asked p middle calls after kept) noted rest in
       let tail = All-tail (λ (call : PatientCall). IsTrue call.held) call calls held in
       All-cons (ComesWithin bound patient.wait) call calls (comes_within call.now failed_at bound patient.wait le waits)
       (held_run (record patient { failed_at = Some (waits_from call.now failed_at) }) kept (waits_from call.now failed_at) bound middle after calls refl (not_after call.now failed_at bound le) run' tail)
 
   from_first : (patient kept : Patient) (before after : C) (first : PatientCall) (calls : List PatientCall) (failed_at : Option ℤ) → patient.failed_at ≡ failed_at
-      → PatientRuns asks told patient before (first ∷ calls) after kept → All (λ call. IsTrue call.held) (first ∷ calls) → All (ComesWithin first.now patient.wait) calls
+      → PatientRuns asks told asked patient before (first ∷ calls) after kept → All (λ call. IsTrue call.held) (first ∷ calls) → All (ComesWithin first.now patient.wait) calls
   from_first patient kept before after first calls None there (flag, run) held =
       let is_held : IsTrue (is_held_back patient first.now) = sym flag ∙ All-head (λ (call : PatientCall). IsTrue call.held) first calls held in
       let waits : IsTrue false = subst (λ o. IsTrue (is_waiting_for patient.wait first.now o)) there (waits_if_held (is_good patient.keeper first.now) (is_waiting_for patient.wait first.now patient.failed_at) is_held) in
@@ -215,11 +216,11 @@ module _ {D T RE C : Type 0} (asks : ReplyRule → (List ℕ → RequestView →
   from_first patient kept before after first calls (Some failed_at) there (flag, (result, middle, next, made, rest)) held =
       let is_held : IsTrue (is_held_back patient first.now) = sym flag ∙ All-head (λ (call : PatientCall). IsTrue call.held) first calls held in
       let noted : next ≡ record patient { failed_at = Some (waits_from first.now failed_at) } = kept_back patient next first.now before middle result is_held made ∙ rw there refl in
-      let run' = subst (λ (p : Patient). PatientRuns asks told p middle calls after kept) noted rest in
+      let run' = subst (λ (p : Patient). PatientRuns asks told asked p middle calls after kept) noted rest in
       let tail = All-tail (λ (call : PatientCall). IsTrue call.held) first calls held in
       held_run (record patient { failed_at = Some (waits_from first.now failed_at) }) kept (waits_from first.now failed_at) first.now middle after calls refl (not_after_call first.now failed_at) run' tail
 
-  pub wait_ends : EachWaitEnds asks told
+  pub wait_ends : EachWaitEnds asks told asked
   wait_ends patient kept before after first calls run held = from_first patient kept before after first calls patient.failed_at refl run held
 
   end_from : (now end : ℤ) (wait : ℕ) (failed_at : Option ℤ) → IsSomeAnd (option_map (waits_from now) failed_at) (λ from. end ≡ (from +ℤ pos wait))
@@ -227,7 +228,7 @@ module _ {D T RE C : Type 0} (asks : ReplyRule → (List ℕ → RequestView →
   end_from now end wait None is = absurd is
   end_from now end wait (Some failed_at) is = ends_within now failed_at end wait is
 
-  pub end_within : EachEndIsWithinTheWait asks told
+  pub end_within : EachEndIsWithinTheWait asks told asked
   end_within patient kept before after now until (held, is_until, same, is) =
       end_from now until.nanosecond patient.wait patient.failed_at
       (subst (λ (p : Patient). IsSomeAnd p.failed_at (λ from. until.nanosecond ≡ (from +ℤ pos p.wait))) is is_until)

@@ -1,5 +1,5 @@
 -- A keeper that waits after a failed request before it makes another.
-use Rattle.std.specs.Prelude.{◌≡◌, ◌⊎◌, ℕ, ℤ, pos, ◌+ℤ◌, int_lt, int_le, Bool, true, false, not, ◌&&◌, IsTrue, All, List, [], ◌∷◌, map, Option, Some, None, option_map, IsSomeAnd, Result, Ok, Err, bytes_eq, string_bytes, if◌then◌else◌}
+use Rattle.std.specs.Prelude.{◌≡◌, ◌⊎◌, ℕ, ◌≤◌, min, max, ℤ, pos, ◌+ℤ◌, int_lt, int_le, Bool, true, false, not, ◌&&◌, IsTrue, All, List, [], ◌∷◌, map, Option, Some, None, option_map, IsSomeAnd, Result, Ok, Err, bytes_eq, string_bytes, if◌then◌else◌}
 use Rattle.jiff_core.specs.declared.timestamp.Timestamp.{Timestamp}
 use Rattle.jiff_core.specs.Timestamp.{IsTimestampNanos}
 use Rattle.oauth2_wire.specs.declared.content_type.ReplyRule.{ReplyRule}
@@ -13,11 +13,15 @@ use Rattle.oauth2_keeper.specs.declared.patient_keeper.PatientError.TheVariants.
 use Rattle.oauth2_keeper.specs.Keeper.{Keeper, Given, is_good, is_good_if_any, KeeperCalls, FailsWith}
 use Rattle.oauth2_keeper.specs.Runs.{Call, Runs}
 
--- a keeper; how long it waits, in nanoseconds; whether it hands out its token during the wait to
--- the end of its lifetime; and the time from which it waits, in nanoseconds since 1970: that of its
--- last failed request, if none was accepted since, or an earlier one at which a call was held back
+-- a keeper; how long it waits if the server asks for no longer wait, and the greatest wait that a
+-- server may ask for; the wait in force, after its last failed request; whether it hands out its
+-- token during the wait to the end of its lifetime; and the time from which it waits, in
+-- nanoseconds since 1970: that of its last failed request, if none was accepted since, or an
+-- earlier one at which a call was held back. Waits are in nanoseconds.
 pub record Patient : Type 0 where
   pub keeper : Keeper
+  pub least_wait : ℕ
+  pub most_asked_wait : ℕ
   pub wait : ℕ
   pub until_end : Bool
   pub failed_at : Option ℤ
@@ -52,17 +56,37 @@ counts (token.Memory sent) = sent
 counts (token.Other text) = not (bytes_eq (string_bytes text) not_http_text)
 counts error = true
 
+-- the wait that a server asks for (RFC 9110, 10.2.3; RFC 6585, 4), which the error of the HTTP
+-- client tells; other errors of a request tell none
+abbrev pub wait_asked_by : {RE T : Type 0} → (RE → Option ℕ) → RequestTokenError RE T → Option ℕ
+wait_asked_by asked (token.Request error) = asked error
+wait_asked_by asked error = None
+
+-- the wait in force after a failure: the one that the server asks for, if it is longer than the
+-- least wait, but no longer than the greatest that may be asked for
+abbrev pub wait_in_force : ℕ → ℕ → Option ℕ → ℕ
+wait_in_force least most None = least
+wait_in_force least most (Some asked) = max least (min most asked)
+
 -- what is kept after a call without an error: if a request was made, the wait has ended
 abbrev pub called : Patient → ℤ → Keeper → Patient
 called patient now kept = record patient { keeper = kept; failed_at = if is_good patient.keeper now then patient.failed_at else None }
 
 -- what is kept after a request at `now` failed: the wait begins, if the error counts
-abbrev pub failed_call : {RE T : Type 0} → Patient → ℤ → RequestTokenError RE T → Patient
-failed_call patient now error = record patient { failed_at = if counts error then Some now else patient.failed_at }
+abbrev pub failed_call : {RE T : Type 0} → (RE → Option ℕ) → Patient → ℤ → RequestTokenError RE T → Patient
+failed_call asked patient now error = record patient {
+  wait = if counts error then wait_in_force patient.least_wait patient.most_asked_wait (wait_asked_by asked error) else patient.wait;
+  failed_at = if counts error then Some now else patient.failed_at;
+}
 
 -- what is kept after a call at `now` that is held back: the time from which it waits
 abbrev pub held_back : Patient → ℤ → Patient
 held_back patient now = record patient { failed_at = option_map (waits_from now) patient.failed_at }
+
+-- the wait in force is not shorter than the least wait, and not longer than the longer of that and
+-- the greatest that a server may ask for
+abbrev pub IsWaitBounded : Patient → Type 0
+IsWaitBounded patient = (patient.least_wait ≤ patient.wait) × (patient.wait ≤ max patient.least_wait patient.most_asked_wait)
 
 -- a call: its time in nanoseconds since 1970, and whether it is held back
 pub record PatientCall : Type 0 where
@@ -80,7 +104,8 @@ abbrev pub free_moments : List PatientCall → List ℤ
 free_moments [] = []
 free_moments (call ∷ calls) = if call.held then free_moments calls else call.now ∷ free_moments calls
 
-module _ {D T RE C : Type 0} (asks : ReplyRule → (List ℕ → RequestView → Type 0) → List ℕ → C → Result D (RequestTokenError RE T) → C → Type 0) (told : D → Given) where
+-- `asked` is the wait in nanoseconds that an error of the HTTP client says the server asks for
+module _ {D T RE C : Type 0} (asks : ReplyRule → (List ℕ → RequestView → Type 0) → List ℕ → C → Result D (RequestTokenError RE T) → C → Type 0) (told : D → Given) (asked : RE → Option ℕ) where
   -- a call at `now`. If it is not held back, it is a call of the keeper. If it is held back, the
   -- HTTP client is not called: the kept token is used if it lasts, and else the end of the wait is
   -- returned.
@@ -89,7 +114,7 @@ module _ {D T RE C : Type 0} (asks : ReplyRule → (List ℕ → RequestView →
       ((is_held_back patient now ≡ false) × KeeperCalls asks told patient.keeper now before (Ok tt) after kept.keeper × (kept ≡ called patient now kept.keeper))
       ⊎ (IsTrue (is_held_back patient now && lasts patient now) × (after ≡ before) × (kept ≡ held_back patient now))
   PatientCalls patient now before (Err (Request error)) after kept =
-      (is_held_back patient now ≡ false) × KeeperCalls asks told patient.keeper now before (Err error) after patient.keeper × (kept ≡ failed_call patient now error)
+      (is_held_back patient now ≡ false) × KeeperCalls asks told patient.keeper now before (Err error) after patient.keeper × (kept ≡ failed_call asked patient now error)
   PatientCalls patient now before (Err (Waits until)) after kept =
       IsTrue (is_held_back patient now && not (lasts patient now)) × IsSomeAnd kept.failed_at (λ from. IsUntil (from +ℤ pos kept.wait) until)
       × (after ≡ before) × (kept ≡ held_back patient now)
@@ -114,13 +139,29 @@ module _ {D T RE C : Type 0} (asks : ReplyRule → (List ℕ → RequestView →
       (patient kept : Patient) (before after : C) (calls : List PatientCall) → PatientRuns patient before calls after kept
       → (own : List Call) × (map (λ call. call.now) own ≡ free_moments calls) × Runs asks told patient.keeper before own after kept.keeper
 
-  -- calls at or after the time of a failed request, before the wait has passed, change neither the
-  -- HTTP client nor what is kept
+  -- calls change neither of these bounds, and after them the wait in force is within them
+  abbrev pub EachWaitIsBounded : Type 0
+  EachWaitIsBounded =
+      (patient kept : Patient) (before after : C) (calls : List PatientCall) → PatientRuns patient before calls after kept → IsWaitBounded patient
+      → (kept.least_wait ≡ patient.least_wait) × (kept.most_asked_wait ≡ patient.most_asked_wait) × IsWaitBounded kept
+
+  -- calls at or after the time of a failed request, before the wait in force has passed, change
+  -- neither the HTTP client nor what is kept
   abbrev pub EachFailureIsWaitedFor : Type 0
   EachFailureIsWaitedFor =
       (patient failed kept : Patient) (before middle after : C) (moment : ℤ) (error : RequestTokenError RE T) (calls : List PatientCall)
       → PatientCalls patient moment before (Err (Request error)) middle failed → IsTrue (counts error)
-      → All (λ call. IsTrue (int_le moment call.now && int_lt call.now (moment +ℤ pos patient.wait))) calls → PatientRuns failed middle calls after kept
+      → All (λ call. IsTrue (int_le moment call.now && int_lt call.now (moment +ℤ pos failed.wait))) calls → PatientRuns failed middle calls after kept
+      → (after ≡ middle) × (kept ≡ failed)
+
+  -- if the error of the HTTP client tells that the server asks for a wait, calls before that wait,
+  -- or the greatest that may be asked for, has passed change neither the HTTP client nor what is
+  -- kept
+  abbrev pub EachAskedWaitIsHeeded : Type 0
+  EachAskedWaitIsHeeded =
+      (patient failed kept : Patient) (before middle after : C) (moment : ℤ) (error : RE) (wait : ℕ) (calls : List PatientCall)
+      → PatientCalls patient moment before (Err (Request (token.Request error))) middle failed → asked error ≡ Some wait
+      → All (λ call. IsTrue (int_le moment call.now && int_lt call.now (moment +ℤ pos (min patient.most_asked_wait wait)))) calls → PatientRuns failed middle calls after kept
       → (after ≡ middle) × (kept ≡ failed)
 
   -- if the clock is set back after a failed request, the wait begins again at the earlier time, and
@@ -129,7 +170,7 @@ module _ {D T RE C : Type 0} (asks : ReplyRule → (List ℕ → RequestView →
   EachSetBackIsWaitedFor =
       (patient failed kept : Patient) (before middle after : C) (moment : ℤ) (error : RequestTokenError RE T) (calls : List PatientCall)
       → PatientCalls patient moment before (Err (Request error)) middle failed → IsTrue (counts error)
-      → AreWithinTheWait patient.wait moment calls → PatientRuns failed middle calls after kept
+      → AreWithinTheWait failed.wait moment calls → PatientRuns failed middle calls after kept
       → (after ≡ middle) × (kept.keeper ≡ failed.keeper)
 
   -- the end of the wait that a call returns is at most one wait after that call

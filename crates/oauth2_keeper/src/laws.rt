@@ -9,11 +9,14 @@ ghost use Rattle.oauth2_keeper.specs.Patience.{
   EachSetBackIsWaitedFor,
   EachEndIsWithinTheWait,
   EachWaitEnds,
+  EachAskedWaitIsHeeded,
+  EachWaitIsBounded,
   EachSentFaultCounts,
 };
 ghost use Rattle.oauth2_keeper.specs.Runs.{EachRunKeepsTheLast, EachRunFollowsFromItsReplies};
 
 use oauth2::{ErrorResponse, SyncHttpClient, TokenResponse};
+use oauth2_retry_after::AsksToWait;
 
 /// After any number of calls, the kept token is that of the last accepted reply, and the refresh
 /// token that of the last accepted reply that has one. Until then, each is as before the calls.
@@ -37,31 +40,58 @@ pub fn each_run_follows_from_its_replies<C: SyncHttpClient, TE: ErrorResponse, T
 /// in order, so the laws of a keeper hold for them.
 #[tactic(auto, using(crate::proofs::Patience::is_a_run))]
 pub fn each_patient_run_is_a_run<C: SyncHttpClient, TE: ErrorResponse, TR: TokenResponse>()
+where
+    C::Error: AsksToWait,
     ensures { EachPatientRunIsARun
         (λ rule. AsksOnce TR.meaning TE.meaning C.step (answer_of rule TR.reading TE.reading))
-        (given_by TR.access_token TR.lifetime TR.refresh_token) }
+        (given_by TR.access_token TR.lifetime TR.refresh_token) C.Error.asked_wait }
 {}
 
 /// After a failed request, a patient keeper makes no request before the wait has passed. The wait
 /// begins at that request or, if the clock was set back to before it, at the first call after that.
 pub fn each_failure_is_waited_for<C: SyncHttpClient, TE: ErrorResponse, TR: TokenResponse>()
+where
+    C::Error: AsksToWait,
     ensures waits { EachFailureIsWaitedFor
         (λ rule. AsksOnce TR.meaning TE.meaning C.step (answer_of rule TR.reading TE.reading))
-        (given_by TR.access_token TR.lifetime TR.refresh_token) }
+        (given_by TR.access_token TR.lifetime TR.refresh_token) C.Error.asked_wait }
     ensures set_back { EachSetBackIsWaitedFor
         (λ rule. AsksOnce TR.meaning TE.meaning C.step (answer_of rule TR.reading TE.reading))
-        (given_by TR.access_token TR.lifetime TR.refresh_token) }
+        (given_by TR.access_token TR.lifetime TR.refresh_token) C.Error.asked_wait }
 {}
 
 /// However the clock is set, a patient keeper is never held back for longer than one wait from the
 /// moment at which it is called.
 pub fn each_wait_ends<C: SyncHttpClient, TE: ErrorResponse, TR: TokenResponse>()
+where
+    C::Error: AsksToWait,
     ensures told { EachEndIsWithinTheWait
         (λ rule. AsksOnce TR.meaning TE.meaning C.step (answer_of rule TR.reading TE.reading))
-        (given_by TR.access_token TR.lifetime TR.refresh_token) }
+        (given_by TR.access_token TR.lifetime TR.refresh_token) C.Error.asked_wait }
     ensures ends { EachWaitEnds
         (λ rule. AsksOnce TR.meaning TE.meaning C.step (answer_of rule TR.reading TE.reading))
-        (given_by TR.access_token TR.lifetime TR.refresh_token) }
+        (given_by TR.access_token TR.lifetime TR.refresh_token) C.Error.asked_wait }
+{}
+
+/// After a failed request whose error tells a wait that the server asks for, a patient keeper makes
+/// no request before that wait, or the greatest that it heeds, has passed.
+pub fn each_asked_wait_is_heeded<C: SyncHttpClient, TE: ErrorResponse, TR: TokenResponse>()
+where
+    C::Error: AsksToWait,
+    ensures { EachAskedWaitIsHeeded
+        (λ rule. AsksOnce TR.meaning TE.meaning C.step (answer_of rule TR.reading TE.reading))
+        (given_by TR.access_token TR.lifetime TR.refresh_token) C.Error.asked_wait }
+{}
+
+/// A patient keeper never waits for less than the wait of `set_retry_after`, and never for more
+/// than that and the greatest wait that it heeds.
+#[tactic(auto, using(crate::proofs::AskedWaits::bounded))]
+pub fn each_wait_is_bounded<C: SyncHttpClient, TE: ErrorResponse, TR: TokenResponse>()
+where
+    C::Error: AsksToWait,
+    ensures { EachWaitIsBounded
+        (λ rule. AsksOnce TR.meaning TE.meaning C.step (answer_of rule TR.reading TE.reading))
+        (given_by TR.access_token TR.lifetime TR.refresh_token) C.Error.asked_wait }
 {}
 
 /// An error of a request begins a wait exactly if the HTTP client was called.

@@ -28,11 +28,13 @@ ghost use Rattle.oauth2_keeper.specs.Patience.{
   lasts,
   IsUntil,
   counts,
+  failed_call,
   PatientCalls,
   PatientAnswers,
 };
 
 use crate::token_keeper::TokenKeeper;
+use crate::waits::{asked_wait, wait_in_force};
 use jiff::Timestamp;
 use oauth2::basic::{
     BasicErrorResponse, BasicRevocationErrorResponse, BasicTokenIntrospectionResponse,
@@ -42,6 +44,7 @@ use oauth2::{
     AccessToken, EndpointNotSet, EndpointState, ErrorResponse, RequestTokenError,
     StandardRevocableToken, SyncHttpClient, TokenResponse,
 };
+use oauth2_retry_after::AsksToWait;
 use oauth2_times::nanosecond_after;
 use oauth2_types::display::write_display;
 use std::alloc::Global;
@@ -90,6 +93,8 @@ where
     R: EndpointState,
 {
     keeper: TokenKeeper<'a, TE, TR, TIR, RT, TRE, A, D, I, R>,
+    least_wait: Duration,
+    most_asked_wait: Duration,
     wait: Duration,
     until_end: bool,
     failed_at: Option<Timestamp>,
@@ -107,6 +112,8 @@ where
     fn drop(self) {
         let PatientKeeper {
             keeper: _,
+            least_wait: _,
+            most_asked_wait: _,
             wait: _,
             until_end: _,
             failed_at: _,
@@ -151,6 +158,8 @@ where
 
     ghost view = { λ k. record {
       keeper = k.keeper;
+      least_wait = as_nanos k.least_wait;
+      most_asked_wait = as_nanos k.most_asked_wait;
       wait = as_nanos k.wait;
       until_end = k.until_end;
       failed_at = option_map (λ moment. moment.nanosecond) k.failed_at;
@@ -164,13 +173,16 @@ where
     I: EndpointState,
     R: EndpointState,
 {
-    /// A keeper that makes no request until `wait` has passed since the last failed one.
+    /// A keeper that makes no request until `wait` has passed since the last failed one. It heeds
+    /// no longer wait that a server asks for, unless `heed_retry_after` is called.
     pub fn set_retry_after(
         self,
         wait: Duration,
     ) -> PatientKeeper<'a, TE, TR, TIR, RT, TRE, A, D, I, R>
         ensures { result ≡ record {
           keeper = self.entry;
+          least_wait = as_nanos wait;
+          most_asked_wait = 0;
           wait = as_nanos wait;
           until_end = false;
           failed_at = None;
@@ -178,6 +190,8 @@ where
     {
         PatientKeeper {
             keeper: self,
+            least_wait: wait,
+            most_asked_wait: Duration::ZERO,
             wait,
             until_end: false,
             failed_at: None,
@@ -192,6 +206,17 @@ where
     I: EndpointState,
     R: EndpointState,
 {
+    /// Heeds the wait that a server asks for in a Retry-After (RFC 9110, section 10.2.3; RFC 6585,
+    /// section 4), up to `most_wait`: after a failed request whose error tells such a wait, no
+    /// request is made before that time has passed. A wait of `set_retry_after` that is longer is
+    /// not shortened. The error of a `TellsBusy` tells the wait (`oauth2_retry_after`).
+    pub fn heed_retry_after(mut self, most_wait: Duration) -> Self
+        ensures { result ≡ record self.entry { most_asked_wait = as_nanos most_wait } }
+    {
+        self.most_asked_wait = most_wait;
+        self
+    }
+
     /// Hands out the kept token to the end of its lifetime while no request may be made, as if the
     /// margin were 0. Unless this is set, such a call returns `Waits`.
     pub fn use_token_until_end(mut self) -> Self
@@ -249,12 +274,12 @@ where
     }
 
     // Begins the wait after a request at `now` failed, if its error counts.
-    fn note_fault(&mut self, now: Timestamp, counts: bool)
-        ensures { self.new ≡ record self.old {
-          failed_at = if counts then Some now.nanosecond else self.old.failed_at;
-        } }
+    fn note_fault<RE: AsksToWait>(&mut self, now: Timestamp, error: &RequestTokenError<RE, TE>)
+        ensures { self.new ≡ failed_call RE.asked_wait self.old now.nanosecond error.now }
     {
-        if counts {
+        if counts(error) {
+            let asked = asked_wait(error);
+            self.wait = wait_in_force(self.least_wait, self.most_asked_wait, asked);
             self.failed_at = Some(now);
         }
     }
@@ -327,18 +352,21 @@ where
     /// Makes sure that a good token is kept, as `keep_good` of the keeper. If a request is needed
     /// and the last one failed less than the wait ago, nothing is sent and what is kept does not
     /// change: the call returns `Waits`, or `Ok` if the kept token may be used to the end of its
-    /// lifetime. If the call comes before the request that failed, the clock was set back, and the
-    /// wait is counted from this call.
+    /// lifetime. The wait is that of `set_retry_after`, or a longer one that the server asked for,
+    /// if it is heeded. If the call comes before the request that failed, the clock was set back,
+    /// and the wait is counted from this call.
     pub fn keep_good<C: SyncHttpClient>(
         &mut self,
         alloc: Global,
         now: Timestamp,
         http_client: &mut C,
     ) -> Result<(), PatientError<C::Error, TE>>
+    where
+        C::Error: AsksToWait,
         requires { C.is_ready http_client.old }
         ensures call { PatientCalls
             (λ rule. AsksOnce TR.meaning TE.meaning C.step (answer_of rule TR.reading TE.reading))
-            (given_by TR.access_token TR.lifetime TR.refresh_token)
+            (given_by TR.access_token TR.lifetime TR.refresh_token) C.Error.asked_wait
             self.old now.nanosecond http_client.old result http_client.new self.new }
         ensures token { OnOk result (IsSome self.new.keeper.token) }
         ensures fault { OnErr result (self.new.keeper ≡ self.old.keeper) }
@@ -361,7 +389,7 @@ where
                 Ok(())
             }
             Err(error) => {
-                self.note_fault(now, counts(&error));
+                self.note_fault(now, &error);
                 Err(PatientError::Request(error))
             }
         }
@@ -376,11 +404,13 @@ where
         now: Timestamp,
         http_client: &mut C,
     ) -> Result<&AccessToken, PatientError<C::Error, TE>>
+    where
+        C::Error: AsksToWait,
         requires { C.is_ready http_client.old }
         ensures call { (kept : Patient)
             × PatientAnswers
             (λ rule. AsksOnce TR.meaning TE.meaning C.step (answer_of rule TR.reading TE.reading))
-            (given_by TR.access_token TR.lifetime TR.refresh_token)
+            (given_by TR.access_token TR.lifetime TR.refresh_token) C.Error.asked_wait
             (λ text token. token.now ≡ text)
             self.old now.nanosecond http_client.old result http_client.new kept }
         ensures ready { C.is_ready http_client.new }
@@ -401,12 +431,13 @@ where
         read: F,
     ) -> Result<V, PatientError<C::Error, TE>>
     where
+        C::Error: AsksToWait,
         F: Drop,
         requires ready { C.is_ready http_client.old }
         requires read { F.IsAlwaysCallable read }
         ensures call { PatientAnswers
             (λ rule. AsksOnce TR.meaning TE.meaning C.step (answer_of rule TR.reading TE.reading))
-            (given_by TR.access_token TR.lifetime TR.refresh_token)
+            (given_by TR.access_token TR.lifetime TR.refresh_token) C.Error.asked_wait
             (λ text value. FnOnceReturnsAt F.FnOnce read text value)
             self.old now.nanosecond http_client.old result http_client.new self.new }
         ensures ready { C.is_ready http_client.new }

@@ -1,12 +1,13 @@
 //! Calls a keeper, and prints what it does.
 
 use crate::client::{NoReply, OneReply, Reply};
-use crate::values::{Moment, moment, show_moment};
+use crate::values::{Moment, moment, show_duration, show_moment};
 use jiff::Timestamp;
 use oauth2::RequestTokenError;
 use oauth2::basic::BasicErrorResponse;
 use oauth2_keeper::{BasicPatientKeeper, PatientError};
 use oauth2_refusals_support::{Ended, Want};
+use oauth2_retry_after::{BusyError, TellsBusy};
 use std::alloc::Global;
 use std::error::Error;
 use std::io::Write;
@@ -15,7 +16,7 @@ use std::time::Duration;
 /// A call: its time, and the reply to its request.
 pub type Call<'a> = (Moment, Reply<'a>);
 
-type Answer = Result<(), PatientError<NoReply, BasicErrorResponse>>;
+type Answer = Result<(), PatientError<BusyError<NoReply>, BasicErrorResponse>>;
 
 /// Makes the calls, and prints the result of each.
 pub fn show_calls<W: Write>(
@@ -49,7 +50,9 @@ fn show_call<W: Write>(
     Err(Ended::Starved(Want::RequestTokenError { sent }))
 }
 
-// Makes a call with a new HTTP client. Also returns how often that was called.
+// Makes a call with a new HTTP client, and prints the body of its request, and the kept token or
+// the error. If memory runs out, it prints nothing, and returns whether the request was sent. Also
+// returns how often the HTTP client was called.
 fn show_new_try<W: Write>(
     alloc: Global,
     keeper: &mut BasicPatientKeeper<'_>,
@@ -57,9 +60,12 @@ fn show_new_try<W: Write>(
     reply: Reply<'_>,
     out: &mut W,
 ) -> Result<(Option<bool>, u64), Ended> {
-    let mut http_client = OneReply::new(alloc, reply)?;
-    let tried = show_try(alloc, keeper, now, &mut http_client, out);
+    let mut http_client = TellsBusy::new(OneReply::new(alloc, reply)?);
+    let answer = keeper.keep_good(alloc, now, &mut http_client);
+    let http_client = http_client.into_inner();
+    let tried = show_tried(out, keeper, &http_client, &answer);
     let calls = http_client.calls;
+    drop(answer);
     drop(http_client);
     Ok((tried?, calls))
 }
@@ -89,23 +95,10 @@ fn show_again<W: Write>(
 
 // Whether a call sends a request.
 fn is_asked(alloc: Global, keeper: &mut BasicPatientKeeper<'_>, now: Timestamp) -> bool {
-    let mut http_client = OneReply::without_reply();
+    let mut http_client = TellsBusy::new(OneReply::without_reply());
     let answer = keeper.keep_good(alloc, now, &mut http_client);
     drop(answer);
-    http_client.calls != 0
-}
-
-// Makes a call, and prints the body of its request, and the kept token or the error. If memory runs
-// out, it prints nothing, and returns whether the request was sent.
-fn show_try<W: Write>(
-    alloc: Global,
-    keeper: &mut BasicPatientKeeper<'_>,
-    now: Timestamp,
-    http_client: &mut OneReply,
-    out: &mut W,
-) -> Result<Option<bool>, Ended> {
-    let answer = keeper.keep_good(alloc, now, http_client);
-    show_tried(out, keeper, http_client, &answer)
+    http_client.into_inner().calls != 0
 }
 
 fn show_tried<W: Write>(
@@ -148,11 +141,26 @@ fn show_answer<W: Write>(
         Ok(()) => show_token(out, keeper),
         Err(error) => {
             show_error(out, error)?;
-            if let PatientError::Waits(until) = error {
-                show_moment(out, "waits until", *until)?;
+            match error {
+                PatientError::Request(RequestTokenError::Request(cause)) => show_cause(out, cause),
+                PatientError::Request(_) => Ok(()),
+                PatientError::Waits(until) => show_moment(out, "waits until", *until),
             }
-            Ok(())
         }
+    }
+}
+
+// Prints why the HTTP client returned no reply.
+fn show_cause<W: Write>(out: &mut W, cause: &BusyError<NoReply>) -> Result<(), Ended> {
+    match cause {
+        BusyError::Busy {
+            status,
+            retry_after,
+        } => {
+            writeln!(out, "status {}", status.as_u16())?;
+            show_duration(out, "asks to wait", *retry_after)
+        }
+        BusyError::Client(_) => Ok(()),
     }
 }
 

@@ -1,14 +1,15 @@
 //! The client of the rows, and an HTTP client that returns the reply of a row.
 
 use oauth2::basic::BasicClient;
+use oauth2::http::header::RETRY_AFTER;
 use oauth2::http::response::Parts;
-use oauth2::http::{Response, StatusCode};
+use oauth2::http::{HeaderValue, Response, StatusCode};
 use oauth2::{
     ClientId, ClientSecret, EndpointNotSet, EndpointSet, HttpRequest, HttpResponse, SyncHttpClient,
     TokenUrl,
 };
 use oauth2_refusals_support::{Ended, text};
-use std::alloc::Global;
+use std::alloc::{AllocError, Global};
 
 /// A client whose only endpoint is the token endpoint.
 pub type TokenClient = BasicClient<
@@ -31,8 +32,8 @@ pub fn client(alloc: Global) -> Result<TokenClient, Ended> {
     )
 }
 
-/// The status and the body of a reply.
-pub type Reply<'a> = (u16, &'a str);
+/// The status and the body of a reply, and its Retry-After if it has one.
+pub type Reply<'a> = (u16, &'a str, Option<&'a str>);
 
 /// No reply is left.
 #[derive(Clone, Copy, Debug)]
@@ -50,12 +51,15 @@ pub struct OneReply {
 
 impl OneReply {
     /// A client with this reply.
-    pub fn new(alloc: Global, (status, body): Reply<'_>) -> Result<OneReply, Ended> {
+    pub fn new(alloc: Global, (status, body, retry_after): Reply<'_>) -> Result<OneReply, Ended> {
         let mut head = Parts::new(alloc);
         let Ok(status) = StatusCode::from_u16(status) else {
             return Err(Ended::Refused);
         };
         head.status = status;
+        if let Some(value) = retry_after {
+            add_retry_after(alloc, &mut head, value)?;
+        }
         let body = text(alloc, body)?;
         Ok(OneReply {
             calls: 0,
@@ -71,6 +75,16 @@ impl OneReply {
             request: None,
             reply: None,
         }
+    }
+}
+
+fn add_retry_after(alloc: Global, head: &mut Parts, value: &str) -> Result<(), Ended> {
+    let Ok(value) = HeaderValue::from_str(alloc, value) else {
+        return Err(Ended::from(AllocError));
+    };
+    match head.headers.insert(RETRY_AFTER, value) {
+        Ok(_) => Ok(()),
+        Err(_) => Err(Ended::from(AllocError)),
     }
 }
 

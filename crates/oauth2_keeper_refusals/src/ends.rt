@@ -5,6 +5,7 @@ use crate::values::{show_duration, show_moment};
 use jiff::Timestamp;
 use oauth2_keeper::{BasicPatientKeeper, BasicTokenKeeper};
 use oauth2_refusals_support::Ended;
+use oauth2_retry_after::TellsBusy;
 use std::alloc::Global;
 use std::io::Write;
 
@@ -24,7 +25,7 @@ fn bytes_by_token(
     keeper: &mut BasicPatientKeeper<'_>,
     now: Timestamp,
 ) -> Option<usize> {
-    let mut http_client = OneReply::without_reply();
+    let mut http_client = TellsBusy::new(OneReply::without_reply());
     match keeper.token(alloc, now, &mut http_client) {
         Ok(token) => Some(token.secret().len()),
         Err(_) => None,
@@ -36,7 +37,7 @@ fn bytes_by_with_token(
     keeper: &mut BasicPatientKeeper<'_>,
     now: Timestamp,
 ) -> Option<usize> {
-    let mut http_client = OneReply::without_reply();
+    let mut http_client = TellsBusy::new(OneReply::without_reply());
     keeper
         .with_token(alloc, now, &mut http_client, |token| token.secret().len())
         .ok()

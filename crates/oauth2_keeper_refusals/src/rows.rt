@@ -12,7 +12,7 @@ use std::alloc::{AllocError, Global};
 use std::io::Write;
 
 // A keeper: what it starts from, what of that it forgets, what is added to it, its margin, how long
-// it waits after a failed request, whether it uses a token until the end of its lifetime, its
+// it waits after a failed request, and how long at most if the server asks for it, whether it uses a token until the end of its lifetime, its
 // calls, and a time at which its token is used.
 #[derive(Clone, Copy)]
 struct KeeperRow {
@@ -21,6 +21,7 @@ struct KeeperRow {
     additions: &'static [Addition<'static>],
     margin: Span,
     wait: Span,
+    most_wait: Span,
     until_end: bool,
     calls: &'static [Call<'static>],
     last: Moment,
@@ -46,18 +47,28 @@ const TOKENS: Reply<'static> = (
     "{\"access_token\":\"2YotnFZFEjr1zCsicMWpAA\",\"token_type\":\"example\",\
     \"expires_in\":3600,\"refresh_token\":\"tGzv3JOkF0XG5Qx2TlKWIA\",\
     \"example_parameter\":\"example_value\"}",
+    None,
 );
 
 const TOKEN: Reply<'static> = (
     200,
     "{\"access_token\":\"2YotnFZFEjr1zCsicMWpAA\",\"token_type\":\"example\",\
     \"expires_in\":3600,\"example_parameter\":\"example_value\"}",
+    None,
 );
 
 // The error of RFC 6749, section 5.2.
-const REFUSED: Reply<'static> = (400, "{\"error\":\"invalid_request\"}");
+const REFUSED: Reply<'static> = (400, "{\"error\":\"invalid_request\"}", None);
 
-const EMPTY: Reply<'static> = (500, "");
+const EMPTY: Reply<'static> = (500, "", None);
+
+// Replies of a server that is busy, with the examples of Retry-After in RFC 9110, section 10.2.3,
+// and RFC 6585, section 4.
+const BUSY: Reply<'static> = (503, "", Some("120"));
+
+const TOO_MANY: Reply<'static> = (429, "", Some("3600"));
+
+const BUSY_TO_A_DATE: Reply<'static> = (503, "", Some("Fri, 31 Dec 1999 23:59:59 GMT"));
 
 const USUAL: KeeperRow = KeeperRow {
     start: Start::Empty,
@@ -65,6 +76,7 @@ const USUAL: KeeperRow = KeeperRow {
     additions: &[],
     margin: (10, 0),
     wait: (30, 0),
+    most_wait: (0, 0),
     until_end: false,
     calls: &[],
     last: (0, 0),
@@ -78,7 +90,7 @@ const STORED: Start<'static> = Start::Values(
     Some("tGzv3JOkF0XG5Qx2TlKWIA"),
 );
 
-const ROWS: [(&str, Row); 19] = [
+const ROWS: [(&str, Row); 22] = [
     (
         "scopes",
         Row::Keeper(KeeperRow {
@@ -256,6 +268,43 @@ const ROWS: [(&str, Row); 19] = [
             ..USUAL
         }),
     ),
+    // It waits for the greatest wait that it heeds, then for its own, since a date asks for none,
+    // and then for the one that the server asks for.
+    (
+        "waits_as_the_server_asks",
+        Row::Keeper(KeeperRow {
+            most_wait: (300, 0),
+            calls: &[
+                ((0, 0), TOO_MANY),
+                ((299, 999_999_999), TOKEN),
+                ((300, 0), BUSY_TO_A_DATE),
+                ((329, 999_999_999), TOKEN),
+                ((330, 0), BUSY),
+                ((449, 999_999_999), TOKEN),
+                ((450, 0), TOKEN),
+            ],
+            last: (450, 0),
+            ..USUAL
+        }),
+    ),
+    (
+        "waits_longer_than_the_server_asks",
+        Row::Keeper(KeeperRow {
+            wait: (120, 1),
+            most_wait: (300, 0),
+            calls: &[((0, 0), BUSY), ((120, 0), TOKEN), ((120, 1), TOKEN)],
+            last: (121, 0),
+            ..USUAL
+        }),
+    ),
+    (
+        "waits_no_longer_unasked",
+        Row::Keeper(KeeperRow {
+            calls: &[((0, 0), BUSY), ((30, 0), TOKEN)],
+            last: (30, 0),
+            ..USUAL
+        }),
+    ),
     (
         "stored_before_1970",
         Row::Text(
@@ -328,7 +377,9 @@ fn show_by<W: Write>(
 }
 
 fn patient<'a>(keeper: BasicTokenKeeper<'a>, row: KeeperRow) -> BasicPatientKeeper<'a> {
-    let mut keeper = keeper.set_retry_after(duration(row.wait));
+    let mut keeper = keeper
+        .set_retry_after(duration(row.wait))
+        .heed_retry_after(duration(row.most_wait));
     match row.forgotten {
         Forgotten::Nothing => {}
         Forgotten::Token => keeper.forget_token(),

@@ -11,7 +11,8 @@ use Rattle.oauth2_http1.specs.Origin.{Place}
 use Rattle.oauth2_wire.specs.Reply.{HttpResponse}
 use Rattle.oauth2_wire.specs.Request.{HttpRequest, view_of}
 use Rattle.oauth2_wire.proofs.CopyLemmas.{IsRequestOf-copy}
-use Rattle.oauth2_retries.specs.Answers.{is_get, is_busy, is_repeatable}
+use Rattle.oauth2_retry_after.specs.RetryAfter.{is_busy}
+use Rattle.oauth2_retries.specs.Answers.{is_get, is_repeatable}
 use Rattle.oauth2_retries.specs.Laws.{EachCopyIsTheRequest, EachOtherRequestIsSentOnce, EachUnsentErrorOpenedNothing}
 
 not_both : (a b : Bool) → a ≡ false → IsTrue (a && b) → ⊥

@@ -1,16 +1,13 @@
 -- After which answers a request is sent again.
-use Rattle.std.specs.Prelude.{ℕ, List, Bool, ◌&&◌, ◌||◌, ◌==◌, bytes_eq, codes, Result, Ok, Err}
+use Rattle.std.specs.Prelude.{ℕ, List, Bool, ◌&&◌, ◌||◌, bytes_eq, codes, Result, Ok, Err}
 use Rattle.http.specs.Response.{head_of}
+use Rattle.oauth2_retry_after.specs.RetryAfter.{is_busy}
 use Rattle.oauth2_wire.specs.Reply.{HttpResponse}
 
 -- the method is GET, which is safe and idempotent: sending it twice does no harm (RFC 9110, 9.2.1
 -- and 9.2.2)
 abbrev pub is_get : List ℕ → Bool
 is_get method = bytes_eq method (codes "GET")
-
--- the server asks the client to try again later: 429 (RFC 6585, 4) or 503 (RFC 9110, 15.6.4)
-abbrev pub is_busy : ℕ → Bool
-is_busy status = status == 429 || status == 503
 
 -- a GET is sent again after such a reply and after any error; any other request only after an error
 -- that says that nothing was sent

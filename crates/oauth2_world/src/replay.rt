@@ -9,14 +9,22 @@ use crate::lines::print_request;
 use http::Response;
 use http::response::Parts;
 use http_header::{CONTENT_TYPE, HeaderMapError};
+use oauth2_retry_after::AsksToWait;
 use oauth2_script::{HttpReply, Reply};
 use oauth2_wire::{HttpRequest, HttpResponse, SyncHttpClient};
 use std::alloc::{AllocError, Global};
 use std::collections::VecDeque;
+use std::time::Duration;
 
 /// The call failed: the script says so, or it has no further reply.
 #[derive(Clone, Copy, Debug, PartialEq, Eq)]
 pub struct NoReply;
+
+impl AsksToWait for NoReply {
+    fn asked_wait(&self) -> Option<Duration> {
+        None
+    }
+}
 
 /// Returns the replies of a script in order; after the last one every call fails.
 #[derive(Drop)]

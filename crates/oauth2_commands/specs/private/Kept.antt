@@ -36,11 +36,15 @@ abbrev pub standing_of : ScriptKeeper → ScriptedClient → Standing
 standing_of (Plain keeper) client = standing keeper None client
 standing_of (Waiting patient) client = patient_standing patient client
 
--- the keeper waits `wait` nanoseconds after a failed request, or never if `None`; while it waits,
--- it does not use its token beyond the margin
+-- the keeper waits `wait` nanoseconds after each failed request; while it waits, it does not use
+-- its token beyond the margin
+abbrev pub WaitsEachTime : Patient → Option ℕ → Type 0
+WaitsEachTime patient wait = (wait ≡ Some patient.wait) × (patient.least_wait ≡ patient.wait) × (patient.until_end ≡ false)
+
+-- how long the keeper waits after each failed request, in nanoseconds, or `None` if it never waits
 abbrev pub WaitsFor : ScriptKeeper → Option ℕ → Type 0
 WaitsFor (Plain keeper) wait = wait ≡ None
-WaitsFor (Waiting patient) wait = (wait ≡ Some patient.wait) × (patient.until_end ≡ false)
+WaitsFor (Waiting patient) wait = WaitsEachTime patient wait
 
 -- when the wait ends after a call at `now` with this result, in nanoseconds since 1970
 abbrev pub wait_after : Option ℕ → Option ℤ → ℤ → Bool → Result Unit ShownFault → Option ℤ

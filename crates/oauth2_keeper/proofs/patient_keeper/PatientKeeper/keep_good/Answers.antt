@@ -8,11 +8,11 @@ use Rattle.oauth2_keeper.proofs.patient_keeper.PatientKeeper.keep_good.Goals as 
 pub returns-in-Ok-clause-call : goal.returns-in-Ok-clause-call
 returns-in-Ok-clause-call g c =
     by_success (λ rule. AsksOnce g.TR.FromJson.meaning g.TE.FromJson.meaning g.C.SyncHttpClient.step (answer_of rule g.TR.FromJson.reading g.TE.FromJson.reading))
-    (given_by g.TR.TokenResponse.access_token g.TR.TokenResponse.lifetime g.TR.TokenResponse.refresh_token) c.args.self.now c.note_success.new.self c.args.now.nanosecond c.args.http_client.now c.keep_good.new.http_client
+    (given_by g.TR.TokenResponse.access_token g.TR.TokenResponse.lifetime g.TR.TokenResponse.refresh_token) g.C.Error.AsksToWait.asked_wait c.args.self.now c.note_success.new.self c.args.now.nanosecond c.args.http_client.now c.keep_good.new.http_client
     c.self.inside.keeper c.keep_good.new.self c.in-Ok.field-0 (search rules) (search rules) c.in-Ok.ensures.call (search rules)
 
 pub returns-in-Err-clause-call : goal.returns-in-Err-clause-call
 returns-in-Err-clause-call g c =
     by_fault (λ rule. AsksOnce g.TR.FromJson.meaning g.TE.FromJson.meaning g.C.SyncHttpClient.step (answer_of rule g.TR.FromJson.reading g.TE.FromJson.reading))
-    (given_by g.TR.TokenResponse.access_token g.TR.TokenResponse.lifetime g.TR.TokenResponse.refresh_token) c.args.self.now c.note_fault.new.self c.args.now.nanosecond c.args.http_client.now c.keep_good.new.http_client
+    (given_by g.TR.TokenResponse.access_token g.TR.TokenResponse.lifetime g.TR.TokenResponse.refresh_token) g.C.Error.AsksToWait.asked_wait c.args.self.now c.note_fault.new.self c.args.now.nanosecond c.args.http_client.now c.keep_good.new.http_client
     c.self.inside.keeper c.keep_good.new.self c.in-Err.error (search rules) (search rules) c.in-Err.ensures.call (search rules) (search rules)
