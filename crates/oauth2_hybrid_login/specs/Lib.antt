@@ -1,0 +1,3 @@
+pub mod CodeHash
+pub mod FrontToken
+pub mod private
