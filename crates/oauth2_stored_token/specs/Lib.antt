@@ -1,3 +1,4 @@
 pub mod ErrorTexts
 pub mod Started
 pub mod Stored
+pub mod private

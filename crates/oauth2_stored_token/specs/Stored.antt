@@ -1,15 +1,16 @@
 -- A stored token, as a value and as the members of a JSON object.
-use Rattle.std.specs.Prelude.{ℕ, ℤ, pos, ◌+ℤ◌, ◌+◌, ◌*◌, ◌/◌, ◌%◌, ◌^◌, nat_lt, unsigned_abs, List, [], ◌∷◌, Option, Some, option_map, Ok, Err, codes, if◌then◌else◌}
+use Rattle.std.specs.Prelude.{ℕ, ℤ, pos, ◌+ℤ◌, ◌+◌, ◌*◌, ◌/◌, ◌%◌, ◌^◌, nat_lt, unsigned_abs, List, Option, Some, option_map, Ok, Err, codes, if◌then◌else◌}
 use Rattle.std.specs.Int.{int_rem_euclid}
 use Rattle.url.specs.Parts.{serialize}
 use Rattle.serde_json.specs.Data.{Data, Members, number, unsigned, string, object, no_members}
-use Rattle.serde_json.specs.Find.{get_member}
-use Rattle.oauth2_json.specs.Reading.{Reading, read_then, ◌⊛◌}
+use Rattle.oauth2_json.specs.Reading.{Reading, read_then}
 use Rattle.oauth2_json.specs.Writing.{Writing}
 use Rattle.oauth2_json.specs.Members.{members_of_object, needed_member, optional_member}
 use Rattle.oauth2_json.specs.Puts.{Row, put_all}
 use Rattle.oauth2_json.specs.Values.{text, whole_number}
 use Rattle.oauth2_json.specs.declared.read.ParseCause.TheVariants as cause
+use Rattle.oauth2_body_members.specs.Table.{Table, column, ◌▸◌, end, table_reading, rows_of}
+use Rattle.oauth2_member_rows.specs.Rows.{pair_column}
 use Rattle.oauth2_times.specs.Instants.{instant, is_instant, second_data}
 use Rattle.oauth2_keeper.specs.Keeper.{AcceptedToken, Keeper}
 
@@ -48,44 +49,29 @@ stored_of keeper = option_map
 
 -- the time `nanos` nanoseconds after `second`, if it is in range; both times are in nanoseconds
 -- since 1970
-abbrev pub moment_from : ℤ → ℕ → Reading ℤ
-moment_from second nanos =
-    if is_instant (second +ℤ pos nanos) then Ok (second +ℤ pos nanos) else Err (record { member = codes "accepted_at"; cause = cause.OutOfRange })
+abbrev pub moment_from : List ℕ → ℤ → ℕ → Reading ℤ
+moment_from name second nanos =
+    if is_instant (second +ℤ pos nanos) then Ok (second +ℤ pos nanos) else Err (record { member = name; cause = cause.OutOfRange })
 
--- the time in `accepted_at` (seconds since 1970) and `accepted_at_nanoseconds`, in nanoseconds
--- since 1970
-abbrev pub moment_reading : Option Data → Option Data → Reading ℤ
-moment_reading seconds nanoseconds =
-    read_then (needed_member instant (codes "accepted_at") seconds) (λ second.
-    read_then (needed_member whole_number (codes "accepted_at_nanoseconds") nanoseconds) (λ nanos. moment_from second nanos))
+-- the time in the members `name` (seconds since 1970) and `other` (nanoseconds to add), in
+-- nanoseconds since 1970
+abbrev pub moment_reading : List ℕ → List ℕ → Option Data → Option Data → Reading ℤ
+moment_reading name other seconds nanoseconds =
+    read_then (needed_member instant name seconds) (λ second.
+    read_then (needed_member whole_number other nanoseconds) (λ nanos. moment_from name second nanos))
 
 -- a lifetime in nanoseconds, of whole seconds and nanoseconds to add; it must be less than 2^64
 -- seconds
-abbrev pub lifetime_from : ℕ → ℕ → Reading ℕ
-lifetime_from seconds nanos =
+abbrev pub lifetime_from : List ℕ → ℕ → ℕ → Reading ℕ
+lifetime_from name seconds nanos =
     if nat_lt (seconds * 1_000_000_000 + nanos) (2 ^ 64 * 1_000_000_000) then Ok (seconds * 1_000_000_000 + nanos)
-    else Err (record { member = codes "lifetime"; cause = cause.OutOfRange })
+    else Err (record { member = name; cause = cause.OutOfRange })
 
--- the lifetime in `lifetime` (seconds) and `lifetime_nanoseconds`, in nanoseconds
-abbrev pub lifetime_reading : Option Data → Option Data → Reading ℕ
-lifetime_reading seconds nanoseconds =
-    read_then (needed_member whole_number (codes "lifetime") seconds) (λ whole.
-    read_then (needed_member whole_number (codes "lifetime_nanoseconds") nanoseconds) (λ nanos. lifetime_from whole nanos))
-
--- a stored token, read from the members of its JSON object; other members are ignored
-abbrev pub stored_row : Members → Reading Stored
-stored_row ms =
-    Ok stored
-    ⊛ needed_member text (codes "access_token") (get_member (codes "access_token") ms)
-    ⊛ moment_reading (get_member (codes "accepted_at") ms) (get_member (codes "accepted_at_nanoseconds") ms)
-    ⊛ lifetime_reading (get_member (codes "lifetime") ms) (get_member (codes "lifetime_nanoseconds") ms)
-    ⊛ optional_member text (codes "refresh_token") (get_member (codes "refresh_token") ms)
-    ⊛ optional_member text (codes "client_id") (get_member (codes "client_id") ms)
-    ⊛ optional_member text (codes "token_url") (get_member (codes "token_url") ms)
-
--- a stored token, read from a JSON value, which must be an object
-abbrev pub stored_reading : Data → Reading Stored
-stored_reading d = read_then (members_of_object d) stored_row
+-- the lifetime in the members `name` (seconds) and `other` (nanoseconds to add), in nanoseconds
+abbrev pub lifetime_reading : List ℕ → List ℕ → Option Data → Option Data → Reading ℕ
+lifetime_reading name other seconds nanoseconds =
+    read_then (needed_member whole_number name seconds) (λ whole.
+    read_then (needed_member whole_number other nanoseconds) (λ nanos. lifetime_from name whole nanos))
 
 -- the nanoseconds of a time (in nanoseconds since 1970) after its whole seconds, which are rounded
 -- down
@@ -96,19 +82,29 @@ nanoseconds_of n = unsigned_abs (int_rem_euclid n (pos 1_000_000_000))
 abbrev pub whole_data : ℕ → Data
 whole_data n = number (unsigned n)
 
--- the members of a stored token's JSON object: times in whole seconds, and nanoseconds to add to
--- them
+-- the members of a stored token: how each is read and written; times are written in whole seconds,
+-- and nanoseconds to add to them
+abbrev pub stored_table : Table Stored
+stored_table =
+    column (codes "access_token") (needed_member text) (λ s. Some (string s.token.access_token))
+    ▸ pair_column (codes "accepted_at") (codes "accepted_at_nanoseconds") moment_reading (λ s. Some (second_data s.token.accepted_at)) (λ s. Some (whole_data (nanoseconds_of s.token.accepted_at)))
+    ▸ pair_column (codes "lifetime") (codes "lifetime_nanoseconds") lifetime_reading (λ s. Some (whole_data (s.token.lifetime / 1_000_000_000))) (λ s. Some (whole_data (s.token.lifetime % 1_000_000_000)))
+    ▸ column (codes "refresh_token") (optional_member text) (λ s. option_map string s.refresh_token)
+    ▸ column (codes "client_id") (optional_member text) (λ s. option_map string s.client_id)
+    ▸ column (codes "token_url") (optional_member text) (λ s. option_map string s.token_url)
+    ▸ end
+
+-- a stored token, read from the members of its JSON object; other members are ignored
+abbrev pub stored_row : Members → Reading Stored
+stored_row ms = table_reading stored_table (Ok stored) ms
+
+-- a stored token, read from a JSON value, which must be an object
+abbrev pub stored_reading : Data → Reading Stored
+stored_reading d = read_then (members_of_object d) stored_row
+
+-- the members of a stored token's JSON object
 abbrev pub stored_rows : Stored → List Row
-stored_rows s =
-    (codes "access_token", Some (string s.token.access_token))
-    ∷ (codes "accepted_at", Some (second_data s.token.accepted_at))
-    ∷ (codes "accepted_at_nanoseconds", Some (whole_data (nanoseconds_of s.token.accepted_at)))
-    ∷ (codes "lifetime", Some (whole_data (s.token.lifetime / 1_000_000_000)))
-    ∷ (codes "lifetime_nanoseconds", Some (whole_data (s.token.lifetime % 1_000_000_000)))
-    ∷ (codes "refresh_token", option_map string s.refresh_token)
-    ∷ (codes "client_id", option_map string s.client_id)
-    ∷ (codes "token_url", option_map string s.token_url)
-    ∷ []
+stored_rows s = rows_of stored_table s
 
 -- the JSON object that a stored token is written as
 abbrev pub stored_writing : Stored → Writing

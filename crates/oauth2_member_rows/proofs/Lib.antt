@@ -1,0 +1,4 @@
+pub mod Names
+pub mod Pairs
+pub mod Whole
+pub mod Tables

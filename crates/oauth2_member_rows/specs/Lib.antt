@@ -1,0 +1,4 @@
+pub mod Kinds
+pub mod Rows
+pub mod Objects
+pub mod private

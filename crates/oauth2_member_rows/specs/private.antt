@@ -1,0 +1,3 @@
+-- Lemmas that the laws of the kinds and of the rows cite.
+pub mod KindLaws
+pub mod RowLaws

@@ -1,0 +1,15 @@
+//! The members of a JSON object as one list of rows, by which they are read and written.
+
+#![tactic(auto)]
+
+mod kinds;
+mod member;
+mod member_pair;
+mod objects;
+mod rows;
+
+pub use kinds::{Needed, Optional, OptionalFlag, OptionalNumber, OptionalText, OptionalTextList};
+pub use member::{Member, MemberKind};
+pub use member_pair::{MemberPair, PairKind};
+pub use objects::{object_of, object_with, read_body_with, read_object, read_value_with};
+pub use rows::{Rows, WriteRows};
