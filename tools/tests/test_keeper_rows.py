@@ -1,4 +1,4 @@
-"""Derives every line that the program oauth2_keeper_refusals has to print, and compares them with the file `stdout` of that crate.
+"""Derives every line that the program oauth2_keeper_refusals_tests has to print, and compares them with the file `stdout` of that crate.
 
 The rows' inputs stand here once more, as data. The lines follow from docs/SCRIPT.md (the table of `keeper`), the README.md of
 oauth2_keeper and oauth2_stored_token, the texts of docs/ERRORS.md, and RFC 6749: sections 4.4.2 and 6, with the forms of appendix B.
@@ -12,7 +12,7 @@ from urllib.parse import urlencode
 
 import tool
 
-CRATE = os.path.join(os.path.dirname(tool.TOOLS), 'crates', 'oauth2_keeper_refusals')
+CRATE = os.path.join(os.path.dirname(tool.TOOLS), 'crates', 'oauth2_keeper_refusals_tests')
 SECOND = 10 ** 9
 MOST_SPAN = 2 ** 64 * SECOND - 1
 # jiff's moments: those whose local time is in the years -9999 to 9999 at each offset of up to 25:59:59. Python's years begin at 1; 400

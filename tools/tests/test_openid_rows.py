@@ -1,4 +1,4 @@
-"""Derives every line that the program oauth2_openid_refusals has to print, and compares them with the file `stdout` of that
+"""Derives every line that the program oauth2_openid_refusals_tests has to print, and compares them with the file `stdout` of that
 crate.
 
 The rows' inputs stand here once more, as data: those of the examples of OpenID Connect Core 1.0, if nothing else is said. Only the ID
@@ -16,7 +16,7 @@ from urllib.parse import urlencode
 
 import tool
 
-CRATE = os.path.join(os.path.dirname(tool.TOOLS), 'crates', 'oauth2_openid_refusals')
+CRATE = os.path.join(os.path.dirname(tool.TOOLS), 'crates', 'oauth2_openid_refusals_tests')
 CLIENT_ID = 's6BhdRkqt3'
 REDIRECT_URI = 'https://client.example.org/cb'
 VERIFIER = 'dBjftJeZ4CVP-mB92K27uhbUJU1p1r_wW1gFWFOEjXk'  # of RFC 7636, appendix B
