@@ -1,0 +1,30 @@
+-- What a call of the library gives.
+use Rattle.std.specs.Prelude.{◌≡◌, ℕ, ℤ, pos, ◌≤◌, ◌<◌, ◌++◌, ◌⊎◌, List, length, drop}
+use Rattle.oauth2_commands.specs.Run.{IsOutputOf}
+use Rattle.oauth2_request_commands.specs.Out.{Output}
+use Rattle.oauth2_request_commands.specs.declared.status.RunStatus.{RunStatus}
+use Rattle.oauth2_request_commands.specs.declared.status.RunStatus.TheVariants.{Answered, Fault, BadScript}
+
+-- the exit status that the program has at the end of such a run
+abbrev pub status_code : RunStatus → ℕ
+status_code Answered = 0
+status_code Fault = 1
+status_code BadScript = 2
+
+-- a room begins with the lines and is else as it was; if they do not fit, all of it is as it was
+abbrev pub IsPut : List ℕ → List ℕ → List ℕ → Type 0
+IsPut lines old new =
+    (length lines ≤ length old → new ≡ lines ++ drop (length lines) old) × (length old < length lines → new ≡ old)
+
+-- the script has an output with this status and so many bytes, and its lines are in the room
+abbrev pub IsRun : List ℕ → List ℕ → List ℕ → ℕ → ℤ → Type 0
+IsRun script old new count status =
+    (o : Output) × IsOutputOf script o × (status ≡ pos (status_code o.status)) × (count ≡ length o.lines) × IsPut o.lines old new
+
+-- memory ran out outside a call of the client: there are no lines, and the room is as it was
+abbrev pub IsUnfed : List ℕ → List ℕ → ℕ → ℤ → Type 0
+IsUnfed old new count status = (status ≡ pos 3) × (count ≡ 0) × (new ≡ old)
+
+-- a call with this script: the room before it and after it, the count that it stores, and its result
+abbrev pub IsCall : List ℕ → List ℕ → List ℕ → ℕ → ℤ → Type 0
+IsCall script old new count status = IsRun script old new count status ⊎ IsUnfed old new count status

@@ -1,0 +1,37 @@
+//! The program of scripts for callers that are not written in Rattle: one C function over two
+//! buffers.
+
+#![tactic(auto)]
+
+ghost use Rattle.oauth2_c.specs.Call.{IsCall};
+
+mod lines;
+
+use lines::{NO_MEMORY, lines_of, put, status_code};
+use std::alloc::Global;
+
+/// Runs a script, and puts the lines of its run at the beginning of `output`, if they fit there.
+///
+/// The script is JSON in UTF-8, of which docs/SCRIPT.md tells. The result is the exit status of the
+/// program of that page: 0 for an answer, 1 for a fault, 2 for a bad script, 3 if memory ran out.
+/// `length` becomes the number of bytes that the lines have, also if they do not fit.
+#[unsafe(no_mangle)]
+pub extern "C" fn lifecrib_run(
+    alloc: Global,
+    script: &[u8],
+    output: &mut [u8],
+    length: &mut usize,
+) -> i32
+    ensures { IsCall script.now output.old output.new length.new result }
+{
+    match lines_of(alloc, script) {
+        Ok((lines, status)) => {
+            *length = put(lines.as_slice(), output);
+            status_code(status)
+        }
+        Err(_) => {
+            *length = 0;
+            NO_MEMORY
+        }
+    }
+}

@@ -1,0 +1,130 @@
+"""Tests of tools/package-c, and of the header and the example that it packs. The library is a stand-in in C, so nothing is proved."""
+import os
+import re
+import shutil
+import subprocess
+import sys
+import tarfile
+import tempfile
+import unittest
+
+import tool
+
+sys.path.insert(0, tool.TOOLS)
+import repository
+import version
+
+C = os.path.join(repository.ROOT, 'c')
+CRATE = os.path.join(repository.CRATES, 'oauth2_c', 'src')
+# What C has in place of each type of a parameter of the crate; a slice is a pointer and a length.
+TYPES = {'&[u8]': 'const uint8_t *{0}, size_t {0}_length', '&mut [u8]': 'uint8_t *{0}, size_t {0}_length',
+         '&mut usize': 'size_t *{0}', 'i32': 'int32_t'}
+STAND_IN = '''
+#include <string.h>
+#include "lifecrib.h"
+
+/* The lines are the script three times. */
+int32_t lifecrib_run(const uint8_t *script, size_t script_length, uint8_t *output, size_t output_length, size_t *length) {
+    *length = 3 * script_length;
+    for (int at = 0; at < 3 && *length <= output_length; at++) memcpy(output + at * script_length, script, script_length);
+    return LIFECRIB_FAULT;
+}
+'''
+
+
+def text_of(*path):
+    with open(os.path.join(*path), encoding='utf-8') as f:
+        return f.read()
+
+
+def joined(text):
+    return ' '.join(text.split())
+
+
+def exports():
+    """The exported functions of the crate, as C declares them."""
+    source = text_of(CRATE, 'lib.rt')
+    for name, parameters, result in re.findall(r'extern "C" fn (\w+)\((.*?)\) -> (\w+)', source, re.S):
+        taken = [it.strip().split(': ') for it in parameters.split(',') if it.strip()]
+        words = [TYPES[kind].format(it) for it, kind in taken if kind != 'Global']
+        yield name, '%s %s(%s);' % (TYPES[result], name, ', '.join(words))
+
+
+@unittest.skipUnless(shutil.which('cc'), 'there is no C compiler')
+class PackageC(unittest.TestCase):
+    def setUp(self):
+        room = tempfile.TemporaryDirectory()
+        self.addCleanup(room.cleanup)
+        self.room = room.name
+
+    def compiled(self, *words):
+        run = subprocess.run(['cc', '-Wall', '-Wextra', '-pedantic', '-Werror', '-I', C, *words], capture_output=True, text=True)
+        self.assertEqual(run.returncode, 0, run.stderr)
+
+    def stand_in(self):
+        """A static library that stands for the proved one."""
+        source, built = os.path.join(self.room, 'stand_in.c'), os.path.join(self.room, 'stand_in.o')
+        with open(source, 'w') as f:
+            f.write(STAND_IN)
+        self.compiled('-std=c99', '-fPIC', '-c', source, '-o', built)
+        archive = os.path.join(self.room, 'libstand_in.a')
+        subprocess.run(['ar', 'rc', archive, built], check=True)
+        return archive
+
+    def test_the_header_declares_what_the_crate_exports(self):
+        header = text_of(C, 'lifecrib.h')
+        found = dict(exports())
+        for declared in found.values():
+            self.assertIn(declared, joined(header))
+        self.assertEqual(re.findall(r'^\w[\w ]* \*?(\w+)\(', header, re.M), list(found))
+        self.assertEqual(re.findall(r'global: (.*);', text_of(C, 'exports.map')), [', '.join(found)])
+        self.assertIn('#define LIFECRIB_VERSION "%s"' % version.VERSION, header)
+
+    def test_the_header_has_the_numbers_of_the_crate(self):
+        lines = text_of(CRATE, 'lines.rt')
+        numbers = dict(re.findall(r'RunStatus::(\w+) => (\d)', lines))
+        numbers['NoMemory'] = re.search(r'NO_MEMORY: i32 = (\d)', lines).group(1)
+        names = {it: 'LIFECRIB' + re.sub(r'(?=[A-Z])', '_', it).upper() for it in numbers}
+        declared = dict(re.findall(r'(LIFECRIB_[A-Z_]+) = (\d)', text_of(C, 'lifecrib.h')))
+        self.assertEqual({names[it]: number for it, number in numbers.items()}, declared)
+
+    def test_the_header_is_one_of_c_and_of_cpp(self):
+        for language, standard in (('c', 'c99'), ('c++', 'c++11')):
+            source = os.path.join(self.room, 'one.' + language)
+            with open(source, 'w') as f:
+                f.write('#include "lifecrib.h"\n#include "lifecrib.h"\nint one(void);\nint one(void) { return LIFECRIB_FAULT; }\n')
+            self.compiled('-std=' + standard, '-x', language, '-c', source, '-o', os.path.join(self.room, 'one.o'))
+
+    def test_the_example_makes_room_for_long_lines(self):
+        program = os.path.join(self.room, 'run')
+        self.compiled('-std=c99', os.path.join(C, 'run.c'), self.stand_in(), '-o', program)
+        for size in (0, 1, 1365, 1366, 4095, 4096, 100000):
+            given = bytes(at % 251 for at in range(size))
+            run = subprocess.run([program], input=given, capture_output=True)
+            self.assertEqual((run.returncode, run.stdout, run.stderr), (1, given * 3, b''), size)
+
+    @unittest.skipUnless(shutil.which('rt'), 'there is no kit')
+    def test_the_package(self):
+        words = [sys.executable, os.path.join(tool.TOOLS, 'package-c'), '--library', self.stand_in(), '--to', self.room]
+        runs = [subprocess.run(words, capture_output=True, text=True) for _ in range(2)]
+        path = os.path.join(self.room, 'lifecrib-c-%s-linux-x86_64.tar.xz' % version.VERSION)
+        for run in runs:
+            self.assertEqual((run.returncode, run.stdout), (0, path + '\n'), run.stderr)
+        with tarfile.open(path) as archive:
+            archive.extractall(self.room)
+        base = os.path.join(self.room, 'lifecrib-c-' + version.VERSION)
+        program = os.path.join(self.room, 'run')
+        subprocess.run(['cc', os.path.join(base, 'share/doc/lifecrib/run.c'), '-I', base + '/include', '-L', base + '/lib', '-llifecrib',
+                        '-Wl,-rpath,' + base + '/lib', '-o', program], check=True)
+        run = subprocess.run([program], input=b'abc', capture_output=True)
+        self.assertEqual((run.returncode, run.stdout), (1, b'abcabcabc'))
+        exported = subprocess.run(['nm', '-D', '--defined-only', base + '/lib/liblifecrib.so.0'], capture_output=True, text=True).stdout
+        self.assertEqual(re.findall(r' T (\w+)', exported), [name for name, _ in exports()])
+        if shutil.which('pkg-config'):
+            env = dict(os.environ, PKG_CONFIG_PATH=base + '/lib/pkgconfig')
+            run = subprocess.run(['pkg-config', '--modversion', 'lifecrib'], env=env, capture_output=True, text=True)
+            self.assertEqual(run.stdout.strip(), version.VERSION, run.stderr)
+
+
+if __name__ == '__main__':
+    unittest.main()
