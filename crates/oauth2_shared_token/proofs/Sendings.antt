@@ -1,0 +1,83 @@
+-- Each sending is paid for by a storing: what is at rest may be marked once, and what is marked may
+-- be sent once.
+use Rattle.std.proofs.Common.{◌≡◌, ℕ, ◌+◌, ◌<◌, ◌≤◌, List, [], ◌∷◌, length, get_or, set, Option, Some, None, ap, arith}
+use Rattle.std.specs.List.{sum_by}
+use Rattle.std.proofs.lemmas.List.Sums.{sum_by-set, sum_by_push}
+use Rattle.oauth2_shared_token.specs.State.{Token, Stored, Stage, NotBegun, Asking, Marking, Sending, Holding, Done, Shared, begin}
+use Rattle.oauth2_shared_token.specs.Event.{SharedEvent, Asked, Marked, Sent, Given, Kept, SignedIn, Allowed, LoggedIn, after}
+use Rattle.oauth2_shared_token.specs.Run.{IsRun, has_refresh, times_sent, times_stored}
+use Rattle.oauth2_shared_token.specs.Laws.{EachSendingWasStored, EachIsSentAtMostOnce}
+use Rattle.oauth2_shared_token.proofs.Versions.{IsSound, began, sound_after, sound_begin, asked_is_stored}
+
+module _ (r : ℕ) where
+  -- how many sendings of it are still open: to a renewal, to whoever marks what is at rest, to all
+  abbrev held : Stage → ℕ
+  held NotBegun = 0
+  held (Asking version token) = 0
+  held (Marking version token) = has_refresh r token
+  held (Sending version) = 0
+  held (Holding version new) = 0
+  held Done = 0
+
+  abbrev resting_by : Token → Option ℕ → ℕ
+  resting_by token None = has_refresh r token
+  resting_by token (Some i) = 0
+
+  abbrev resting : Stored → ℕ
+  resting p = resting_by p.token p.used_by
+
+  abbrev open_by : List Stage → ℕ
+  open_by xs = sum_by held xs
+
+  goes_on : (xs : List Stage) (i : ℕ) (x y : Stage) → i < length xs → get_or xs i NotBegun ≡ x → open_by (set xs i y) + held x ≡ open_by xs + held y
+  goes_on xs i x y within is =
+      let change = sum_by-set held xs i y NotBegun within in
+      let here : held (get_or xs i NotBegun) ≡ held x = ap held is in
+      omega (arith, change, here)
+
+  pub each_is_paid : (s : Shared) (events : List SharedEvent) → IsSound s → IsRun s events → times_sent r events ≤ times_stored r events + (resting s.store + open_by s.renewals)
+  each_is_paid s [] sound run = omega arith
+  each_is_paid s (Asked version token ∷ events) sound run =
+      let later = each_is_paid (after s (Asked version token)) events (sound_after s (Asked version token) sound run.0) run.1 in
+      let same = sum_by_push held s.renewals (Asking version token) in
+      omega (arith, later, same)
+  each_is_paid s (Marked i version token ∷ events) sound run =
+      let later = each_is_paid (after s (Marked i version token)) events (sound_after s (Marked i version token) sound run.0) run.1 in
+      let within = began s i (Asking version token) run.0.0 (λ e. cc) in
+      let change = goes_on s.renewals i (Asking version token) (Marking version token) within run.0.0 in
+      let rested : has_refresh r token ≡ resting s.store = ap resting (asked_is_stored s i version token sound run.0) in
+      omega (arith, later, change, rested)
+  each_is_paid s (Sent i version token ∷ events) sound run =
+      let later = each_is_paid (after s (Sent i version token)) events (sound_after s (Sent i version token) sound run.0) run.1 in
+      let within = began s i (Marking version token) run.0 (λ e. cc) in
+      let change = goes_on s.renewals i (Marking version token) (Sending version) within run.0 in
+      omega (arith, later, change)
+  each_is_paid s (Given i version new ∷ events) sound run =
+      let later = each_is_paid (after s (Given i version new)) events (sound_after s (Given i version new) sound run.0) run.1 in
+      let within = began s i (Sending version) run.0 (λ e. cc) in
+      let change = goes_on s.renewals i (Sending version) (Holding version new) within run.0 in
+      omega (arith, later, change)
+  each_is_paid s (Kept i version new ∷ events) sound run =
+      let later = each_is_paid (after s (Kept i version new)) events (sound_after s (Kept i version new) sound run.0) run.1 in
+      let within = began s i (Holding version new) run.0.0 (λ e. cc) in
+      let change = goes_on s.renewals i (Holding version new) Done within run.0.0 in
+      omega (arith, later, change)
+  each_is_paid s (SignedIn i version new ∷ events) sound run =
+      let later = each_is_paid (after s (SignedIn i version new)) events (sound_after s (SignedIn i version new) sound run.0) run.1 in
+      omega (arith, later)
+  each_is_paid s (Allowed i version token ∷ events) sound run =
+      let later = each_is_paid (after s (Allowed i version token)) events (sound_after s (Allowed i version token) sound run.0) run.1 in
+      omega (arith, later)
+  each_is_paid s (LoggedIn version new ∷ events) sound run =
+      let later = each_is_paid (after s (LoggedIn version new)) events (sound_after s (LoggedIn version new) sound run.0) run.1 in
+      omega (arith, later)
+
+pub each_sending_was_stored : EachSendingWasStored
+each_sending_was_stored start events r run =
+    let paid = each_is_paid r (begin start) events (sound_begin start) run in
+    omega (arith, paid)
+
+pub each_is_sent_at_most_once : EachIsSentAtMostOnce
+each_is_sent_at_most_once start events r run once =
+    let paid = each_sending_was_stored start events r run in
+    omega (arith, paid, once)

@@ -1,0 +1,66 @@
+-- The laws of a shared token, over each finished list of events.
+use Rattle.std.specs.Prelude.{◌≡◌, ℕ, ◌+◌, ◌≤◌, List, None, ◌⊎◌}
+use Rattle.std.specs.List.{Contains}
+use Rattle.oauth2_shared_token.specs.State.{Token, begin, marked, stage_of, Sending}
+use Rattle.oauth2_shared_token.specs.Event.{SharedEvent, Given, Kept, SignedIn, Allowed}
+use Rattle.oauth2_shared_token.specs.Run.{IsRun, at_last, has_refresh, times_sent, times_stored, newest, newest_given}
+
+-- a refresh token is sent no more often than it was stored
+abbrev pub EachSendingWasStored : Type 0
+EachSendingWasStored =
+    (start : Token) (events : List SharedEvent) (r : ℕ) →
+    IsRun (begin start) events →
+    times_sent r events ≤ has_refresh r start + times_stored r events
+
+-- so one that the server gave once is sent at most once, unless a caller said that it may be used again
+abbrev pub EachIsSentAtMostOnce : Type 0
+EachIsSentAtMostOnce =
+    (start : Token) (events : List SharedEvent) (r : ℕ) →
+    IsRun (begin start) events →
+    has_refresh r start + times_stored r events ≤ 1 →
+    times_sent r events ≤ 1
+
+-- what is stored is the last that was kept, signed in, allowed or logged in
+abbrev pub WhatIsStoredIsTheNewest : Type 0
+WhatIsStoredIsTheNewest =
+    (start : Token) (events : List SharedEvent) →
+    IsRun (begin start) events →
+    (at_last (begin start) events).store.token ≡ newest start events
+
+-- the caller was told of a renewal that marked this version, and answered
+abbrev pub WasAnswered : List SharedEvent → ℕ → ℕ → Type 0
+WasAnswered events i version =
+    (token : Token) × (Contains events (SignedIn i (version + 1) token) ⊎ Contains events (Allowed i (version + 1) token))
+
+-- a token that was given is kept, or it is marked still that one is awaited, or a caller answered that
+abbrev pub NoneIsLostUntold : Type 0
+NoneIsLostUntold =
+    (start : Token) (events : List SharedEvent) (i version : ℕ) (new : Token) →
+    IsRun (begin start) events →
+    Contains events (Given i version new) →
+    Contains events (Kept i version new) ⊎
+    (((at_last (begin start) events).store ≡ marked (version + 1) (newest start events) i) ⊎
+    WasAnswered events i version)
+
+-- no caller answered for a renewal that was given a token all the same
+abbrev pub NoneCameLate : List SharedEvent → Type 0
+NoneCameLate events =
+    (i version : ℕ) (new : Token) → Contains events (Given i version new) → WasAnswered events i version → ⊥
+
+-- then what is at rest at last is the newest that any keeper was given
+abbrev pub TheNewestGivenIsStored : Type 0
+TheNewestGivenIsStored =
+    (start : Token) (events : List SharedEvent) →
+    IsRun (begin start) events →
+    NoneCameLate events →
+    (at_last (begin start) events).store.used_by ≡ None →
+    (at_last (begin start) events).store.token ≡ newest_given start events
+
+-- two requests run at once only where a caller answered for one of them
+abbrev pub OneRunsAtOnce : Type 0
+OneRunsAtOnce =
+    (start : Token) (events : List SharedEvent) (i j v w : ℕ) →
+    IsRun (begin start) events →
+    stage_of (at_last (begin start) events) i ≡ Sending v →
+    stage_of (at_last (begin start) events) j ≡ Sending w →
+    (i ≡ j) ⊎ (WasAnswered events i v ⊎ WasAnswered events j w)

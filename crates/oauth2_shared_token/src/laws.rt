@@ -1,0 +1,67 @@
+//! Laws of a shared token, for any number of renewals and any order of what they do.
+
+ghost use Rattle.oauth2_shared_token.specs.Laws.{
+  EachIsSentAtMostOnce,
+  EachSendingWasStored,
+  NoneIsLostUntold,
+  OneRunsAtOnce,
+  TheNewestGivenIsStored,
+  WhatIsStoredIsTheNewest,
+};
+ghost use Rattle.oauth2_shared_token.specs.Lease.{NoLeaseEndsEarly};
+ghost use Rattle.oauth2_shared_token.specs.Renewal.{
+  EachStepCanHappen,
+  EachStepIsKnown,
+  WhatIsKnownStays,
+};
+
+/// A refresh token is sent no more often than it was stored.
+pub fn sendings_were_stored()
+    ensures { EachSendingWasStored }
+{}
+
+/// One that came to be stored once is sent at most once.
+pub fn each_is_sent_at_most_once()
+    ensures { EachIsSentAtMostOnce }
+{}
+
+/// What is stored is the last that was kept, signed in, allowed or logged in.
+pub fn what_is_stored_is_the_newest()
+    ensures { WhatIsStoredIsTheNewest }
+{}
+
+/// A token that was given is kept, or its mark stands, or a caller answered `Unfinished` for it.
+pub fn none_is_lost_untold()
+    ensures { NoneIsLostUntold }
+{}
+
+/// If no caller answered for a renewal that was given a token all the same, what is at rest is the
+/// newest that any keeper was given.
+pub fn the_newest_given_is_stored()
+    ensures { TheNewestGivenIsStored }
+{}
+
+/// Each step of a renewal is an event that can happen, where what it is told is so.
+pub fn each_step_can_happen()
+    ensures { EachStepCanHappen }
+{}
+
+/// What a renewal knows of itself is so after each of its steps.
+pub fn each_step_is_known()
+    ensures { EachStepIsKnown }
+{}
+
+/// It stays so, whatever the others and the store do.
+pub fn what_is_known_stays()
+    ensures { WhatIsKnownStays }
+{}
+
+/// Two requests run at once only where a caller answered `Unfinished` for one of them.
+pub fn one_runs_at_once()
+    ensures { OneRunsAtOnce }
+{}
+
+/// A mark that is overdue by one clock is past its end by the clock of the renewal that wrote it.
+pub fn no_lease_ends_early()
+    ensures { NoLeaseEndsEarly }
+{}
