@@ -1,15 +1,14 @@
 -- Where no token comes late, the last that was given is stored or held by the one renewal that marked.
-use Rattle.std.proofs.Common.{◌≡◌, ◌≢◌, ℕ, ◌+◌, ◌<◌, List, [], ◌∷◌, ◌++◌, length, get_or, set, Some, None, refl, ap, sym, subst, ◌∙◌, append_assoc, arith, ◌⊎◌, inl, inr}
+use Rattle.std.proofs.Common.{◌≡◌, ◌≢◌, ℕ, ◌+◌, List, [], ◌∷◌, ◌++◌, get_or, Some, None, refl, ap, sym, subst, ◌∙◌, append_assoc, arith, ◌⊎◌, inl, inr}
 use Rattle.std.specs.List.{Contains}
-use Rattle.std.proofs.lemmas.List.{get_or-set_same}
 use Rattle.std.proofs.lemmas.List.Elements.{Contains-append_left, Contains-push}
-use Rattle.oauth2_shared_token.specs.State.{Token, Stored, Stage, NotBegun, Asking, Marking, Sending, Holding, Done, Shared, stage_of, begin}
+use Rattle.oauth2_shared_token.specs.State.{Token, Stored, Stage, NotBegun, Asking, Marking, Sending, Holding, Done, put, Shared, stage_of, begin}
 use Rattle.oauth2_shared_token.specs.Event.{SharedEvent, Asked, Marked, Sent, Given, Kept, SignedIn, Allowed, LoggedIn, CanHappen, after}
 use Rattle.oauth2_shared_token.specs.Run.{IsRun, at_last, newest_given}
 use Rattle.oauth2_shared_token.specs.Laws.{WasAnswered, NoneCameLate, TheNewestGivenIsStored}
-use Rattle.oauth2_shared_token.proofs.Places.{read-set, read-push}
-use Rattle.oauth2_shared_token.proofs.Versions.{IsSound, began, sound_after, sound_begin, asked_is_stored, rest_is_stored}
-use Rattle.oauth2_shared_token.proofs.Standing.{marks, IsStanding, IsTold, holding-set, holding-push, seen_is_stored, told_after, told_begin}
+use Rattle.oauth2_shared_token.proofs.Places.{put-same, read-put, stays-put}
+use Rattle.oauth2_shared_token.proofs.Versions.{IsSound, sound_after, sound_begin, asked_is_stored, rest_is_stored}
+use Rattle.oauth2_shared_token.proofs.Standing.{marks, IsStanding, IsTold, seen_is_stored, told_after, told_begin}
 
 pub record Holder (s : Shared) (latest : Token) : Type 0 where
   pub renewal : ℕ
@@ -21,13 +20,9 @@ pub record IsLatest (s : Shared) (sofar : List SharedEvent) (latest : Token) : T
   pub only : (j w : ℕ) (n : Token) → stage_of s j ≡ Holding w n → n ≡ latest
   pub somewhere : (latest ≡ s.store.token) ⊎ Holder s latest
 
--- what holds after a write holds already, or was written
-pub held-set : (xs : List Stage) (i j w : ℕ) (x : Stage) (n : Token) → i < length xs → get_or (set xs i x) j NotBegun ≡ Holding w n → ((j ≡ i) × (Holding w n ≡ x)) ⊎ ((j ≢ i) × (get_or xs j NotBegun ≡ Holding w n))
-held-set xs i j w x n within h = read-set xs i j x (Holding w n) within h
-
 -- the last that was given, after one more event
 abbrev next_latest : Token → SharedEvent → Token
-next_latest latest (Asked version t) = latest
+next_latest latest (Asked i version t) = latest
 next_latest latest (Marked i version t) = latest
 next_latest latest (Sent i version t) = latest
 next_latest latest (Given i version new) = new
@@ -37,7 +32,7 @@ next_latest latest (Allowed i version t) = t
 next_latest latest (LoggedIn version new) = new
 
 newest_step : (latest : Token) (event : SharedEvent) (events : List SharedEvent) → newest_given latest (event ∷ events) ≡ newest_given (next_latest latest event) events
-newest_step latest (Asked version t) events = refl
+newest_step latest (Asked i version t) events = refl
 newest_step latest (Marked i version t) events = refl
 newest_step latest (Sent i version t) events = refl
 newest_step latest (Given i version new) events = refl
@@ -64,10 +59,10 @@ module _ (all : List SharedEvent) (in_time : NoneCameLate all) where
         ]
 
     -- nothing but a stage changed, of a renewal that held none and holds none
-    further : (event : SharedEvent) (i : ℕ) (x y : Stage) → i < length s.renewals → stage_of s i ≡ y → ((w : ℕ) (n : Token) → Holding w n ≢ y) → ((w : ℕ) (n : Token) → Holding w n ≢ x) → (t : Shared) → t.renewals ≡ set s.renewals i x → s.store.token ≡ t.store.token → IsLatest t (sofar ++ event ∷ []) latest
-    further event i x y within was not_before not_after t is same =
+    further : (event : SharedEvent) (i : ℕ) (x y : Stage) → stage_of s i ≡ y → ((w : ℕ) (n : Token) → Holding w n ≢ y) → ((w : ℕ) (n : Token) → Holding w n ≢ x) → (t : Shared) → t.renewals ≡ put NotBegun s.renewals i x → s.store.token ≡ t.store.token → IsLatest t (sofar ++ event ∷ []) latest
+    further event i x y was not_before not_after t is same =
         let back : (j w : ℕ) (n : Token) → stage_of t j ≡ Holding w n → stage_of s j ≡ Holding w n =
-        λ j w n h. elim (held-set s.renewals i j w x n within (sym (ap (λ (xs : List Stage). get_or xs j NotBegun) is) ∙ h)) [
+        λ j w n h. elim (read-put NotBegun s.renewals i j x (Holding w n) (sym (ap (λ (xs : List Stage). get_or xs j NotBegun) is) ∙ h)) [
           | inl here ↦ absurd (not_after w n here.1)
           | inr there ↦ there.1
         ] in
@@ -79,47 +74,30 @@ module _ (all : List SharedEvent) (in_time : NoneCameLate all) where
             | inr holder ↦ inr (record {
               renewal = holder.renewal;
               version = holder.version;
-              holds = ap (λ (xs : List Stage). get_or xs holder.renewal NotBegun) is ∙ holding-set s.renewals i holder.renewal holder.version x y latest was (not_before holder.version latest) holder.holds;
+              holds = ap (λ (xs : List Stage). get_or xs holder.renewal NotBegun) is ∙ stays-put s.renewals i holder.renewal x y (Holding holder.version latest) was (not_before holder.version latest) holder.holds;
             })
           ];
         }
 
     latest_after : (event : SharedEvent) → ((e : SharedEvent) → Contains (sofar ++ event ∷ []) e → Contains all e) → CanHappen s event → IsLatest (after s event) (sofar ++ event ∷ []) (next_latest latest event)
-    latest_after (Asked version token) among can =
-        let back : (j w : ℕ) (n : Token) → get_or (s.renewals ++ Asking version token ∷ []) j NotBegun ≡ Holding w n → stage_of s j ≡ Holding w n =
-        λ j w n h. elim (read-push s.renewals j (Asking version token) (Holding w n) h (λ e. cc)) [
-          | inl before ↦ before
-          | inr here ↦ absurd cc
-        ] in
-        record {
-          was_given = λ j w n h. Contains-append_left sofar _ _ (l.was_given j w n (back j w n h));
-          only = λ j w n h. l.only j w n (back j w n h);
-          somewhere = elim l.somewhere [
-            | inl stored ↦ inl stored
-            | inr holder ↦ inr (record {
-              renewal = holder.renewal;
-              version = holder.version;
-              holds = holding-push s.renewals holder.renewal holder.version (Asking version token) latest holder.holds;
-            })
-          ];
-        }
+    latest_after (Asked i version token) among can =
+        further (Asked i version token) i (Asking version token) NotBegun can.0 (λ w n e. cc) (λ w n e. cc) (after s (Asked i version token)) refl refl
     latest_after (Marked i version token) among can =
-        further (Marked i version token) i (Marking version token) (Asking version token) (began s i (Asking version token) can.0 (λ e. cc)) can.0 (λ w n e. cc) (λ w n e. cc) (after s (Marked i version token)) refl (sym (ap (λ (p : Stored). p.token) (asked_is_stored s i version token sound can)))
+        further (Marked i version token) i (Marking version token) (Asking version token) can.0 (λ w n e. cc) (λ w n e. cc) (after s (Marked i version token)) refl (sym (ap (λ (p : Stored). p.token) (asked_is_stored s i version token sound can)))
     latest_after (Sent i version token) among can =
-        further (Sent i version token) i (Sending version) (Marking version token) (began s i (Marking version token) can (λ e. cc)) can (λ w n e. cc) (λ w n e. cc) (after s (Sent i version token)) refl refl
+        further (Sent i version token) i (Sending version) (Marking version token) can (λ w n e. cc) (λ w n e. cc) (after s (Sent i version token)) refl refl
     latest_after (Given i version new) among can =
-        let within = began s i (Sending version) can (λ e. cc) in
         let mine : IsStanding s.store i version =
         elim (told.marking i version (ap marks can)) [
           | inl standing ↦ standing
           | inr over ↦ absurd (in_time i version new (among _ (Contains-push sofar (Given i version new))) (answered_there sofar all i version (λ e c. among e (Contains-append_left sofar _ e c)) over.answered))
         ] in
         record {
-          was_given = λ j w n h. elim (held-set s.renewals i j w (Holding version new) n within h) [
+          was_given = λ j w n h. elim (read-put NotBegun s.renewals i j (Holding version new) (Holding w n) h) [
             | inl here ↦ (let place = here.0 in let what = here.1 in let same : Given i version new ≡ Given j w n = cc in subst (Contains (sofar ++ Given i version new ∷ [])) same (Contains-push sofar (Given i version new)))
             | inr there ↦ Contains-append_left sofar _ _ (l.was_given j w n there.1)
           ];
-          only = λ j w n h. elim (held-set s.renewals i j w (Holding version new) n within h) [
+          only = λ j w n h. elim (read-put NotBegun s.renewals i j (Holding version new) (Holding w n) h) [
             | inl here ↦ (let what = here.1 in cc)
             | inr there ↦ absurd (there.0 (
                 let standing = stands j w n (λ e c. among e (Contains-append_left sofar _ e c)) there.1 in
@@ -127,12 +105,11 @@ module _ (all : List SharedEvent) (in_time : NoneCameLate all) where
                 let f = mine.by in
                 cc))
           ];
-          somewhere = inr (record { renewal = i; version = version; holds = get_or-set_same s.renewals i (Holding version new) NotBegun within });
+          somewhere = inr (record { renewal = i; version = version; holds = put-same NotBegun s.renewals i (Holding version new) });
         }
     latest_after (Kept i version new) among can =
-        let within = began s i (Holding version new) can.0 (λ e. cc) in
-        let back : (j w : ℕ) (n : Token) → get_or (set s.renewals i Done) j NotBegun ≡ Holding w n → stage_of s j ≡ Holding w n =
-        λ j w n h. elim (held-set s.renewals i j w Done n within h) [
+        let back : (j w : ℕ) (n : Token) → get_or (put NotBegun s.renewals i Done) j NotBegun ≡ Holding w n → stage_of s j ≡ Holding w n =
+        λ j w n h. elim (read-put NotBegun s.renewals i j Done (Holding w n) h) [
           | inl here ↦ absurd (let e = here.1 in cc)
           | inr there ↦ there.1
         ] in

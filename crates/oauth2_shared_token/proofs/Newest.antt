@@ -8,8 +8,8 @@ use Rattle.oauth2_shared_token.proofs.Versions.{IsSound, sound_after, sound_begi
 
 pub newest_from : (s : Shared) (events : List SharedEvent) → IsSound s → IsRun s events → (at_last s events).store.token ≡ newest s.store.token events
 newest_from s [] sound run = refl
-newest_from s (Asked version token ∷ events) sound run =
-    newest_from (after s (Asked version token)) events (sound_after s (Asked version token) sound run.0) run.1
+newest_from s (Asked i version token ∷ events) sound run =
+    newest_from (after s (Asked i version token)) events (sound_after s (Asked i version token) sound run.0) run.1
 newest_from s (Marked i version token ∷ events) sound run =
     newest_from (after s (Marked i version token)) events (sound_after s (Marked i version token) sound run.0) run.1 ∙
     ap (λ (p : Stored). newest p.token events) (asked_is_stored s i version token sound run.0)

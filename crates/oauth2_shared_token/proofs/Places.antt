@@ -1,54 +1,42 @@
--- One place of a list of renewals, and what the others keep.
-use Rattle.std.proofs.Common.{◌≡◌, ◌≢◌, ℕ, zero, suc, ◌<◌, ◌≤◌, List, [], ◌∷◌, ◌++◌, length, get_or, set, sym, ◌∙◌, arith, length-append, ◌⊎◌, inl, inr}
-use Rattle.std.proofs.Math.Decide.{dec_le}
-use Rattle.std.proofs.Math.Seq.{get_or-append_seam}
-use Rattle.std.proofs.lemmas.List.{get_or-set_same, get_or-set_other, get_or_past, get_or_append_left}
+-- One place of a list that grows as need be, and what the others keep.
+use Rattle.std.proofs.Common.{◌≡◌, ◌≢◌, ℕ, zero, suc, ◌<◌, List, [], ◌∷◌, ◌++◌, get_or, refl, ap, sym, ◌∙◌, arith, ◌⊎◌, inl, inr}
+use Rattle.std.proofs.lemmas.Bool.{cases_eq}
 use Rattle.std.specs.List.{Contains}
 use Rattle.std.proofs.lemmas.List.Elements.{Contains-append_cases}
-use Rattle.oauth2_shared_token.specs.State.{Stage, NotBegun}
+use Rattle.oauth2_shared_token.specs.State.{Stage, NotBegun, put}
 
--- a renewal that has begun is in the list
-pub has_begun : (xs : List Stage) (i : ℕ) (x : Stage) → get_or xs i NotBegun ≡ x → x ≢ NotBegun → i < length xs
-has_begun xs i x is began =
-    elim (dec_le (length xs) i) [
-      | yes beyond ↦ absurd (began (sym is ∙ get_or_past xs i NotBegun beyond))
-      | no within ↦ omega arith
-    ]
+pub put-same : {A : Type 0} (none : A) (xs : List A) (i : ℕ) (x : A) → get_or (put none xs i x) i none ≡ x
+put-same none [] zero x = refl
+put-same none [] (suc i) x = put-same none [] i x
+put-same none (y ∷ ys) zero x = refl
+put-same none (y ∷ ys) (suc i) x = put-same none ys i x
+
+pub put-other : {A : Type 0} (none : A) (xs : List A) (i j : ℕ) (x : A) → j ≢ i → get_or (put none xs i x) j none ≡ get_or xs j none
+put-other none [] zero zero x ne = absurd (ne refl)
+put-other none [] zero (suc j) x ne = refl
+put-other none [] (suc i) zero x ne = refl
+put-other none [] (suc i) (suc j) x ne = put-other none [] i j x (λ e. ne (ap (λ (k : ℕ). suc k) e))
+put-other none (y ∷ ys) zero zero x ne = absurd (ne refl)
+put-other none (y ∷ ys) zero (suc j) x ne = refl
+put-other none (y ∷ ys) (suc i) zero x ne = refl
+put-other none (y ∷ ys) (suc i) (suc j) x ne = put-other none ys i j x (λ e. ne (ap (λ (k : ℕ). suc k) e))
 
 -- what is read after a write is what was written, or what was there
-pub read-set : (xs : List Stage) (i j : ℕ) (x y : Stage) → i < length xs → get_or (set xs i x) j NotBegun ≡ y → ((j ≡ i) × (y ≡ x)) ⊎ ((j ≢ i) × (get_or xs j NotBegun ≡ y))
-read-set xs i j x y within is =
-    elim (dec_le j i) [
-      | yes le ↦ elim (dec_le i j) [
-        | yes ge ↦
-            let e : j ≡ i = omega (arith, le, ge) in
-            inl (e, sym is ∙ (rw e (get_or-set_same xs i x NotBegun within)))
-        | no less ↦
-            let ne : j ≢ i = omega arith in
-            inr (ne, sym (get_or-set_other xs i j x NotBegun ne) ∙ is)
-      ]
-      | no more ↦
-          let ne : j ≢ i = omega arith in
-          inr (ne, sym (get_or-set_other xs i j x NotBegun ne) ∙ is)
+pub read-put : {A : Type 0} (none : A) (xs : List A) (i j : ℕ) (x y : A) → get_or (put none xs i x) j none ≡ y → ((j ≡ i) × (y ≡ x)) ⊎ ((j ≢ i) × (get_or xs j none ≡ y))
+read-put none xs i j x y is =
+    elim (cases_eq j i) [
+      | inl same ↦ inl (same, sym is ∙ (rw same (put-same none xs i x)))
+      | inr ne ↦ inr (ne, sym (put-other none xs i j x ne) ∙ is)
     ]
 
--- the same after one more has begun
-pub read-push : (xs : List Stage) (j : ℕ) (x y : Stage) → get_or (xs ++ x ∷ []) j NotBegun ≡ y → y ≢ NotBegun → (get_or xs j NotBegun ≡ y) ⊎ (x ≡ y)
-read-push xs j x y is began =
-    elim (dec_le (length xs) j) [
-      | yes beyond ↦ elim (dec_le j (length xs)) [
-        | yes last ↦
-            let e : j ≡ length xs = omega (arith, beyond, last) in
-            let here : get_or (xs ++ x ∷ []) j NotBegun ≡ x = rw e (get_or-append_seam xs x [] NotBegun) in
-            inr (sym here ∙ is)
-        | no further ↦
-            let out : length (xs ++ x ∷ []) ≤ j = simp length-append (omega arith) in
-            absurd (began (sym is ∙ get_or_past (xs ++ x ∷ []) j NotBegun out))
-      ]
-      | no within ↦
-          let lt : j < length xs = omega arith in
-          inl (sym (get_or_append_left xs (x ∷ []) NotBegun j lt) ∙ is)
-    ]
+-- a renewal stays where it is if another, at another stage, gets further
+pub stays-put : (xs : List Stage) (i j : ℕ) (x y z : Stage) → get_or xs i NotBegun ≡ y → z ≢ y → get_or xs j NotBegun ≡ z → get_or (put NotBegun xs i x) j NotBegun ≡ z
+stays-put xs i j x y z was other is =
+    let ne : j ≢ i = λ e. other (sym is ∙ ap (λ (k : ℕ). get_or xs k NotBegun) e ∙ was) in
+    put-other NotBegun xs i j x ne ∙ is
+
+pub none_in_nothing : {A : Type 0} (x : A) → Contains [] x → ⊥
+none_in_nothing {A} x h = omega (arith, h.1)
 
 pub only_one : {A : Type 0} (x y : A) (k : ℕ) → k < 1 → get_or (x ∷ []) k y ≡ y → y ≡ x
 only_one {A} x y zero within is = sym is

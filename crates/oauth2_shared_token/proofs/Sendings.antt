@@ -1,13 +1,11 @@
 -- Each sending is paid for by a storing: what is at rest may be marked once, and what is marked may
 -- be sent once.
-use Rattle.std.proofs.Common.{◌≡◌, ℕ, ◌+◌, ◌<◌, ◌≤◌, List, [], ◌∷◌, length, get_or, set, Option, Some, None, ap, arith}
-use Rattle.std.specs.List.{sum_by}
-use Rattle.std.proofs.lemmas.List.Sums.{sum_by-set, sum_by_push}
-use Rattle.oauth2_shared_token.specs.State.{Token, Stored, Stage, NotBegun, Asking, Marking, Sending, Holding, Done, Shared, begin}
+use Rattle.std.proofs.Common.{◌≡◌, ℕ, zero, suc, ◌+◌, ◌≤◌, List, [], ◌∷◌, get_or, Option, Some, None, ap, arith}
+use Rattle.oauth2_shared_token.specs.State.{Token, Stored, Stage, NotBegun, Asking, Marking, Sending, Holding, Done, put, Shared, begin}
 use Rattle.oauth2_shared_token.specs.Event.{SharedEvent, Asked, Marked, Sent, Given, Kept, SignedIn, Allowed, LoggedIn, after}
 use Rattle.oauth2_shared_token.specs.Run.{IsRun, has_refresh, times_sent, times_stored}
 use Rattle.oauth2_shared_token.specs.Laws.{EachSendingWasStored, EachIsSentAtMostOnce}
-use Rattle.oauth2_shared_token.proofs.Versions.{IsSound, began, sound_after, sound_begin, asked_is_stored}
+use Rattle.oauth2_shared_token.proofs.Versions.{IsSound, sound_after, sound_begin, asked_is_stored}
 
 module _ (r : ℕ) where
   -- how many sendings of it are still open: to a renewal, to whoever marks what is at rest, to all
@@ -27,40 +25,37 @@ module _ (r : ℕ) where
   resting p = resting_by p.token p.used_by
 
   abbrev open_by : List Stage → ℕ
-  open_by xs = sum_by held xs
+  open_by [] = 0
+  open_by (x ∷ xs) = held x + open_by xs
 
-  goes_on : (xs : List Stage) (i : ℕ) (x y : Stage) → i < length xs → get_or xs i NotBegun ≡ x → open_by (set xs i y) + held x ≡ open_by xs + held y
-  goes_on xs i x y within is =
-      let change = sum_by-set held xs i y NotBegun within in
-      let here : held (get_or xs i NotBegun) ≡ held x = ap held is in
-      omega (arith, change, here)
+  goes_on : (xs : List Stage) (i : ℕ) (x y : Stage) → get_or xs i NotBegun ≡ x → open_by (put NotBegun xs i y) + held x ≡ open_by xs + held y
+  goes_on [] zero x y is = let none : held NotBegun ≡ held x = ap held is in omega (arith, none)
+  goes_on [] (suc i) x y is = let later = goes_on [] i x y is in omega (arith, later)
+  goes_on (z ∷ zs) zero x y is = let here : held z ≡ held x = ap held is in omega (arith, here)
+  goes_on (z ∷ zs) (suc i) x y is = let later = goes_on zs i x y is in omega (arith, later)
 
   pub each_is_paid : (s : Shared) (events : List SharedEvent) → IsSound s → IsRun s events → times_sent r events ≤ times_stored r events + (resting s.store + open_by s.renewals)
   each_is_paid s [] sound run = omega arith
-  each_is_paid s (Asked version token ∷ events) sound run =
-      let later = each_is_paid (after s (Asked version token)) events (sound_after s (Asked version token) sound run.0) run.1 in
-      let same = sum_by_push held s.renewals (Asking version token) in
-      omega (arith, later, same)
+  each_is_paid s (Asked i version token ∷ events) sound run =
+      let later = each_is_paid (after s (Asked i version token)) events (sound_after s (Asked i version token) sound run.0) run.1 in
+      let change = goes_on s.renewals i NotBegun (Asking version token) run.0.0 in
+      omega (arith, later, change)
   each_is_paid s (Marked i version token ∷ events) sound run =
       let later = each_is_paid (after s (Marked i version token)) events (sound_after s (Marked i version token) sound run.0) run.1 in
-      let within = began s i (Asking version token) run.0.0 (λ e. cc) in
-      let change = goes_on s.renewals i (Asking version token) (Marking version token) within run.0.0 in
+      let change = goes_on s.renewals i (Asking version token) (Marking version token) run.0.0 in
       let rested : has_refresh r token ≡ resting s.store = ap resting (asked_is_stored s i version token sound run.0) in
       omega (arith, later, change, rested)
   each_is_paid s (Sent i version token ∷ events) sound run =
       let later = each_is_paid (after s (Sent i version token)) events (sound_after s (Sent i version token) sound run.0) run.1 in
-      let within = began s i (Marking version token) run.0 (λ e. cc) in
-      let change = goes_on s.renewals i (Marking version token) (Sending version) within run.0 in
+      let change = goes_on s.renewals i (Marking version token) (Sending version) run.0 in
       omega (arith, later, change)
   each_is_paid s (Given i version new ∷ events) sound run =
       let later = each_is_paid (after s (Given i version new)) events (sound_after s (Given i version new) sound run.0) run.1 in
-      let within = began s i (Sending version) run.0 (λ e. cc) in
-      let change = goes_on s.renewals i (Sending version) (Holding version new) within run.0 in
+      let change = goes_on s.renewals i (Sending version) (Holding version new) run.0 in
       omega (arith, later, change)
   each_is_paid s (Kept i version new ∷ events) sound run =
       let later = each_is_paid (after s (Kept i version new)) events (sound_after s (Kept i version new) sound run.0) run.1 in
-      let within = began s i (Holding version new) run.0.0 (λ e. cc) in
-      let change = goes_on s.renewals i (Holding version new) Done within run.0.0 in
+      let change = goes_on s.renewals i (Holding version new) Done run.0.0 in
       omega (arith, later, change)
   each_is_paid s (SignedIn i version new ∷ events) sound run =
       let later = each_is_paid (after s (SignedIn i version new)) events (sound_after s (SignedIn i version new) sound run.0) run.1 in

@@ -1,16 +1,16 @@
 -- A renewal that marked a version has its mark there until it keeps a token or a caller answers
 -- `Unfinished`.
-use Rattle.std.proofs.Common.{◌≡◌, ◌≢◌, ℕ, ◌+◌, ◌<◌, ◌≤◌, List, [], ◌∷◌, ◌++◌, length, get_or, set, Option, Some, None, refl, ap, sym, subst, ◌∙◌, append_assoc, arith, ◌⊎◌, inl, inr}
+use Rattle.std.proofs.Common.{◌≡◌, ◌≢◌, ℕ, ◌+◌, ◌<◌, ◌≤◌, List, [], ◌∷◌, ◌++◌, get_or, Option, Some, None, refl, ap, sym, subst, ◌∙◌, append_assoc, arith, ◌⊎◌, inl, inr}
 use Rattle.std.proofs.Math.Decide.{dec_le}
-use Rattle.std.proofs.lemmas.List.{get_or-set_same, get_or-set_other, get_or_append_left, append-nil}
+use Rattle.std.proofs.lemmas.List.{append-nil}
 use Rattle.std.specs.List.{Contains}
 use Rattle.std.proofs.lemmas.List.Elements.{Contains-append_left, Contains-push}
-use Rattle.oauth2_shared_token.specs.State.{Token, Stored, at_rest, marked, Stage, NotBegun, Asking, Marking, Sending, Holding, Done, Shared, stage_of, begin}
+use Rattle.oauth2_shared_token.specs.State.{Token, Stored, at_rest, marked, Stage, NotBegun, Asking, Marking, Sending, Holding, Done, put, Shared, stage_of, begin}
 use Rattle.oauth2_shared_token.specs.Event.{SharedEvent, Asked, Marked, Sent, Given, Kept, SignedIn, Allowed, LoggedIn, CanHappen, after}
 use Rattle.oauth2_shared_token.specs.Run.{IsRun, at_last}
 use Rattle.oauth2_shared_token.specs.Laws.{WasAnswered, NoneIsLostUntold, OneRunsAtOnce}
-use Rattle.oauth2_shared_token.proofs.Places.{has_begun, read-set, read-push, in_one_more}
-use Rattle.oauth2_shared_token.proofs.Versions.{IsSound, began, sound_after, sound_begin, asked_is_stored, rest_is_stored}
+use Rattle.oauth2_shared_token.proofs.Places.{put-same, put-other, read-put, stays-put, none_in_nothing, in_one_more}
+use Rattle.oauth2_shared_token.proofs.Versions.{IsSound, sound_after, sound_begin, asked_is_stored, rest_is_stored}
 use Rattle.oauth2_shared_token.proofs.Newest.{what_is_stored_is_the_newest}
 
 -- the version that a renewal marked and hasn't replaced
@@ -34,21 +34,11 @@ pub record IsTold (s : Shared) (sofar : List SharedEvent) : Type 0 where
   pub marking : (i version : ℕ) → marks (stage_of s i) ≡ Some version → IsStanding s.store i version ⊎ IsOver s.store sofar i version
   pub given : (i version : ℕ) (new : Token) → Contains sofar (Given i version new) → Contains sofar (Kept i version new) ⊎ (stage_of s i ≡ Holding version new)
 
-pub marks-set : (xs : List Stage) (i j w : ℕ) (x : Stage) → i < length xs → marks (get_or (set xs i x) j NotBegun) ≡ Some w → ((j ≡ i) × (marks x ≡ Some w)) ⊎ ((j ≢ i) × (marks (get_or xs j NotBegun) ≡ Some w))
-marks-set xs i j w x within h =
-    elim (read-set xs i j x (get_or (set xs i x) j NotBegun) within refl) [
+pub marks-put : (xs : List Stage) (i j w : ℕ) (x : Stage) → marks (get_or (put NotBegun xs i x) j NotBegun) ≡ Some w → ((j ≡ i) × (marks x ≡ Some w)) ⊎ ((j ≢ i) × (marks (get_or xs j NotBegun) ≡ Some w))
+marks-put xs i j w x h =
+    elim (read-put NotBegun xs i j x (get_or (put NotBegun xs i x) j NotBegun) refl) [
       | inl here ↦ inl (here.0, sym (ap marks here.1) ∙ h)
       | inr there ↦ inr (there.0, ap marks there.1 ∙ h)
-    ]
-
-marks_something : (x : Stage) (w : ℕ) → marks x ≡ Some w → x ≢ NotBegun
-marks_something x w h e = let none : marks x ≡ None = ap marks e in cc
-
-marks-push : (xs : List Stage) (j w : ℕ) (x : Stage) → marks x ≡ None → marks (get_or (xs ++ x ∷ []) j NotBegun) ≡ Some w → marks (get_or xs j NotBegun) ≡ Some w
-marks-push xs j w x none h =
-    elim (read-push xs j x (get_or (xs ++ x ∷ []) j NotBegun) refl (marks_something _ w h)) [
-      | inl before ↦ ap marks before ∙ h
-      | inr here ↦ absurd (let e : marks x ≡ Some w = ap marks here ∙ h in cc)
     ]
 
 answered_more : (sofar : List SharedEvent) (event : SharedEvent) (i version : ℕ) → WasAnswered sofar i version → WasAnswered (sofar ++ event ∷ []) i version
@@ -71,16 +61,6 @@ same_store : (p : Stored) (sofar : List SharedEvent) (event : SharedEvent) (i ve
 same_store p sofar event i version (inl standing) = inl standing
 same_store p sofar event i version (inr over) = inr (over_more p p sofar event i version (omega arith) over)
 
--- a renewal that holds a token holds it still where another gets further
-pub holding-set : (xs : List Stage) (i j w : ℕ) (x y : Stage) (n : Token) → get_or xs i NotBegun ≡ y → Holding w n ≢ y → get_or xs j NotBegun ≡ Holding w n → get_or (set xs i x) j NotBegun ≡ Holding w n
-holding-set xs i j w x y n was other is =
-    let ne : j ≢ i = λ e. other (sym is ∙ ap (λ (k : ℕ). get_or xs k NotBegun) e ∙ was) in
-    get_or-set_other xs i j x NotBegun ne ∙ is
-
-pub holding-push : (xs : List Stage) (j w : ℕ) (x : Stage) (n : Token) → get_or xs j NotBegun ≡ Holding w n → get_or (xs ++ x ∷ []) j NotBegun ≡ Holding w n
-holding-push xs j w x n is =
-    get_or_append_left xs (x ∷ []) NotBegun j (has_begun xs j (Holding w n) is (λ e. cc)) ∙ is
-
 module _ (s : Shared) (sofar : List SharedEvent) (told : IsTold s sofar) where
   given_more : (t : Shared) (event : SharedEvent) → ((j w : ℕ) (n : Token) → stage_of s j ≡ Holding w n → (stage_of t j ≡ Holding w n) ⊎ (event ≡ Kept j w n)) → ((j w : ℕ) (n : Token) → event ≡ Given j w n → stage_of t j ≡ Holding w n) → (j w : ℕ) (n : Token) → Contains (sofar ++ event ∷ []) (Given j w n) → Contains (sofar ++ event ∷ []) (Kept j w n) ⊎ (stage_of t j ≡ Holding w n)
   given_more t event stays new j w n h =
@@ -96,53 +76,53 @@ module _ (s : Shared) (sofar : List SharedEvent) (told : IsTold s sofar) where
       ]
 
   pub told_after : (event : SharedEvent) → IsSound s → CanHappen s event → IsTold (after s event) (sofar ++ event ∷ [])
-  told_after (Asked version token) sound can =
+  told_after (Asked i version token) sound can =
       record {
-        marking = λ j w h. same_store s.store sofar _ j w (told.marking j w (marks-push s.renewals j w (Asking version token) refl h));
-        given = given_more (after s (Asked version token)) (Asked version token) (λ j w n is. inl (holding-push s.renewals j w (Asking version token) n is)) (λ j w n e. absurd cc);
+        marking = λ j w h.
+            elim (marks-put s.renewals i j w (Asking version token) h) [
+              | inl here ↦ absurd (let e = here.1 in cc)
+              | inr there ↦ same_store s.store sofar _ j w (told.marking j w there.1)
+            ];
+        given = given_more (after s (Asked i version token)) (Asked i version token) (λ j w n is. inl (stays-put s.renewals i j _ NotBegun (Holding w n) can.0 (λ e. cc) is)) (λ j w n e. absurd cc);
       }
   told_after (Marked i version token) sound can =
-      let within = began s i (Asking version token) can.0 (λ e. cc) in
       let rested : None ≡ s.store.used_by = ap (λ (p : Stored). p.used_by) (asked_is_stored s i version token sound can) in
       record {
         marking = λ j w h.
-            elim (marks-set s.renewals i j w (Marking version token) within h) [
+            elim (marks-put s.renewals i j w (Marking version token) h) [
               | inl here ↦ (let e : version ≡ w = cc in let f : Some i ≡ Some j = ap (λ (k : ℕ). Some k) (sym here.0) in inl (record { next = omega (arith, e); by = f }))
               | inr there ↦ elim (told.marking j w there.1) [
                 | inl standing ↦ absurd (let e = standing.by in cc)
                 | inr over ↦ inr (over_more s.store (marked (version + 1) token i) sofar _ j w (omega (arith, can.1)) over)
               ]
             ];
-        given = given_more (after s (Marked i version token)) (Marked i version token) (λ j w n is. inl (holding-set s.renewals i j w _ (Asking version token) n can.0 (λ e. cc) is)) (λ j w n e. absurd cc);
+        given = given_more (after s (Marked i version token)) (Marked i version token) (λ j w n is. inl (stays-put s.renewals i j _ (Asking version token) (Holding w n) can.0 (λ e. cc) is)) (λ j w n e. absurd cc);
       }
   told_after (Sent i version token) sound can =
-      let within = began s i (Marking version token) can (λ e. cc) in
       record {
         marking = λ j w h.
-            elim (marks-set s.renewals i j w (Sending version) within h) [
+            elim (marks-put s.renewals i j w (Sending version) h) [
               | inl here ↦ same_store s.store sofar _ j w (told.marking j w (ap (λ (k : ℕ). marks (stage_of s k)) here.0 ∙ ap marks can ∙ here.1))
               | inr there ↦ same_store s.store sofar _ j w (told.marking j w there.1)
             ];
-        given = given_more (after s (Sent i version token)) (Sent i version token) (λ j w n is. inl (holding-set s.renewals i j w _ (Marking version token) n can (λ e. cc) is)) (λ j w n e. absurd cc);
+        given = given_more (after s (Sent i version token)) (Sent i version token) (λ j w n is. inl (stays-put s.renewals i j _ (Marking version token) (Holding w n) can (λ e. cc) is)) (λ j w n e. absurd cc);
       }
   told_after (Given i version new) sound can =
-      let within = began s i (Sending version) can (λ e. cc) in
       record {
         marking = λ j w h.
-            elim (marks-set s.renewals i j w (Holding version new) within h) [
+            elim (marks-put s.renewals i j w (Holding version new) h) [
               | inl here ↦ same_store s.store sofar _ j w (told.marking j w (ap (λ (k : ℕ). marks (stage_of s k)) here.0 ∙ ap marks can ∙ here.1))
               | inr there ↦ same_store s.store sofar _ j w (told.marking j w there.1)
             ];
-        given = given_more (after s (Given i version new)) (Given i version new) (λ j w n is. inl (holding-set s.renewals i j w _ (Sending version) n can (λ e. cc) is)) (λ j w n e.
+        given = given_more (after s (Given i version new)) (Given i version new) (λ j w n is. inl (stays-put s.renewals i j _ (Sending version) (Holding w n) can (λ e. cc) is)) (λ j w n e.
             let same : Holding version new ≡ Holding w n = cc in
             let place : j ≡ i = cc in
-            rw place (get_or-set_same s.renewals i (Holding version new) NotBegun within ∙ same));
+            rw place (put-same NotBegun s.renewals i (Holding version new) ∙ same));
       }
   told_after (Kept i version new) sound can =
-      let within = began s i (Holding version new) can.0 (λ e. cc) in
       record {
         marking = λ j w h.
-            elim (marks-set s.renewals i j w Done within h) [
+            elim (marks-put s.renewals i j w Done h) [
               | inl here ↦ absurd (let e = here.1 in cc)
               | inr there ↦ elim (told.marking j w there.1) [
                 | inl standing ↦ elim (told.marking i version (ap marks can.0)) [
@@ -156,9 +136,9 @@ module _ (s : Shared) (sofar : List SharedEvent) (told : IsTold s sofar) where
             elim (dec_le j i) [
               | yes le ↦ elim (dec_le i j) [
                 | yes ge ↦ (let place : i ≡ j = omega (arith, le, ge) in let same : Holding version new ≡ Holding w n = sym can.0 ∙ ap (λ (k : ℕ). stage_of s k) place ∙ is in inr cc)
-                | no less ↦ (let ne : j ≢ i = omega arith in inl (get_or-set_other s.renewals i j Done NotBegun ne ∙ is))
+                | no less ↦ (let ne : j ≢ i = omega arith in inl (put-other NotBegun s.renewals i j Done ne ∙ is))
               ]
-              | no more ↦ (let ne : j ≢ i = omega arith in inl (get_or-set_other s.renewals i j Done NotBegun ne ∙ is))
+              | no more ↦ (let ne : j ≢ i = omega arith in inl (put-other NotBegun s.renewals i j Done ne ∙ is))
             ]) (λ j w n e. absurd cc);
       }
   told_after (SignedIn i version new) sound can =
@@ -202,9 +182,6 @@ pub told_at_last : (s : Shared) (sofar events : List SharedEvent) → IsTold s s
 told_at_last s sofar [] told sound run = subst (IsTold s) (sym (append-nil sofar)) told
 told_at_last s sofar (event ∷ events) told sound run =
     subst (IsTold (at_last (after s event) events)) (append_assoc sofar (event ∷ []) events) (told_at_last (after s event) (sofar ++ event ∷ []) events (told_after s sofar told event sound run.0) (sound_after s event sound run.0) run.1)
-
-pub none_in_nothing : {A : Type 0} (x : A) → Contains [] x → ⊥
-none_in_nothing {A} x h = omega (arith, h.1)
 
 pub told_begin : (start : Token) → IsTold (begin start) []
 told_begin start =

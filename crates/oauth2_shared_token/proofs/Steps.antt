@@ -1,17 +1,17 @@
 -- Each step of a renewal is an event that can happen.
-use Rattle.std.proofs.Common.{◌≡◌, ℕ, ◌+◌, ◌<◌, List, [], ◌∷◌, ◌++◌, length, get_or, set, Option, Some, None, Bool, true, false, refl, ap, sym, subst, ◌∙◌, ◌⊎◌, inl, inr}
+use Rattle.std.proofs.Common.{◌≡◌, ℕ, ◌+◌, List, [], ◌∷◌, get_or, Option, Some, None, Bool, true, false, refl, ap, sym, subst, ◌∙◌, ◌⊎◌, inl, inr}
 use Rattle.std.specs.List.{Contains}
-use Rattle.std.proofs.lemmas.List.{get_or-set_same, get_or_append_left}
 use Rattle.std.proofs.lemmas.Bool.Decides.{eqb_tells}
 use Rattle.oauth2_shared_token.specs.declared.renewal.SharedToken.{SharedToken}
+use Rattle.oauth2_shared_token.specs.declared.renewal.Phase.{Phase}
 use Rattle.oauth2_shared_token.specs.declared.renewal.Phase.TheVariants as phase
+use Rattle.oauth2_shared_token.specs.declared.renewal.Told.{Told}
 use Rattle.oauth2_shared_token.specs.declared.renewal.Told.TheVariants as told
-use Rattle.oauth2_shared_token.specs.State.{Token, Stored, at_rest, marked, Stage, NotBegun, Asking, Marking, Sending, Holding, Done, Shared, stage_of, begin}
+use Rattle.oauth2_shared_token.specs.State.{Token, Stored, at_rest, marked, Stage, NotBegun, Asking, Marking, Sending, Holding, Done, put, Shared, stage_of, begin}
 use Rattle.oauth2_shared_token.specs.Event.{SharedEvent, Asked, Marked, Sent, Given, Kept, SignedIn, Allowed, LoggedIn, CanHappen, after}
 use Rattle.oauth2_shared_token.specs.Run.{IsRun, at_last}
-use Rattle.oauth2_shared_token.specs.Renewal.{token_of, stored_of, IsReached, Knows, StepCanHappen, EachStepCanHappen, next_turn}
-use Rattle.oauth2_shared_token.proofs.Places.{has_begun, read-set, in_one_more, only_one}
-use Rattle.oauth2_shared_token.proofs.Versions.{began}
+use Rattle.oauth2_shared_token.specs.Renewal.{token_of, stored_of, IsReached, Knows, IsSo, events_of, EachStepCanHappen, next_turn}
+use Rattle.oauth2_shared_token.proofs.Places.{put-same, read-put, in_one_more, only_one}
 
 -- it didn't ask to mark anything yet, or the store didn't take that
 abbrev pub is_early : Stage → Bool
@@ -26,39 +26,43 @@ is_early Done = false
 abbrev pub MarksAreTaken : Shared → Type 0
 MarksAreTaken s = (j w : ℕ) (t : Token) → Contains s.past (marked w t j) → is_early (stage_of s j) ≡ false
 
-early-set : (xs : List Stage) (i j : ℕ) (x : Stage) → i < length xs → is_early x ≡ false → is_early (get_or xs j NotBegun) ≡ false → is_early (get_or (set xs i x) j NotBegun) ≡ false
-early-set xs i j x within here before =
-    elim (read-set xs i j x (get_or (set xs i x) j NotBegun) within refl) [
+early-put : (xs : List Stage) (i j : ℕ) (x : Stage) → is_early x ≡ false → is_early (get_or xs j NotBegun) ≡ false → is_early (get_or (put NotBegun xs i x) j NotBegun) ≡ false
+early-put xs i j x here before =
+    elim (read-put NotBegun xs i j x (get_or (put NotBegun xs i x) j NotBegun) refl) [
       | inl same ↦ ap is_early same.1 ∙ here
       | inr other ↦ sym (ap is_early other.1) ∙ before
     ]
 
-early-push : (xs : List Stage) (j : ℕ) (x : Stage) → is_early (get_or xs j NotBegun) ≡ false → is_early (get_or (xs ++ x ∷ []) j NotBegun) ≡ false
-early-push xs j x before =
-    let within : j < length xs = has_begun xs j (get_or xs j NotBegun) refl (λ e. let early : is_early (get_or xs j NotBegun) ≡ true = ap is_early e in cc) in
-    ap is_early (get_or_append_left xs (x ∷ []) NotBegun j within) ∙ before
+-- a renewal that hasn't begun has no mark that was stored
+early-begun : (xs : List Stage) (i j : ℕ) (x : Stage) → get_or xs i NotBegun ≡ NotBegun → is_early (get_or xs j NotBegun) ≡ false → is_early (get_or (put NotBegun xs i x) j NotBegun) ≡ false
+early-begun xs i j x none before =
+    elim (read-put NotBegun xs i j x (get_or (put NotBegun xs i x) j NotBegun) refl) [
+      | inl same ↦ absurd (
+          let early : is_early (get_or xs j NotBegun) ≡ true = ap is_early (ap (λ (k : ℕ). get_or xs k NotBegun) same.0 ∙ none) in
+          cc)
+      | inr other ↦ sym (ap is_early other.1) ∙ before
+    ]
 
 not_at_rest : (v w j : ℕ) (t u : Token) → marked w t j ≡ at_rest v u → ⊥
 not_at_rest v w j t u e = let by : Some j ≡ None = ap (λ (p : Stored). p.used_by) e in cc
 
-taken_after : (s : Shared) (event : SharedEvent) → MarksAreTaken s → CanHappen s event → MarksAreTaken (after s event)
-taken_after s (Asked version token) taken can j w t h = early-push s.renewals j (Asking version token) (taken j w t h)
+pub taken_after : (s : Shared) (event : SharedEvent) → MarksAreTaken s → CanHappen s event → MarksAreTaken (after s event)
+taken_after s (Asked i version token) taken can j w t h = early-begun s.renewals i j (Asking version token) can.0 (taken j w t h)
 taken_after s (Marked i version token) taken can j w t h =
-    let within = began s i (Asking version token) can.0 (λ e. cc) in
     elim (in_one_more s.past (marked (version + 1) token i) (marked w t j) h) [
-      | inl before ↦ early-set s.renewals i j (Marking version token) within refl (taken j w t before)
+      | inl before ↦ early-put s.renewals i j (Marking version token) refl (taken j w t before)
       | inr here ↦
           let by : Some j ≡ Some i = ap (λ (p : Stored). p.used_by) here in
           let place : j ≡ i = cc in
-          rw place (ap is_early (get_or-set_same s.renewals i (Marking version token) NotBegun within))
+          rw place (ap is_early (put-same NotBegun s.renewals i (Marking version token)))
     ]
 taken_after s (Sent i version token) taken can j w t h =
-    early-set s.renewals i j (Sending version) (began s i (Marking version token) can (λ e. cc)) refl (taken j w t h)
+    early-put s.renewals i j (Sending version) refl (taken j w t h)
 taken_after s (Given i version new) taken can j w t h =
-    early-set s.renewals i j (Holding version new) (began s i (Sending version) can (λ e. cc)) refl (taken j w t h)
+    early-put s.renewals i j (Holding version new) refl (taken j w t h)
 taken_after s (Kept i version new) taken can j w t h =
     elim (in_one_more s.past (at_rest (version + 2) new) (marked w t j) h) [
-      | inl before ↦ early-set s.renewals i j Done (began s i (Holding version new) can.0 (λ e. cc)) refl (taken j w t before)
+      | inl before ↦ early-put s.renewals i j Done refl (taken j w t before)
       | inr here ↦ absurd (not_at_rest (version + 2) w j t new here)
     ]
 taken_after s (SignedIn i version new) taken can j w t h =
@@ -81,7 +85,7 @@ taken_at_last : (s : Shared) (events : List SharedEvent) → MarksAreTaken s →
 taken_at_last s [] taken run = taken
 taken_at_last s (event ∷ events) taken run = taken_at_last (after s event) events (taken_after s event taken run.0) run.1
 
-taken_begin : (start : Token) → MarksAreTaken (begin start)
+pub taken_begin : (start : Token) → MarksAreTaken (begin start)
 taken_begin start j w t h = absurd (not_at_rest 0 w j t start (only_one (at_rest 0 start) (marked w t j) h.0 h.1 h.2))
 
 pub taken_where_reached : (s : Shared) → IsReached s → MarksAreTaken s
@@ -93,34 +97,37 @@ can_send s name version w t u taken seen (inl asking) =
     absurd (let late = taken name w u seen in let early : is_early (stage_of s name) ≡ true = ap is_early asking in cc)
 can_send s name version w t u taken seen (inr marking) = marking
 
-step_again : (s : Shared) (name version w : ℕ) (token shown : SharedToken) (by : Option ℕ) → MarksAreTaken s → Knows s name (phase.Asking version token) → Contains s.past (stored_of (record { version = w; token = shown; used_by = by })) → StepCanHappen s name (next_turn name (phase.Asking version token) (told.Stored (record { version = w; token = shown; used_by = by }))).step
+step_again : (s : Shared) (name version w : ℕ) (token shown : SharedToken) (by : Option ℕ) → MarksAreTaken s → Knows s name (phase.Asking version token) → Contains s.past (stored_of (record { version = w; token = shown; used_by = by })) → IsRun s (events_of name (next_turn name (phase.Asking version token) (told.Stored (record { version = w; token = shown; used_by = by }))).step)
 step_again s name version w token shown None taken knows seen = tt
 step_again s name version w token shown (Some other) taken knows seen =
     elim (eqb_tells other name) [
       | inl mine ↦
           let own : Contains s.past (marked w (token_of shown) name) = subst (λ (k : ℕ). Contains s.past (marked w (token_of shown) k)) mine.1 seen in
-          rw mine.0 (can_send s name version w (token_of token) (token_of shown) taken own knows)
+          rw mine.0 (can_send s name version w (token_of token) (token_of shown) taken own knows, tt)
       | inr theirs ↦ rw theirs.0 tt
     ]
 
-step_looking : (s : Shared) (name : ℕ) (version : ℕ) (token : SharedToken) (by : Option ℕ) → Contains s.past (stored_of (record { version = version; token = token; used_by = by })) → StepCanHappen s name (next_turn name phase.Looking (told.Stored (record { version = version; token = token; used_by = by }))).step
-step_looking s name version token None h = h
-step_looking s name version token (Some other) h = tt
+step_looking : (s : Shared) (name version : ℕ) (token : SharedToken) (by : Option ℕ) → stage_of s name ≡ NotBegun → Contains s.past (stored_of (record { version = version; token = token; used_by = by })) → IsRun s (events_of name (next_turn name phase.Looking (told.Stored (record { version = version; token = token; used_by = by }))).step)
+step_looking s name version token None new h = ((new, h), tt)
+step_looking s name version token (Some other) new h = tt
+
+pub step_can_happen : (s : Shared) (name : ℕ) (p : Phase) (t : Told) → MarksAreTaken s → Knows s name p → IsSo s.past name p t → IsRun s (events_of name (next_turn name p t).step)
+step_can_happen s name phase.Looking (told.Stored p) taken knows so = step_looking s name p.version p.token p.used_by knows so
+step_can_happen s name phase.Looking told.Done taken knows so = tt
+step_can_happen s name phase.Looking told.Nothing taken knows so = tt
+step_can_happen s name phase.Looking (told.Answer new) taken knows so = tt
+step_can_happen s name (phase.Asking version token) (told.Stored p) taken knows so =
+    step_again s name version p.version token p.token p.used_by taken knows so
+step_can_happen s name (phase.Asking version token) told.Done taken knows so =
+    (can_send s name version (version + 1) (token_of token) (token_of token) taken so knows, tt)
+step_can_happen s name (phase.Asking version token) told.Nothing taken knows so = tt
+step_can_happen s name (phase.Asking version token) (told.Answer new) taken knows so = tt
+step_can_happen s name (phase.Sending version) (told.Stored p) taken knows so = tt
+step_can_happen s name (phase.Sending version) told.Done taken knows so = tt
+step_can_happen s name (phase.Sending version) told.Nothing taken knows so = tt
+step_can_happen s name (phase.Sending version) (told.Answer new) taken knows so = (knows, tt)
+step_can_happen s name (phase.Keeping version new) told taken knows so = tt
+step_can_happen s name phase.Over told taken knows so = tt
 
 pub each_step_can_happen : EachStepCanHappen
-each_step_can_happen s name phase.Looking (told.Stored p) reached knows so = step_looking s name p.version p.token p.used_by so
-each_step_can_happen s name phase.Looking told.Done reached knows so = tt
-each_step_can_happen s name phase.Looking told.Nothing reached knows so = tt
-each_step_can_happen s name phase.Looking (told.Answer new) reached knows so = tt
-each_step_can_happen s name (phase.Asking version token) (told.Stored p) reached knows so =
-    step_again s name version p.version token p.token p.used_by (taken_where_reached s reached) knows so
-each_step_can_happen s name (phase.Asking version token) told.Done reached knows so =
-    can_send s name version (version + 1) (token_of token) (token_of token) (taken_where_reached s reached) so knows
-each_step_can_happen s name (phase.Asking version token) told.Nothing reached knows so = tt
-each_step_can_happen s name (phase.Asking version token) (told.Answer new) reached knows so = tt
-each_step_can_happen s name (phase.Sending version) (told.Stored p) reached knows so = tt
-each_step_can_happen s name (phase.Sending version) told.Done reached knows so = tt
-each_step_can_happen s name (phase.Sending version) told.Nothing reached knows so = tt
-each_step_can_happen s name (phase.Sending version) (told.Answer new) reached knows so = knows
-each_step_can_happen s name (phase.Keeping version new) told reached knows so = tt
-each_step_can_happen s name phase.Over told reached knows so = tt
+each_step_can_happen s name phase told reached knows so = step_can_happen s name phase told (taken_where_reached s reached) knows so

@@ -1,9 +1,9 @@
 -- A version names one thing: whoever read it read what is stored where it is the last.
-use Rattle.std.proofs.Common.{◌≡◌, ◌≢◌, ℕ, ◌+◌, ◌<◌, [], ◌∷◌, ◌++◌, length, get_or, set, ap, subst, arith, ◌⊎◌, inl, inr}
+use Rattle.std.proofs.Common.{◌≡◌, ℕ, ◌+◌, ◌<◌, [], ◌∷◌, ◌++◌, get_or, ap, sym, subst, arith, ◌⊎◌, inl, inr}
 use Rattle.std.specs.List.{Contains}
 use Rattle.oauth2_shared_token.specs.State.{Token, Stored, at_rest, marked, Stage, NotBegun, Asking, Marking, Sending, Holding, Done, Shared, stage_of, begin}
 use Rattle.oauth2_shared_token.specs.Event.{SharedEvent, Asked, Marked, Sent, Given, Kept, SignedIn, Allowed, LoggedIn, CanHappen, stored, gone_on, after}
-use Rattle.oauth2_shared_token.proofs.Places.{has_begun, read-set, read-push, in_one_more, only_one}
+use Rattle.oauth2_shared_token.proofs.Places.{read-put, in_one_more, only_one}
 
 -- it was stored before, or is
 abbrev pub IsOld : Stored → Stored → Type 0
@@ -24,25 +24,19 @@ old_stored s new sound next p h =
       | inr here ↦ inr here
     ]
 
--- a renewal that goes on from asking asks no more, and the others ask as before
-still_asks : (s : Shared) (i j version : ℕ) (token : Token) (stage : Stage) → i < length s.renewals → ((v : ℕ) (t : Token) → Asking v t ≢ stage) → get_or (set s.renewals i stage) j NotBegun ≡ Asking version token → stage_of s j ≡ Asking version token
-still_asks s i j version token stage within none is =
-    elim (read-set s.renewals i j stage (Asking version token) within is) [
-      | inl here ↦ absurd (none version token here.1)
-      | inr there ↦ there.1
-    ]
-
 same_asked : (v w : ℕ) (t u : Token) → Asking v t ≡ Asking w u → at_rest v t ≡ at_rest w u
 same_asked v w t u e = cc
 
-pub began : (s : Shared) (i : ℕ) (stage : Stage) → stage_of s i ≡ stage → stage ≢ NotBegun → i < length s.renewals
-began s i stage is other = has_begun s.renewals i stage is other
-
-sound_further : (s : Shared) (i : ℕ) (stage : Stage) → IsSound s → i < length s.renewals → ((v : ℕ) (t : Token) → Asking v t ≢ stage) → IsSound (gone_on s i stage)
-sound_further s i stage sound within none =
+-- a renewal gets further than to ask, or asks for what was read
+sound_further : (s : Shared) (i : ℕ) (stage : Stage) → IsSound s → ((v : ℕ) (t : Token) → Asking v t ≡ stage → IsOld (at_rest v t) s.store) → IsSound (gone_on s i stage)
+sound_further s i stage sound new =
     record {
       reads = sound.reads;
-      asks = λ j version token is. sound.asks j version token (still_asks s i j version token stage within none is);
+      asks = λ j v t is.
+          elim (read-put NotBegun s.renewals i j stage (Asking v t) is) [
+            | inl here ↦ new v t here.1
+            | inr there ↦ sound.asks j v t there.1
+          ];
     }
 
 sound_stored : (s : Shared) (new : Stored) → IsSound s → new.version ≡ s.store.version + 1 → IsSound (stored s new)
@@ -53,23 +47,14 @@ sound_stored s new sound next =
     }
 
 pub sound_after : (s : Shared) (event : SharedEvent) → IsSound s → CanHappen s event → IsSound (after s event)
-sound_after s (Asked version token) sound can =
-    record {
-      reads = sound.reads;
-      asks = λ j v t is.
-          elim (read-push s.renewals j (Asking version token) (Asking v t) is (λ e. cc)) [
-            | inl before ↦ sound.asks j v t before
-            | inr here ↦ subst (λ (p : Stored). IsOld p s.store) (same_asked version v token t here) (sound.reads (at_rest version token) can)
-          ];
-    }
+sound_after s (Asked i version token) sound can =
+    sound_further s i (Asking version token) sound (λ v t e. subst (λ (p : Stored). IsOld p s.store) (same_asked version v token t (sym e)) (sound.reads (at_rest version token) can.1))
 sound_after s (Marked i version token) sound can =
-    sound_further (stored s (marked (version + 1) token i)) i (Marking version token) (sound_stored s (marked (version + 1) token i) sound (omega (arith, can.1))) (began s i (Asking version token) can.0 (λ e. cc)) (λ v t e. cc)
-sound_after s (Sent i version token) sound can =
-    sound_further s i (Sending version) sound (began s i (Marking version token) can (λ e. cc)) (λ v t e. cc)
-sound_after s (Given i version new) sound can =
-    sound_further s i (Holding version new) sound (began s i (Sending version) can (λ e. cc)) (λ v t e. cc)
+    sound_further (stored s (marked (version + 1) token i)) i (Marking version token) (sound_stored s (marked (version + 1) token i) sound (omega (arith, can.1))) (λ v t e. absurd cc)
+sound_after s (Sent i version token) sound can = sound_further s i (Sending version) sound (λ v t e. absurd cc)
+sound_after s (Given i version new) sound can = sound_further s i (Holding version new) sound (λ v t e. absurd cc)
 sound_after s (Kept i version new) sound can =
-    sound_further (stored s (at_rest (version + 2) new)) i Done (sound_stored s (at_rest (version + 2) new) sound (omega (arith, can.1))) (began s i (Holding version new) can.0 (λ e. cc)) (λ v t e. cc)
+    sound_further (stored s (at_rest (version + 2) new)) i Done (sound_stored s (at_rest (version + 2) new) sound (omega (arith, can.1))) (λ v t e. absurd cc)
 sound_after s (SignedIn i version new) sound can =
     sound_stored s (at_rest (version + 1) new) sound (omega (arith, can.1))
 sound_after s (Allowed i version token) sound can =

@@ -1,12 +1,14 @@
--- What keepers, their store and the server do, when each of it can happen, and what it changes. A
--- keeper that crashed or is paused is one that has no event.
-use Rattle.std.specs.Prelude.{◌≡◌, ℕ, ◌+◌, [], ◌∷◌, ◌++◌, set}
+-- What renewals, their store and their callers do, when each of it can happen, and what it changes. A
+-- renewal that crashed or is paused is one that has no event.
+use Rattle.std.specs.Prelude.{◌≡◌, ℕ, ◌+◌, List, [], ◌∷◌, ◌++◌}
 use Rattle.std.specs.List.{Contains}
-use Rattle.oauth2_shared_token.specs.State.{Token, Stored, at_rest, marked, Stage, Asking, Marking, Sending, Holding, Done, Shared, stage_of}
+use Rattle.oauth2_shared_token.specs.State.{Token, Stored, at_rest, marked, put}
+use Rattle.oauth2_shared_token.specs.State.{Stage, NotBegun, Asking, Marking, Sending, Holding, Done, Shared, stage_of}
 
+-- each but the last has the name of a renewal first, and each has a version
 pub data SharedEvent : Type 0 where
-  -- a renewal, numbered by how many began before, asks to mark this version, which it read at rest
-  Asked : ℕ → Token → SharedEvent
+  -- a renewal asks to mark this version, which it read at rest
+  Asked : ℕ → ℕ → Token → SharedEvent
   -- the store takes the mark of this renewal on this version; its reply may be lost or late
   Marked : ℕ → ℕ → Token → SharedEvent
   -- a renewal, told by a reply or by reading its own mark that it was taken, sends the refresh token
@@ -15,35 +17,35 @@ pub data SharedEvent : Type 0 where
   Given : ℕ → ℕ → Token → SharedEvent
   -- the store takes that in the place of the renewal's mark
   Kept : ℕ → ℕ → Token → SharedEvent
-  -- somebody read this version marked by this renewal, told his caller `Unfinished`, and the store
-  -- takes what a new login gave
+  -- somebody read this version marked by this renewal and logged in anew, and the store takes what that gave
   SignedIn : ℕ → ℕ → Token → SharedEvent
-  -- the same, but the caller said that the old token may be used again
+  -- somebody read the same and said that the old token may be used again, and the store takes that
   Allowed : ℕ → ℕ → Token → SharedEvent
-  -- somebody read this version at rest, and the store takes what a new login gave
+  -- somebody read this version at rest and logged in anew, and the store takes what that gave
   LoggedIn : ℕ → Token → SharedEvent
 
--- the store's compare and set: it takes what was asked for this version
-abbrev pub Fits : Shared → ℕ → Type 0
-Fits s version = s.store.version ≡ version
+-- the store replaces what is stored only if it has this version
+abbrev pub Fits : Stored → ℕ → Type 0
+Fits store version = store.version ≡ version
 
 -- somebody read this version marked by this renewal
-abbrev pub WasMarked : Shared → ℕ → ℕ → Type 0
-WasMarked s version renewal = (token : Token) × Contains s.past (marked version token renewal)
+abbrev pub WasMarked : List Stored → ℕ → ℕ → Type 0
+WasMarked past version renewal = (token : Token) × Contains past (marked version token renewal)
 
 -- somebody read it at rest
-abbrev pub WasAtRest : Shared → ℕ → Type 0
-WasAtRest s version = (token : Token) × Contains s.past (at_rest version token)
+abbrev pub WasAtRest : List Stored → ℕ → Type 0
+WasAtRest past version = (token : Token) × Contains past (at_rest version token)
 
+-- when each event can happen
 abbrev pub CanHappen : Shared → SharedEvent → Type 0
-CanHappen s (Asked version token) = Contains s.past (at_rest version token)
-CanHappen s (Marked i version token) = (stage_of s i ≡ Asking version token) × Fits s version
+CanHappen s (Asked i version token) = (stage_of s i ≡ NotBegun) × Contains s.past (at_rest version token)
+CanHappen s (Marked i version token) = (stage_of s i ≡ Asking version token) × Fits s.store version
 CanHappen s (Sent i version token) = stage_of s i ≡ Marking version token
 CanHappen s (Given i version new) = stage_of s i ≡ Sending version
-CanHappen s (Kept i version new) = (stage_of s i ≡ Holding version new) × Fits s (version + 1)
-CanHappen s (SignedIn i version new) = WasMarked s version i × Fits s version
-CanHappen s (Allowed i version token) = Contains s.past (marked version token i) × Fits s version
-CanHappen s (LoggedIn version new) = WasAtRest s version × Fits s version
+CanHappen s (Kept i version new) = (stage_of s i ≡ Holding version new) × Fits s.store (version + 1)
+CanHappen s (SignedIn i version new) = WasMarked s.past version i × Fits s.store version
+CanHappen s (Allowed i version token) = Contains s.past (marked version token i) × Fits s.store version
+CanHappen s (LoggedIn version new) = WasAtRest s.past version × Fits s.store version
 
 -- the store takes something
 abbrev pub stored : Shared → Stored → Shared
@@ -51,10 +53,11 @@ stored s new = record { store = new; past = s.past ++ new ∷ []; renewals = s.r
 
 -- a renewal gets further
 abbrev pub gone_on : Shared → ℕ → Stage → Shared
-gone_on s i stage = record { store = s.store; past = s.past; renewals = set s.renewals i stage }
+gone_on s i stage = record { store = s.store; past = s.past; renewals = put NotBegun s.renewals i stage }
 
+-- what each event changes
 abbrev pub after : Shared → SharedEvent → Shared
-after s (Asked version token) = record { store = s.store; past = s.past; renewals = s.renewals ++ Asking version token ∷ [] }
+after s (Asked i version token) = gone_on s i (Asking version token)
 after s (Marked i version token) = gone_on (stored s (marked (version + 1) token i)) i (Marking version token)
 after s (Sent i version token) = gone_on s i (Sending version)
 after s (Given i version new) = gone_on s i (Holding version new)

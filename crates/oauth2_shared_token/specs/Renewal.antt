@@ -1,5 +1,5 @@
 -- What a renewal does next from what it knows and is told, and when that is so.
-use Rattle.std.specs.Prelude.{◌≡◌, ◌≢◌, ℕ, ◌+◌, ◌==◌, if◌then◌else◌, length, Option, Some, None, ◌⊎◌, List}
+use Rattle.std.specs.Prelude.{◌≡◌, ◌≢◌, ℕ, ◌+◌, ◌==◌, if◌then◌else◌, Option, Some, None, ◌⊎◌, List, [], ◌∷◌}
 use Rattle.std.specs.List.{Contains}
 use Rattle.oauth2_shared_token.specs.declared.renewal.SharedToken.{SharedToken}
 use Rattle.oauth2_shared_token.specs.declared.renewal.StoredValue.{StoredValue}
@@ -10,14 +10,15 @@ use Rattle.oauth2_shared_token.specs.declared.renewal.Told.TheVariants as told
 use Rattle.oauth2_shared_token.specs.declared.renewal.Step.{Step}
 use Rattle.oauth2_shared_token.specs.declared.renewal.Step.TheVariants as step
 use Rattle.oauth2_shared_token.specs.declared.renewal.Turn.{Turn}
-use Rattle.oauth2_shared_token.specs.State.{Token, Stored, marked, Asking, Marking, Sending, Holding, Done, Shared, stage_of, begin}
-use Rattle.oauth2_shared_token.specs.Event.{SharedEvent, Asked, Marked, Sent, Given, Kept, SignedIn, Allowed, LoggedIn, CanHappen, after}
+use Rattle.oauth2_shared_token.specs.State.{Token, Stored, marked, NotBegun, Asking, Marking, Sending, Holding, Done, Shared, stage_of, begin}
+use Rattle.oauth2_shared_token.specs.Event.{SharedEvent, Asked, Marked, Sent, Given, Kept, SignedIn, Allowed, LoggedIn}
+use Rattle.oauth2_shared_token.specs.Event.{CanHappen, after}
 use Rattle.oauth2_shared_token.specs.Run.{IsRun, at_last}
 
-abbrev turn_of : Phase → Step → Turn
+abbrev pub turn_of : Phase → Step → Turn
 turn_of phase step = record { phase = phase; step = step }
 
-abbrev looked_at : ℕ → SharedToken → Option ℕ → Turn
+abbrev pub looked_at : ℕ → SharedToken → Option ℕ → Turn
 looked_at version token None = turn_of (phase.Asking version token) (step.Mark version token)
 looked_at version token (Some other) = turn_of phase.Over (step.InUse other)
 
@@ -27,7 +28,7 @@ after_looking told.Done = turn_of phase.Looking step.Look
 after_looking told.Nothing = turn_of phase.Looking step.Look
 after_looking (told.Answer new) = turn_of phase.Looking step.Look
 
-abbrev looked_again : ℕ → ℕ → SharedToken → Option ℕ → Turn
+abbrev pub looked_again : ℕ → ℕ → SharedToken → Option ℕ → Turn
 looked_again name version token None = turn_of phase.Over step.End
 looked_again name version token (Some other) =
     if other == name then turn_of (phase.Sending version) (step.Send version token) else turn_of phase.Over step.End
@@ -66,33 +67,34 @@ pub record IsReached (s : Shared) : Type 0 where
 
 -- what a renewal knows of itself is so
 abbrev pub Knows : Shared → ℕ → Phase → Type 0
-Knows s name phase.Looking = Unit {0}
+Knows s name phase.Looking = stage_of s name ≡ NotBegun
 Knows s name (phase.Asking version token) =
     (stage_of s name ≡ Asking version (token_of token)) ⊎ (stage_of s name ≡ Marking version (token_of token))
 Knows s name (phase.Sending version) = stage_of s name ≡ Sending version
 Knows s name (phase.Keeping version new) = (stage_of s name ≡ Holding version (token_of new)) ⊎ (stage_of s name ≡ Done)
 Knows s name phase.Over = Unit {0}
 
--- what the store tells is so: it shows what it holds or held, and says of a mark that it is done only
--- where that was stored
-abbrev pub IsSo : Shared → ℕ → Phase → Told → Type 0
-IsSo s name phase (told.Stored p) = Contains s.past (stored_of p)
-IsSo s name phase told.Nothing = Unit {0}
-IsSo s name phase (told.Answer new) = Unit {0}
-IsSo s name phase.Looking told.Done = Unit {0}
-IsSo s name (phase.Asking version token) told.Done = Contains s.past (marked (version + 1) (token_of token) name)
-IsSo s name (phase.Sending version) told.Done = Unit {0}
-IsSo s name (phase.Keeping version new) told.Done = Unit {0}
-IsSo s name phase.Over told.Done = Unit {0}
+-- what a renewal is told is so, if all this was ever stored: a load shows something of it, and the store
+-- says of a mark that it is done only if the mark was stored. To be told nothing says nothing, and a
+-- server may answer anything
+abbrev pub IsSo : List Stored → ℕ → Phase → Told → Type 0
+IsSo past name phase (told.Stored p) = Contains past (stored_of p)
+IsSo past name phase told.Nothing = Unit {0}
+IsSo past name phase (told.Answer new) = Unit {0}
+IsSo past name phase.Looking told.Done = Unit {0}
+IsSo past name (phase.Asking version token) told.Done = Contains past (marked (version + 1) (token_of token) name)
+IsSo past name (phase.Sending version) told.Done = Unit {0}
+IsSo past name (phase.Keeping version new) told.Done = Unit {0}
+IsSo past name phase.Over told.Done = Unit {0}
 
--- the event of a step can happen: of one that keeps, that the server gave the token
-abbrev pub StepCanHappen : Shared → ℕ → Step → Type 0
-StepCanHappen s name step.Look = Unit {0}
-StepCanHappen s name (step.Mark version token) = CanHappen s (Asked version (token_of token))
-StepCanHappen s name (step.Send version token) = CanHappen s (Sent name version (token_of token))
-StepCanHappen s name (step.Keep version new) = CanHappen s (Given name version (token_of new))
-StepCanHappen s name (step.InUse other) = Unit {0}
-StepCanHappen s name step.End = Unit {0}
+-- the events of a step: of one that keeps a token, that the server gave it
+abbrev pub events_of : ℕ → Step → List SharedEvent
+events_of name step.Look = []
+events_of name (step.Mark version token) = Asked name version (token_of token) ∷ []
+events_of name (step.Send version token) = Sent name version (token_of token) ∷ []
+events_of name (step.Keep version new) = Given name version (token_of new) ∷ []
+events_of name (step.InUse other) = []
+events_of name step.End = []
 
 -- each step of a renewal is an event that can happen
 abbrev pub EachStepCanHappen : Type 0
@@ -100,25 +102,8 @@ EachStepCanHappen =
     (s : Shared) (name : ℕ) (phase : Phase) (told : Told) →
     IsReached s →
     Knows s name phase →
-    IsSo s name phase told →
-    StepCanHappen s name (next_turn name phase told).step
-
--- what is there after a step
-abbrev pub after_step : Shared → ℕ → Step → Shared
-after_step s name step.Look = s
-after_step s name (step.Mark version token) = after s (Asked version (token_of token))
-after_step s name (step.Send version token) = after s (Sent name version (token_of token))
-after_step s name (step.Keep version new) = after s (Given name version (token_of new))
-after_step s name (step.InUse other) = s
-after_step s name step.End = s
-
--- a renewal that begins has a name that none had
-abbrev pub HasNewName : Shared → ℕ → Phase → Type 0
-HasNewName s name phase.Looking = name ≡ length s.renewals
-HasNewName s name (phase.Asking version token) = Unit {0}
-HasNewName s name (phase.Sending version) = Unit {0}
-HasNewName s name (phase.Keeping version new) = Unit {0}
-HasNewName s name phase.Over = Unit {0}
+    IsSo s.past name phase told →
+    IsRun s (events_of name (next_turn name phase told).step)
 
 -- what it knows after its step is so
 abbrev pub EachStepIsKnown : Type 0
@@ -126,13 +111,12 @@ EachStepIsKnown =
     (s : Shared) (name : ℕ) (phase : Phase) (told : Told) →
     IsReached s →
     Knows s name phase →
-    IsSo s name phase told →
-    HasNewName s name phase →
-    Knows (after_step s name (next_turn name phase told).step) name (next_turn name phase told).phase
+    IsSo s.past name phase told →
+    Knows (at_last s (events_of name (next_turn name phase told).step)) name (next_turn name phase told).phase
 
 -- what others and the store do, not it
 abbrev pub IsOfOthers : ℕ → SharedEvent → Type 0
-IsOfOthers name (Asked version token) = Unit {0}
+IsOfOthers name (Asked i version token) = name ≢ i
 IsOfOthers name (Marked i version token) = Unit {0}
 IsOfOthers name (Sent i version token) = name ≢ i
 IsOfOthers name (Given i version new) = name ≢ i

@@ -3,7 +3,7 @@ use Rattle.std.specs.Prelude.{ℕ, ◌+◌, ◌==◌, if◌then◌else◌, List,
 use Rattle.oauth2_shared_token.specs.State.{Token, Shared}
 use Rattle.oauth2_shared_token.specs.Event.{SharedEvent, Asked, Marked, Sent, Given, Kept, SignedIn, Allowed, LoggedIn, CanHappen, after}
 
--- each event can happen when its turn comes: any number of keepers, in any order, each stopped anywhere
+-- each event can happen when its turn comes: any number of renewals, in any order, each stopped anywhere
 abbrev pub IsRun : Shared → List SharedEvent → Type 0
 IsRun s [] = Unit {0}
 IsRun s (event ∷ events) = CanHappen s event × IsRun (after s event) events
@@ -13,14 +13,14 @@ abbrev pub at_last : Shared → List SharedEvent → Shared
 at_last s [] = s
 at_last s (event ∷ events) = at_last (after s event) events
 
--- 1 where the token has this refresh token
+-- 1 if the token has this refresh token
 abbrev pub has_refresh : ℕ → Token → ℕ
 has_refresh r token = if r == token.refresh then 1 else 0
 
 -- how often a refresh token is sent
 abbrev pub times_sent : ℕ → List SharedEvent → ℕ
 times_sent r [] = 0
-times_sent r (Asked version token ∷ events) = times_sent r events
+times_sent r (Asked i version token ∷ events) = times_sent r events
 times_sent r (Marked i version token ∷ events) = times_sent r events
 times_sent r (Sent i version token ∷ events) = has_refresh r token + times_sent r events
 times_sent r (Given i version new ∷ events) = times_sent r events
@@ -32,7 +32,7 @@ times_sent r (LoggedIn version new ∷ events) = times_sent r events
 -- how often it comes to be stored, as part of a new token or because a caller said so
 abbrev pub times_stored : ℕ → List SharedEvent → ℕ
 times_stored r [] = 0
-times_stored r (Asked version token ∷ events) = times_stored r events
+times_stored r (Asked i version token ∷ events) = times_stored r events
 times_stored r (Marked i version token ∷ events) = times_stored r events
 times_stored r (Sent i version token ∷ events) = times_stored r events
 times_stored r (Given i version new ∷ events) = times_stored r events
@@ -44,7 +44,7 @@ times_stored r (LoggedIn version new ∷ events) = has_refresh r new + times_sto
 -- the last token that came to be stored
 abbrev pub newest : Token → List SharedEvent → Token
 newest token [] = token
-newest token (Asked version t ∷ events) = newest token events
+newest token (Asked i version t ∷ events) = newest token events
 newest token (Marked i version t ∷ events) = newest token events
 newest token (Sent i version t ∷ events) = newest token events
 newest token (Given i version new ∷ events) = newest token events
@@ -53,10 +53,10 @@ newest token (SignedIn i version new ∷ events) = newest new events
 newest token (Allowed i version t ∷ events) = newest t events
 newest token (LoggedIn version new ∷ events) = newest new events
 
--- the last token that a keeper was given, by the server, by a new login or by its caller
+-- the last token that anybody was given, by the server, by a new login or by a caller
 abbrev pub newest_given : Token → List SharedEvent → Token
 newest_given token [] = token
-newest_given token (Asked version t ∷ events) = newest_given token events
+newest_given token (Asked i version t ∷ events) = newest_given token events
 newest_given token (Marked i version t ∷ events) = newest_given token events
 newest_given token (Sent i version t ∷ events) = newest_given token events
 newest_given token (Given i version new ∷ events) = newest_given new events

@@ -1,5 +1,6 @@
 //! Laws of a shared token, for any number of renewals and any order of what they do.
 
+ghost use Rattle.oauth2_shared_token.specs.Fleet.{EachFleetRuns, EachFleetSendsOnce};
 ghost use Rattle.oauth2_shared_token.specs.Laws.{
   EachIsSentAtMostOnce,
   EachSendingWasStored,
@@ -54,6 +55,17 @@ pub fn each_step_is_known()
 /// It stays so, whatever the others and the store do.
 pub fn what_is_known_stays()
     ensures { WhatIsKnownStays }
+{}
+
+/// Whatever happens in a fleet of renewals, its events are a finished run, so that all laws hold of
+/// them.
+pub fn each_fleet_runs()
+    ensures { EachFleetRuns }
+{}
+
+/// So the machines of a fleet send a refresh token that came to be stored once at most once.
+pub fn each_fleet_sends_once()
+    ensures { EachFleetSendsOnce }
 {}
 
 /// Two requests run at once only where a caller answered `Unfinished` for one of them.

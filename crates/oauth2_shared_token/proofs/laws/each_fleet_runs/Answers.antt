@@ -1,0 +1,5 @@
+use Rattle.oauth2_shared_token.proofs.Fleets.{each_fleet_runs}
+use Rattle.oauth2_shared_token.proofs.laws.each_fleet_runs.Goals as goal
+
+pub returns : goal.returns
+returns c = each_fleet_runs
