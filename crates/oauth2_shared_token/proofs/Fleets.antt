@@ -1,5 +1,5 @@
 -- What happens in a fleet makes events that can happen.
-use Rattle.std.proofs.Common.{◌≡◌, ◌≢◌, ℕ, ◌+◌, ◌<◌, List, [], ◌∷◌, ◌++◌, get_or, refl, ap, sym, subst, ◌∙◌, arith, ◌⊎◌, inl, inr}
+use Rattle.std.proofs.Common.{◌≡◌, ◌≢◌, ℕ, ◌+◌, ◌<◌, List, [], ◌∷◌, ◌++◌, get_or, Option, Some, None, refl, ap, sym, subst, ◌∙◌, arith, ◌⊎◌, inl, inr}
 use Rattle.std.proofs.lemmas.Bool.{cases_eq}
 use Rattle.std.proofs.lemmas.List.{append-nil}
 use Rattle.std.specs.List.{Contains}
@@ -8,75 +8,96 @@ use Rattle.oauth2_shared_token.specs.declared.renewal.Phase.{Phase}
 use Rattle.oauth2_shared_token.specs.declared.renewal.Phase.TheVariants as phase
 use Rattle.oauth2_shared_token.specs.declared.renewal.Step.{Step}
 use Rattle.oauth2_shared_token.specs.declared.renewal.Step.TheVariants as step
-use Rattle.oauth2_shared_token.specs.State.{Token, Stored, at_rest, marked, NotBegun, Asking, Marking, Sending, Holding, Done, put, Shared, stage_of, begin}
-use Rattle.oauth2_shared_token.specs.Event.{SharedEvent, Asked, Marked, Sent, Given, Kept, SignedIn, Allowed, LoggedIn, CanHappen, Fits, WasMarked, WasAtRest, after}
+use Rattle.oauth2_shared_token.specs.State.{Stored, at_rest, marked, Stage, NotBegun, Asking, Marking, Sending, Holding, Returning, Done, put, Shared, stage_of, begin}
+use Rattle.oauth2_shared_token.specs.Event.{SharedEvent, Asked, Marked, Sent, Given, Kept, Withdrew, GivenBack, SignedIn, Allowed, LoggedIn, CanHappen, Fits, WasMarked, WasAtRest, stored, gone_on, after}
 use Rattle.oauth2_shared_token.specs.Run.{IsRun, at_last}
 use Rattle.oauth2_shared_token.specs.Renewal.{turn_of, token_of, Knows, IsSo, IsOfOthers, events_of, next_turn}
-use Rattle.oauth2_shared_token.specs.Fleet.{Request, ToMark, ToKeep, Fleet, phase_of, Happening, Turned, Took, SignsIn, Allows, LogsIn, CanOccur, turned, taken, later, events_in, fleet_of, IsFleetRun, fleet_at_last, all_events, EachFleetRuns, EachFleetSendsOnce}
-use Rattle.oauth2_shared_token.proofs.Places.{put-same, put-other, stays-put, only_one, none_in_nothing}
+use Rattle.oauth2_shared_token.specs.Fleet.{Request, ToMark, ToKeep, ToReturn, Fleet, phase_of, Happening, Turned, Took, SignsIn, Allows, LogsIn, CanOccur, turned, taken, later, events_in, fleet_of, IsFleetRun, fleet_at_last, all_events, EachFleetRuns, EachFleetSendsOnce}
+use Rattle.oauth2_shared_token.proofs.Places.{put-same, put-other, only_one, none_in_nothing}
 use Rattle.oauth2_shared_token.proofs.Sendings.{each_is_sent_at_most_once}
 use Rattle.oauth2_shared_token.proofs.Steps.{MarksAreTaken, taken_after, taken_begin, step_can_happen}
 use Rattle.oauth2_shared_token.proofs.Known.{step_is_known, what_is_known_stays}
 
+-- who asked for it, at which stage that is waited for, and the last version that fits
+abbrev pub asker : Request → ℕ
+asker (ToMark i version token) = i
+asker (ToKeep i version new) = i
+asker (ToReturn i version token) = i
+
+abbrev pub waiting : Request → Stage
+waiting (ToMark i version token) = Asking version token
+waiting (ToKeep i version new) = Holding version new
+waiting (ToReturn i version token) = Returning version token
+
+abbrev pub last : Request → ℕ
+last (ToMark i version token) = version
+last (ToKeep i version new) = version + 1
+last (ToReturn i version token) = version + 1
+
 -- who asked waits for it still, or the store is past what was asked
 abbrev pub IsOpen : Shared → Request → Type 0
-IsOpen s (ToMark i version token) = (stage_of s i ≡ Asking version token) ⊎ (version < s.store.version)
-IsOpen s (ToKeep i version new) = (stage_of s i ≡ Holding version new) ⊎ (version + 1 < s.store.version)
+IsOpen s r = (stage_of s (asker r) ≡ waiting r) ⊎ (last r < s.store.version)
 
--- a mark or a token is taken: who asked for it waits no more, and the store is past it
-mark_taken : (s : Shared) (j v i w : ℕ) (t u : Token) → CanHappen s (Marked j v t) → stage_of s i ≡ Asking w u → IsOpen (after s (Marked j v t)) (ToMark i w u)
-mark_taken s j v i w t u can asking =
-    elim (cases_eq i j) [
-      | inl same ↦
-          let e : Asking w u ≡ Asking v t = sym asking ∙ ap (λ (k : ℕ). stage_of s k) same ∙ can.0 in
-          let place : w ≡ v = cc in
-          inr (omega (arith, place))
-      | inr ne ↦ inl (put-other NotBegun s.renewals j i (Marking v t) ne ∙ asking)
+-- a stage at which something is waited for, and the last version that fits
+abbrev waited_at : Stage → Option ℕ
+waited_at NotBegun = None
+waited_at (Asking version token) = Some version
+waited_at (Marking version token) = None
+waited_at (Sending version) = None
+waited_at (Holding version new) = Some (version + 1)
+waited_at (Returning version token) = Some (version + 1)
+waited_at Done = None
+
+waits_at : (r : Request) → waited_at (waiting r) ≡ Some (last r)
+waits_at (ToMark i version token) = refl
+waits_at (ToKeep i version new) = refl
+waits_at (ToReturn i version token) = refl
+
+-- a renewal gets further: who waits waits still, or its stage was this one
+still_waits : (s : Shared) (j : ℕ) (x y : Stage) (r : Request) → stage_of s j ≡ y → stage_of s (asker r) ≡ waiting r → (get_or (put NotBegun s.renewals j x) (asker r) NotBegun ≡ waiting r) ⊎ (waited_at y ≡ Some (last r))
+still_waits s j x y r was waits =
+    elim (cases_eq (asker r) j) [
+      | inl same ↦ inr (ap waited_at (sym was ∙ ap (λ (k : ℕ). stage_of s k) (sym same) ∙ waits) ∙ waits_at r)
+      | inr ne ↦ inl (put-other NotBegun s.renewals j (asker r) x ne ∙ waits)
     ]
 
-token_taken : (s : Shared) (j v i w : ℕ) (n m : Token) → CanHappen s (Kept j v n) → stage_of s i ≡ Holding w m → IsOpen (after s (Kept j v n)) (ToKeep i w m)
-token_taken s j v i w n m can holding =
-    elim (cases_eq i j) [
-      | inl same ↦
-          let e : Holding w m ≡ Holding v n = sym holding ∙ ap (λ (k : ℕ). stage_of s k) same ∙ can.0 in
-          let place : w ≡ v = cc in
-          inr (omega (arith, place))
-      | inr ne ↦ inl (put-other NotBegun s.renewals j i Done ne ∙ holding)
+-- nothing was waited for
+open_further : (s : Shared) (j : ℕ) (x y : Stage) (r : Request) → waited_at y ≡ None → stage_of s j ≡ y → IsOpen s r → IsOpen (gone_on s j x) r
+open_further s j x y r none was (inr beyond) = inr beyond
+open_further s j x y r none was (inl waits) =
+    elim (still_waits s j x y r was waits) [
+      | inl still ↦ inl still
+      | inr here ↦ absurd (let e : None ≡ Some (last r) = sym none ∙ here in cc)
     ]
+
+-- the store took what was waited for
+open_taken : (s : Shared) (new : Stored) (j : ℕ) (x y : Stage) (at : ℕ) (r : Request) → waited_at y ≡ Some at → s.store.version ≡ at → new.version ≡ at + 1 → stage_of s j ≡ y → IsOpen s r → IsOpen (gone_on (stored s new) j x) r
+open_taken s new j x y at r some fits next was (inr beyond) = inr (omega (arith, beyond, fits, next))
+open_taken s new j x y at r some fits next was (inl waits) =
+    elim (still_waits s j x y r was waits) [
+      | inl still ↦ inl still
+      | inr here ↦ (
+          let e : Some at ≡ Some (last r) = sym some ∙ here in
+          let same : at ≡ last r = cc in
+          inr (omega (arith, same, next)))
+    ]
+
+-- the store took what a caller asked
+open_replaced : (s : Shared) (new : Stored) (version : ℕ) (r : Request) → s.store.version ≡ version → new.version ≡ version + 1 → IsOpen s r → IsOpen (stored s new) r
+open_replaced s new version r fits next (inl waits) = inl waits
+open_replaced s new version r fits next (inr beyond) = inr (omega (arith, beyond, fits, next))
 
 open_after : (s : Shared) (event : SharedEvent) (r : Request) → CanHappen s event → IsOpen s r → IsOpen (after s event) r
-open_after s (Asked j v t) (ToMark i w u) can (inl h) = inl (stays-put s.renewals j i (Asking v t) NotBegun (Asking w u) can.0 (λ e. cc) h)
-open_after s (Asked j v t) (ToKeep i w m) can (inl h) = inl (stays-put s.renewals j i (Asking v t) NotBegun (Holding w m) can.0 (λ e. cc) h)
-open_after s (Asked j v t) (ToMark i w u) can (inr h) = inr h
-open_after s (Asked j v t) (ToKeep i w m) can (inr h) = inr h
-open_after s (Marked j v t) (ToMark i w u) can (inl h) = mark_taken s j v i w t u can h
-open_after s (Marked j v t) (ToKeep i w m) can (inl h) = inl (stays-put s.renewals j i (Marking v t) (Asking v t) (Holding w m) can.0 (λ e. cc) h)
-open_after s (Marked j v t) (ToMark i w u) can (inr h) = inr (omega (arith, h, can.1))
-open_after s (Marked j v t) (ToKeep i w m) can (inr h) = inr (omega (arith, h, can.1))
-open_after s (Sent j v t) (ToMark i w u) can (inl h) = inl (stays-put s.renewals j i (Sending v) (Marking v t) (Asking w u) can (λ e. cc) h)
-open_after s (Sent j v t) (ToKeep i w m) can (inl h) = inl (stays-put s.renewals j i (Sending v) (Marking v t) (Holding w m) can (λ e. cc) h)
-open_after s (Sent j v t) (ToMark i w u) can (inr h) = inr h
-open_after s (Sent j v t) (ToKeep i w m) can (inr h) = inr h
-open_after s (Given j v n) (ToMark i w u) can (inl h) = inl (stays-put s.renewals j i (Holding v n) (Sending v) (Asking w u) can (λ e. cc) h)
-open_after s (Given j v n) (ToKeep i w m) can (inl h) = inl (stays-put s.renewals j i (Holding v n) (Sending v) (Holding w m) can (λ e. cc) h)
-open_after s (Given j v n) (ToMark i w u) can (inr h) = inr h
-open_after s (Given j v n) (ToKeep i w m) can (inr h) = inr h
-open_after s (Kept j v n) (ToMark i w u) can (inl h) = inl (stays-put s.renewals j i Done (Holding v n) (Asking w u) can.0 (λ e. cc) h)
-open_after s (Kept j v n) (ToKeep i w m) can (inl h) = token_taken s j v i w n m can h
-open_after s (Kept j v n) (ToMark i w u) can (inr h) = inr (omega (arith, h, can.1))
-open_after s (Kept j v n) (ToKeep i w m) can (inr h) = inr (omega (arith, h, can.1))
-open_after s (SignedIn j v n) (ToMark i w u) can (inl h) = inl h
-open_after s (SignedIn j v n) (ToKeep i w m) can (inl h) = inl h
-open_after s (SignedIn j v n) (ToMark i w u) can (inr h) = inr (omega (arith, h, can.1))
-open_after s (SignedIn j v n) (ToKeep i w m) can (inr h) = inr (omega (arith, h, can.1))
-open_after s (Allowed j v t) (ToMark i w u) can (inl h) = inl h
-open_after s (Allowed j v t) (ToKeep i w m) can (inl h) = inl h
-open_after s (Allowed j v t) (ToMark i w u) can (inr h) = inr (omega (arith, h, can.1))
-open_after s (Allowed j v t) (ToKeep i w m) can (inr h) = inr (omega (arith, h, can.1))
-open_after s (LoggedIn v n) (ToMark i w u) can (inl h) = inl h
-open_after s (LoggedIn v n) (ToKeep i w m) can (inl h) = inl h
-open_after s (LoggedIn v n) (ToMark i w u) can (inr h) = inr (omega (arith, h, can.1))
-open_after s (LoggedIn v n) (ToKeep i w m) can (inr h) = inr (omega (arith, h, can.1))
+open_after s (Asked j v t) r can h = open_further s j (Asking v t) NotBegun r refl can.0 h
+open_after s (Marked j v t) r can h = open_taken s (marked (v + 1) t j) j (Marking v t) (Asking v t) v r refl can.1 refl can.0 h
+open_after s (Sent j v t) r can h = open_further s j (Sending v) (Marking v t) r refl can h
+open_after s (Given j v n) r can h = open_further s j (Holding v n) (Sending v) r refl can h
+open_after s (Kept j v n) r can h = open_taken s (at_rest (v + 2) n) j Done (Holding v n) (v + 1) r refl can.1 (omega arith) can.0 h
+open_after s (Withdrew j v t) r can h = open_further s j (Returning v t) (Marking v t) r refl can h
+open_after s (GivenBack j v t) r can h = open_taken s (at_rest (v + 2) t) j Done (Returning v t) (v + 1) r refl can.1 (omega arith) can.0 h
+open_after s (SignedIn j v n) r can h = open_replaced s (at_rest (v + 1) n) v r can.1 refl h
+open_after s (Allowed j v t) r can h = open_replaced s (at_rest (v + 1) t) v r can.1 refl h
+open_after s (LoggedIn v n) r can h = open_replaced s (at_rest (v + 1) n) v r can.1 refl h
 
 -- what the fleet has is what the events have made
 pub record Agrees (f : Fleet) (s : Shared) : Type 0 where
@@ -148,24 +169,20 @@ module _ (f : Fleet) (s : Shared) (a : Agrees f s) where
       agrees_turned i p (Given i version (token_of new)) (ToKeep i version (token_of new) ∷ []) run.0 known (λ j ne. ne) refl refl (λ r h.
       let is : r ≡ ToKeep i version (token_of new) = the_only (ToKeep i version (token_of new)) r h in
       subst (IsOpen (after s (Given i version (token_of new)))) (sym is) (inl (put-same NotBegun s.renewals i (Holding version (token_of new)))))
+  agrees_step i p (step.GiveBack version token) run known =
+      agrees_turned i p (Withdrew i version (token_of token)) (ToReturn i version (token_of token) ∷ []) run.0 known (λ j ne. ne) refl refl (λ r h.
+      let is : r ≡ ToReturn i version (token_of token) = the_only (ToReturn i version (token_of token)) r h in
+      subst (IsOpen (after s (Withdrew i version (token_of token)))) (sym is) (inl (put-same NotBegun s.renewals i (Returning version (token_of token)))))
+  agrees_step i p step.Repeat run known = agrees_silent i p known
   agrees_step i p (step.InUse other) run known = agrees_silent i p known
   agrees_step i p step.End run known = agrees_silent i p known
 
   -- who asked for what fits waits for it still
-  asks_still : (i version : ℕ) (token : Token) → CanOccur f (Took (ToMark i version token)) → CanHappen s (Marked i version token)
-  asks_still i version token can =
-      let fits : s.store.version ≡ version = sym (ap (λ (p : Stored). p.version) a.store) ∙ can.1 in
-      elim (a.asked (ToMark i version token) can.0) [
-        | inl asking ↦ (asking, fits)
-        | inr beyond ↦ absurd (omega (arith, beyond, fits))
-      ]
-
-  holds_still : (i version : ℕ) (new : Token) → CanOccur f (Took (ToKeep i version new)) → CanHappen s (Kept i version new)
-  holds_still i version new can =
-      let fits : s.store.version ≡ version + 1 = sym (ap (λ (p : Stored). p.version) a.store) ∙ can.1 in
-      elim (a.asked (ToKeep i version new) can.0) [
-        | inl holding ↦ (holding, fits)
-        | inr beyond ↦ absurd (omega (arith, beyond, fits))
+  waits_still : (r : Request) → Contains f.requests r → Fits f.store (last r) → stage_of s (asker r) ≡ waiting r
+  waits_still r h fits =
+      elim (a.asked r h) [
+        | inl waits ↦ waits
+        | inr beyond ↦ absurd (let at : s.store.version ≡ last r = sym (ap (λ (p : Stored). p.version) a.store) ∙ fits in omega (arith, beyond, at))
       ]
 
   fits_still : (version : ℕ) → Fits f.store version → Fits s.store version
@@ -177,11 +194,14 @@ module _ (f : Fleet) (s : Shared) (a : Agrees f s) where
       let run : IsRun s (events_of i (next_turn i (phase_of f i) told).step) = step_can_happen s i (phase_of f i) told a.taken (a.knows i) so in
       (run, agrees_step i (next_turn i (phase_of f i) told).phase (next_turn i (phase_of f i) told).step run (step_is_known s i (phase_of f i) told (a.knows i)))
   happens (Took (ToMark i version token)) can =
-      let this : CanHappen s (Marked i version token) = asks_still i version token can in
+      let this : CanHappen s (Marked i version token) = (waits_still (ToMark i version token) can.0 can.1, fits_still version can.1) in
       ((this, tt), agrees_taken (Marked i version token) (marked (version + 1) token i) this (λ j. tt) refl refl)
   happens (Took (ToKeep i version new)) can =
-      let this : CanHappen s (Kept i version new) = holds_still i version new can in
+      let this : CanHappen s (Kept i version new) = (waits_still (ToKeep i version new) can.0 can.1, fits_still (version + 1) can.1) in
       ((this, tt), agrees_taken (Kept i version new) (at_rest (version + 2) new) this (λ j. tt) refl refl)
+  happens (Took (ToReturn i version token)) can =
+      let this : CanHappen s (GivenBack i version token) = (waits_still (ToReturn i version token) can.0 can.1, fits_still (version + 1) can.1) in
+      ((this, tt), agrees_taken (GivenBack i version token) (at_rest (version + 2) token) this (λ j. tt) refl refl)
   happens (SignsIn i version new) can =
       let this : CanHappen s (SignedIn i version new) = (subst (λ (xs : List Stored). WasMarked xs version i) a.past can.0, fits_still version can.1) in
       ((this, tt), agrees_taken (SignedIn i version new) (at_rest (version + 1) new) this (λ j. tt) refl refl)

@@ -1,16 +1,17 @@
 -- What a renewal knows of itself is so after its steps, and stays so.
 use Rattle.std.proofs.Common.{◌≡◌, ◌≢◌, ℕ, List, get_or, Option, Some, None, refl, ap, sym, subst, ◌∙◌, ◌⊎◌, inl, inr}
 use Rattle.std.proofs.lemmas.Bool.{cases_eq}
-use Rattle.std.proofs.lemmas.Bool.Decides.{eqb_tells}
 use Rattle.oauth2_shared_token.specs.declared.renewal.SharedToken.{SharedToken}
+use Rattle.oauth2_shared_token.specs.declared.renewal.Learnt.{Learnt}
+use Rattle.oauth2_shared_token.specs.declared.renewal.Learnt.TheVariants as learnt
 use Rattle.oauth2_shared_token.specs.declared.renewal.Phase.{Phase}
 use Rattle.oauth2_shared_token.specs.declared.renewal.Phase.TheVariants as phase
 use Rattle.oauth2_shared_token.specs.declared.renewal.Told.{Told}
 use Rattle.oauth2_shared_token.specs.declared.renewal.Told.TheVariants as told
-use Rattle.oauth2_shared_token.specs.State.{Token, Stage, NotBegun, Asking, Marking, Sending, Holding, Done, put, Shared, stage_of}
-use Rattle.oauth2_shared_token.specs.Event.{Asked, Marked, Sent, Given, Kept, SignedIn, Allowed, LoggedIn, after}
+use Rattle.oauth2_shared_token.specs.State.{Token, Stage, NotBegun, Asking, Marking, Sending, Holding, Returning, Done, put, Shared, stage_of}
+use Rattle.oauth2_shared_token.specs.Event.{Asked, Marked, Sent, Given, Kept, Withdrew, GivenBack, SignedIn, Allowed, LoggedIn, after}
 use Rattle.oauth2_shared_token.specs.Run.{at_last}
-use Rattle.oauth2_shared_token.specs.Renewal.{token_of, Knows, events_of, next_turn, EachStepIsKnown, WhatIsKnownStays}
+use Rattle.oauth2_shared_token.specs.Renewal.{read_again, sent_if, returned_if, again_in, token_of, Knows, events_of, next_turn, EachStepIsKnown, WhatIsKnownStays}
 use Rattle.oauth2_shared_token.proofs.Places.{put-same, put-other}
 
 looked : (s : Shared) (name version : ℕ) (token : SharedToken) (by : Option ℕ) → Knows (at_last s (events_of name (next_turn name phase.Looking (told.Stored (record { version = version; token = token; used_by = by }))).step)) name (next_turn name phase.Looking (told.Stored (record { version = version; token = token; used_by = by }))).phase
@@ -20,29 +21,47 @@ looked s name version token (Some other) = tt
 sent : (s : Shared) (name version : ℕ) (t : Token) → stage_of (after s (Sent name version t)) name ≡ Sending version
 sent s name version t = put-same NotBegun s.renewals name (Sending version)
 
-looked_again : (s : Shared) (name version w : ℕ) (token shown : SharedToken) (by : Option ℕ) → Knows (at_last s (events_of name (next_turn name (phase.Asking version token) (told.Stored (record { version = w; token = shown; used_by = by }))).step)) name (next_turn name (phase.Asking version token) (told.Stored (record { version = w; token = shown; used_by = by }))).phase
-looked_again s name version w token shown None = tt
-looked_again s name version w token shown (Some other) =
-    elim (eqb_tells other name) [
-      | inl mine ↦ rw mine.0 (sent s name version (token_of token))
-      | inr theirs ↦ rw theirs.0 tt
-    ]
+known_sent : (s : Shared) (name version : ℕ) (token : SharedToken) (l : Learnt) → Knows s name (phase.Asking version token) → Knows (at_last s (events_of name (sent_if version token l).step)) name (sent_if version token l).phase
+known_sent s name version token learnt.Taken knows = sent s name version (token_of token)
+known_sent s name version token learnt.Lost knows = tt
+known_sent s name version token learnt.Open knows = knows
+
+known_returned : (s : Shared) (name version : ℕ) (token : SharedToken) (l : Learnt) → Knows s name (phase.Leaving version token) → Knows (at_last s (events_of name (returned_if version token l).step)) name (returned_if version token l).phase
+known_returned s name version token learnt.Taken knows = inl (put-same NotBegun s.renewals name (Returning version (token_of token)))
+known_returned s name version token learnt.Lost knows = tt
+known_returned s name version token learnt.Open knows = knows
+
+known_repeated : (s : Shared) (name : ℕ) (p : Phase) (t : Told) → Knows s name p → Knows (at_last s (events_of name (again_in p t).step)) name (again_in p t).phase
+known_repeated s name p (told.Stored q) knows = tt
+known_repeated s name p told.Done knows = tt
+known_repeated s name p told.Nothing knows = knows
+known_repeated s name p (told.Answer new) knows = tt
+known_repeated s name p told.Stop knows = tt
 
 pub step_is_known : (s : Shared) (name : ℕ) (p : Phase) (t : Told) → Knows s name p → Knows (at_last s (events_of name (next_turn name p t).step)) name (next_turn name p t).phase
 step_is_known s name phase.Looking (told.Stored p) knows = looked s name p.version p.token p.used_by
 step_is_known s name phase.Looking told.Done knows = knows
 step_is_known s name phase.Looking told.Nothing knows = knows
 step_is_known s name phase.Looking (told.Answer t) knows = knows
-step_is_known s name (phase.Asking version token) (told.Stored p) knows = looked_again s name version p.version token p.token p.used_by
+step_is_known s name phase.Looking told.Stop knows = tt
+step_is_known s name (phase.Asking version token) (told.Stored p) knows = known_sent s name version token (read_again name version p) knows
 step_is_known s name (phase.Asking version token) told.Done knows = sent s name version (token_of token)
 step_is_known s name (phase.Asking version token) told.Nothing knows = knows
 step_is_known s name (phase.Asking version token) (told.Answer t) knows = knows
+step_is_known s name (phase.Asking version token) told.Stop knows = knows
+step_is_known s name (phase.Leaving version token) (told.Stored p) knows = known_returned s name version token (read_again name version p) knows
+step_is_known s name (phase.Leaving version token) told.Done knows = known_returned s name version token learnt.Taken knows
+step_is_known s name (phase.Leaving version token) told.Nothing knows = knows
+step_is_known s name (phase.Leaving version token) (told.Answer t) knows = knows
+step_is_known s name (phase.Leaving version token) told.Stop knows = knows
 step_is_known s name (phase.Sending version) (told.Stored p) knows = tt
 step_is_known s name (phase.Sending version) told.Done knows = tt
 step_is_known s name (phase.Sending version) told.Nothing knows = tt
 step_is_known s name (phase.Sending version) (told.Answer t) knows = inl (put-same NotBegun s.renewals name (Holding version (token_of t)))
-step_is_known s name (phase.Keeping version t) told knows = tt
-step_is_known s name phase.Over told knows = tt
+step_is_known s name (phase.Sending version) told.Stop knows = tt
+step_is_known s name (phase.Keeping version new) t knows = known_repeated s name (phase.Keeping version new) t knows
+step_is_known s name (phase.Returning version token) t knows = known_repeated s name (phase.Returning version token) t knows
+step_is_known s name phase.Over t knows = tt
 
 pub each_step_is_known : EachStepIsKnown
 each_step_is_known s name phase told reached knows so = step_is_known s name phase told knows
@@ -51,40 +70,64 @@ each_step_is_known s name phase told reached knows so = step_is_known s name pha
 abbrev may_be : Phase → Stage → Type 0
 may_be phase.Looking x = x ≡ NotBegun
 may_be (phase.Asking version token) x = (x ≡ Asking version (token_of token)) ⊎ (x ≡ Marking version (token_of token))
+may_be (phase.Leaving version token) x = (x ≡ Asking version (token_of token)) ⊎ (x ≡ Marking version (token_of token))
 may_be (phase.Sending version) x = x ≡ Sending version
 may_be (phase.Keeping version new) x = (x ≡ Holding version (token_of new)) ⊎ (x ≡ Done)
+may_be (phase.Returning version token) x = (x ≡ Returning version (token_of token)) ⊎ (x ≡ Done)
 may_be phase.Over x = Unit {0}
 
 to : (s : Shared) (name : ℕ) (p : Phase) → Knows s name p → may_be p (stage_of s name)
 to s name phase.Looking k = k
 to s name (phase.Asking version token) k = k
+to s name (phase.Leaving version token) k = k
 to s name (phase.Sending version) k = k
 to s name (phase.Keeping version new) k = k
+to s name (phase.Returning version token) k = k
 to s name phase.Over k = k
 
 from : (s : Shared) (name : ℕ) (p : Phase) → may_be p (stage_of s name) → Knows s name p
 from s name phase.Looking k = k
 from s name (phase.Asking version token) k = k
+from s name (phase.Leaving version token) k = k
 from s name (phase.Sending version) k = k
 from s name (phase.Keeping version new) k = k
+from s name (phase.Returning version token) k = k
 from s name phase.Over k = k
 
 marked_then : (p : Phase) (version : ℕ) (token : Token) (x : Stage) → x ≡ Asking version token → may_be p x → may_be p (Marking version token)
 marked_then phase.Looking v t x is k = absurd cc
 marked_then (phase.Asking version token) v t x is (inl k) = let e : Asking v t ≡ Asking version (token_of token) = sym is ∙ k in inr cc
 marked_then (phase.Asking version token) v t x is (inr k) = absurd cc
+marked_then (phase.Leaving version token) v t x is (inl k) = let e : Asking v t ≡ Asking version (token_of token) = sym is ∙ k in inr cc
+marked_then (phase.Leaving version token) v t x is (inr k) = absurd cc
 marked_then (phase.Sending version) v t x is k = absurd cc
 marked_then (phase.Keeping version new) v t x is (inl k) = absurd cc
 marked_then (phase.Keeping version new) v t x is (inr k) = absurd cc
+marked_then (phase.Returning version token) v t x is (inl k) = absurd cc
+marked_then (phase.Returning version token) v t x is (inr k) = absurd cc
 marked_then phase.Over v t x is k = tt
 
 kept_then : (p : Phase) (version : ℕ) (new : Token) (x : Stage) → x ≡ Holding version new → may_be p x → may_be p Done
 kept_then phase.Looking v t x is k = absurd cc
 kept_then (phase.Asking version token) v t x is (inl k) = absurd cc
 kept_then (phase.Asking version token) v t x is (inr k) = absurd cc
+kept_then (phase.Leaving version token) v t x is (inl k) = absurd cc
+kept_then (phase.Leaving version token) v t x is (inr k) = absurd cc
 kept_then (phase.Sending version) v t x is k = absurd cc
 kept_then (phase.Keeping version new) v t x is k = inr refl
+kept_then (phase.Returning version token) v t x is k = inr refl
 kept_then phase.Over v t x is k = tt
+
+returned_then : (p : Phase) (version : ℕ) (token : Token) (x : Stage) → x ≡ Returning version token → may_be p x → may_be p Done
+returned_then phase.Looking v t x is k = absurd cc
+returned_then (phase.Asking version token) v t x is (inl k) = absurd cc
+returned_then (phase.Asking version token) v t x is (inr k) = absurd cc
+returned_then (phase.Leaving version token) v t x is (inl k) = absurd cc
+returned_then (phase.Leaving version token) v t x is (inr k) = absurd cc
+returned_then (phase.Sending version) v t x is k = absurd cc
+returned_then (phase.Keeping version new) v t x is k = inr refl
+returned_then (phase.Returning version token) v t x is k = inr refl
+returned_then phase.Over v t x is k = tt
 
 other_place : (p : Phase) (xs : List Stage) (i name : ℕ) (x : Stage) → name ≢ i → may_be p (get_or xs name NotBegun) → may_be p (get_or (put NotBegun xs i x) name NotBegun)
 other_place p xs i name x ne k = subst (may_be p) (sym (put-other NotBegun xs i name x ne)) k
@@ -109,6 +152,13 @@ what_is_known_stays s name p (Given i version new) knows can others =
 what_is_known_stays s name p (Kept i version new) knows can others =
     from (after s (Kept i version new)) name p (elim (cases_eq name i) [
       | inl same ↦ this_place p s.renewals i name Done same (kept_then p version new (stage_of s name) (ap (λ (k : ℕ). stage_of s k) same ∙ can.0) (to s name p knows))
+      | inr ne ↦ other_place p s.renewals i name Done ne (to s name p knows)
+    ])
+what_is_known_stays s name p (Withdrew i version token) knows can others =
+    from (after s (Withdrew i version token)) name p (other_place p s.renewals i name (Returning version token) others (to s name p knows))
+what_is_known_stays s name p (GivenBack i version token) knows can others =
+    from (after s (GivenBack i version token)) name p (elim (cases_eq name i) [
+      | inl same ↦ this_place p s.renewals i name Done same (returned_then p version token (stage_of s name) (ap (λ (k : ℕ). stage_of s k) same ∙ can.0) (to s name p knows))
       | inr ne ↦ other_place p s.renewals i name Done ne (to s name p knows)
     ])
 what_is_known_stays s name p (SignedIn i version new) knows can others = from (after s (SignedIn i version new)) name p (to s name p knows)

@@ -2,12 +2,12 @@
 use Rattle.std.proofs.Common.{◌≡◌, ◌≢◌, ℕ, ◌+◌, List, [], ◌∷◌, ◌++◌, get_or, Some, None, refl, ap, sym, subst, ◌∙◌, append_assoc, arith, ◌⊎◌, inl, inr}
 use Rattle.std.specs.List.{Contains}
 use Rattle.std.proofs.lemmas.List.Elements.{Contains-append_left, Contains-push}
-use Rattle.oauth2_shared_token.specs.State.{Token, Stored, Stage, NotBegun, Asking, Marking, Sending, Holding, Done, put, Shared, stage_of, begin}
-use Rattle.oauth2_shared_token.specs.Event.{SharedEvent, Asked, Marked, Sent, Given, Kept, SignedIn, Allowed, LoggedIn, CanHappen, after}
+use Rattle.oauth2_shared_token.specs.State.{Token, Stored, Stage, NotBegun, Asking, Marking, Sending, Holding, Returning, Done, put, Shared, stage_of, begin}
+use Rattle.oauth2_shared_token.specs.Event.{SharedEvent, Asked, Marked, Sent, Given, Kept, Withdrew, GivenBack, SignedIn, Allowed, LoggedIn, CanHappen, after}
 use Rattle.oauth2_shared_token.specs.Run.{IsRun, at_last, newest_given}
 use Rattle.oauth2_shared_token.specs.Laws.{WasAnswered, NoneCameLate, TheNewestGivenIsStored}
 use Rattle.oauth2_shared_token.proofs.Places.{put-same, read-put, stays-put}
-use Rattle.oauth2_shared_token.proofs.Versions.{IsSound, sound_after, sound_begin, asked_is_stored, rest_is_stored}
+use Rattle.oauth2_shared_token.proofs.Versions.{IsSound, sound_after, sound_begin, asked_is_stored, returned_is_stored, rest_is_stored}
 use Rattle.oauth2_shared_token.proofs.Standing.{marks, IsStanding, IsTold, seen_is_stored, told_after, told_begin}
 
 pub record Holder (s : Shared) (latest : Token) : Type 0 where
@@ -27,6 +27,8 @@ next_latest latest (Marked i version t) = latest
 next_latest latest (Sent i version t) = latest
 next_latest latest (Given i version new) = new
 next_latest latest (Kept i version new) = latest
+next_latest latest (Withdrew i version t) = latest
+next_latest latest (GivenBack i version t) = latest
 next_latest latest (SignedIn i version new) = new
 next_latest latest (Allowed i version t) = t
 next_latest latest (LoggedIn version new) = new
@@ -37,6 +39,8 @@ newest_step latest (Marked i version t) events = refl
 newest_step latest (Sent i version t) events = refl
 newest_step latest (Given i version new) events = refl
 newest_step latest (Kept i version new) events = refl
+newest_step latest (Withdrew i version t) events = refl
+newest_step latest (GivenBack i version t) events = refl
 newest_step latest (SignedIn i version new) events = refl
 newest_step latest (Allowed i version t) events = refl
 newest_step latest (LoggedIn version new) events = refl
@@ -118,6 +122,10 @@ module _ (all : List SharedEvent) (in_time : NoneCameLate all) where
           only = λ j w n h. l.only j w n (back j w n h);
           somewhere = inl (sym (l.only i version new can.0));
         }
+    latest_after (Withdrew i version token) among can =
+        further (Withdrew i version token) i (Returning version token) (Marking version token) can (λ w n e. cc) (λ w n e. cc) (after s (Withdrew i version token)) refl refl
+    latest_after (GivenBack i version token) among can =
+        further (GivenBack i version token) i Done (Returning version token) can.0 (λ w n e. cc) (λ w n e. cc) (after s (GivenBack i version token)) refl (sym (ap (λ (p : Stored). p.token) (returned_is_stored s i version token sound can)))
     latest_after (SignedIn i version new) among can =
         let mine : Some i ≡ s.store.used_by = ap (λ (p : Stored). p.used_by) (seen_is_stored s i version can.0.0 sound can.0.1 can.1) in
         let nobody : (j w : ℕ) (n : Token) → stage_of s j ≡ Holding w n → ⊥ =

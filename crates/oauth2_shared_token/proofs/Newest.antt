@@ -1,10 +1,10 @@
 -- What is stored is the last that came to be stored: a mark keeps the token.
 use Rattle.std.proofs.Common.{◌≡◌, List, [], ◌∷◌, refl, ap, ◌∙◌}
 use Rattle.oauth2_shared_token.specs.State.{Stored, Shared, begin}
-use Rattle.oauth2_shared_token.specs.Event.{SharedEvent, Asked, Marked, Sent, Given, Kept, SignedIn, Allowed, LoggedIn, after}
+use Rattle.oauth2_shared_token.specs.Event.{SharedEvent, Asked, Marked, Sent, Given, Kept, Withdrew, GivenBack, SignedIn, Allowed, LoggedIn, after}
 use Rattle.oauth2_shared_token.specs.Run.{IsRun, at_last, newest}
 use Rattle.oauth2_shared_token.specs.Laws.{WhatIsStoredIsTheNewest}
-use Rattle.oauth2_shared_token.proofs.Versions.{IsSound, sound_after, sound_begin, asked_is_stored}
+use Rattle.oauth2_shared_token.proofs.Versions.{IsSound, sound_after, sound_begin, asked_is_stored, returned_is_stored}
 
 pub newest_from : (s : Shared) (events : List SharedEvent) → IsSound s → IsRun s events → (at_last s events).store.token ≡ newest s.store.token events
 newest_from s [] sound run = refl
@@ -19,6 +19,11 @@ newest_from s (Given i version new ∷ events) sound run =
     newest_from (after s (Given i version new)) events (sound_after s (Given i version new) sound run.0) run.1
 newest_from s (Kept i version new ∷ events) sound run =
     newest_from (after s (Kept i version new)) events (sound_after s (Kept i version new) sound run.0) run.1
+newest_from s (Withdrew i version token ∷ events) sound run =
+    newest_from (after s (Withdrew i version token)) events (sound_after s (Withdrew i version token) sound run.0) run.1
+newest_from s (GivenBack i version token ∷ events) sound run =
+    newest_from (after s (GivenBack i version token)) events (sound_after s (GivenBack i version token) sound run.0) run.1 ∙
+    ap (λ (p : Stored). newest p.token events) (returned_is_stored s i version token sound run.0)
 newest_from s (SignedIn i version new ∷ events) sound run =
     newest_from (after s (SignedIn i version new)) events (sound_after s (SignedIn i version new) sound run.0) run.1
 newest_from s (Allowed i version token ∷ events) sound run =

@@ -1,8 +1,8 @@
 -- Each sending is paid for by a storing: what is at rest may be marked once, and what is marked may
 -- be sent once.
 use Rattle.std.proofs.Common.{◌≡◌, ℕ, zero, suc, ◌+◌, ◌≤◌, List, [], ◌∷◌, get_or, Option, Some, None, ap, arith}
-use Rattle.oauth2_shared_token.specs.State.{Token, Stored, Stage, NotBegun, Asking, Marking, Sending, Holding, Done, put, Shared, begin}
-use Rattle.oauth2_shared_token.specs.Event.{SharedEvent, Asked, Marked, Sent, Given, Kept, SignedIn, Allowed, LoggedIn, after}
+use Rattle.oauth2_shared_token.specs.State.{Token, Stored, Stage, NotBegun, Asking, Marking, Sending, Holding, Returning, Done, put, Shared, begin}
+use Rattle.oauth2_shared_token.specs.Event.{SharedEvent, Asked, Marked, Sent, Given, Kept, Withdrew, GivenBack, SignedIn, Allowed, LoggedIn, after}
 use Rattle.oauth2_shared_token.specs.Run.{IsRun, has_refresh, times_sent, times_stored}
 use Rattle.oauth2_shared_token.specs.Laws.{EachSendingWasStored, EachIsSentAtMostOnce}
 use Rattle.oauth2_shared_token.proofs.Versions.{IsSound, sound_after, sound_begin, asked_is_stored}
@@ -15,6 +15,7 @@ module _ (r : ℕ) where
   held (Marking version token) = has_refresh r token
   held (Sending version) = 0
   held (Holding version new) = 0
+  held (Returning version token) = has_refresh r token
   held Done = 0
 
   abbrev resting_by : Token → Option ℕ → ℕ
@@ -56,6 +57,14 @@ module _ (r : ℕ) where
   each_is_paid s (Kept i version new ∷ events) sound run =
       let later = each_is_paid (after s (Kept i version new)) events (sound_after s (Kept i version new) sound run.0) run.1 in
       let change = goes_on s.renewals i (Holding version new) Done run.0.0 in
+      omega (arith, later, change)
+  each_is_paid s (Withdrew i version token ∷ events) sound run =
+      let later = each_is_paid (after s (Withdrew i version token)) events (sound_after s (Withdrew i version token) sound run.0) run.1 in
+      let change = goes_on s.renewals i (Marking version token) (Returning version token) run.0 in
+      omega (arith, later, change)
+  each_is_paid s (GivenBack i version token ∷ events) sound run =
+      let later = each_is_paid (after s (GivenBack i version token)) events (sound_after s (GivenBack i version token) sound run.0) run.1 in
+      let change = goes_on s.renewals i (Returning version token) Done run.0.0 in
       omega (arith, later, change)
   each_is_paid s (SignedIn i version new ∷ events) sound run =
       let later = each_is_paid (after s (SignedIn i version new)) events (sound_after s (SignedIn i version new) sound run.0) run.1 in

@@ -5,8 +5,8 @@ use Rattle.std.proofs.Math.Decide.{dec_le}
 use Rattle.std.proofs.lemmas.List.{append-nil}
 use Rattle.std.specs.List.{Contains}
 use Rattle.std.proofs.lemmas.List.Elements.{Contains-append_left, Contains-push}
-use Rattle.oauth2_shared_token.specs.State.{Token, Stored, at_rest, marked, Stage, NotBegun, Asking, Marking, Sending, Holding, Done, put, Shared, stage_of, begin}
-use Rattle.oauth2_shared_token.specs.Event.{SharedEvent, Asked, Marked, Sent, Given, Kept, SignedIn, Allowed, LoggedIn, CanHappen, after}
+use Rattle.oauth2_shared_token.specs.State.{Token, Stored, at_rest, marked, Stage, NotBegun, Asking, Marking, Sending, Holding, Returning, Done, put, Shared, stage_of, begin}
+use Rattle.oauth2_shared_token.specs.Event.{SharedEvent, Asked, Marked, Sent, Given, Kept, Withdrew, GivenBack, SignedIn, Allowed, LoggedIn, CanHappen, after}
 use Rattle.oauth2_shared_token.specs.Run.{IsRun, at_last}
 use Rattle.oauth2_shared_token.specs.Laws.{WasAnswered, NoneIsLostUntold, OneRunsAtOnce}
 use Rattle.oauth2_shared_token.proofs.Places.{put-same, put-other, read-put, stays-put, none_in_nothing, in_one_more}
@@ -20,6 +20,7 @@ marks (Asking version token) = None
 marks (Marking version token) = Some version
 marks (Sending version) = Some version
 marks (Holding version new) = Some version
+marks (Returning version token) = Some version
 marks Done = None
 
 pub record IsStanding (p : Stored) (i version : ℕ) : Type 0 where
@@ -140,6 +141,30 @@ module _ (s : Shared) (sofar : List SharedEvent) (told : IsTold s sofar) where
               ]
               | no more ↦ (let ne : j ≢ i = omega arith in inl (put-other NotBegun s.renewals i j Done ne ∙ is))
             ]) (λ j w n e. absurd cc);
+      }
+  told_after (Withdrew i version token) sound can =
+      record {
+        marking = λ j w h.
+            elim (marks-put s.renewals i j w (Returning version token) h) [
+              | inl here ↦ same_store s.store sofar _ j w (told.marking j w (ap (λ (k : ℕ). marks (stage_of s k)) here.0 ∙ ap marks can ∙ here.1))
+              | inr there ↦ same_store s.store sofar _ j w (told.marking j w there.1)
+            ];
+        given = given_more (after s (Withdrew i version token)) (Withdrew i version token) (λ j w n is. inl (stays-put s.renewals i j _ (Marking version token) (Holding w n) can (λ e. cc) is)) (λ j w n e. absurd cc);
+      }
+  told_after (GivenBack i version token) sound can =
+      record {
+        marking = λ j w h.
+            elim (marks-put s.renewals i j w Done h) [
+              | inl here ↦ absurd (let e = here.1 in cc)
+              | inr there ↦ elim (told.marking j w there.1) [
+                | inl standing ↦ elim (told.marking i version (ap marks can.0)) [
+                  | inl mine ↦ absurd (there.0 (let e = standing.by in let f = mine.by in cc))
+                  | inr over ↦ absurd (omega (arith, over.beyond, can.1))
+                ]
+                | inr over ↦ inr (over_more s.store (at_rest (version + 2) token) sofar _ j w (omega (arith, can.1)) over)
+              ]
+            ];
+        given = given_more (after s (GivenBack i version token)) (GivenBack i version token) (λ j w n is. inl (stays-put s.renewals i j _ (Returning version token) (Holding w n) can.0 (λ e. cc) is)) (λ j w n e. absurd cc);
       }
   told_after (SignedIn i version new) sound can =
       let mine : Some i ≡ s.store.used_by = ap (λ (p : Stored). p.used_by) (seen_is_stored s i version can.0.0 sound can.0.1 can.1) in

@@ -1,16 +1,19 @@
 -- Each step of a renewal is an event that can happen.
-use Rattle.std.proofs.Common.{◌≡◌, ℕ, ◌+◌, List, [], ◌∷◌, get_or, Option, Some, None, Bool, true, false, refl, ap, sym, subst, ◌∙◌, ◌⊎◌, inl, inr}
+use Rattle.std.proofs.Common.{◌≡◌, ℕ, ◌+◌, List, [], ◌∷◌, get_or, Option, Some, None, Bool, true, false, nat_lt, if◌then◌else◌, refl, ap, sym, subst, ◌∙◌, ◌⊎◌, inl, inr}
 use Rattle.std.specs.List.{Contains}
 use Rattle.std.proofs.lemmas.Bool.Decides.{eqb_tells}
 use Rattle.oauth2_shared_token.specs.declared.renewal.SharedToken.{SharedToken}
+use Rattle.oauth2_shared_token.specs.declared.renewal.StoredValue.{StoredValue}
+use Rattle.oauth2_shared_token.specs.declared.renewal.Learnt.{Learnt}
+use Rattle.oauth2_shared_token.specs.declared.renewal.Learnt.TheVariants as learnt
 use Rattle.oauth2_shared_token.specs.declared.renewal.Phase.{Phase}
 use Rattle.oauth2_shared_token.specs.declared.renewal.Phase.TheVariants as phase
 use Rattle.oauth2_shared_token.specs.declared.renewal.Told.{Told}
 use Rattle.oauth2_shared_token.specs.declared.renewal.Told.TheVariants as told
-use Rattle.oauth2_shared_token.specs.State.{Token, Stored, at_rest, marked, Stage, NotBegun, Asking, Marking, Sending, Holding, Done, put, Shared, stage_of, begin}
-use Rattle.oauth2_shared_token.specs.Event.{SharedEvent, Asked, Marked, Sent, Given, Kept, SignedIn, Allowed, LoggedIn, CanHappen, after}
+use Rattle.oauth2_shared_token.specs.State.{Token, Stored, at_rest, marked, Stage, NotBegun, Asking, Marking, Sending, Holding, Returning, Done, put, Shared, stage_of, begin}
+use Rattle.oauth2_shared_token.specs.Event.{SharedEvent, Asked, Marked, Sent, Given, Kept, Withdrew, GivenBack, SignedIn, Allowed, LoggedIn, CanHappen, after}
 use Rattle.oauth2_shared_token.specs.Run.{IsRun, at_last}
-use Rattle.oauth2_shared_token.specs.Renewal.{token_of, stored_of, IsReached, Knows, IsSo, events_of, EachStepCanHappen, next_turn}
+use Rattle.oauth2_shared_token.specs.Renewal.{past_or_open, seen_by, read_again, sent_if, returned_if, again_in, token_of, stored_of, IsReached, Knows, IsSo, events_of, EachStepCanHappen, next_turn}
 use Rattle.oauth2_shared_token.proofs.Places.{put-same, read-put, in_one_more, only_one}
 
 -- it didn't ask to mark anything yet, or the store didn't take that
@@ -20,6 +23,7 @@ is_early (Asking version token) = true
 is_early (Marking version token) = false
 is_early (Sending version) = false
 is_early (Holding version new) = false
+is_early (Returning version token) = false
 is_early Done = false
 
 -- a renewal whose mark was stored is past that
@@ -65,6 +69,12 @@ taken_after s (Kept i version new) taken can j w t h =
       | inl before ↦ early-put s.renewals i j Done refl (taken j w t before)
       | inr here ↦ absurd (not_at_rest (version + 2) w j t new here)
     ]
+taken_after s (Withdrew i version token) taken can j w t h = early-put s.renewals i j (Returning version token) refl (taken j w t h)
+taken_after s (GivenBack i version token) taken can j w t h =
+    elim (in_one_more s.past (at_rest (version + 2) token) (marked w t j) h) [
+      | inl before ↦ early-put s.renewals i j Done refl (taken j w t before)
+      | inr here ↦ absurd (not_at_rest (version + 2) w j t token here)
+    ]
 taken_after s (SignedIn i version new) taken can j w t h =
     elim (in_one_more s.past (at_rest (version + 1) new) (marked w t j) h) [
       | inl before ↦ taken j w t before
@@ -97,37 +107,72 @@ can_send s name version w t u taken seen (inl asking) =
     absurd (let late = taken name w u seen in let early : is_early (stage_of s name) ≡ true = ap is_early asking in cc)
 can_send s name version w t u taken seen (inr marking) = marking
 
-step_again : (s : Shared) (name version w : ℕ) (token shown : SharedToken) (by : Option ℕ) → MarksAreTaken s → Knows s name (phase.Asking version token) → Contains s.past (stored_of (record { version = w; token = shown; used_by = by })) → IsRun s (events_of name (next_turn name (phase.Asking version token) (told.Stored (record { version = w; token = shown; used_by = by }))).step)
-step_again s name version w token shown None taken knows seen = tt
-step_again s name version w token shown (Some other) taken knows seen =
+-- a value that is read says that a mark was taken only if it has that mark
+open_is_not_taken : (is_past : Bool) → past_or_open is_past ≡ learnt.Taken → ⊥
+open_is_not_taken true e = cc
+open_is_not_taken false e = cc
+
+seen_is_own : (name : ℕ) (is_past : Bool) (by : Option ℕ) → seen_by name is_past by ≡ learnt.Taken → by ≡ Some name
+seen_is_own name is_past None e = absurd (open_is_not_taken is_past e)
+seen_is_own name is_past (Some other) e =
     elim (eqb_tells other name) [
-      | inl mine ↦
-          let own : Contains s.past (marked w (token_of shown) name) = subst (λ (k : ℕ). Contains s.past (marked w (token_of shown) k)) mine.1 seen in
-          rw mine.0 (can_send s name version w (token_of token) (token_of shown) taken own knows, tt)
-      | inr theirs ↦ rw theirs.0 tt
+      | inl mine ↦ ap (λ (k : ℕ). Some k) mine.1
+      | inr theirs ↦ absurd (open_is_not_taken is_past (ap (λ (b : Bool). if b then learnt.Taken else past_or_open is_past) (sym theirs.0) ∙ e))
     ]
+
+own_mark : (s : Shared) (name version : ℕ) (p : StoredValue) → Contains s.past (stored_of p) → read_again name version p ≡ learnt.Taken → Contains s.past (marked p.version (token_of p.token) name)
+own_mark s name version p seen e =
+    subst (λ (by : Option ℕ). Contains s.past (record { version = p.version; token = token_of p.token; used_by = by })) (seen_is_own name (nat_lt version p.version) p.used_by e) seen
+
+step_sent : (s : Shared) (name version : ℕ) (token : SharedToken) (l : Learnt) → (l ≡ learnt.Taken → stage_of s name ≡ Marking version (token_of token)) → IsRun s (events_of name (sent_if version token l).step)
+step_sent s name version token learnt.Taken can = (can refl, tt)
+step_sent s name version token learnt.Lost can = tt
+step_sent s name version token learnt.Open can = tt
+
+step_returned : (s : Shared) (name version : ℕ) (token : SharedToken) (l : Learnt) → (l ≡ learnt.Taken → stage_of s name ≡ Marking version (token_of token)) → IsRun s (events_of name (returned_if version token l).step)
+step_returned s name version token learnt.Taken can = (can refl, tt)
+step_returned s name version token learnt.Lost can = tt
+step_returned s name version token learnt.Open can = tt
 
 step_looking : (s : Shared) (name version : ℕ) (token : SharedToken) (by : Option ℕ) → stage_of s name ≡ NotBegun → Contains s.past (stored_of (record { version = version; token = token; used_by = by })) → IsRun s (events_of name (next_turn name phase.Looking (told.Stored (record { version = version; token = token; used_by = by }))).step)
 step_looking s name version token None new h = ((new, h), tt)
 step_looking s name version token (Some other) new h = tt
+
+step_repeated : (s : Shared) (name : ℕ) (p : Phase) (t : Told) → IsRun s (events_of name (again_in p t).step)
+step_repeated s name p (told.Stored q) = tt
+step_repeated s name p told.Done = tt
+step_repeated s name p told.Nothing = tt
+step_repeated s name p (told.Answer new) = tt
+step_repeated s name p told.Stop = tt
 
 pub step_can_happen : (s : Shared) (name : ℕ) (p : Phase) (t : Told) → MarksAreTaken s → Knows s name p → IsSo s.past name p t → IsRun s (events_of name (next_turn name p t).step)
 step_can_happen s name phase.Looking (told.Stored p) taken knows so = step_looking s name p.version p.token p.used_by knows so
 step_can_happen s name phase.Looking told.Done taken knows so = tt
 step_can_happen s name phase.Looking told.Nothing taken knows so = tt
 step_can_happen s name phase.Looking (told.Answer new) taken knows so = tt
+step_can_happen s name phase.Looking told.Stop taken knows so = tt
 step_can_happen s name (phase.Asking version token) (told.Stored p) taken knows so =
-    step_again s name version p.version token p.token p.used_by taken knows so
+    step_sent s name version token (read_again name version p) (λ e. can_send s name version p.version (token_of token) (token_of p.token) taken (own_mark s name version p so e) knows)
 step_can_happen s name (phase.Asking version token) told.Done taken knows so =
     (can_send s name version (version + 1) (token_of token) (token_of token) taken so knows, tt)
 step_can_happen s name (phase.Asking version token) told.Nothing taken knows so = tt
 step_can_happen s name (phase.Asking version token) (told.Answer new) taken knows so = tt
+step_can_happen s name (phase.Asking version token) told.Stop taken knows so = tt
+step_can_happen s name (phase.Leaving version token) (told.Stored p) taken knows so =
+    step_returned s name version token (read_again name version p) (λ e. can_send s name version p.version (token_of token) (token_of p.token) taken (own_mark s name version p so e) knows)
+step_can_happen s name (phase.Leaving version token) told.Done taken knows so =
+    (can_send s name version (version + 1) (token_of token) (token_of token) taken so knows, tt)
+step_can_happen s name (phase.Leaving version token) told.Nothing taken knows so = tt
+step_can_happen s name (phase.Leaving version token) (told.Answer new) taken knows so = tt
+step_can_happen s name (phase.Leaving version token) told.Stop taken knows so = tt
 step_can_happen s name (phase.Sending version) (told.Stored p) taken knows so = tt
 step_can_happen s name (phase.Sending version) told.Done taken knows so = tt
 step_can_happen s name (phase.Sending version) told.Nothing taken knows so = tt
 step_can_happen s name (phase.Sending version) (told.Answer new) taken knows so = (knows, tt)
-step_can_happen s name (phase.Keeping version new) told taken knows so = tt
-step_can_happen s name phase.Over told taken knows so = tt
+step_can_happen s name (phase.Sending version) told.Stop taken knows so = tt
+step_can_happen s name (phase.Keeping version new) t taken knows so = step_repeated s name (phase.Keeping version new) t
+step_can_happen s name (phase.Returning version token) t taken knows so = step_repeated s name (phase.Returning version token) t
+step_can_happen s name phase.Over t taken knows so = tt
 
 pub each_step_can_happen : EachStepCanHappen
 each_step_can_happen s name phase told reached knows so = step_can_happen s name phase told (taken_where_reached s reached) knows so

@@ -3,7 +3,7 @@
 use Rattle.std.specs.Prelude.{◌≡◌, ℕ, ◌+◌, List, [], ◌∷◌, ◌++◌}
 use Rattle.std.specs.List.{Contains}
 use Rattle.oauth2_shared_token.specs.State.{Token, Stored, at_rest, marked, put}
-use Rattle.oauth2_shared_token.specs.State.{Stage, NotBegun, Asking, Marking, Sending, Holding, Done, Shared, stage_of}
+use Rattle.oauth2_shared_token.specs.State.{Stage, NotBegun, Asking, Marking, Sending, Holding, Returning, Done, Shared, stage_of}
 
 -- each but the last has the name of a renewal first, and each has a version
 pub data SharedEvent : Type 0 where
@@ -17,6 +17,10 @@ pub data SharedEvent : Type 0 where
   Given : ℕ → ℕ → Token → SharedEvent
   -- the store takes that in the place of the renewal's mark
   Kept : ℕ → ℕ → Token → SharedEvent
+  -- a renewal, told the same before it sent anything, asks to take its mark off, and sends nothing
+  Withdrew : ℕ → ℕ → Token → SharedEvent
+  -- the store takes the old token in the place of the renewal's mark
+  GivenBack : ℕ → ℕ → Token → SharedEvent
   -- somebody read this version marked by this renewal and logged in anew, and the store takes what that gave
   SignedIn : ℕ → ℕ → Token → SharedEvent
   -- somebody read the same and said that the old token may be used again, and the store takes that
@@ -43,6 +47,8 @@ CanHappen s (Marked i version token) = (stage_of s i ≡ Asking version token) �
 CanHappen s (Sent i version token) = stage_of s i ≡ Marking version token
 CanHappen s (Given i version new) = stage_of s i ≡ Sending version
 CanHappen s (Kept i version new) = (stage_of s i ≡ Holding version new) × Fits s.store (version + 1)
+CanHappen s (Withdrew i version token) = stage_of s i ≡ Marking version token
+CanHappen s (GivenBack i version token) = (stage_of s i ≡ Returning version token) × Fits s.store (version + 1)
 CanHappen s (SignedIn i version new) = WasMarked s.past version i × Fits s.store version
 CanHappen s (Allowed i version token) = Contains s.past (marked version token i) × Fits s.store version
 CanHappen s (LoggedIn version new) = WasAtRest s.past version × Fits s.store version
@@ -62,6 +68,8 @@ after s (Marked i version token) = gone_on (stored s (marked (version + 1) token
 after s (Sent i version token) = gone_on s i (Sending version)
 after s (Given i version new) = gone_on s i (Holding version new)
 after s (Kept i version new) = gone_on (stored s (at_rest (version + 2) new)) i Done
+after s (Withdrew i version token) = gone_on s i (Returning version token)
+after s (GivenBack i version token) = gone_on (stored s (at_rest (version + 2) token)) i Done
 after s (SignedIn i version new) = stored s (at_rest (version + 1) new)
 after s (Allowed i version token) = stored s (at_rest (version + 1) token)
 after s (LoggedIn version new) = stored s (at_rest (version + 1) new)

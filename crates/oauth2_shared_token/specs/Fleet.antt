@@ -9,7 +9,8 @@ use Rattle.oauth2_shared_token.specs.declared.renewal.Step.{Step}
 use Rattle.oauth2_shared_token.specs.declared.renewal.Step.TheVariants as step
 use Rattle.oauth2_shared_token.specs.declared.renewal.Turn.{Turn}
 use Rattle.oauth2_shared_token.specs.State.{Token, Stored, at_rest, marked, put, begin}
-use Rattle.oauth2_shared_token.specs.Event.{SharedEvent, Marked, Kept, SignedIn, Allowed, LoggedIn, Fits, WasMarked, WasAtRest}
+use Rattle.oauth2_shared_token.specs.Event.{SharedEvent, Marked, Kept, GivenBack, SignedIn, Allowed, LoggedIn}
+use Rattle.oauth2_shared_token.specs.Event.{Fits, WasMarked, WasAtRest}
 use Rattle.oauth2_shared_token.specs.Run.{IsRun, at_last, has_refresh, times_sent, times_stored}
 use Rattle.oauth2_shared_token.specs.Renewal.{next_turn, token_of, IsSo, events_of}
 
@@ -19,6 +20,8 @@ pub data Request : Type 0 where
   ToMark : ℕ → ℕ → Token → Request
   -- to take this token in the place of its mark on this version
   ToKeep : ℕ → ℕ → Token → Request
+  -- to take the old token in the place of its mark on this version
+  ToReturn : ℕ → ℕ → Token → Request
 
 -- what is stored now, all that ever was, the machine of each renewal, at the place of its name, and all
 -- that they asked of the store
@@ -51,6 +54,7 @@ abbrev pub CanOccur : Fleet → Happening → Type 0
 CanOccur f (Turned i told) = IsSo f.past i (phase_of f i) told
 CanOccur f (Took (ToMark i version token)) = Contains f.requests (ToMark i version token) × Fits f.store version
 CanOccur f (Took (ToKeep i version new)) = Contains f.requests (ToKeep i version new) × Fits f.store (version + 1)
+CanOccur f (Took (ToReturn i version token)) = Contains f.requests (ToReturn i version token) × Fits f.store (version + 1)
 CanOccur f (SignsIn i version new) = WasMarked f.past version i × Fits f.store version
 CanOccur f (Allows i version token) = Contains f.past (marked version token i) × Fits f.store version
 CanOccur f (LogsIn version new) = WasAtRest f.past version × Fits f.store version
@@ -61,6 +65,8 @@ requests_of i step.Look = []
 requests_of i (step.Mark version token) = ToMark i version (token_of token) ∷ []
 requests_of i (step.Send version token) = []
 requests_of i (step.Keep version new) = ToKeep i version (token_of new) ∷ []
+requests_of i (step.GiveBack version token) = ToReturn i version (token_of token) ∷ []
+requests_of i step.Repeat = []
 requests_of i (step.InUse other) = []
 requests_of i step.End = []
 
@@ -83,6 +89,7 @@ abbrev pub later : Fleet → Happening → Fleet
 later f (Turned i told) = turned f i (next_turn i (phase_of f i) told)
 later f (Took (ToMark i version token)) = taken f (marked (version + 1) token i)
 later f (Took (ToKeep i version new)) = taken f (at_rest (version + 2) new)
+later f (Took (ToReturn i version token)) = taken f (at_rest (version + 2) token)
 later f (SignsIn i version new) = taken f (at_rest (version + 1) new)
 later f (Allows i version token) = taken f (at_rest (version + 1) token)
 later f (LogsIn version new) = taken f (at_rest (version + 1) new)
@@ -92,6 +99,7 @@ abbrev pub events_in : Fleet → Happening → List SharedEvent
 events_in f (Turned i told) = events_of i (next_turn i (phase_of f i) told).step
 events_in f (Took (ToMark i version token)) = Marked i version token ∷ []
 events_in f (Took (ToKeep i version new)) = Kept i version new ∷ []
+events_in f (Took (ToReturn i version token)) = GivenBack i version token ∷ []
 events_in f (SignsIn i version new) = SignedIn i version new ∷ []
 events_in f (Allows i version token) = Allowed i version token ∷ []
 events_in f (LogsIn version new) = LoggedIn version new ∷ []

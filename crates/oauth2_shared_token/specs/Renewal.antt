@@ -1,5 +1,5 @@
 -- What a renewal does next from what it knows and is told, and when that is so.
-use Rattle.std.specs.Prelude.{◌≡◌, ◌≢◌, ℕ, ◌+◌, ◌==◌, if◌then◌else◌, Option, Some, None, ◌⊎◌, List, [], ◌∷◌}
+use Rattle.std.specs.Prelude.{◌≡◌, ◌≢◌, ℕ, ◌+◌, ◌==◌, nat_lt, if◌then◌else◌, Bool, Option, Some, None, ◌⊎◌, List, [], ◌∷◌}
 use Rattle.std.specs.List.{Contains}
 use Rattle.oauth2_shared_token.specs.declared.renewal.SharedToken.{SharedToken}
 use Rattle.oauth2_shared_token.specs.declared.renewal.StoredValue.{StoredValue}
@@ -10,11 +10,14 @@ use Rattle.oauth2_shared_token.specs.declared.renewal.Told.TheVariants as told
 use Rattle.oauth2_shared_token.specs.declared.renewal.Step.{Step}
 use Rattle.oauth2_shared_token.specs.declared.renewal.Step.TheVariants as step
 use Rattle.oauth2_shared_token.specs.declared.renewal.Turn.{Turn}
-use Rattle.oauth2_shared_token.specs.State.{Token, Stored, marked, NotBegun, Asking, Marking, Sending, Holding, Done, Shared, stage_of, begin}
-use Rattle.oauth2_shared_token.specs.Event.{SharedEvent, Asked, Marked, Sent, Given, Kept, SignedIn, Allowed, LoggedIn}
-use Rattle.oauth2_shared_token.specs.Event.{CanHappen, after}
+use Rattle.oauth2_shared_token.specs.declared.renewal.Learnt.{Learnt}
+use Rattle.oauth2_shared_token.specs.declared.renewal.Learnt.TheVariants as learnt
+use Rattle.oauth2_shared_token.specs.State.{Token, Stored, marked, NotBegun, Asking, Marking, Sending, Holding, Returning, Done, Shared, stage_of, begin}
+use Rattle.oauth2_shared_token.specs.Event.{SharedEvent, Asked, Marked, Sent, Given, Kept, Withdrew, GivenBack}
+use Rattle.oauth2_shared_token.specs.Event.{SignedIn, Allowed, LoggedIn, CanHappen, after}
 use Rattle.oauth2_shared_token.specs.Run.{IsRun, at_last}
 
+-- a phase with a step
 abbrev pub turn_of : Phase → Step → Turn
 turn_of phase step = record { phase = phase; step = step }
 
@@ -22,36 +25,85 @@ abbrev pub looked_at : ℕ → SharedToken → Option ℕ → Turn
 looked_at version token None = turn_of (phase.Asking version token) (step.Mark version token)
 looked_at version token (Some other) = turn_of phase.Over (step.InUse other)
 
+-- what is at rest is asked for
 abbrev pub after_looking : Told → Turn
 after_looking (told.Stored p) = looked_at p.version p.token p.used_by
 after_looking told.Done = turn_of phase.Looking step.Look
 after_looking told.Nothing = turn_of phase.Looking step.Look
 after_looking (told.Answer new) = turn_of phase.Looking step.Look
+after_looking told.Stop = turn_of phase.Over step.End
 
-abbrev pub looked_again : ℕ → ℕ → SharedToken → Option ℕ → Turn
-looked_again name version token None = turn_of phase.Over step.End
-looked_again name version token (Some other) =
-    if other == name then turn_of (phase.Sending version) (step.Send version token) else turn_of phase.Over step.End
+-- a version that the store is past can be marked no more
+abbrev pub past_or_open : Bool → Learnt
+past_or_open is_past = if is_past then learnt.Lost else learnt.Open
+
+abbrev pub seen_by : ℕ → Bool → Option ℕ → Learnt
+seen_by name is_past None = past_or_open is_past
+seen_by name is_past (Some other) = if other == name then learnt.Taken else past_or_open is_past
+
+-- what a value that is read says of the mark of this renewal on this version
+abbrev pub read_again : ℕ → ℕ → StoredValue → Learnt
+read_again name version p = seen_by name (nat_lt version p.version) p.used_by
+
+-- the refresh token is sent once the mark was taken, and never before
+abbrev pub sent_if : ℕ → SharedToken → Learnt → Turn
+sent_if version token learnt.Taken = turn_of (phase.Sending version) (step.Send version token)
+sent_if version token learnt.Lost = turn_of phase.Over step.End
+sent_if version token learnt.Open = turn_of (phase.Asking version token) step.Look
 
 abbrev pub after_asking : ℕ → ℕ → SharedToken → Told → Turn
-after_asking name version token (told.Stored p) = looked_again name version token p.used_by
-after_asking name version token told.Done = turn_of (phase.Sending version) (step.Send version token)
-after_asking name version token told.Nothing = turn_of (phase.Asking version token) step.Look
-after_asking name version token (told.Answer new) = turn_of (phase.Asking version token) step.Look
+after_asking name version token (told.Stored p) = sent_if version token (read_again name version p)
+after_asking name version token told.Done = sent_if version token learnt.Taken
+after_asking name version token told.Nothing = sent_if version token learnt.Open
+after_asking name version token (told.Answer new) = sent_if version token learnt.Open
+after_asking name version token told.Stop = turn_of (phase.Leaving version token) step.Look
 
+-- a mark is given back once it was taken
+abbrev pub returned_if : ℕ → SharedToken → Learnt → Turn
+returned_if version token learnt.Taken = turn_of (phase.Returning version token) (step.GiveBack version token)
+returned_if version token learnt.Lost = turn_of phase.Over step.End
+returned_if version token learnt.Open = turn_of (phase.Leaving version token) step.Look
+
+abbrev pub after_leaving : ℕ → ℕ → SharedToken → Told → Turn
+after_leaving name version token (told.Stored p) = returned_if version token (read_again name version p)
+after_leaving name version token told.Done = returned_if version token learnt.Taken
+after_leaving name version token told.Nothing = returned_if version token learnt.Open
+after_leaving name version token (told.Answer new) = returned_if version token learnt.Open
+after_leaving name version token told.Stop = returned_if version token learnt.Open
+
+-- what the server gave is kept (RFC 6749, 6)
 abbrev pub after_sending : ℕ → Told → Turn
 after_sending version (told.Stored p) = turn_of phase.Over step.End
 after_sending version told.Done = turn_of phase.Over step.End
 after_sending version told.Nothing = turn_of phase.Over step.End
 after_sending version (told.Answer new) = turn_of (phase.Keeping version new) (step.Keep version new)
+after_sending version told.Stop = turn_of phase.Over step.End
 
+-- the same is asked again in this phase while nothing is told of it
+abbrev pub again_in : Phase → Told → Turn
+again_in now told.Nothing = turn_of now step.Repeat
+again_in now (told.Stored p) = turn_of phase.Over step.End
+again_in now told.Done = turn_of phase.Over step.End
+again_in now (told.Answer new) = turn_of phase.Over step.End
+again_in now told.Stop = turn_of phase.Over step.End
+
+abbrev pub after_keeping : ℕ → SharedToken → Told → Turn
+after_keeping version new told = again_in (phase.Keeping version new) told
+
+abbrev pub after_returning : ℕ → SharedToken → Told → Turn
+after_returning version token told = again_in (phase.Returning version token) told
+
+-- what a renewal of this name does next
 abbrev pub next_turn : ℕ → Phase → Told → Turn
 next_turn name phase.Looking told = after_looking told
 next_turn name (phase.Asking version token) told = after_asking name version token told
+next_turn name (phase.Leaving version token) told = after_leaving name version token told
 next_turn name (phase.Sending version) told = after_sending version told
-next_turn name (phase.Keeping version new) told = turn_of phase.Over step.End
+next_turn name (phase.Keeping version new) told = after_keeping version new told
+next_turn name (phase.Returning version token) told = after_returning version token told
 next_turn name phase.Over told = turn_of phase.Over step.End
 
+-- a token of the code, and a value of it, as the events have them
 abbrev pub token_of : SharedToken → Token
 token_of t = record { access = t.access; refresh = t.refresh }
 
@@ -70,8 +122,12 @@ abbrev pub Knows : Shared → ℕ → Phase → Type 0
 Knows s name phase.Looking = stage_of s name ≡ NotBegun
 Knows s name (phase.Asking version token) =
     (stage_of s name ≡ Asking version (token_of token)) ⊎ (stage_of s name ≡ Marking version (token_of token))
+Knows s name (phase.Leaving version token) =
+    (stage_of s name ≡ Asking version (token_of token)) ⊎ (stage_of s name ≡ Marking version (token_of token))
 Knows s name (phase.Sending version) = stage_of s name ≡ Sending version
 Knows s name (phase.Keeping version new) = (stage_of s name ≡ Holding version (token_of new)) ⊎ (stage_of s name ≡ Done)
+Knows s name (phase.Returning version token) =
+    (stage_of s name ≡ Returning version (token_of token)) ⊎ (stage_of s name ≡ Done)
 Knows s name phase.Over = Unit {0}
 
 -- what a renewal is told is so, if all this was ever stored: a load shows something of it, and the store
@@ -81,10 +137,13 @@ abbrev pub IsSo : List Stored → ℕ → Phase → Told → Type 0
 IsSo past name phase (told.Stored p) = Contains past (stored_of p)
 IsSo past name phase told.Nothing = Unit {0}
 IsSo past name phase (told.Answer new) = Unit {0}
+IsSo past name phase told.Stop = Unit {0}
 IsSo past name phase.Looking told.Done = Unit {0}
 IsSo past name (phase.Asking version token) told.Done = Contains past (marked (version + 1) (token_of token) name)
+IsSo past name (phase.Leaving version token) told.Done = Contains past (marked (version + 1) (token_of token) name)
 IsSo past name (phase.Sending version) told.Done = Unit {0}
 IsSo past name (phase.Keeping version new) told.Done = Unit {0}
+IsSo past name (phase.Returning version token) told.Done = Unit {0}
 IsSo past name phase.Over told.Done = Unit {0}
 
 -- the events of a step: of one that keeps a token, that the server gave it
@@ -93,6 +152,8 @@ events_of name step.Look = []
 events_of name (step.Mark version token) = Asked name version (token_of token) ∷ []
 events_of name (step.Send version token) = Sent name version (token_of token) ∷ []
 events_of name (step.Keep version new) = Given name version (token_of new) ∷ []
+events_of name (step.GiveBack version token) = Withdrew name version (token_of token) ∷ []
+events_of name step.Repeat = []
 events_of name (step.InUse other) = []
 events_of name step.End = []
 
@@ -121,6 +182,8 @@ IsOfOthers name (Marked i version token) = Unit {0}
 IsOfOthers name (Sent i version token) = name ≢ i
 IsOfOthers name (Given i version new) = name ≢ i
 IsOfOthers name (Kept i version new) = Unit {0}
+IsOfOthers name (Withdrew i version token) = name ≢ i
+IsOfOthers name (GivenBack i version token) = Unit {0}
 IsOfOthers name (SignedIn i version new) = Unit {0}
 IsOfOthers name (Allowed i version token) = Unit {0}
 IsOfOthers name (LoggedIn version new) = Unit {0}

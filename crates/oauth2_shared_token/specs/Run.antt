@@ -1,7 +1,8 @@
 -- A finished list of events, and what is read off it.
 use Rattle.std.specs.Prelude.{ℕ, ◌+◌, ◌==◌, if◌then◌else◌, List, [], ◌∷◌}
 use Rattle.oauth2_shared_token.specs.State.{Token, Shared}
-use Rattle.oauth2_shared_token.specs.Event.{SharedEvent, Asked, Marked, Sent, Given, Kept, SignedIn, Allowed, LoggedIn, CanHappen, after}
+use Rattle.oauth2_shared_token.specs.Event.{SharedEvent, Asked, Marked, Sent, Given, Kept, Withdrew, GivenBack, SignedIn}
+use Rattle.oauth2_shared_token.specs.Event.{Allowed, LoggedIn, CanHappen, after}
 
 -- each event can happen when its turn comes: any number of renewals, in any order, each stopped anywhere
 abbrev pub IsRun : Shared → List SharedEvent → Type 0
@@ -25,11 +26,14 @@ times_sent r (Marked i version token ∷ events) = times_sent r events
 times_sent r (Sent i version token ∷ events) = has_refresh r token + times_sent r events
 times_sent r (Given i version new ∷ events) = times_sent r events
 times_sent r (Kept i version new ∷ events) = times_sent r events
+times_sent r (Withdrew i version token ∷ events) = times_sent r events
+times_sent r (GivenBack i version token ∷ events) = times_sent r events
 times_sent r (SignedIn i version new ∷ events) = times_sent r events
 times_sent r (Allowed i version token ∷ events) = times_sent r events
 times_sent r (LoggedIn version new ∷ events) = times_sent r events
 
--- how often it comes to be stored, as part of a new token or because a caller said so
+-- how often it comes to be stored, as part of a new token or because a caller said so: not where a mark on
+-- it is taken off
 abbrev pub times_stored : ℕ → List SharedEvent → ℕ
 times_stored r [] = 0
 times_stored r (Asked i version token ∷ events) = times_stored r events
@@ -37,6 +41,8 @@ times_stored r (Marked i version token ∷ events) = times_stored r events
 times_stored r (Sent i version token ∷ events) = times_stored r events
 times_stored r (Given i version new ∷ events) = times_stored r events
 times_stored r (Kept i version new ∷ events) = has_refresh r new + times_stored r events
+times_stored r (Withdrew i version token ∷ events) = times_stored r events
+times_stored r (GivenBack i version token ∷ events) = times_stored r events
 times_stored r (SignedIn i version new ∷ events) = has_refresh r new + times_stored r events
 times_stored r (Allowed i version token ∷ events) = has_refresh r token + times_stored r events
 times_stored r (LoggedIn version new ∷ events) = has_refresh r new + times_stored r events
@@ -49,6 +55,8 @@ newest token (Marked i version t ∷ events) = newest token events
 newest token (Sent i version t ∷ events) = newest token events
 newest token (Given i version new ∷ events) = newest token events
 newest token (Kept i version new ∷ events) = newest new events
+newest token (Withdrew i version t ∷ events) = newest token events
+newest token (GivenBack i version t ∷ events) = newest token events
 newest token (SignedIn i version new ∷ events) = newest new events
 newest token (Allowed i version t ∷ events) = newest t events
 newest token (LoggedIn version new ∷ events) = newest new events
@@ -61,6 +69,8 @@ newest_given token (Marked i version t ∷ events) = newest_given token events
 newest_given token (Sent i version t ∷ events) = newest_given token events
 newest_given token (Given i version new ∷ events) = newest_given new events
 newest_given token (Kept i version new ∷ events) = newest_given token events
+newest_given token (Withdrew i version t ∷ events) = newest_given token events
+newest_given token (GivenBack i version t ∷ events) = newest_given token events
 newest_given token (SignedIn i version new ∷ events) = newest_given new events
 newest_given token (Allowed i version t ∷ events) = newest_given t events
 newest_given token (LoggedIn version new ∷ events) = newest_given new events

@@ -12,4 +12,4 @@ pub use laws::{
     sendings_were_stored, the_newest_given_is_stored, what_is_known_stays,
     what_is_stored_is_the_newest,
 };
-pub use renewal::{Phase, SharedToken, Step, StoredValue, Told, Turn, next_turn};
+pub use renewal::{Learnt, Phase, SharedToken, Step, StoredValue, Told, Turn, next_turn};

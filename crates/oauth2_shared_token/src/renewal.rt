@@ -3,9 +3,16 @@
 ghost use Rattle.std.specs.Prelude.{◌≡◌};
 ghost use Rattle.oauth2_shared_token.specs.Renewal.{
   after_asking,
+  after_keeping,
+  after_leaving,
   after_looking,
+  after_returning,
   after_sending,
   next_turn,
+  past_or_open,
+  read_again,
+  returned_if,
+  sent_if,
 };
 
 /// A token, by the numbers that stand for its two texts.
@@ -30,10 +37,14 @@ pub enum Phase {
     Looking,
     /// It asked to mark this version, which holds this token.
     Asking(u64, SharedToken),
+    /// It asked for the same, and is to send nothing.
+    Leaving(u64, SharedToken),
     /// It sent the refresh token of this version.
     Sending(u64),
     /// It asked to keep this token in the place of its mark on this version.
     Keeping(u64, SharedToken),
+    /// It asked to take its mark off this version, which holds this token.
+    Returning(u64, SharedToken),
     /// It does nothing more.
     Over,
 }
@@ -49,6 +60,8 @@ pub enum Told {
     Nothing,
     /// The server gave this token.
     Answer(SharedToken),
+    /// The caller wants nothing to be sent any more.
+    Stop,
 }
 
 /// What a renewal does next.
@@ -62,6 +75,10 @@ pub enum Step {
     Send(u64, SharedToken),
     /// Ask the store to put this token in the place of the mark on this version.
     Keep(u64, SharedToken),
+    /// Ask the store to put the old token, unsent, in the place of the mark on this version.
+    GiveBack(u64, SharedToken),
+    /// Ask the store for the same again.
+    Repeat,
     /// The refresh token is in use by this renewal, or was and nobody ended that.
     InUse(u64),
     /// The renewal is over.
@@ -73,6 +90,17 @@ pub enum Step {
 pub struct Turn {
     pub phase: Phase,
     pub step: Step,
+}
+
+/// What a load says of a mark that was asked for.
+#[derive(Clone, Copy)]
+pub enum Learnt {
+    /// The store took it.
+    Taken,
+    /// It can be taken no more: the store is past that version.
+    Lost,
+    /// It may still be taken.
+    Open,
 }
 
 /// What is at rest is asked for.
@@ -90,8 +118,54 @@ fn after_looking(told: Told) -> Turn
                 step: Step::InUse(other),
             },
         },
+        Told::Stop => Turn {
+            phase: Phase::Over,
+            step: Step::End,
+        },
         _ => Turn {
             phase: Phase::Looking,
+            step: Step::Look,
+        },
+    }
+}
+
+fn past_or_open(is_past: bool) -> Learnt
+    ensures { result ≡ past_or_open is_past }
+{
+    if is_past { Learnt::Lost } else { Learnt::Open }
+}
+
+/// What this value says of the mark of this renewal on that version.
+fn read_again(name: u64, version: u64, p: StoredValue) -> Learnt
+    ensures { result ≡ read_again name version p }
+{
+    let is_past = version < p.version;
+    match p.used_by {
+        None => past_or_open(is_past),
+        Some(other) => {
+            if other == name {
+                Learnt::Taken
+            } else {
+                past_or_open(is_past)
+            }
+        }
+    }
+}
+
+fn sent_if(version: u64, token: SharedToken, learnt: Learnt) -> Turn
+    ensures { result ≡ sent_if version token learnt }
+{
+    match learnt {
+        Learnt::Taken => Turn {
+            phase: Phase::Sending(version),
+            step: Step::Send(version, token),
+        },
+        Learnt::Lost => Turn {
+            phase: Phase::Over,
+            step: Step::End,
+        },
+        Learnt::Open => Turn {
+            phase: Phase::Asking(version, token),
             step: Step::Look,
         },
     }
@@ -102,33 +176,43 @@ fn after_asking(name: u64, version: u64, token: SharedToken, told: Told) -> Turn
     ensures { result ≡ after_asking name version token told }
 {
     match told {
-        Told::Done => Turn {
-            phase: Phase::Sending(version),
-            step: Step::Send(version, token),
-        },
-        Told::Stored(p) => match p.used_by {
-            None => Turn {
-                phase: Phase::Over,
-                step: Step::End,
-            },
-            Some(other) => {
-                if other == name {
-                    Turn {
-                        phase: Phase::Sending(version),
-                        step: Step::Send(version, token),
-                    }
-                } else {
-                    Turn {
-                        phase: Phase::Over,
-                        step: Step::End,
-                    }
-                }
-            }
-        },
-        _ => Turn {
-            phase: Phase::Asking(version, token),
+        Told::Stored(p) => sent_if(version, token, read_again(name, version, p)),
+        Told::Done => sent_if(version, token, Learnt::Taken),
+        Told::Stop => Turn {
+            phase: Phase::Leaving(version, token),
             step: Step::Look,
         },
+        _ => sent_if(version, token, Learnt::Open),
+    }
+}
+
+fn returned_if(version: u64, token: SharedToken, learnt: Learnt) -> Turn
+    ensures { result ≡ returned_if version token learnt }
+{
+    match learnt {
+        Learnt::Taken => Turn {
+            phase: Phase::Returning(version, token),
+            step: Step::GiveBack(version, token),
+        },
+        Learnt::Lost => Turn {
+            phase: Phase::Over,
+            step: Step::End,
+        },
+        Learnt::Open => Turn {
+            phase: Phase::Leaving(version, token),
+            step: Step::Look,
+        },
+    }
+}
+
+/// In the place of sending it gives its mark back.
+fn after_leaving(name: u64, version: u64, token: SharedToken, told: Told) -> Turn
+    ensures { result ≡ after_leaving name version token told }
+{
+    match told {
+        Told::Stored(p) => returned_if(version, token, read_again(name, version, p)),
+        Told::Done => returned_if(version, token, Learnt::Taken),
+        _ => returned_if(version, token, Learnt::Open),
     }
 }
 
@@ -148,6 +232,38 @@ fn after_sending(version: u64, told: Told) -> Turn
     }
 }
 
+/// It asks again while it is told nothing.
+fn after_keeping(version: u64, new: SharedToken, told: Told) -> Turn
+    ensures { result ≡ after_keeping version new told }
+{
+    match told {
+        Told::Nothing => Turn {
+            phase: Phase::Keeping(version, new),
+            step: Step::Repeat,
+        },
+        _ => Turn {
+            phase: Phase::Over,
+            step: Step::End,
+        },
+    }
+}
+
+/// Here too.
+fn after_returning(version: u64, token: SharedToken, told: Told) -> Turn
+    ensures { result ≡ after_returning version token told }
+{
+    match told {
+        Told::Nothing => Turn {
+            phase: Phase::Returning(version, token),
+            step: Step::Repeat,
+        },
+        _ => Turn {
+            phase: Phase::Over,
+            step: Step::End,
+        },
+    }
+}
+
 /// What the renewal of this name does next.
 pub fn next_turn(name: u64, phase: Phase, told: Told) -> Turn
     ensures { result ≡ next_turn name phase told }
@@ -155,8 +271,11 @@ pub fn next_turn(name: u64, phase: Phase, told: Told) -> Turn
     match phase {
         Phase::Looking => after_looking(told),
         Phase::Asking(version, token) => after_asking(name, version, token, told),
+        Phase::Leaving(version, token) => after_leaving(name, version, token, told),
         Phase::Sending(version) => after_sending(version, told),
-        _ => Turn {
+        Phase::Keeping(version, new) => after_keeping(version, new, told),
+        Phase::Returning(version, token) => after_returning(version, token, told),
+        Phase::Over => Turn {
             phase: Phase::Over,
             step: Step::End,
         },
