@@ -4,16 +4,22 @@ use Rattle.std.proofs.lemmas.Bool.{cases_eq}
 use Rattle.std.proofs.lemmas.List.{append-nil}
 use Rattle.std.specs.List.{Contains}
 use Rattle.std.proofs.lemmas.List.Elements.{Contains-append_cases}
+use Rattle.oauth2_shared_token.specs.declared.renewal.SharedToken.{SharedToken}
+use Rattle.oauth2_shared_token.specs.declared.renewal.Learnt.{Learnt}
+use Rattle.oauth2_shared_token.specs.declared.renewal.Learnt.TheVariants as learnt
 use Rattle.oauth2_shared_token.specs.declared.renewal.Phase.{Phase}
 use Rattle.oauth2_shared_token.specs.declared.renewal.Phase.TheVariants as phase
+use Rattle.oauth2_shared_token.specs.declared.renewal.Told.{Told}
+use Rattle.oauth2_shared_token.specs.declared.renewal.Told.TheVariants as told
 use Rattle.oauth2_shared_token.specs.declared.renewal.Step.{Step}
 use Rattle.oauth2_shared_token.specs.declared.renewal.Step.TheVariants as step
-use Rattle.oauth2_shared_token.specs.State.{Stored, at_rest, marked, Stage, NotBegun, Asking, Marking, Sending, Holding, Returning, Done, put, Shared, stage_of, begin}
+use Rattle.oauth2_shared_token.specs.State.{Token, Stored, at_rest, marked, Stage, NotBegun, Asking, Marking, Sending, Holding, Returning, Done, put, Shared, stage_of, begin}
 use Rattle.oauth2_shared_token.specs.Event.{SharedEvent, Asked, Marked, Sent, Given, Kept, Withdrew, GivenBack, SignedIn, Allowed, LoggedIn, CanHappen, Fits, WasMarked, WasAtRest, stored, gone_on, after}
-use Rattle.oauth2_shared_token.specs.Run.{IsRun, at_last}
-use Rattle.oauth2_shared_token.specs.Renewal.{turn_of, token_of, Knows, IsSo, IsOfOthers, events_of, next_turn}
-use Rattle.oauth2_shared_token.specs.Fleet.{Request, ToMark, ToKeep, ToReturn, Fleet, phase_of, Happening, Turned, Took, SignsIn, Allows, LogsIn, CanOccur, turned, taken, later, events_in, fleet_of, IsFleetRun, fleet_at_last, all_events, EachFleetRuns, EachFleetSendsOnce}
+use Rattle.oauth2_shared_token.specs.Run.{IsRun, at_last, tokens_stored}
+use Rattle.oauth2_shared_token.specs.Renewal.{turn_of, looked_at, read_again, sent_if, returned_if, again_in, stored_of, token_of, Knows, IsSo, IsOfOthers, events_of, next_turn}
+use Rattle.oauth2_shared_token.specs.Fleet.{Request, ToMark, ToKeep, ToReturn, Fleet, phase_of, Happening, Turned, Took, SignsIn, Allows, LogsIn, CanOccur, turned, taken, later, events_in, fleet_of, IsFleetRun, fleet_at_last, all_events, handed_out, EachFleetRuns, EachFleetSendsOnce, EachHandedOutWasStored}
 use Rattle.oauth2_shared_token.proofs.Places.{put-same, put-other, only_one, none_in_nothing}
+use Rattle.oauth2_shared_token.proofs.Loads.{each_read_was_stored}
 use Rattle.oauth2_shared_token.proofs.Sendings.{each_is_sent_at_most_once}
 use Rattle.oauth2_shared_token.proofs.Steps.{MarksAreTaken, taken_after, taken_begin, step_can_happen}
 use Rattle.oauth2_shared_token.proofs.Known.{step_is_known, what_is_known_stays}
@@ -174,7 +180,7 @@ module _ (f : Fleet) (s : Shared) (a : Agrees f s) where
       let is : r ≡ ToReturn i version (token_of token) = the_only (ToReturn i version (token_of token)) r h in
       subst (IsOpen (after s (Withdrew i version (token_of token)))) (sym is) (inl (put-same NotBegun s.renewals i (Returning version (token_of token)))))
   agrees_step i p step.Repeat run known = agrees_silent i p known
-  agrees_step i p (step.InUse other) run known = agrees_silent i p known
+  agrees_step i p (step.InUse other token) run known = agrees_silent i p known
   agrees_step i p step.End run known = agrees_silent i p known
 
   -- who asked for what fits waits for it still
@@ -220,15 +226,15 @@ at_last-append : (s : Shared) (xs ys : List SharedEvent) → at_last s (xs ++ ys
 at_last-append s [] ys = refl
 at_last-append s (x ∷ xs) ys = at_last-append (after s x) xs ys
 
-fleet_from : (f : Fleet) (s : Shared) (happenings : List Happening) → Agrees f s → IsFleetRun f happenings → IsRun s (all_events f happenings) × ((at_last s (all_events f happenings)).store ≡ (fleet_at_last f happenings).store)
-fleet_from f s [] a run = (tt, sym a.store)
+fleet_from : (f : Fleet) (s : Shared) (happenings : List Happening) → Agrees f s → IsFleetRun f happenings → IsRun s (all_events f happenings) × Agrees (fleet_at_last f happenings) (at_last s (all_events f happenings))
+fleet_from f s [] a run = (tt, a)
 fleet_from f s (h ∷ rest) a run =
     let now = happens f s a h run.0 in
     let next = fleet_from (later f h) (at_last s (events_in f h)) rest now.1 run.1 in
-    (run-append s (events_in f h) (all_events (later f h) rest) now.0 next.0, ap (λ (t : Shared). t.store) (at_last-append s (events_in f h) (all_events (later f h) rest)) ∙ next.1)
+    (run-append s (events_in f h) (all_events (later f h) rest) now.0 next.0, subst (Agrees (fleet_at_last (later f h) rest)) (sym (at_last-append s (events_in f h) (all_events (later f h) rest))) next.1)
 
-pub each_fleet_runs : EachFleetRuns
-each_fleet_runs start happenings run =
+whole : (start : Token) (happenings : List Happening) → IsFleetRun (fleet_of start) happenings → IsRun (begin start) (all_events (fleet_of start) happenings) × Agrees (fleet_at_last (fleet_of start) happenings) (at_last (begin start) (all_events (fleet_of start) happenings))
+whole start happenings run =
     fleet_from (fleet_of start) (begin start) happenings (record {
       store = refl;
       past = refl;
@@ -237,6 +243,65 @@ each_fleet_runs start happenings run =
       taken = taken_begin start;
     }) run
 
+pub each_fleet_runs : EachFleetRuns
+each_fleet_runs start happenings run = let made = whole start happenings run in (made.0, sym made.1.store)
+
 pub each_fleet_sends_once : EachFleetSendsOnce
 each_fleet_sends_once start happenings r run once =
     each_is_sent_at_most_once start (all_events (fleet_of start) happenings) r (each_fleet_runs start happenings run).0 once
+
+-- what a step hands out is the token of a value that was stored
+abbrev WasRead : List Stored → Token → Type 0
+WasRead past token = (p : Stored) × Contains past p × (p.token ≡ token)
+
+handed_looking : (past : List Stored) (version : ℕ) (token : SharedToken) (by : Option ℕ) (out : Token) → Contains past (stored_of (record { version = version; token = token; used_by = by })) → handed_out (looked_at version token by).step ≡ Some out → WasRead past out
+handed_looking past version token None out seen e = absurd cc
+handed_looking past version token (Some other) out seen e = (stored_of (record { version = version; token = token; used_by = Some other }), seen, (let same : Some (token_of token) ≡ Some out = e in cc))
+
+none_sent : {P : Type 0} (version : ℕ) (token : SharedToken) (l : Learnt) (out : Token) → handed_out (sent_if version token l).step ≡ Some out → P
+none_sent version token learnt.Taken out e = absurd cc
+none_sent version token learnt.Lost out e = absurd cc
+none_sent version token learnt.Open out e = absurd cc
+
+none_returned : {P : Type 0} (version : ℕ) (token : SharedToken) (l : Learnt) (out : Token) → handed_out (returned_if version token l).step ≡ Some out → P
+none_returned version token learnt.Taken out e = absurd cc
+none_returned version token learnt.Lost out e = absurd cc
+none_returned version token learnt.Open out e = absurd cc
+
+none_again : {P : Type 0} (p : Phase) (t : Told) (out : Token) → handed_out (again_in p t).step ≡ Some out → P
+none_again p (told.Stored q) out e = absurd cc
+none_again p told.Done out e = absurd cc
+none_again p told.Nothing out e = absurd cc
+none_again p (told.Answer new) out e = absurd cc
+none_again p told.Stop out e = absurd cc
+
+handed : (past : List Stored) (name : ℕ) (p : Phase) (t : Told) (out : Token) → IsSo past name p t → handed_out (next_turn name p t).step ≡ Some out → WasRead past out
+handed past name phase.Looking (told.Stored q) out so e = handed_looking past q.version q.token q.used_by out so e
+handed past name phase.Looking told.Done out so e = absurd cc
+handed past name phase.Looking told.Nothing out so e = absurd cc
+handed past name phase.Looking (told.Answer new) out so e = absurd cc
+handed past name phase.Looking told.Stop out so e = absurd cc
+handed past name (phase.Asking version token) (told.Stored q) out so e = none_sent version token (read_again name version q) out e
+handed past name (phase.Asking version token) told.Done out so e = absurd cc
+handed past name (phase.Asking version token) told.Nothing out so e = absurd cc
+handed past name (phase.Asking version token) (told.Answer new) out so e = absurd cc
+handed past name (phase.Asking version token) told.Stop out so e = absurd cc
+handed past name (phase.Leaving version token) (told.Stored q) out so e = none_returned version token (read_again name version q) out e
+handed past name (phase.Leaving version token) told.Done out so e = absurd cc
+handed past name (phase.Leaving version token) told.Nothing out so e = absurd cc
+handed past name (phase.Leaving version token) (told.Answer new) out so e = absurd cc
+handed past name (phase.Leaving version token) told.Stop out so e = absurd cc
+handed past name (phase.Sending version) (told.Stored q) out so e = absurd cc
+handed past name (phase.Sending version) told.Done out so e = absurd cc
+handed past name (phase.Sending version) told.Nothing out so e = absurd cc
+handed past name (phase.Sending version) (told.Answer new) out so e = absurd cc
+handed past name (phase.Sending version) told.Stop out so e = absurd cc
+handed past name (phase.Keeping version new) t out so e = none_again (phase.Keeping version new) t out e
+handed past name (phase.Returning version token) t out so e = none_again (phase.Returning version token) t out e
+handed past name phase.Over t out so e = absurd cc
+
+pub each_handed_out_was_stored : EachHandedOutWasStored
+each_handed_out_was_stored start happenings i told token run so out =
+    let made = whole start happenings run in
+    let read = handed (fleet_at_last (fleet_of start) happenings).past i (phase_of (fleet_at_last (fleet_of start) happenings) i) told token so out in
+    subst (Contains (start ∷ tokens_stored (all_events (fleet_of start) happenings))) read.2 (each_read_was_stored start (all_events (fleet_of start) happenings) read.0 made.0 (subst (λ (past : List Stored). Contains past read.0) made.1.past read.1))

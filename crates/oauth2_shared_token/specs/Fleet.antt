@@ -1,6 +1,6 @@
 -- Many renewals over one store, each a machine with knowledge of its own: what happens to them, and which
 -- events that makes.
-use Rattle.std.specs.Prelude.{◌≡◌, ℕ, ◌+◌, ◌≤◌, List, [], ◌∷◌, ◌++◌, slice_index_or}
+use Rattle.std.specs.Prelude.{◌≡◌, ℕ, ◌+◌, ◌≤◌, List, [], ◌∷◌, ◌++◌, Option, Some, None, slice_index_or}
 use Rattle.std.specs.List.{Contains}
 use Rattle.oauth2_shared_token.specs.declared.renewal.Phase.{Phase}
 use Rattle.oauth2_shared_token.specs.declared.renewal.Phase.TheVariants as phase
@@ -11,7 +11,7 @@ use Rattle.oauth2_shared_token.specs.declared.renewal.Turn.{Turn}
 use Rattle.oauth2_shared_token.specs.State.{Token, Stored, at_rest, marked, put, begin}
 use Rattle.oauth2_shared_token.specs.Event.{SharedEvent, Marked, Kept, GivenBack, SignedIn, Allowed, LoggedIn}
 use Rattle.oauth2_shared_token.specs.Event.{Fits, WasMarked, WasAtRest}
-use Rattle.oauth2_shared_token.specs.Run.{IsRun, at_last, has_refresh, times_sent, times_stored}
+use Rattle.oauth2_shared_token.specs.Run.{IsRun, at_last, has_refresh, times_sent, times_stored, tokens_stored}
 use Rattle.oauth2_shared_token.specs.Renewal.{next_turn, token_of, IsSo, events_of}
 
 -- what a renewal asks of the store
@@ -67,7 +67,7 @@ requests_of i (step.Send version token) = []
 requests_of i (step.Keep version new) = ToKeep i version (token_of new) ∷ []
 requests_of i (step.GiveBack version token) = ToReturn i version (token_of token) ∷ []
 requests_of i step.Repeat = []
-requests_of i (step.InUse other) = []
+requests_of i (step.InUse other token) = []
 requests_of i step.End = []
 
 -- a machine has taken this turn
@@ -140,3 +140,24 @@ EachFleetSendsOnce =
     IsFleetRun (fleet_of start) happenings →
     let events = all_events (fleet_of start) happenings in
     has_refresh r start + times_stored r events ≤ 1 → times_sent r events ≤ 1
+
+-- the token that a step hands out
+abbrev pub handed_out : Step → Option Token
+handed_out step.Look = None
+handed_out (step.Mark version token) = None
+handed_out (step.Send version token) = None
+handed_out (step.Keep version new) = None
+handed_out (step.GiveBack version token) = None
+handed_out step.Repeat = None
+handed_out (step.InUse other token) = Some (token_of token)
+handed_out step.End = None
+
+-- each token that a machine hands out, whenever that is, came to be stored before
+abbrev pub EachHandedOutWasStored : Type 0
+EachHandedOutWasStored =
+    (start : Token) (happenings : List Happening) (i : ℕ) (told : Told) (token : Token) →
+    IsFleetRun (fleet_of start) happenings →
+    let now = fleet_at_last (fleet_of start) happenings in
+    CanOccur now (Turned i told) →
+    handed_out (next_turn i (phase_of now i) told).step ≡ Some token →
+    Contains (start ∷ tokens_stored (all_events (fleet_of start) happenings)) token

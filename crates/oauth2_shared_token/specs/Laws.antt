@@ -1,9 +1,10 @@
 -- The laws of a shared token, over each finished list of events.
-use Rattle.std.specs.Prelude.{◌≡◌, ℕ, ◌+◌, ◌≤◌, List, None, ◌⊎◌}
+use Rattle.std.specs.Prelude.{◌≡◌, ℕ, ◌+◌, ◌≤◌, List, ◌∷◌, None, ◌⊎◌}
 use Rattle.std.specs.List.{Contains}
-use Rattle.oauth2_shared_token.specs.State.{Token, begin, marked, stage_of, Sending}
+use Rattle.oauth2_shared_token.specs.State.{Token, Stored, begin, marked, stage_of, Sending}
 use Rattle.oauth2_shared_token.specs.Event.{SharedEvent, Given, Kept, SignedIn, Allowed}
-use Rattle.oauth2_shared_token.specs.Run.{IsRun, at_last, has_refresh, times_sent, times_stored, newest, newest_given}
+use Rattle.oauth2_shared_token.specs.Run.{IsRun, at_last, has_refresh, times_sent, times_stored}
+use Rattle.oauth2_shared_token.specs.Run.{tokens_stored, newest, newest_given}
 
 -- a refresh token is sent no more often than it was stored
 abbrev pub EachSendingWasStored : Type 0
@@ -26,6 +27,14 @@ WhatIsStoredIsTheNewest =
     (start : Token) (events : List SharedEvent) →
     IsRun (begin start) events →
     (at_last (begin start) events).store.token ≡ newest start events
+
+-- whatever a load shows, its token came to be stored before
+abbrev pub EachReadWasStored : Type 0
+EachReadWasStored =
+    (start : Token) (events : List SharedEvent) (p : Stored) →
+    IsRun (begin start) events →
+    Contains (at_last (begin start) events).past p →
+    Contains (start ∷ tokens_stored events) p.token
 
 -- the caller was told of a renewal that marked this version, and answered
 abbrev pub WasAnswered : List SharedEvent → ℕ → ℕ → Type 0

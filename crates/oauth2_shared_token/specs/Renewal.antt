@@ -23,7 +23,7 @@ turn_of phase step = record { phase = phase; step = step }
 
 abbrev pub looked_at : ℕ → SharedToken → Option ℕ → Turn
 looked_at version token None = turn_of (phase.Asking version token) (step.Mark version token)
-looked_at version token (Some other) = turn_of phase.Over (step.InUse other)
+looked_at version token (Some other) = turn_of phase.Over (step.InUse other token)
 
 -- what is at rest is asked for
 abbrev pub after_looking : Told → Turn
@@ -154,7 +154,7 @@ events_of name (step.Send version token) = Sent name version (token_of token) �
 events_of name (step.Keep version new) = Given name version (token_of new) ∷ []
 events_of name (step.GiveBack version token) = Withdrew name version (token_of token) ∷ []
 events_of name step.Repeat = []
-events_of name (step.InUse other) = []
+events_of name (step.InUse other token) = []
 events_of name step.End = []
 
 -- each step of a renewal is an event that can happen

@@ -47,6 +47,20 @@ times_stored r (SignedIn i version new ∷ events) = has_refresh r new + times_s
 times_stored r (Allowed i version token ∷ events) = has_refresh r token + times_stored r events
 times_stored r (LoggedIn version new ∷ events) = has_refresh r new + times_stored r events
 
+-- the tokens that come to be stored, in order
+abbrev pub tokens_stored : List SharedEvent → List Token
+tokens_stored [] = []
+tokens_stored (Asked i version token ∷ events) = tokens_stored events
+tokens_stored (Marked i version token ∷ events) = tokens_stored events
+tokens_stored (Sent i version token ∷ events) = tokens_stored events
+tokens_stored (Given i version new ∷ events) = tokens_stored events
+tokens_stored (Kept i version new ∷ events) = new ∷ tokens_stored events
+tokens_stored (Withdrew i version token ∷ events) = tokens_stored events
+tokens_stored (GivenBack i version token ∷ events) = tokens_stored events
+tokens_stored (SignedIn i version new ∷ events) = new ∷ tokens_stored events
+tokens_stored (Allowed i version token ∷ events) = token ∷ tokens_stored events
+tokens_stored (LoggedIn version new ∷ events) = new ∷ tokens_stored events
+
 -- the last token that came to be stored
 abbrev pub newest : Token → List SharedEvent → Token
 newest token [] = token

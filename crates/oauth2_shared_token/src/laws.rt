@@ -1,8 +1,9 @@
 //! Laws of a shared token, for any number of renewals and any order of what they do.
 
-ghost use Rattle.oauth2_shared_token.specs.Fleet.{EachFleetRuns, EachFleetSendsOnce};
+ghost use Rattle.oauth2_shared_token.specs.Fleet.{EachFleetRuns, EachFleetSendsOnce, EachHandedOutWasStored};
 ghost use Rattle.oauth2_shared_token.specs.Laws.{
   EachIsSentAtMostOnce,
+  EachReadWasStored,
   EachSendingWasStored,
   NoneIsLostUntold,
   OneRunsAtOnce,
@@ -66,6 +67,16 @@ pub fn each_fleet_runs()
 /// So the machines of a fleet send a refresh token that came to be stored once at most once.
 pub fn each_fleet_sends_once()
     ensures { EachFleetSendsOnce }
+{}
+
+/// Whatever a load shows, its token came to be stored before.
+pub fn each_read_was_stored()
+    ensures { EachReadWasStored }
+{}
+
+/// So each token that a machine of a fleet hands out came to be stored before.
+pub fn each_handed_out_was_stored()
+    ensures { EachHandedOutWasStored }
 {}
 
 /// Two requests run at once only where a caller answered `Unfinished` for one of them.

@@ -79,8 +79,9 @@ pub enum Step {
     GiveBack(u64, SharedToken),
     /// Ask the store for the same again.
     Repeat,
-    /// The refresh token is in use by this renewal, or was and nobody ended that.
-    InUse(u64),
+    /// The refresh token is in use by this renewal, or was and nobody ended that. The old token is
+    /// handed out, whose access token may still be good.
+    InUse(u64, SharedToken),
     /// The renewal is over.
     End,
 }
@@ -115,7 +116,7 @@ fn after_looking(told: Told) -> Turn
             },
             Some(other) => Turn {
                 phase: Phase::Over,
-                step: Step::InUse(other),
+                step: Step::InUse(other, p.token),
             },
         },
         Told::Stop => Turn {
