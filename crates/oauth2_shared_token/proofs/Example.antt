@@ -1,6 +1,7 @@
 -- Runs in which a token is renewed once, and the next renewal comes too late with what it was given.
-use Rattle.std.proofs.Common.{◌≡◌, ℕ, List, [], ◌∷◌, Some, None, refl, arith}
+use Rattle.std.proofs.Common.{◌≡◌, ℕ, List, [], ◌∷◌, Some, refl, arith}
 use Rattle.oauth2_shared_token.specs.declared.renewal.SharedToken.{SharedToken}
+use Rattle.oauth2_shared_token.specs.declared.renewal.Content.TheVariants as content
 use Rattle.oauth2_shared_token.specs.declared.renewal.Told.TheVariants as told
 use Rattle.oauth2_shared_token.specs.State.{Token, at_rest, begin}
 use Rattle.oauth2_shared_token.specs.Event.{SharedEvent, Asked, Marked, Sent, Given, Kept, SignedIn}
@@ -44,7 +45,7 @@ stored_at_last : (at_last (begin (token 0)) events).store ≡ at_rest 4 (token 2
 stored_at_last = refl
 
 -- the late token of the renewal that a caller had answered for is the newest given, and isn't stored
-late : newest_given (token 0) events ≡ token 3
+late : newest_given (Some (token 0)) events ≡ Some (token 3)
 late = refl
 
 -- a fleet that makes these events: two machines read version 0 at rest, and the store takes the mark of the
@@ -54,13 +55,13 @@ shared n = record { access = n; refresh = n }
 
 abbrev happenings : List Happening
 happenings =
-    Turned 0 (told.Stored (record { version = 0; token = shared 0; used_by = None }))
-    ∷ Turned 1 (told.Stored (record { version = 0; token = shared 0; used_by = None }))
+    Turned 0 (told.Stored (record { version = 0; content = content.AtRest (shared 0) }))
+    ∷ Turned 1 (told.Stored (record { version = 0; content = content.AtRest (shared 0) }))
     ∷ Took (ToMark 1 0 (token 0))
-    ∷ Turned 1 (told.Stored (record { version = 1; token = shared 0; used_by = Some 1 }))
+    ∷ Turned 1 (told.Stored (record { version = 1; content = content.Marked (shared 0) 1 }))
     ∷ Turned 1 (told.Answer (shared 1))
     ∷ Took (ToKeep 1 0 (token 1))
-    ∷ Turned 2 (told.Stored (record { version = 2; token = shared 1; used_by = None }))
+    ∷ Turned 2 (told.Stored (record { version = 2; content = content.AtRest (shared 1) }))
     ∷ Took (ToMark 2 2 (token 1))
     ∷ SignsIn 2 3 (token 2)
     ∷ Turned 2 told.Done

@@ -5,6 +5,8 @@ use Rattle.std.proofs.lemmas.List.{append-nil}
 use Rattle.std.specs.List.{Contains}
 use Rattle.std.proofs.lemmas.List.Elements.{Contains-append_cases}
 use Rattle.oauth2_shared_token.specs.declared.renewal.SharedToken.{SharedToken}
+use Rattle.oauth2_shared_token.specs.declared.renewal.Content.{Content}
+use Rattle.oauth2_shared_token.specs.declared.renewal.Content.TheVariants as content
 use Rattle.oauth2_shared_token.specs.declared.renewal.Learnt.{Learnt}
 use Rattle.oauth2_shared_token.specs.declared.renewal.Learnt.TheVariants as learnt
 use Rattle.oauth2_shared_token.specs.declared.renewal.Phase.{Phase}
@@ -13,12 +15,13 @@ use Rattle.oauth2_shared_token.specs.declared.renewal.Told.{Told}
 use Rattle.oauth2_shared_token.specs.declared.renewal.Told.TheVariants as told
 use Rattle.oauth2_shared_token.specs.declared.renewal.Step.{Step}
 use Rattle.oauth2_shared_token.specs.declared.renewal.Step.TheVariants as step
-use Rattle.oauth2_shared_token.specs.State.{Token, Stored, at_rest, marked, Stage, NotBegun, Asking, Marking, Sending, Holding, Returning, Done, put, Shared, stage_of, begin}
-use Rattle.oauth2_shared_token.specs.Event.{SharedEvent, Asked, Marked, Sent, Given, Kept, Withdrew, GivenBack, SignedIn, Allowed, LoggedIn, CanHappen, Fits, WasMarked, WasAtRest, stored, gone_on, after}
-use Rattle.oauth2_shared_token.specs.Run.{IsRun, at_last, tokens_stored}
+use Rattle.oauth2_shared_token.specs.State.{Token, token_in, Stored, at_rest, marked, empty, Stage, NotBegun, Asking, Marking, Sending, Holding, Returning, Done, put, Shared, stage_of, begin}
+use Rattle.oauth2_shared_token.specs.Event.{SharedEvent, Asked, Marked, Sent, Given, Kept, Withdrew, GivenBack, SignedIn, Allowed, LoggedIn, LoggedOut, CanHappen, Fits, WasMarked, WasFree, WasStored, stored, gone_on, after}
+use Rattle.oauth2_shared_token.specs.Run.{IsRun, at_last}
 use Rattle.oauth2_shared_token.specs.Renewal.{turn_of, looked_at, read_again, sent_if, returned_if, again_in, stored_of, token_of, Knows, IsSo, IsOfOthers, events_of, next_turn}
-use Rattle.oauth2_shared_token.specs.Fleet.{Request, ToMark, ToKeep, ToReturn, Fleet, phase_of, Happening, Turned, Took, SignsIn, Allows, LogsIn, CanOccur, turned, taken, later, events_in, fleet_of, IsFleetRun, fleet_at_last, all_events, handed_out, EachFleetRuns, EachFleetSendsOnce, EachHandedOutWasStored}
+use Rattle.oauth2_shared_token.specs.Fleet.{Request, ToMark, ToKeep, ToReturn, Fleet, phase_of, Happening, Turned, Took, SignsIn, Allows, LogsIn, LogsOut, CanOccur, turned, taken, later, events_in, fleet_of, IsFleetRun, fleet_at_last, all_events, handed_out, EachFleetRuns, EachFleetSendsOnce, EachHandedOutWasStored}
 use Rattle.oauth2_shared_token.proofs.Places.{put-same, put-other, only_one, none_in_nothing}
+use Rattle.oauth2_shared_token.proofs.Lists.{run-append, at_last-append}
 use Rattle.oauth2_shared_token.proofs.Loads.{each_read_was_stored}
 use Rattle.oauth2_shared_token.proofs.Sendings.{each_is_sent_at_most_once}
 use Rattle.oauth2_shared_token.proofs.Steps.{MarksAreTaken, taken_after, taken_begin, step_can_happen}
@@ -104,6 +107,7 @@ open_after s (GivenBack j v t) r can h = open_taken s (at_rest (v + 2) t) j Done
 open_after s (SignedIn j v n) r can h = open_replaced s (at_rest (v + 1) n) v r can.1 refl h
 open_after s (Allowed j v t) r can h = open_replaced s (at_rest (v + 1) t) v r can.1 refl h
 open_after s (LoggedIn v n) r can h = open_replaced s (at_rest (v + 1) n) v r can.1 refl h
+open_after s (LoggedOut v) r can h = open_replaced s (empty (v + 1)) v r can.1 refl h
 
 -- what the fleet has is what the events have made
 pub record Agrees (f : Fleet) (s : Shared) : Type 0 where
@@ -181,6 +185,7 @@ module _ (f : Fleet) (s : Shared) (a : Agrees f s) where
       subst (IsOpen (after s (Withdrew i version (token_of token)))) (sym is) (inl (put-same NotBegun s.renewals i (Returning version (token_of token)))))
   agrees_step i p step.Repeat run known = agrees_silent i p known
   agrees_step i p (step.InUse other token) run known = agrees_silent i p known
+  agrees_step i p step.LoggedOut run known = agrees_silent i p known
   agrees_step i p step.End run known = agrees_silent i p known
 
   -- who asked for what fits waits for it still
@@ -215,16 +220,11 @@ module _ (f : Fleet) (s : Shared) (a : Agrees f s) where
       let this : CanHappen s (Allowed i version token) = (subst (λ (xs : List Stored). Contains xs (marked version token i)) a.past can.0, fits_still version can.1) in
       ((this, tt), agrees_taken (Allowed i version token) (at_rest (version + 1) token) this (λ j. tt) refl refl)
   happens (LogsIn version new) can =
-      let this : CanHappen s (LoggedIn version new) = (subst (λ (xs : List Stored). WasAtRest xs version) a.past can.0, fits_still version can.1) in
+      let this : CanHappen s (LoggedIn version new) = (subst (λ (xs : List Stored). WasFree xs version) a.past can.0, fits_still version can.1) in
       ((this, tt), agrees_taken (LoggedIn version new) (at_rest (version + 1) new) this (λ j. tt) refl refl)
-
-run-append : (s : Shared) (xs ys : List SharedEvent) → IsRun s xs → IsRun (at_last s xs) ys → IsRun s (xs ++ ys)
-run-append s [] ys first then = then
-run-append s (x ∷ xs) ys first then = (first.0, run-append (after s x) xs ys first.1 then)
-
-at_last-append : (s : Shared) (xs ys : List SharedEvent) → at_last s (xs ++ ys) ≡ at_last (at_last s xs) ys
-at_last-append s [] ys = refl
-at_last-append s (x ∷ xs) ys = at_last-append (after s x) xs ys
+  happens (LogsOut version) can =
+      let this : CanHappen s (LoggedOut version) = (subst (λ (xs : List Stored). WasStored xs version) a.past can.0, fits_still version can.1) in
+      ((this, tt), agrees_taken (LoggedOut version) (empty (version + 1)) this (λ j. tt) refl refl)
 
 fleet_from : (f : Fleet) (s : Shared) (happenings : List Happening) → Agrees f s → IsFleetRun f happenings → IsRun s (all_events f happenings) × Agrees (fleet_at_last f happenings) (at_last s (all_events f happenings))
 fleet_from f s [] a run = (tt, a)
@@ -252,11 +252,12 @@ each_fleet_sends_once start happenings r run once =
 
 -- what a step hands out is the token of a value that was stored
 abbrev WasRead : List Stored → Token → Type 0
-WasRead past token = (p : Stored) × Contains past p × (p.token ≡ token)
+WasRead past token = (p : Stored) × Contains past p × (token_in p.content ≡ Some token)
 
-handed_looking : (past : List Stored) (version : ℕ) (token : SharedToken) (by : Option ℕ) (out : Token) → Contains past (stored_of (record { version = version; token = token; used_by = by })) → handed_out (looked_at version token by).step ≡ Some out → WasRead past out
-handed_looking past version token None out seen e = absurd cc
-handed_looking past version token (Some other) out seen e = (stored_of (record { version = version; token = token; used_by = Some other }), seen, (let same : Some (token_of token) ≡ Some out = e in cc))
+handed_looking : (past : List Stored) (version : ℕ) (c : Content) (out : Token) → Contains past (stored_of (record { version = version; content = c })) → handed_out (looked_at version c).step ≡ Some out → WasRead past out
+handed_looking past version (content.AtRest token) out seen e = absurd cc
+handed_looking past version (content.Marked token other) out seen e = (stored_of (record { version = version; content = content.Marked token other }), seen, e)
+handed_looking past version content.Empty out seen e = absurd cc
 
 none_sent : {P : Type 0} (version : ℕ) (token : SharedToken) (l : Learnt) (out : Token) → handed_out (sent_if version token l).step ≡ Some out → P
 none_sent version token learnt.Taken out e = absurd cc
@@ -276,7 +277,7 @@ none_again p (told.Answer new) out e = absurd cc
 none_again p told.Stop out e = absurd cc
 
 handed : (past : List Stored) (name : ℕ) (p : Phase) (t : Told) (out : Token) → IsSo past name p t → handed_out (next_turn name p t).step ≡ Some out → WasRead past out
-handed past name phase.Looking (told.Stored q) out so e = handed_looking past q.version q.token q.used_by out so e
+handed past name phase.Looking (told.Stored q) out so e = handed_looking past q.version q.content out so e
 handed past name phase.Looking told.Done out so e = absurd cc
 handed past name phase.Looking told.Nothing out so e = absurd cc
 handed past name phase.Looking (told.Answer new) out so e = absurd cc
@@ -304,4 +305,4 @@ pub each_handed_out_was_stored : EachHandedOutWasStored
 each_handed_out_was_stored start happenings i told token run so out =
     let made = whole start happenings run in
     let read = handed (fleet_at_last (fleet_of start) happenings).past i (phase_of (fleet_at_last (fleet_of start) happenings) i) told token so out in
-    subst (Contains (start ∷ tokens_stored (all_events (fleet_of start) happenings))) read.2 (each_read_was_stored start (all_events (fleet_of start) happenings) read.0 made.0 (subst (λ (past : List Stored). Contains past read.0) made.1.past read.1))
+    each_read_was_stored start (all_events (fleet_of start) happenings) read.0 token made.0 (subst (λ (past : List Stored). Contains past read.0) made.1.past read.1) read.2

@@ -1,7 +1,9 @@
 -- What a renewal knows of itself is so after its steps, and stays so.
-use Rattle.std.proofs.Common.{◌≡◌, ◌≢◌, ℕ, List, get_or, Option, Some, None, refl, ap, sym, subst, ◌∙◌, ◌⊎◌, inl, inr}
+use Rattle.std.proofs.Common.{◌≡◌, ◌≢◌, ℕ, List, get_or, refl, ap, sym, subst, ◌∙◌, ◌⊎◌, inl, inr}
 use Rattle.std.proofs.lemmas.Bool.{cases_eq}
 use Rattle.oauth2_shared_token.specs.declared.renewal.SharedToken.{SharedToken}
+use Rattle.oauth2_shared_token.specs.declared.renewal.Content.{Content}
+use Rattle.oauth2_shared_token.specs.declared.renewal.Content.TheVariants as content
 use Rattle.oauth2_shared_token.specs.declared.renewal.Learnt.{Learnt}
 use Rattle.oauth2_shared_token.specs.declared.renewal.Learnt.TheVariants as learnt
 use Rattle.oauth2_shared_token.specs.declared.renewal.Phase.{Phase}
@@ -9,14 +11,15 @@ use Rattle.oauth2_shared_token.specs.declared.renewal.Phase.TheVariants as phase
 use Rattle.oauth2_shared_token.specs.declared.renewal.Told.{Told}
 use Rattle.oauth2_shared_token.specs.declared.renewal.Told.TheVariants as told
 use Rattle.oauth2_shared_token.specs.State.{Token, Stage, NotBegun, Asking, Marking, Sending, Holding, Returning, Done, put, Shared, stage_of}
-use Rattle.oauth2_shared_token.specs.Event.{Asked, Marked, Sent, Given, Kept, Withdrew, GivenBack, SignedIn, Allowed, LoggedIn, after}
+use Rattle.oauth2_shared_token.specs.Event.{Asked, Marked, Sent, Given, Kept, Withdrew, GivenBack, SignedIn, Allowed, LoggedIn, LoggedOut, after}
 use Rattle.oauth2_shared_token.specs.Run.{at_last}
-use Rattle.oauth2_shared_token.specs.Renewal.{read_again, sent_if, returned_if, again_in, token_of, Knows, events_of, next_turn, EachStepIsKnown, WhatIsKnownStays}
+use Rattle.oauth2_shared_token.specs.Renewal.{looked_at, read_again, sent_if, returned_if, again_in, token_of, Knows, events_of, next_turn, EachStepIsKnown, WhatIsKnownStays}
 use Rattle.oauth2_shared_token.proofs.Places.{put-same, put-other}
 
-looked : (s : Shared) (name version : ℕ) (token : SharedToken) (by : Option ℕ) → Knows (at_last s (events_of name (next_turn name phase.Looking (told.Stored (record { version = version; token = token; used_by = by }))).step)) name (next_turn name phase.Looking (told.Stored (record { version = version; token = token; used_by = by }))).phase
-looked s name version token None = inl (put-same NotBegun s.renewals name (Asking version (token_of token)))
-looked s name version token (Some other) = tt
+looked : (s : Shared) (name version : ℕ) (c : Content) → Knows (at_last s (events_of name (looked_at version c).step)) name (looked_at version c).phase
+looked s name version (content.AtRest token) = inl (put-same NotBegun s.renewals name (Asking version (token_of token)))
+looked s name version (content.Marked token other) = tt
+looked s name version content.Empty = tt
 
 sent : (s : Shared) (name version : ℕ) (t : Token) → stage_of (after s (Sent name version t)) name ≡ Sending version
 sent s name version t = put-same NotBegun s.renewals name (Sending version)
@@ -39,7 +42,7 @@ known_repeated s name p (told.Answer new) knows = tt
 known_repeated s name p told.Stop knows = tt
 
 pub step_is_known : (s : Shared) (name : ℕ) (p : Phase) (t : Told) → Knows s name p → Knows (at_last s (events_of name (next_turn name p t).step)) name (next_turn name p t).phase
-step_is_known s name phase.Looking (told.Stored p) knows = looked s name p.version p.token p.used_by
+step_is_known s name phase.Looking (told.Stored p) knows = looked s name p.version p.content
 step_is_known s name phase.Looking told.Done knows = knows
 step_is_known s name phase.Looking told.Nothing knows = knows
 step_is_known s name phase.Looking (told.Answer t) knows = knows
@@ -164,3 +167,4 @@ what_is_known_stays s name p (GivenBack i version token) knows can others =
 what_is_known_stays s name p (SignedIn i version new) knows can others = from (after s (SignedIn i version new)) name p (to s name p knows)
 what_is_known_stays s name p (Allowed i version token) knows can others = from (after s (Allowed i version token)) name p (to s name p knows)
 what_is_known_stays s name p (LoggedIn version new) knows can others = from (after s (LoggedIn version new)) name p (to s name p knows)
+what_is_known_stays s name p (LoggedOut version) knows can others = from (after s (LoggedOut version)) name p (to s name p knows)

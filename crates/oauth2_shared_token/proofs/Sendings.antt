@@ -1,8 +1,8 @@
 -- Each sending is paid for by a storing: what is at rest may be marked once, and what is marked may
 -- be sent once.
-use Rattle.std.proofs.Common.{◌≡◌, ℕ, zero, suc, ◌+◌, ◌≤◌, List, [], ◌∷◌, get_or, Option, Some, None, ap, arith}
-use Rattle.oauth2_shared_token.specs.State.{Token, Stored, Stage, NotBegun, Asking, Marking, Sending, Holding, Returning, Done, put, Shared, begin}
-use Rattle.oauth2_shared_token.specs.Event.{SharedEvent, Asked, Marked, Sent, Given, Kept, Withdrew, GivenBack, SignedIn, Allowed, LoggedIn, after}
+use Rattle.std.proofs.Common.{◌≡◌, ℕ, zero, suc, ◌+◌, ◌≤◌, List, [], ◌∷◌, get_or, ap, arith}
+use Rattle.oauth2_shared_token.specs.State.{Content, AtRest, InUse, Empty, Stored, Stage, NotBegun, Asking, Marking, Sending, Holding, Returning, Done, put, Shared, begin}
+use Rattle.oauth2_shared_token.specs.Event.{SharedEvent, Asked, Marked, Sent, Given, Kept, Withdrew, GivenBack, SignedIn, Allowed, LoggedIn, LoggedOut, after}
 use Rattle.oauth2_shared_token.specs.Run.{IsRun, has_refresh, times_sent, times_stored}
 use Rattle.oauth2_shared_token.specs.Laws.{EachSendingWasStored, EachIsSentAtMostOnce}
 use Rattle.oauth2_shared_token.proofs.Versions.{IsSound, sound_after, sound_begin, asked_is_stored}
@@ -18,12 +18,13 @@ module _ (r : ℕ) where
   held (Returning version token) = has_refresh r token
   held Done = 0
 
-  abbrev resting_by : Token → Option ℕ → ℕ
-  resting_by token None = has_refresh r token
-  resting_by token (Some i) = 0
+  abbrev resting_in : Content → ℕ
+  resting_in (AtRest token) = has_refresh r token
+  resting_in (InUse token i) = 0
+  resting_in Empty = 0
 
   abbrev resting : Stored → ℕ
-  resting p = resting_by p.token p.used_by
+  resting p = resting_in p.content
 
   abbrev open_by : List Stage → ℕ
   open_by [] = 0
@@ -74,6 +75,9 @@ module _ (r : ℕ) where
       omega (arith, later)
   each_is_paid s (LoggedIn version new ∷ events) sound run =
       let later = each_is_paid (after s (LoggedIn version new)) events (sound_after s (LoggedIn version new) sound run.0) run.1 in
+      omega (arith, later)
+  each_is_paid s (LoggedOut version ∷ events) sound run =
+      let later = each_is_paid (after s (LoggedOut version)) events (sound_after s (LoggedOut version) sound run.0) run.1 in
       omega (arith, later)
 
 pub each_sending_was_stored : EachSendingWasStored

@@ -5,12 +5,12 @@ use Rattle.std.proofs.Math.Decide.{dec_le}
 use Rattle.std.proofs.lemmas.List.{append-nil}
 use Rattle.std.specs.List.{Contains}
 use Rattle.std.proofs.lemmas.List.Elements.{Contains-append_left, Contains-push}
-use Rattle.oauth2_shared_token.specs.State.{Token, Stored, at_rest, marked, Stage, NotBegun, Asking, Marking, Sending, Holding, Returning, Done, put, Shared, stage_of, begin}
-use Rattle.oauth2_shared_token.specs.Event.{SharedEvent, Asked, Marked, Sent, Given, Kept, Withdrew, GivenBack, SignedIn, Allowed, LoggedIn, CanHappen, after}
+use Rattle.oauth2_shared_token.specs.State.{Token, Content, AtRest, InUse, Empty, token_in, user_of, Stored, empty, at_rest, marked, Stage, NotBegun, Asking, Marking, Sending, Holding, Returning, Done, put, Shared, stage_of, begin}
+use Rattle.oauth2_shared_token.specs.Event.{SharedEvent, Asked, Marked, Sent, Given, Kept, Withdrew, GivenBack, SignedIn, Allowed, LoggedIn, LoggedOut, CanHappen, after}
 use Rattle.oauth2_shared_token.specs.Run.{IsRun, at_last}
-use Rattle.oauth2_shared_token.specs.Laws.{WasAnswered, NoneIsLostUntold, OneRunsAtOnce}
+use Rattle.oauth2_shared_token.specs.Laws.{WasAnswered, Stands, NoneIsLostUntold, OneRunsAtOnce}
 use Rattle.oauth2_shared_token.proofs.Places.{put-same, put-other, read-put, stays-put, none_in_nothing, in_one_more}
-use Rattle.oauth2_shared_token.proofs.Versions.{IsSound, sound_after, sound_begin, asked_is_stored, rest_is_stored}
+use Rattle.oauth2_shared_token.proofs.Versions.{IsSound, sound_after, sound_begin, asked_is_stored, free_is_unused}
 use Rattle.oauth2_shared_token.proofs.Newest.{what_is_stored_is_the_newest}
 
 -- the version that a renewal marked and hasn't replaced
@@ -25,7 +25,7 @@ marks Done = None
 
 pub record IsStanding (p : Stored) (i version : ℕ) : Type 0 where
   pub next : p.version ≡ version + 1
-  pub by : p.used_by ≡ Some i
+  pub by : user_of p.content ≡ Some i
 
 pub record IsOver (p : Stored) (sofar : List SharedEvent) (i version : ℕ) : Type 0 where
   pub beyond : version + 1 < p.version
@@ -43,8 +43,9 @@ marks-put xs i j w x h =
     ]
 
 answered_more : (sofar : List SharedEvent) (event : SharedEvent) (i version : ℕ) → WasAnswered sofar i version → WasAnswered (sofar ++ event ∷ []) i version
-answered_more sofar event i version (token, inl h) = (token, inl (Contains-append_left sofar (event ∷ []) _ h))
-answered_more sofar event i version (token, inr h) = (token, inr (Contains-append_left sofar (event ∷ []) _ h))
+answered_more sofar event i version (inl (token, inl h)) = inl (token, inl (Contains-append_left sofar (event ∷ []) _ h))
+answered_more sofar event i version (inl (token, inr h)) = inl (token, inr (Contains-append_left sofar (event ∷ []) _ h))
+answered_more sofar event i version (inr h) = inr (Contains-append_left sofar (event ∷ []) _ h)
 
 over_more : (p q : Stored) (sofar : List SharedEvent) (event : SharedEvent) (i version : ℕ) → p.version ≤ q.version → IsOver p sofar i version → IsOver q (sofar ++ event ∷ []) i version
 over_more p q sofar event i version le over = record { beyond = omega arith; answered = answered_more sofar event i version over.answered }
@@ -87,7 +88,7 @@ module _ (s : Shared) (sofar : List SharedEvent) (told : IsTold s sofar) where
         given = given_more (after s (Asked i version token)) (Asked i version token) (λ j w n is. inl (stays-put s.renewals i j _ NotBegun (Holding w n) can.0 (λ e. cc) is)) (λ j w n e. absurd cc);
       }
   told_after (Marked i version token) sound can =
-      let rested : None ≡ s.store.used_by = ap (λ (p : Stored). p.used_by) (asked_is_stored s i version token sound can) in
+      let rested : None ≡ user_of s.store.content = ap (λ (p : Stored). user_of p.content) (asked_is_stored s i version token sound can) in
       record {
         marking = λ j w h.
             elim (marks-put s.renewals i j w (Marking version token) h) [
@@ -167,33 +168,33 @@ module _ (s : Shared) (sofar : List SharedEvent) (told : IsTold s sofar) where
         given = given_more (after s (GivenBack i version token)) (GivenBack i version token) (λ j w n is. inl (stays-put s.renewals i j _ (Returning version token) (Holding w n) can.0 (λ e. cc) is)) (λ j w n e. absurd cc);
       }
   told_after (SignedIn i version new) sound can =
-      let mine : Some i ≡ s.store.used_by = ap (λ (p : Stored). p.used_by) (seen_is_stored s i version can.0.0 sound can.0.1 can.1) in
+      let mine : Some i ≡ user_of s.store.content = ap (λ (p : Stored). user_of p.content) (seen_is_stored s i version can.0.0 sound can.0.1 can.1) in
       record {
         marking = λ j w h.
             elim (told.marking j w h) [
               | inl standing ↦ inr (record {
                 beyond = (let e = standing.next in omega (arith, e, can.1));
-                answered = (let e = standing.next in let f = standing.by in let at : version ≡ w + 1 = omega (arith, e, can.1) in let place : i ≡ j = cc in let same : SignedIn i version new ≡ SignedIn j (w + 1) new = cc in (new, inl (subst (Contains (sofar ++ SignedIn i version new ∷ [])) same (Contains-push sofar (SignedIn i version new)))));
+                answered = (let e = standing.next in let f = standing.by in let at : version ≡ w + 1 = omega (arith, e, can.1) in let place : i ≡ j = cc in let same : SignedIn i version new ≡ SignedIn j (w + 1) new = cc in inl (new, inl (subst (Contains (sofar ++ SignedIn i version new ∷ [])) same (Contains-push sofar (SignedIn i version new)))));
               })
               | inr over ↦ inr (over_more s.store (at_rest (version + 1) new) sofar _ j w (omega (arith, can.1)) over)
             ];
         given = given_more (after s (SignedIn i version new)) (SignedIn i version new) (λ j w n is. inl is) (λ j w n e. absurd cc);
       }
   told_after (Allowed i version token) sound can =
-      let mine : Some i ≡ s.store.used_by = ap (λ (p : Stored). p.used_by) (seen_is_stored s i version token sound can.0 can.1) in
+      let mine : Some i ≡ user_of s.store.content = ap (λ (p : Stored). user_of p.content) (seen_is_stored s i version token sound can.0 can.1) in
       record {
         marking = λ j w h.
             elim (told.marking j w h) [
               | inl standing ↦ inr (record {
                 beyond = (let e = standing.next in omega (arith, e, can.1));
-                answered = (let e = standing.next in let f = standing.by in let at : version ≡ w + 1 = omega (arith, e, can.1) in let place : i ≡ j = cc in let same : Allowed i version token ≡ Allowed j (w + 1) token = cc in (token, inr (subst (Contains (sofar ++ Allowed i version token ∷ [])) same (Contains-push sofar (Allowed i version token)))));
+                answered = (let e = standing.next in let f = standing.by in let at : version ≡ w + 1 = omega (arith, e, can.1) in let place : i ≡ j = cc in let same : Allowed i version token ≡ Allowed j (w + 1) token = cc in inl (token, inr (subst (Contains (sofar ++ Allowed i version token ∷ [])) same (Contains-push sofar (Allowed i version token)))));
               })
               | inr over ↦ inr (over_more s.store (at_rest (version + 1) token) sofar _ j w (omega (arith, can.1)) over)
             ];
         given = given_more (after s (Allowed i version token)) (Allowed i version token) (λ j w n is. inl is) (λ j w n e. absurd cc);
       }
   told_after (LoggedIn version new) sound can =
-      let rested : None ≡ s.store.used_by = ap (λ (p : Stored). p.used_by) (rest_is_stored s version can.0.0 sound can.0.1 can.1) in
+      let rested : None ≡ user_of s.store.content = free_is_unused s version sound can.0 can.1 in
       record {
         marking = λ j w h.
             elim (told.marking j w h) [
@@ -201,6 +202,18 @@ module _ (s : Shared) (sofar : List SharedEvent) (told : IsTold s sofar) where
               | inr over ↦ inr (over_more s.store (at_rest (version + 1) new) sofar _ j w (omega (arith, can.1)) over)
             ];
         given = given_more (after s (LoggedIn version new)) (LoggedIn version new) (λ j w n is. inl is) (λ j w n e. absurd cc);
+      }
+  told_after (LoggedOut version) sound can =
+      record {
+        marking = λ j w h.
+            elim (told.marking j w h) [
+              | inl standing ↦ inr (record {
+                beyond = (let e = standing.next in omega (arith, e, can.1));
+                answered = (let e = standing.next in let at : version ≡ w + 1 = omega (arith, e, can.1) in inr (subst (λ (v : ℕ). Contains (sofar ++ LoggedOut version ∷ []) (LoggedOut v)) at (Contains-push sofar (LoggedOut version))));
+              })
+              | inr over ↦ inr (over_more s.store (empty (version + 1)) sofar _ j w (omega (arith, can.1)) over)
+            ];
+        given = given_more (after s (LoggedOut version)) (LoggedOut version) (λ j w n is. inl is) (λ j w n e. absurd cc);
       }
 
 pub told_at_last : (s : Shared) (sofar events : List SharedEvent) → IsTold s sofar → IsSound s → IsRun s events → IsTold (at_last s events) (sofar ++ events)
@@ -212,8 +225,20 @@ pub told_begin : (start : Token) → IsTold (begin start) []
 told_begin start =
     record { marking = λ i version h. absurd (let e : None ≡ Some version = h in cc); given = λ i version new h. absurd (none_in_nothing _ h) }
 
-standing_is : (p : Stored) (i version : ℕ) → IsStanding p i version → p ≡ marked (version + 1) p.token i
-standing_is p i version standing = let e = standing.next in let f = standing.by in rw (← e, ← f) refl
+used_is : (content : Content) (i : ℕ) → user_of content ≡ Some i → (token : Token) × (content ≡ InUse token i)
+used_is (AtRest token) i e = absurd cc
+used_is (InUse token j) i e = (token, (let place : j ≡ i = cc in rw place refl))
+used_is Empty i e = absurd cc
+
+standing_is : (p : Stored) (i version : ℕ) → IsStanding p i version → (token : Token) × (p ≡ marked (version + 1) token i)
+standing_is p i version standing =
+    let used = used_is p.content i standing.by in
+    (used.0, (let e = standing.next in let f = used.1 in rw (← e, ← f) refl))
+
+stands : (start : Token) (events : List SharedEvent) (i version : ℕ) → IsRun (begin start) events → IsStanding (at_last (begin start) events).store i version → Stands start events i version
+stands start events i version run standing =
+    let is = standing_is (at_last (begin start) events).store i version standing in
+    (is.0, sym (what_is_stored_is_the_newest start events run) ∙ ap (λ (p : Stored). token_in p.content) is.1, is.1)
 
 pub none_is_lost_untold : NoneIsLostUntold
 none_is_lost_untold start events i version new run given =
@@ -221,7 +246,7 @@ none_is_lost_untold start events i version new run given =
     elim (told.given i version new given) [
       | inl kept ↦ inl kept
       | inr holds ↦ elim (told.marking i version (ap marks holds)) [
-        | inl standing ↦ inr (inl (standing_is _ i version standing ∙ ap (λ (t : Token). marked (version + 1) t i) (what_is_stored_is_the_newest start events run)))
+        | inl standing ↦ inr (inl (stands start events i version run standing))
         | inr over ↦ inr (inr over.answered)
       ]
     ]

@@ -1,8 +1,10 @@
 -- Each step of a renewal is an event that can happen.
-use Rattle.std.proofs.Common.{◌≡◌, ℕ, ◌+◌, List, [], ◌∷◌, get_or, Option, Some, None, Bool, true, false, nat_lt, if◌then◌else◌, refl, ap, sym, subst, ◌∙◌, ◌⊎◌, inl, inr}
+use Rattle.std.proofs.Common.{◌≡◌, ℕ, ◌+◌, List, [], ◌∷◌, get_or, Some, None, Bool, true, false, nat_lt, if◌then◌else◌, refl, ap, sym, subst, ◌∙◌, ◌⊎◌, inl, inr}
 use Rattle.std.specs.List.{Contains}
 use Rattle.std.proofs.lemmas.Bool.Decides.{eqb_tells}
 use Rattle.oauth2_shared_token.specs.declared.renewal.SharedToken.{SharedToken}
+use Rattle.oauth2_shared_token.specs.declared.renewal.Content.{Content}
+use Rattle.oauth2_shared_token.specs.declared.renewal.Content.TheVariants as content
 use Rattle.oauth2_shared_token.specs.declared.renewal.StoredValue.{StoredValue}
 use Rattle.oauth2_shared_token.specs.declared.renewal.Learnt.{Learnt}
 use Rattle.oauth2_shared_token.specs.declared.renewal.Learnt.TheVariants as learnt
@@ -10,10 +12,10 @@ use Rattle.oauth2_shared_token.specs.declared.renewal.Phase.{Phase}
 use Rattle.oauth2_shared_token.specs.declared.renewal.Phase.TheVariants as phase
 use Rattle.oauth2_shared_token.specs.declared.renewal.Told.{Told}
 use Rattle.oauth2_shared_token.specs.declared.renewal.Told.TheVariants as told
-use Rattle.oauth2_shared_token.specs.State.{Token, Stored, at_rest, marked, Stage, NotBegun, Asking, Marking, Sending, Holding, Returning, Done, put, Shared, stage_of, begin}
-use Rattle.oauth2_shared_token.specs.Event.{SharedEvent, Asked, Marked, Sent, Given, Kept, Withdrew, GivenBack, SignedIn, Allowed, LoggedIn, CanHappen, after}
+use Rattle.oauth2_shared_token.specs.State.{Token, user_of, Stored, at_rest, marked, empty, Stage, NotBegun, Asking, Marking, Sending, Holding, Returning, Done, put, Shared, stage_of, begin}
+use Rattle.oauth2_shared_token.specs.Event.{SharedEvent, Asked, Marked, Sent, Given, Kept, Withdrew, GivenBack, SignedIn, Allowed, LoggedIn, LoggedOut, CanHappen, after}
 use Rattle.oauth2_shared_token.specs.Run.{IsRun, at_last}
-use Rattle.oauth2_shared_token.specs.Renewal.{past_or_open, seen_by, read_again, sent_if, returned_if, again_in, token_of, stored_of, IsReached, Knows, IsSo, events_of, EachStepCanHappen, next_turn}
+use Rattle.oauth2_shared_token.specs.Renewal.{looked_at, past_or_open, seen_in, read_again, sent_if, returned_if, again_in, token_of, stored_of, IsReached, Knows, IsSo, events_of, EachStepCanHappen, next_turn}
 use Rattle.oauth2_shared_token.proofs.Places.{put-same, read-put, in_one_more, only_one}
 
 -- it didn't ask to mark anything yet, or the store didn't take that
@@ -47,8 +49,11 @@ early-begun xs i j x none before =
       | inr other ↦ sym (ap is_early other.1) ∙ before
     ]
 
+not_empty : (v w j : ℕ) (t : Token) → marked w t j ≡ empty v → ⊥
+not_empty v w j t e = let by : Some j ≡ None = ap (λ (p : Stored). user_of p.content) e in cc
+
 not_at_rest : (v w j : ℕ) (t u : Token) → marked w t j ≡ at_rest v u → ⊥
-not_at_rest v w j t u e = let by : Some j ≡ None = ap (λ (p : Stored). p.used_by) e in cc
+not_at_rest v w j t u e = let by : Some j ≡ None = ap (λ (p : Stored). user_of p.content) e in cc
 
 pub taken_after : (s : Shared) (event : SharedEvent) → MarksAreTaken s → CanHappen s event → MarksAreTaken (after s event)
 taken_after s (Asked i version token) taken can j w t h = early-begun s.renewals i j (Asking version token) can.0 (taken j w t h)
@@ -56,7 +61,7 @@ taken_after s (Marked i version token) taken can j w t h =
     elim (in_one_more s.past (marked (version + 1) token i) (marked w t j) h) [
       | inl before ↦ early-put s.renewals i j (Marking version token) refl (taken j w t before)
       | inr here ↦
-          let by : Some j ≡ Some i = ap (λ (p : Stored). p.used_by) here in
+          let by : Some j ≡ Some i = ap (λ (p : Stored). user_of p.content) here in
           let place : j ≡ i = cc in
           rw place (ap is_early (put-same NotBegun s.renewals i (Marking version token)))
     ]
@@ -90,6 +95,11 @@ taken_after s (LoggedIn version new) taken can j w t h =
       | inl before ↦ taken j w t before
       | inr here ↦ absurd (not_at_rest (version + 1) w j t new here)
     ]
+taken_after s (LoggedOut version) taken can j w t h =
+    elim (in_one_more s.past (empty (version + 1)) (marked w t j) h) [
+      | inl before ↦ taken j w t before
+      | inr here ↦ absurd (not_empty (version + 1) w j t here)
+    ]
 
 taken_at_last : (s : Shared) (events : List SharedEvent) → MarksAreTaken s → IsRun s events → MarksAreTaken (at_last s events)
 taken_at_last s [] taken run = taken
@@ -112,17 +122,20 @@ open_is_not_taken : (is_past : Bool) → past_or_open is_past ≡ learnt.Taken �
 open_is_not_taken true e = cc
 open_is_not_taken false e = cc
 
-seen_is_own : (name : ℕ) (is_past : Bool) (by : Option ℕ) → seen_by name is_past by ≡ learnt.Taken → by ≡ Some name
-seen_is_own name is_past None e = absurd (open_is_not_taken is_past e)
-seen_is_own name is_past (Some other) e =
+seen_is_own : (past : List Stored) (name w : ℕ) (is_past : Bool) (c : Content) → Contains past (stored_of (record { version = w; content = c })) → seen_in name is_past c ≡ learnt.Taken → (t : Token) × Contains past (marked w t name)
+seen_is_own past name w is_past (content.AtRest token) seen e = absurd (open_is_not_taken is_past e)
+seen_is_own past name w is_past (content.Marked token other) seen e =
     elim (eqb_tells other name) [
-      | inl mine ↦ ap (λ (k : ℕ). Some k) mine.1
+      | inl mine ↦ (token_of token, subst (λ (k : ℕ). Contains past (marked w (token_of token) k)) mine.1 seen)
       | inr theirs ↦ absurd (open_is_not_taken is_past (ap (λ (b : Bool). if b then learnt.Taken else past_or_open is_past) (sym theirs.0) ∙ e))
     ]
+seen_is_own past name w is_past content.Empty seen e = absurd (open_is_not_taken is_past e)
 
-own_mark : (s : Shared) (name version : ℕ) (p : StoredValue) → Contains s.past (stored_of p) → read_again name version p ≡ learnt.Taken → Contains s.past (marked p.version (token_of p.token) name)
-own_mark s name version p seen e =
-    subst (λ (by : Option ℕ). Contains s.past (record { version = p.version; token = token_of p.token; used_by = by })) (seen_is_own name (nat_lt version p.version) p.used_by e) seen
+-- who reads its own mark can send
+own_mark : (s : Shared) (name version : ℕ) (t : Token) (p : StoredValue) → MarksAreTaken s → (stage_of s name ≡ Asking version t) ⊎ (stage_of s name ≡ Marking version t) → Contains s.past (stored_of p) → read_again name version p ≡ learnt.Taken → stage_of s name ≡ Marking version t
+own_mark s name version t p taken knows seen e =
+    let own = seen_is_own s.past name p.version (nat_lt version p.version) p.content seen e in
+    can_send s name version p.version t own.0 taken own.1 knows
 
 step_sent : (s : Shared) (name version : ℕ) (token : SharedToken) (l : Learnt) → (l ≡ learnt.Taken → stage_of s name ≡ Marking version (token_of token)) → IsRun s (events_of name (sent_if version token l).step)
 step_sent s name version token learnt.Taken can = (can refl, tt)
@@ -134,9 +147,10 @@ step_returned s name version token learnt.Taken can = (can refl, tt)
 step_returned s name version token learnt.Lost can = tt
 step_returned s name version token learnt.Open can = tt
 
-step_looking : (s : Shared) (name version : ℕ) (token : SharedToken) (by : Option ℕ) → stage_of s name ≡ NotBegun → Contains s.past (stored_of (record { version = version; token = token; used_by = by })) → IsRun s (events_of name (next_turn name phase.Looking (told.Stored (record { version = version; token = token; used_by = by }))).step)
-step_looking s name version token None new h = ((new, h), tt)
-step_looking s name version token (Some other) new h = tt
+step_looking : (s : Shared) (name version : ℕ) (c : Content) → stage_of s name ≡ NotBegun → Contains s.past (stored_of (record { version = version; content = c })) → IsRun s (events_of name (looked_at version c).step)
+step_looking s name version (content.AtRest token) new h = ((new, h), tt)
+step_looking s name version (content.Marked token other) new h = tt
+step_looking s name version content.Empty new h = tt
 
 step_repeated : (s : Shared) (name : ℕ) (p : Phase) (t : Told) → IsRun s (events_of name (again_in p t).step)
 step_repeated s name p (told.Stored q) = tt
@@ -146,20 +160,20 @@ step_repeated s name p (told.Answer new) = tt
 step_repeated s name p told.Stop = tt
 
 pub step_can_happen : (s : Shared) (name : ℕ) (p : Phase) (t : Told) → MarksAreTaken s → Knows s name p → IsSo s.past name p t → IsRun s (events_of name (next_turn name p t).step)
-step_can_happen s name phase.Looking (told.Stored p) taken knows so = step_looking s name p.version p.token p.used_by knows so
+step_can_happen s name phase.Looking (told.Stored p) taken knows so = step_looking s name p.version p.content knows so
 step_can_happen s name phase.Looking told.Done taken knows so = tt
 step_can_happen s name phase.Looking told.Nothing taken knows so = tt
 step_can_happen s name phase.Looking (told.Answer new) taken knows so = tt
 step_can_happen s name phase.Looking told.Stop taken knows so = tt
 step_can_happen s name (phase.Asking version token) (told.Stored p) taken knows so =
-    step_sent s name version token (read_again name version p) (λ e. can_send s name version p.version (token_of token) (token_of p.token) taken (own_mark s name version p so e) knows)
+    step_sent s name version token (read_again name version p) (λ e. own_mark s name version (token_of token) p taken knows so e)
 step_can_happen s name (phase.Asking version token) told.Done taken knows so =
     (can_send s name version (version + 1) (token_of token) (token_of token) taken so knows, tt)
 step_can_happen s name (phase.Asking version token) told.Nothing taken knows so = tt
 step_can_happen s name (phase.Asking version token) (told.Answer new) taken knows so = tt
 step_can_happen s name (phase.Asking version token) told.Stop taken knows so = tt
 step_can_happen s name (phase.Leaving version token) (told.Stored p) taken knows so =
-    step_returned s name version token (read_again name version p) (λ e. can_send s name version p.version (token_of token) (token_of p.token) taken (own_mark s name version p so e) knows)
+    step_returned s name version token (read_again name version p) (λ e. own_mark s name version (token_of token) p taken knows so e)
 step_can_happen s name (phase.Leaving version token) told.Done taken knows so =
     (can_send s name version (version + 1) (token_of token) (token_of token) taken so knows, tt)
 step_can_happen s name (phase.Leaving version token) told.Nothing taken knows so = tt

@@ -1,9 +1,10 @@
 -- A version names one thing: whoever read it read what is stored where it is the last.
-use Rattle.std.proofs.Common.{◌≡◌, ◌≢◌, ℕ, ◌+◌, ◌<◌, [], ◌∷◌, ◌++◌, get_or, refl, ap, sym, subst, arith, ◌⊎◌, inl, inr}
+use Rattle.std.proofs.Common.{◌≡◌, ◌≢◌, ℕ, ◌+◌, ◌<◌, List, [], ◌∷◌, ◌++◌, get_or, None, refl, ap, sym, subst, arith, ◌⊎◌, inl, inr}
 use Rattle.std.specs.List.{Contains}
 use Rattle.std.proofs.lemmas.List.Elements.{Contains-append_left, Contains-push}
-use Rattle.oauth2_shared_token.specs.State.{Token, Stored, at_rest, marked, Stage, NotBegun, Asking, Marking, Sending, Holding, Returning, Done, put, Shared, stage_of, begin}
-use Rattle.oauth2_shared_token.specs.Event.{SharedEvent, Asked, Marked, Sent, Given, Kept, Withdrew, GivenBack, SignedIn, Allowed, LoggedIn, CanHappen, stored, gone_on, after}
+use Rattle.oauth2_shared_token.specs.State.{Token, Stored, user_of, at_rest, marked, empty, Stage, NotBegun, Asking, Marking, Sending, Holding, Returning, Done, put, Shared, stage_of, begin}
+use Rattle.oauth2_shared_token.specs.Event.{SharedEvent, Asked, Marked, Sent, Given, Kept, Withdrew, GivenBack, SignedIn, Allowed, LoggedIn, LoggedOut, WasFree, CanHappen, stored, gone_on, after}
+use Rattle.oauth2_shared_token.specs.Run.{IsRun, at_last}
 use Rattle.oauth2_shared_token.proofs.Places.{read-put, in_one_more, only_one}
 
 -- it was stored before, or is
@@ -100,6 +101,12 @@ sound_after s (Allowed i version token) sound can =
     sound_stored s (at_rest (version + 1) token) sound (omega (arith, can.1))
 sound_after s (LoggedIn version new) sound can =
     sound_stored s (at_rest (version + 1) new) sound (omega (arith, can.1))
+sound_after s (LoggedOut version) sound can =
+    sound_stored s (empty (version + 1)) sound (omega (arith, can.1))
+
+pub sound_at_last : (s : Shared) (events : List SharedEvent) → IsSound s → IsRun s events → IsSound (at_last s events)
+sound_at_last s [] sound run = sound
+sound_at_last s (event ∷ events) sound run = sound_at_last (after s event) events (sound_after s event sound run.0) run.1
 
 -- what a renewal asked to mark is what is stored, where the version fits
 pub asked_is_stored : (s : Shared) (i version : ℕ) (token : Token) → IsSound s → CanHappen s (Marked i version token) → at_rest version token ≡ s.store
@@ -131,6 +138,19 @@ nobody i stage is = is
 none_unsent : {P : Type 0} (i version : ℕ) (token : Token) → IsUnsent (get_or {A = Stage} [] i NotBegun) version token → P
 none_unsent i version token (inl e) = absurd (let none = nobody i (Marking version token) e in cc)
 none_unsent i version token (inr e) = absurd (let none = nobody i (Returning version token) e in cc)
+
+-- what was read empty is so where the version fits
+pub empty_is_stored : (s : Shared) (version : ℕ) → IsSound s → Contains s.past (empty version) → s.store.version ≡ version → empty version ≡ s.store
+empty_is_stored s version sound seen fits =
+    elim (sound.reads (empty version) seen) [
+      | inl less ↦ absurd (omega (arith, less, fits))
+      | inr same ↦ same
+    ]
+
+-- nobody uses what was read free
+pub free_is_unused : (s : Shared) (version : ℕ) → IsSound s → WasFree s.past version → s.store.version ≡ version → None ≡ user_of s.store.content
+free_is_unused s version sound (inl rests) fits = ap (λ (p : Stored). user_of p.content) (rest_is_stored s version rests.0 sound rests.1 fits)
+free_is_unused s version sound (inr gone) fits = ap (λ (p : Stored). user_of p.content) (empty_is_stored s version sound gone fits)
 
 pub sound_begin : (start : Token) → IsSound (begin start)
 sound_begin start =

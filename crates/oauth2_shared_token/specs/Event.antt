@@ -1,11 +1,11 @@
 -- What renewals, their store and their callers do, when each of it can happen, and what it changes. A
 -- renewal that crashed or is paused is one that has no event.
-use Rattle.std.specs.Prelude.{◌≡◌, ℕ, ◌+◌, List, [], ◌∷◌, ◌++◌}
+use Rattle.std.specs.Prelude.{◌≡◌, ℕ, ◌+◌, List, [], ◌∷◌, ◌++◌, ◌⊎◌}
 use Rattle.std.specs.List.{Contains}
-use Rattle.oauth2_shared_token.specs.State.{Token, Stored, at_rest, marked, put}
+use Rattle.oauth2_shared_token.specs.State.{Token, Stored, at_rest, marked, empty, put}
 use Rattle.oauth2_shared_token.specs.State.{Stage, NotBegun, Asking, Marking, Sending, Holding, Returning, Done, Shared, stage_of}
 
--- each but the last has the name of a renewal first, and each has a version
+-- each but the last two has the name of a renewal first, and each has a version
 pub data SharedEvent : Type 0 where
   -- a renewal asks to mark this version, which it read at rest
   Asked : ℕ → ℕ → Token → SharedEvent
@@ -25,8 +25,10 @@ pub data SharedEvent : Type 0 where
   SignedIn : ℕ → ℕ → Token → SharedEvent
   -- somebody read the same and said that the old token may be used again, and the store takes that
   Allowed : ℕ → ℕ → Token → SharedEvent
-  -- somebody read this version at rest and logged in anew, and the store takes what that gave
+  -- somebody read this version at rest or empty and logged in anew, and the store takes what that gave
   LoggedIn : ℕ → Token → SharedEvent
+  -- somebody read this version and logged out, and the store takes that
+  LoggedOut : ℕ → SharedEvent
 
 -- the store replaces what is stored only if it has this version
 abbrev pub Fits : Stored → ℕ → Type 0
@@ -36,9 +38,13 @@ Fits store version = store.version ≡ version
 abbrev pub WasMarked : List Stored → ℕ → ℕ → Type 0
 WasMarked past version renewal = (token : Token) × Contains past (marked version token renewal)
 
--- somebody read it at rest
-abbrev pub WasAtRest : List Stored → ℕ → Type 0
-WasAtRest past version = (token : Token) × Contains past (at_rest version token)
+-- somebody read it at rest, or empty
+abbrev pub WasFree : List Stored → ℕ → Type 0
+WasFree past version = ((token : Token) × Contains past (at_rest version token)) ⊎ Contains past (empty version)
+
+-- somebody read it, whatever it held
+abbrev pub WasStored : List Stored → ℕ → Type 0
+WasStored past version = (p : Stored) × Contains past p × (p.version ≡ version)
 
 -- when each event can happen
 abbrev pub CanHappen : Shared → SharedEvent → Type 0
@@ -51,7 +57,8 @@ CanHappen s (Withdrew i version token) = stage_of s i ≡ Marking version token
 CanHappen s (GivenBack i version token) = (stage_of s i ≡ Returning version token) × Fits s.store (version + 1)
 CanHappen s (SignedIn i version new) = WasMarked s.past version i × Fits s.store version
 CanHappen s (Allowed i version token) = Contains s.past (marked version token i) × Fits s.store version
-CanHappen s (LoggedIn version new) = WasAtRest s.past version × Fits s.store version
+CanHappen s (LoggedIn version new) = WasFree s.past version × Fits s.store version
+CanHappen s (LoggedOut version) = WasStored s.past version × Fits s.store version
 
 -- the store takes something
 abbrev pub stored : Shared → Stored → Shared
@@ -73,3 +80,4 @@ after s (GivenBack i version token) = gone_on (stored s (at_rest (version + 2) t
 after s (SignedIn i version new) = stored s (at_rest (version + 1) new)
 after s (Allowed i version token) = stored s (at_rest (version + 1) token)
 after s (LoggedIn version new) = stored s (at_rest (version + 1) new)
+after s (LoggedOut version) = stored s (empty (version + 1))

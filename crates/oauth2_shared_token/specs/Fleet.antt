@@ -8,9 +8,9 @@ use Rattle.oauth2_shared_token.specs.declared.renewal.Told.{Told}
 use Rattle.oauth2_shared_token.specs.declared.renewal.Step.{Step}
 use Rattle.oauth2_shared_token.specs.declared.renewal.Step.TheVariants as step
 use Rattle.oauth2_shared_token.specs.declared.renewal.Turn.{Turn}
-use Rattle.oauth2_shared_token.specs.State.{Token, Stored, at_rest, marked, put, begin}
+use Rattle.oauth2_shared_token.specs.State.{Token, Stored, at_rest, marked, empty, put, begin}
 use Rattle.oauth2_shared_token.specs.Event.{SharedEvent, Marked, Kept, GivenBack, SignedIn, Allowed, LoggedIn}
-use Rattle.oauth2_shared_token.specs.Event.{Fits, WasMarked, WasAtRest}
+use Rattle.oauth2_shared_token.specs.Event.{LoggedOut, Fits, WasMarked, WasFree, WasStored}
 use Rattle.oauth2_shared_token.specs.Run.{IsRun, at_last, has_refresh, times_sent, times_stored, tokens_stored}
 use Rattle.oauth2_shared_token.specs.Renewal.{next_turn, token_of, IsSo, events_of}
 
@@ -45,8 +45,10 @@ pub data Happening : Type 0 where
   SignsIn : ℕ → ℕ → Token → Happening
   -- somebody read the same and said that the old token may be used again, and the store takes that
   Allows : ℕ → ℕ → Token → Happening
-  -- somebody read this version at rest and logged in anew, and the store takes that
+  -- somebody read this version at rest or empty and logged in anew, and the store takes that
   LogsIn : ℕ → Token → Happening
+  -- somebody read this version and logged out, and the store takes that
+  LogsOut : ℕ → Happening
 
 -- when each can happen: a machine may be told whatever is so; the store takes what was ever asked of it,
 -- if it has the version
@@ -57,7 +59,8 @@ CanOccur f (Took (ToKeep i version new)) = Contains f.requests (ToKeep i version
 CanOccur f (Took (ToReturn i version token)) = Contains f.requests (ToReturn i version token) × Fits f.store (version + 1)
 CanOccur f (SignsIn i version new) = WasMarked f.past version i × Fits f.store version
 CanOccur f (Allows i version token) = Contains f.past (marked version token i) × Fits f.store version
-CanOccur f (LogsIn version new) = WasAtRest f.past version × Fits f.store version
+CanOccur f (LogsIn version new) = WasFree f.past version × Fits f.store version
+CanOccur f (LogsOut version) = WasStored f.past version × Fits f.store version
 
 -- the requests of a step
 abbrev pub requests_of : ℕ → Step → List Request
@@ -68,6 +71,7 @@ requests_of i (step.Keep version new) = ToKeep i version (token_of new) ∷ []
 requests_of i (step.GiveBack version token) = ToReturn i version (token_of token) ∷ []
 requests_of i step.Repeat = []
 requests_of i (step.InUse other token) = []
+requests_of i step.LoggedOut = []
 requests_of i step.End = []
 
 -- a machine has taken this turn
@@ -93,6 +97,7 @@ later f (Took (ToReturn i version token)) = taken f (at_rest (version + 2) token
 later f (SignsIn i version new) = taken f (at_rest (version + 1) new)
 later f (Allows i version token) = taken f (at_rest (version + 1) token)
 later f (LogsIn version new) = taken f (at_rest (version + 1) new)
+later f (LogsOut version) = taken f (empty (version + 1))
 
 -- the events that it makes
 abbrev pub events_in : Fleet → Happening → List SharedEvent
@@ -103,6 +108,7 @@ events_in f (Took (ToReturn i version token)) = GivenBack i version token ∷ []
 events_in f (SignsIn i version new) = SignedIn i version new ∷ []
 events_in f (Allows i version token) = Allowed i version token ∷ []
 events_in f (LogsIn version new) = LoggedIn version new ∷ []
+events_in f (LogsOut version) = LoggedOut version ∷ []
 
 -- a token is stored, and no machine has begun
 abbrev pub fleet_of : Token → Fleet
@@ -150,6 +156,7 @@ handed_out (step.Keep version new) = None
 handed_out (step.GiveBack version token) = None
 handed_out step.Repeat = None
 handed_out (step.InUse other token) = Some (token_of token)
+handed_out step.LoggedOut = None
 handed_out step.End = None
 
 -- each token that a machine hands out, whenever that is, came to be stored before

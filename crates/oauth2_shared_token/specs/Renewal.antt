@@ -1,7 +1,9 @@
 -- What a renewal does next from what it knows and is told, and when that is so.
-use Rattle.std.specs.Prelude.{◌≡◌, ◌≢◌, ℕ, ◌+◌, ◌==◌, nat_lt, if◌then◌else◌, Bool, Option, Some, None, ◌⊎◌, List, [], ◌∷◌}
+use Rattle.std.specs.Prelude.{◌≡◌, ◌≢◌, ℕ, ◌+◌, ◌==◌, nat_lt, if◌then◌else◌, Bool, ◌⊎◌, List, [], ◌∷◌}
 use Rattle.std.specs.List.{Contains}
 use Rattle.oauth2_shared_token.specs.declared.renewal.SharedToken.{SharedToken}
+use Rattle.oauth2_shared_token.specs.declared.renewal.Content.{Content}
+use Rattle.oauth2_shared_token.specs.declared.renewal.Content.TheVariants as content
 use Rattle.oauth2_shared_token.specs.declared.renewal.StoredValue.{StoredValue}
 use Rattle.oauth2_shared_token.specs.declared.renewal.Phase.{Phase}
 use Rattle.oauth2_shared_token.specs.declared.renewal.Phase.TheVariants as phase
@@ -12,22 +14,25 @@ use Rattle.oauth2_shared_token.specs.declared.renewal.Step.TheVariants as step
 use Rattle.oauth2_shared_token.specs.declared.renewal.Turn.{Turn}
 use Rattle.oauth2_shared_token.specs.declared.renewal.Learnt.{Learnt}
 use Rattle.oauth2_shared_token.specs.declared.renewal.Learnt.TheVariants as learnt
+use Rattle.oauth2_shared_token.specs.State as state
 use Rattle.oauth2_shared_token.specs.State.{Token, Stored, marked, NotBegun, Asking, Marking, Sending, Holding, Returning, Done, Shared, stage_of, begin}
 use Rattle.oauth2_shared_token.specs.Event.{SharedEvent, Asked, Marked, Sent, Given, Kept, Withdrew, GivenBack}
-use Rattle.oauth2_shared_token.specs.Event.{SignedIn, Allowed, LoggedIn, CanHappen, after}
+use Rattle.oauth2_shared_token.specs.Event.{SignedIn, Allowed, LoggedIn, LoggedOut, CanHappen, after}
 use Rattle.oauth2_shared_token.specs.Run.{IsRun, at_last}
 
 -- a phase with a step
 abbrev pub turn_of : Phase → Step → Turn
 turn_of phase step = record { phase = phase; step = step }
 
-abbrev pub looked_at : ℕ → SharedToken → Option ℕ → Turn
-looked_at version token None = turn_of (phase.Asking version token) (step.Mark version token)
-looked_at version token (Some other) = turn_of phase.Over (step.InUse other token)
+-- by what a version holds
+abbrev pub looked_at : ℕ → Content → Turn
+looked_at version (content.AtRest token) = turn_of (phase.Asking version token) (step.Mark version token)
+looked_at version (content.Marked token other) = turn_of phase.Over (step.InUse other token)
+looked_at version content.Empty = turn_of phase.Over step.LoggedOut
 
 -- what is at rest is asked for
 abbrev pub after_looking : Told → Turn
-after_looking (told.Stored p) = looked_at p.version p.token p.used_by
+after_looking (told.Stored p) = looked_at p.version p.content
 after_looking told.Done = turn_of phase.Looking step.Look
 after_looking told.Nothing = turn_of phase.Looking step.Look
 after_looking (told.Answer new) = turn_of phase.Looking step.Look
@@ -37,13 +42,14 @@ after_looking told.Stop = turn_of phase.Over step.End
 abbrev pub past_or_open : Bool → Learnt
 past_or_open is_past = if is_past then learnt.Lost else learnt.Open
 
-abbrev pub seen_by : ℕ → Bool → Option ℕ → Learnt
-seen_by name is_past None = past_or_open is_past
-seen_by name is_past (Some other) = if other == name then learnt.Taken else past_or_open is_past
+abbrev pub seen_in : ℕ → Bool → Content → Learnt
+seen_in name is_past (content.AtRest token) = past_or_open is_past
+seen_in name is_past (content.Marked token other) = if other == name then learnt.Taken else past_or_open is_past
+seen_in name is_past content.Empty = past_or_open is_past
 
 -- what a value that is read says of the mark of this renewal on this version
 abbrev pub read_again : ℕ → ℕ → StoredValue → Learnt
-read_again name version p = seen_by name (nat_lt version p.version) p.used_by
+read_again name version p = seen_in name (nat_lt version p.version) p.content
 
 -- the refresh token is sent once the mark was taken, and never before
 abbrev pub sent_if : ℕ → SharedToken → Learnt → Turn
@@ -103,12 +109,17 @@ next_turn name (phase.Keeping version new) told = after_keeping version new told
 next_turn name (phase.Returning version token) told = after_returning version token told
 next_turn name phase.Over told = turn_of phase.Over step.End
 
--- a token of the code, and a value of it, as the events have them
+-- a token of the code, what a version holds, and a value, as the events have them
 abbrev pub token_of : SharedToken → Token
 token_of t = record { access = t.access; refresh = t.refresh }
 
+abbrev pub content_of : Content → state.Content
+content_of (content.AtRest token) = state.AtRest (token_of token)
+content_of (content.Marked token other) = state.InUse (token_of token) other
+content_of content.Empty = state.Empty
+
 abbrev pub stored_of : StoredValue → Stored
-stored_of p = record { version = p.version; token = token_of p.token; used_by = p.used_by }
+stored_of p = record { version = p.version; content = content_of p.content }
 
 -- some run leads there
 pub record IsReached (s : Shared) : Type 0 where
@@ -155,6 +166,7 @@ events_of name (step.Keep version new) = Given name version (token_of new) ∷ [
 events_of name (step.GiveBack version token) = Withdrew name version (token_of token) ∷ []
 events_of name step.Repeat = []
 events_of name (step.InUse other token) = []
+events_of name step.LoggedOut = []
 events_of name step.End = []
 
 -- each step of a renewal is an event that can happen
@@ -187,6 +199,7 @@ IsOfOthers name (GivenBack i version token) = Unit {0}
 IsOfOthers name (SignedIn i version new) = Unit {0}
 IsOfOthers name (Allowed i version token) = Unit {0}
 IsOfOthers name (LoggedIn version new) = Unit {0}
+IsOfOthers name (LoggedOut version) = Unit {0}
 
 -- and stays so, whatever others and the store do
 abbrev pub WhatIsKnownStays : Type 0

@@ -1,8 +1,8 @@
 -- A finished list of events, and what is read off it.
-use Rattle.std.specs.Prelude.{ℕ, ◌+◌, ◌==◌, if◌then◌else◌, List, [], ◌∷◌}
+use Rattle.std.specs.Prelude.{ℕ, ◌+◌, ◌==◌, if◌then◌else◌, List, [], ◌∷◌, Option, Some, None}
 use Rattle.oauth2_shared_token.specs.State.{Token, Shared}
 use Rattle.oauth2_shared_token.specs.Event.{SharedEvent, Asked, Marked, Sent, Given, Kept, Withdrew, GivenBack, SignedIn}
-use Rattle.oauth2_shared_token.specs.Event.{Allowed, LoggedIn, CanHappen, after}
+use Rattle.oauth2_shared_token.specs.Event.{Allowed, LoggedIn, LoggedOut, CanHappen, after}
 
 -- each event can happen when its turn comes: any number of renewals, in any order, each stopped anywhere
 abbrev pub IsRun : Shared → List SharedEvent → Type 0
@@ -31,6 +31,7 @@ times_sent r (GivenBack i version token ∷ events) = times_sent r events
 times_sent r (SignedIn i version new ∷ events) = times_sent r events
 times_sent r (Allowed i version token ∷ events) = times_sent r events
 times_sent r (LoggedIn version new ∷ events) = times_sent r events
+times_sent r (LoggedOut version ∷ events) = times_sent r events
 
 -- how often it comes to be stored, as part of a new token or because a caller said so: not where a mark on
 -- it is taken off
@@ -46,6 +47,7 @@ times_stored r (GivenBack i version token ∷ events) = times_stored r events
 times_stored r (SignedIn i version new ∷ events) = has_refresh r new + times_stored r events
 times_stored r (Allowed i version token ∷ events) = has_refresh r token + times_stored r events
 times_stored r (LoggedIn version new ∷ events) = has_refresh r new + times_stored r events
+times_stored r (LoggedOut version ∷ events) = times_stored r events
 
 -- the tokens that come to be stored, in order
 abbrev pub tokens_stored : List SharedEvent → List Token
@@ -60,31 +62,35 @@ tokens_stored (GivenBack i version token ∷ events) = tokens_stored events
 tokens_stored (SignedIn i version new ∷ events) = new ∷ tokens_stored events
 tokens_stored (Allowed i version token ∷ events) = token ∷ tokens_stored events
 tokens_stored (LoggedIn version new ∷ events) = new ∷ tokens_stored events
+tokens_stored (LoggedOut version ∷ events) = tokens_stored events
 
--- the last token that came to be stored
-abbrev pub newest : Token → List SharedEvent → Token
+-- the last token that came to be stored; none, if somebody logged out since
+abbrev pub newest : Option Token → List SharedEvent → Option Token
 newest token [] = token
 newest token (Asked i version t ∷ events) = newest token events
 newest token (Marked i version t ∷ events) = newest token events
 newest token (Sent i version t ∷ events) = newest token events
 newest token (Given i version new ∷ events) = newest token events
-newest token (Kept i version new ∷ events) = newest new events
+newest token (Kept i version new ∷ events) = newest (Some new) events
 newest token (Withdrew i version t ∷ events) = newest token events
 newest token (GivenBack i version t ∷ events) = newest token events
-newest token (SignedIn i version new ∷ events) = newest new events
-newest token (Allowed i version t ∷ events) = newest t events
-newest token (LoggedIn version new ∷ events) = newest new events
+newest token (SignedIn i version new ∷ events) = newest (Some new) events
+newest token (Allowed i version t ∷ events) = newest (Some t) events
+newest token (LoggedIn version new ∷ events) = newest (Some new) events
+newest token (LoggedOut version ∷ events) = newest None events
 
--- the last token that anybody was given, by the server, by a new login or by a caller
-abbrev pub newest_given : Token → List SharedEvent → Token
+-- the last token that anybody was given, by the server, by a new login or by a caller; none, if somebody
+-- logged out since
+abbrev pub newest_given : Option Token → List SharedEvent → Option Token
 newest_given token [] = token
 newest_given token (Asked i version t ∷ events) = newest_given token events
 newest_given token (Marked i version t ∷ events) = newest_given token events
 newest_given token (Sent i version t ∷ events) = newest_given token events
-newest_given token (Given i version new ∷ events) = newest_given new events
+newest_given token (Given i version new ∷ events) = newest_given (Some new) events
 newest_given token (Kept i version new ∷ events) = newest_given token events
 newest_given token (Withdrew i version t ∷ events) = newest_given token events
 newest_given token (GivenBack i version t ∷ events) = newest_given token events
-newest_given token (SignedIn i version new ∷ events) = newest_given new events
-newest_given token (Allowed i version t ∷ events) = newest_given t events
-newest_given token (LoggedIn version new ∷ events) = newest_given new events
+newest_given token (SignedIn i version new ∷ events) = newest_given (Some new) events
+newest_given token (Allowed i version t ∷ events) = newest_given (Some t) events
+newest_given token (LoggedIn version new ∷ events) = newest_given (Some new) events
+newest_given token (LoggedOut version ∷ events) = newest_given None events

@@ -3,6 +3,7 @@
 ghost use Rattle.oauth2_shared_token.specs.Fleet.{EachFleetRuns, EachFleetSendsOnce, EachHandedOutWasStored};
 ghost use Rattle.oauth2_shared_token.specs.Laws.{
   EachIsSentAtMostOnce,
+  EachLogoutHolds,
   EachReadWasStored,
   EachSendingWasStored,
   NoneIsLostUntold,
@@ -27,7 +28,7 @@ pub fn each_is_sent_at_most_once()
     ensures { EachIsSentAtMostOnce }
 {}
 
-/// What is stored is the last that was kept, signed in, allowed or logged in.
+/// What is stored is the last that was kept, signed in, allowed or logged in, or none after a logout.
 pub fn what_is_stored_is_the_newest()
     ensures { WhatIsStoredIsTheNewest }
 {}
@@ -77,6 +78,11 @@ pub fn each_read_was_stored()
 /// So each token that a machine of a fleet hands out came to be stored before.
 pub fn each_handed_out_was_stored()
     ensures { EachHandedOutWasStored }
+{}
+
+/// After somebody logged out nothing is stored until somebody logs in.
+pub fn each_logout_holds()
+    ensures { EachLogoutHolds }
 {}
 
 /// Two requests run at once only where a caller answered `Unfinished` for one of them.

@@ -22,12 +22,22 @@ pub struct SharedToken {
     pub refresh: u64,
 }
 
-/// What the store keeps under a name: `used_by` names the renewal that uses the refresh token.
+/// What a version holds.
+#[derive(Clone, Copy)]
+pub enum Content {
+    /// A token that no renewal uses.
+    AtRest(SharedToken),
+    /// A token whose refresh token the renewal of this name uses: its mark.
+    Marked(SharedToken, u64),
+    /// No token: somebody logged out.
+    Empty,
+}
+
+/// What the store keeps under a name.
 #[derive(Clone, Copy)]
 pub struct StoredValue {
     pub version: u64,
-    pub token: SharedToken,
-    pub used_by: Option<u64>,
+    pub content: Content,
 }
 
 /// How far a renewal is, as it knows it.
@@ -82,6 +92,8 @@ pub enum Step {
     /// The refresh token is in use by this renewal, or was and nobody ended that. The old token is
     /// handed out, whose access token may still be good.
     InUse(u64, SharedToken),
+    /// Somebody logged out, so only a new login ends that.
+    LoggedOut,
     /// The renewal is over.
     End,
 }
@@ -109,14 +121,18 @@ fn after_looking(told: Told) -> Turn
     ensures { result ≡ after_looking told }
 {
     match told {
-        Told::Stored(p) => match p.used_by {
-            None => Turn {
-                phase: Phase::Asking(p.version, p.token),
-                step: Step::Mark(p.version, p.token),
+        Told::Stored(p) => match p.content {
+            Content::AtRest(token) => Turn {
+                phase: Phase::Asking(p.version, token),
+                step: Step::Mark(p.version, token),
             },
-            Some(other) => Turn {
+            Content::Marked(token, other) => Turn {
                 phase: Phase::Over,
-                step: Step::InUse(other, p.token),
+                step: Step::InUse(other, token),
+            },
+            Content::Empty => Turn {
+                phase: Phase::Over,
+                step: Step::LoggedOut,
             },
         },
         Told::Stop => Turn {
@@ -141,15 +157,15 @@ fn read_again(name: u64, version: u64, p: StoredValue) -> Learnt
     ensures { result ≡ read_again name version p }
 {
     let is_past = version < p.version;
-    match p.used_by {
-        None => past_or_open(is_past),
-        Some(other) => {
+    match p.content {
+        Content::Marked(_, other) => {
             if other == name {
                 Learnt::Taken
             } else {
                 past_or_open(is_past)
             }
         }
+        _ => past_or_open(is_past),
     }
 }
 
