@@ -1,4 +1,5 @@
-"""Tests of tools/compare-signatures: the examples of RFC 7515, A.2 and A.3, and RFC 6979, A.2.6, and that its cases show a program that is wrong."""
+"""Tests of tools/compare-signatures: the examples of RFC 7515, A.2 and A.3, RFC 6979, A.2.6, and RFC 8032, 7.1, and that its cases show a
+program that is wrong."""
 import base64
 import contextlib
 import importlib.util
@@ -12,6 +13,7 @@ import tool
 
 sys.path.insert(0, tool.TOOLS)
 import ecdsa_cases  # noqa: E402, of the folder above
+import eddsa_cases  # noqa: E402, likewise
 
 TOOL = tool.load('compare-signatures')
 
@@ -89,6 +91,29 @@ def by_integers(curve, key, message, signature):
     return curve.is_signature(key, message, curve.joined(*(it % curve.n for it in curve.parts(signature))))
 
 
+# RFC 8032, 7.1, TEST 3: the key, the message and the signature.
+OCTETS = bytes.fromhex('fc51cd8e6218a1a38da47ed00230f0580816ed13ba3303ac5deb911548908025')
+SIGNED_BY_OCTETS = bytes.fromhex('af82')
+SIGNATURE_BY_OCTETS = bytes.fromhex('6291d657deec24024827e69c3abe01a30ce548a284743a445e3680d7db5ac3ac'
+                                    '18ff9b538d16f290ae67f760984dc6594a7c15e9716ed28dc027beceea1ec40a')
+
+
+def judged_by_octets(verdict):
+    """What takes the place of a run of the program for Ed25519: the keys judged rightly, and each signature by this function."""
+    def told(_, text):
+        lines = [[bytes.fromhex(word.replace('-', '')) for word in it.split(' ')[1:]] for it in text.splitlines()]
+        offered = [it[0] for it in lines if len(it) == 1]
+        said = [it for _, it in eddsa_cases.offered(offered[-1])]
+        return said + [str(verdict(offered[-1], *it)).lower() for it in lines[len(offered):]]
+    return told
+
+
+def by_any_s(key, message, signature):
+    """As RFC 8032 says, but with S modulo L."""
+    s = eddsa_cases.number_of(signature[32:]) % eddsa_cases.L if len(signature) == 64 else 0
+    return eddsa_cases.is_signature(key, message, signature[:32] + eddsa_cases.octets(s))
+
+
 class Signatures(unittest.TestCase):
     def test_the_encoding_of_an_example(self):
         encoded = TOOL.padded(256, TOOL.PREFIXES['256'] + TOOL.digest('256', SIGNED))
@@ -139,6 +164,26 @@ class Signatures(unittest.TestCase):
         self.assertGreater(differences, 120)
         differences, said = self.compared_by_points(by_integers, 165)
         self.assertGreater(differences, 4)
+
+    def test_an_example_by_octets(self):
+        self.assertTrue(eddsa_cases.is_signature(OCTETS, SIGNED_BY_OCTETS, SIGNATURE_BY_OCTETS))
+        self.assertFalse(eddsa_cases.is_signature(OCTETS, SIGNED_BY_OCTETS + b'.', SIGNATURE_BY_OCTETS))
+        self.assertFalse(eddsa_cases.is_signature(OCTETS, SIGNED_BY_OCTETS, SIGNATURE_BY_OCTETS + b'\0'))
+
+    def compared_by_octets(self, verdict, number):
+        """How many cases of Ed25519 differ, and what was printed."""
+        said = io.StringIO()
+        with mock.patch.object(TOOL, 'told', judged_by_octets(verdict)), contextlib.redirect_stdout(said):
+            return TOOL.compare_eddsa('/program', number, 1), said.getvalue().splitlines()
+
+    @unittest.skipUnless(importlib.util.find_spec('cryptography'), 'no python3-cryptography')
+    def test_a_program_for_octets_that_is_right_or_wrong(self):
+        differences, said = self.compared_by_octets(eddsa_cases.is_signature, 80)
+        self.assertEqual((differences, said[-1]), (0, '80 cases, 0 differences'))
+        differences, said = self.compared_by_octets(lambda *_: True, 80)
+        self.assertGreater(differences, 60)
+        differences, said = self.compared_by_octets(by_any_s, 80)
+        self.assertGreater(differences, 5)
 
 
 if __name__ == '__main__':

@@ -1,0 +1,4 @@
+pub mod Choices
+pub mod Constants
+pub mod Residues
+pub mod Sums
