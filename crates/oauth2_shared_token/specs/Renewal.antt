@@ -15,7 +15,8 @@ use Rattle.oauth2_shared_token.specs.declared.renewal.Turn.{Turn}
 use Rattle.oauth2_shared_token.specs.declared.renewal.Learnt.{Learnt}
 use Rattle.oauth2_shared_token.specs.declared.renewal.Learnt.TheVariants as learnt
 use Rattle.oauth2_shared_token.specs.State as state
-use Rattle.oauth2_shared_token.specs.State.{Token, Stored, marked, NotBegun, Asking, Marking, Sending, Holding, Returning, Done, Shared, stage_of, begin}
+use Rattle.oauth2_shared_token.specs.State.{Token, Stored, marked, NotBegun, Asking, Marking, Sending}
+use Rattle.oauth2_shared_token.specs.State.{Holding, Returning, Done, Shared, stage_of, begin}
 use Rattle.oauth2_shared_token.specs.Event.{SharedEvent, Asked, Marked, Sent, Given, Kept, Withdrew, GivenBack}
 use Rattle.oauth2_shared_token.specs.Event.{SignedIn, Allowed, LoggedIn, LoggedOut, CanHappen, after}
 use Rattle.oauth2_shared_token.specs.Run.{IsRun, at_last}

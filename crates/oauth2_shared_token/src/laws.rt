@@ -1,6 +1,10 @@
 //! Laws of a shared token, for any number of renewals and any order of what they do.
 
-ghost use Rattle.oauth2_shared_token.specs.Fleet.{EachFleetRuns, EachFleetSendsOnce, EachHandedOutWasStored};
+ghost use Rattle.oauth2_shared_token.specs.Fleet.{
+  EachFleetRuns,
+  EachFleetSendsOnce,
+  EachHandedOutWasStored,
+};
 ghost use Rattle.oauth2_shared_token.specs.Laws.{
   EachIsSentAtMostOnce,
   EachLogoutHolds,
@@ -28,7 +32,8 @@ pub fn each_is_sent_at_most_once()
     ensures { EachIsSentAtMostOnce }
 {}
 
-/// What is stored is the last that was kept, signed in, allowed or logged in, or none after a logout.
+/// What is stored is the last that was kept, signed in, allowed or logged in, or none after a
+/// logout.
 pub fn what_is_stored_is_the_newest()
     ensures { WhatIsStoredIsTheNewest }
 {}
