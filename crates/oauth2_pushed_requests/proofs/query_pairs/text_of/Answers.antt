@@ -1,0 +1,11 @@
+use Rattle.std.proofs.Common.{refl, inr}
+use Rattle.std.proofs.lemmas.Str.{is_utf8-from_IsUtf8}
+use Rattle.oauth2_pushed_requests.proofs.Kept.{is_not_utf8}
+use Rattle.oauth2_pushed_requests.proofs.query_pairs.text_of.Goals as goal
+
+pub returns-in_ok-from_str-in-Ok-clause-ok : goal.returns-in_ok-from_str-in-Ok-clause-ok
+returns-in_ok-from_str-in-Ok-clause-ok c =
+    (rw (c.in_ok-from_str-in-Ok.ensures.ok) (c.in-Ok.ensures.cases.0), is_utf8-from_IsUtf8 _ c.in-Ok.ensures.cases.1)
+
+pub returns-in-Err-clause-err : goal.returns-in-Err-clause-err
+returns-in-Err-clause-err c = inr (refl, is_not_utf8 _ c.in-Err.ensures.cases.0)
