@@ -1,0 +1,4 @@
+pub mod NameLemmas
+pub mod RequestLemmas
+pub mod LawLemmas
+pub mod CallLemmas

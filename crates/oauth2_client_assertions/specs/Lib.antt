@@ -1,0 +1,6 @@
+pub mod AssertingCall
+pub mod Assertions
+pub mod ErrorTexts
+pub mod Laws
+pub mod Requests
+pub mod private

@@ -1,0 +1,131 @@
+//! A client that adds an assertion to each request.
+
+ghost use Rattle.std.specs.Prelude.{◌≡◌};
+ghost use Rattle.oauth2_wire.specs.Request.{view_of};
+ghost use Rattle.oauth2_client_assertions.specs.AssertingCall.{told};
+ghost use Rattle.oauth2_client_assertions.specs.private.Asking.{Asks};
+
+use crate::assertion_source::AssertionSource;
+use crate::assertion_type::AssertionType;
+use crate::error::AssertingError;
+use crate::request::{authenticates, is_form_post, with_assertion};
+use oauth2_wire::{AlwaysReady, HttpRequest, HttpResponse, SyncHttpClient};
+use std::alloc::Global;
+use std::marker::Model;
+
+/// A client that authenticates by assertions: it adds one to each POST of a form. All other
+/// requests are sent as they are.
+///
+/// Contracts see it as an `Asserter`.
+#[derive(Drop)]
+pub struct AssertingClient<C, S> {
+    alloc: Global,
+    client: C,
+    source: S,
+    assertion_type: AssertionType,
+}
+
+impl<C, S> Model for AssertingClient<C, S> {
+    ghost use Rattle.oauth2_client_assertions.specs.AssertingCall.{Asserter};
+
+    ghost Value = { Asserter C S };
+
+    ghost view = { λ c. record {
+      client = c.client;
+      source = c.source;
+      assertion_type = c.assertion_type;
+    } };
+}
+
+impl<C, S> AssertingClient<C, S> {
+    /// Wraps a client. The assertions of the source are JWTs.
+    pub fn new(alloc: Global, client: C, source: S) -> AssertingClient<C, S>
+        ensures { result ≡ record {
+          client = client;
+          source = source;
+          assertion_type = AssertionType.JwtBearer;
+        } }
+    {
+        AssertingClient {
+            alloc,
+            client,
+            source,
+            assertion_type: AssertionType::JwtBearer,
+        }
+    }
+
+    /// Says that the assertions of the source have this type.
+    pub fn set_assertion_type(self, assertion_type: AssertionType) -> AssertingClient<C, S>
+        ensures { result ≡ record self { assertion_type = assertion_type } }
+    {
+        let mut client = self;
+        client.assertion_type = assertion_type;
+        client
+    }
+
+    /// The inner client and the source.
+    pub fn into_parts(self) -> (C, S)
+        ensures { result ≡ (self.client, self.source) }
+    {
+        let AssertingClient { client, source, .. } = self;
+        (client, source)
+    }
+}
+
+impl<C: SyncHttpClient, S: AssertionSource> SyncHttpClient for AssertingClient<C, S> {
+    ghost use Rattle.oauth2_client_assertions.specs.AssertingCall.{CallsAsserting};
+
+    type Error = AssertingError<C::Error, S::Error>;
+
+    ghost is_ready = { λ c. C.is_ready c.client };
+
+    ghost step = { CallsAsserting C.step S.step };
+
+    fn call(
+        &mut self,
+        request: HttpRequest,
+    ) -> Result<HttpResponse, AssertingError<C::Error, S::Error>> {
+        if !is_form_post(&request) {
+            return told(self.client.call(request));
+        }
+        if authenticates(&request) {
+            return Err(AssertingError::OtherAuthentication);
+        }
+        match asserted(self.alloc, &mut self.source, self.assertion_type, request) {
+            Ok(sent) => told(self.client.call(sent)),
+            Err(error) => Err(error),
+        }
+    }
+}
+
+impl<C: AlwaysReady, S: AssertionSource> AlwaysReady for AssertingClient<C, S> {
+    ghost always_ready = { λ c. C.always_ready c.client };
+}
+
+// The request with an assertion of the source, or why there is none.
+fn asserted<S: AssertionSource, E>(
+    alloc: Global,
+    source: &mut S,
+    assertion_type: AssertionType,
+    request: HttpRequest,
+) -> Result<HttpRequest, AssertingError<E, S::Error>>
+    ensures { Asks S.step assertion_type (view_of request) source.old result source.new }
+{
+    match source.assertion(alloc) {
+        Ok(assertion) => match with_assertion(request, assertion_type, &assertion) {
+            Ok(sent) => Ok(sent),
+            Err(_) => Err(AssertingError::Memory),
+        },
+        Err(error) => Err(AssertingError::Source(error)),
+    }
+}
+
+// The reply, or the error of the inner client.
+fn told<E: Drop, S>(answer: Result<HttpResponse, E>) -> Result<HttpResponse, AssertingError<E, S>>
+    ensures { result ≡ told answer }
+{
+    match answer {
+        Ok(reply) => Ok(reply),
+        Err(error) => Err(AssertingError::Client(error)),
+    }
+}
