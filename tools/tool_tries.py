@@ -369,7 +369,7 @@ class Github(Broken):
 
 def at_github(tries):
     """The results of a device and of a wrong code, with the habits of the server known by its name and without them."""
-    for flags, token in ((('--server', 'github'), r'"scope":\["repo","gist"\]'), ((), '!missing field `access_token`')):
+    for flags, token in ((('--server', 'github'), '"scope":"repo gist"'), ((), '!"access_token" Missing')):
         GithubHandler.polls, name = 0, ' '.join(flags) or 'without --server'
         tries.end('device, ' + name, tries.start('device', *flags), '', token)
     wrong = tries.start('refresh', '--server', 'github', OAUTH2_REFRESH_TOKEN='r')
