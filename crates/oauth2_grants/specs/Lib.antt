@@ -1,4 +1,4 @@
-pub mod AbsoluteUri
+pub mod BearerGrants
 pub mod Extension
 pub mod GrantText
 pub mod TokenExchange

@@ -1,3 +1,2 @@
 -- What only private clauses cite.
-pub mod Colon
 pub mod Params

@@ -1,7 +1,7 @@
 //! A request to the token endpoint by a grant type that is a URI (RFC 6749, section 4.5).
 
 ghost use Rattle.std.specs.Prelude.{◌≡◌, ◌↔◌, ◌∷◌, [], Some, Ok, IfOk, Err, IfErr, OnOk, IsOkAnd, IsErrAnd, IsTrue, false};
-ghost use Rattle.std.specs.Prelude.{List, ℕ, if◌then◌else◌};
+ghost use Rattle.std.specs.Prelude.{List, ℕ, codes, if◌then◌else◌};
 ghost use Rattle.std.specs.Iterator.{Drains, IsFinite};
 ghost use Rattle.http_uri.specs.Uri.{SpellsNone};
 ghost use Rattle.url.specs.Parts.{serialize};
@@ -10,7 +10,7 @@ ghost use Rattle.oauth2_wire.specs.Once.{AsksOnce};
 ghost use Rattle.oauth2_wire.specs.Reply.{answer_of};
 ghost use Rattle.oauth2_wire.specs.Request.{IsRequestOf, view_of};
 ghost use Rattle.oauth2_wire.specs.Texts.{param_bytes};
-ghost use Rattle.oauth2_grants.specs.AbsoluteUri.{is_absolute_uri};
+ghost use Rattle.oauth2_resource_indicators.specs.AbsoluteUri.{is_absolute_uri};
 ghost use Rattle.oauth2_grants.specs.Extension.{
   extension_configuration,
   is_taken,
@@ -22,14 +22,15 @@ ghost use Rattle.oauth2_grants.specs.declared.grant_fault.GrantFault.TheVariants
   GrantTypeIsNoUri,
   Memory,
   NameIsTaken,
+  ResourceIsNoUri,
 };
 
-use crate::absolute_uri::is_absolute_uri;
 use crate::grant_fault::GrantFault;
 use crate::token_client::TokenClient;
 use oauth2_codes::ErrorResponse;
 use oauth2_form::ParamBuffer;
 use oauth2_replies::TokenResponse;
+use oauth2_resource_indicators::is_absolute_uri;
 use oauth2_types::Scope;
 use oauth2_wire::{
     HttpRequest, ParamText, RequestFault, RequestTokenError, SyncHttpClient,
@@ -146,6 +147,22 @@ impl<'a, TE, TR> ExtensionTokenRequest<'a, TE, TR> {
             return Err(GrantFault::NameIsTaken);
         }
         self.buffer.add_extra(name.as_str(), value.as_str())?;
+        Ok(self)
+    }
+
+    /// Adds a resource that the token is meant for: an absolute URI without a fragment (RFC 8707,
+    /// section 2.2). A request may have any number of them.
+    pub fn add_resource(mut self, resource: ParamText<'_>) -> Result<Self, GrantFault>
+        ensures ok { let added = (codes "resource", param_bytes resource.entry) ∷ [] in
+            IfOk result (λ r. IsTrue (is_absolute_uri (param_bytes resource.entry))
+            × (r ≡ with_params self.entry added)) }
+        ensures err { IfErr result (λ e. e
+            ≡ (if is_absolute_uri (param_bytes resource.entry) then Memory else ResourceIsNoUri)) }
+    {
+        if !is_absolute_uri(resource.as_str()) {
+            return Err(GrantFault::ResourceIsNoUri);
+        }
+        self.buffer.add_extra("resource", resource.as_str())?;
         Ok(self)
     }
 

@@ -11,7 +11,8 @@ pub enum GrantFault {
     /// The request sends a parameter of this name itself: `grant_type`, `scope`, `client_id` or
     /// `client_secret`.
     NameIsTaken,
-    /// The resource is not an absolute URI without a fragment (RFC 8693, section 2.1).
+    /// The resource is not an absolute URI without a fragment (RFC 8693, section 2.1; RFC 8707,
+    /// section 2).
     ResourceIsNoUri,
     /// The type of a token is not an absolute URI (RFC 8693, section 3).
     TokenTypeIsNoUri,

@@ -3,7 +3,7 @@
 ghost use Rattle.std.specs.Prelude.{◌≡◌, ◌∷◌, [], ◌++◌, Some, None, IfOk, IsOkAnd, IsErrAnd, OnOk};
 ghost use Rattle.std.specs.Prelude.{IfErr, IsTrue, false, codes, map, option_map, if◌then◌else◌};
 ghost use Rattle.oauth2_wire.specs.Expected.{optional_pair};
-ghost use Rattle.oauth2_grants.specs.AbsoluteUri.{is_absolute_uri};
+ghost use Rattle.oauth2_resource_indicators.specs.AbsoluteUri.{is_absolute_uri};
 ghost use Rattle.oauth2_grants.specs.Extension.{new_extension_request, with_params};
 ghost use Rattle.oauth2_grants.specs.TokenExchange.{
   actor_pairs,
@@ -18,12 +18,12 @@ ghost use Rattle.oauth2_grants.specs.declared.grant_fault.GrantFault.TheVariants
   TokenTypeIsNoUri,
 };
 
-use crate::absolute_uri::is_absolute_uri;
 use crate::extension_token_request::ExtensionTokenRequest;
 use crate::grant_fault::GrantFault;
 use crate::token_client::TokenClient;
 use crate::token_type::TokenTypeIdentifier;
 use oauth2_form::ParamBuffer;
+use oauth2_resource_indicators::is_absolute_uri;
 use std::alloc::{AllocError, Global};
 use std::convert::AsStr;
 use std::marker::Model;

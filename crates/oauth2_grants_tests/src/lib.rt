@@ -1,9 +1,12 @@
-//! Tests of extension grants and of token exchanges: what is sent, and what a reply reads to.
+//! Tests of extension grants, of assertions as grants, and of token exchanges: what is sent, and what
+//! a reply reads to.
 
 #![tactic(auto)]
 
 #[cfg(test)]
 mod asking;
+#[cfg(test)]
+mod bearer;
 #[cfg(test)]
 mod exchanges;
 #[cfg(test)]

@@ -2,7 +2,7 @@
 
 ghost use Rattle.std.specs.Prelude.{◌≡◌, option_map};
 ghost use Rattle.std.specs.List.{list_all};
-ghost use Rattle.oauth2_grants.specs.AbsoluteUri.{
+ghost use Rattle.oauth2_resource_indicators.specs.AbsoluteUri.{
   begins_with_digits,
   begins_with_letter,
   escapes_are_whole,
@@ -12,7 +12,7 @@ ghost use Rattle.oauth2_grants.specs.AbsoluteUri.{
   is_uri_byte,
   is_uri_text,
 };
-ghost use Rattle.oauth2_grants.specs.private.Colon.{split_colon};
+ghost use Rattle.oauth2_resource_indicators.specs.private.Colon.{split_colon};
 
 /// Whether a text is an absolute URI, as far as its scheme, its characters and its percent signs
 /// tell: it has no fragment then.

@@ -1,0 +1,3 @@
+pub mod AbsoluteUri
+pub mod ResourceText
+pub mod private
