@@ -1,4 +1,4 @@
--- The algorithms of signatures by a public key (RFC 7518, 3.1).
+-- The algorithms of signatures by a public key (RFC 7518, 3.1; RFC 8037, 3.1).
 use Rattle.std.specs.Prelude.{ℕ, List, codes, bytes_eq, Bool, IsTrue, if◌then◌else◌, Option, Some, None}
 use Rattle.rsa_signatures.specs.declared.signature_scheme.SignatureScheme.{SignatureScheme}
 use Rattle.rsa_signatures.specs.declared.signature_scheme.SignatureScheme.TheVariants.{Pkcs1v15, Pss}
@@ -6,14 +6,15 @@ use Rattle.hash_functions.specs.declared.hash_function.HashFunction.TheVariants.
 use Rattle.rsa_signatures.specs.PublicKey.{PublicKey as RsaKey}
 use Rattle.rsa_signatures.specs.Signature.{IsSignature as IsRsaSignature}
 use Rattle.ecdsa_signatures.specs.Signature.{IsSignature as IsEcdsaSignature}
+use Rattle.eddsa_signatures.specs.Signature.{IsSignature as IsEddsaSignature}
 use Rattle.ecdsa_signatures.specs.declared.curve.EllipticCurve.{EllipticCurve}
 use Rattle.ecdsa_signatures.specs.declared.curve.EllipticCurve.TheVariants.{P256, P384}
 use Rattle.oauth2_keys.specs.declared.algorithm.SignatureAlgorithm.{SignatureAlgorithm}
-use Rattle.oauth2_keys.specs.declared.algorithm.SignatureAlgorithm.TheVariants.{Rs256, Rs384, Rs512, Ps256, Ps384, Ps512, Es256, Es384}
+use Rattle.oauth2_keys.specs.declared.algorithm.SignatureAlgorithm.TheVariants.{Rs256, Rs384, Rs512, Ps256, Ps384, Ps512, Es256, Es384, Eddsa as EdDsa}
 use Rattle.oauth2_keys.specs.declared.public_key.PublicKey.{PublicKey}
-use Rattle.oauth2_keys.specs.declared.public_key.PublicKey.TheVariants.{Rsa, Ecdsa}
+use Rattle.oauth2_keys.specs.declared.public_key.PublicKey.TheVariants.{Rsa, Ecdsa, Eddsa}
 
--- the value of `alg` for an algorithm (RFC 7518, 3.1)
+-- the value of `alg` for an algorithm (RFC 7518, 3.1; RFC 8037, 3.1)
 abbrev pub algorithm_name : SignatureAlgorithm → List ℕ
 algorithm_name Rs256 = codes "RS256"
 algorithm_name Rs384 = codes "RS384"
@@ -23,8 +24,9 @@ algorithm_name Ps384 = codes "PS384"
 algorithm_name Ps512 = codes "PS512"
 algorithm_name Es256 = codes "ES256"
 algorithm_name Es384 = codes "ES384"
+algorithm_name EdDsa = codes "EdDSA"
 
--- the algorithm with that name, if it is one of these (RFC 7518, 3.1)
+-- the algorithm with that name, if it is one of these
 abbrev pub algorithm_named : List ℕ → Option SignatureAlgorithm
 algorithm_named name =
     if bytes_eq name (codes "RS256") then Some Rs256
@@ -35,9 +37,10 @@ algorithm_named name =
     else (if bytes_eq name (codes "PS512") then Some Ps512
     else (if bytes_eq name (codes "ES256") then Some Es256
     else (if bytes_eq name (codes "ES384") then Some Es384
-    else None)))))))
+    else (if bytes_eq name (codes "EdDSA") then Some EdDsa
+    else None))))))))
 
--- the RSA scheme of an algorithm (RFC 7518, 3.3 and 3.5); ES256 and ES384 have none
+-- the RSA scheme of an algorithm (RFC 7518, 3.3 and 3.5); those on curves have none
 abbrev pub rsa_scheme : SignatureAlgorithm → Option SignatureScheme
 rsa_scheme Rs256 = Some (Pkcs1v15 Sha256)
 rsa_scheme Rs384 = Some (Pkcs1v15 Sha384)
@@ -47,6 +50,7 @@ rsa_scheme Ps384 = Some (Pss Sha384)
 rsa_scheme Ps512 = Some (Pss Sha512)
 rsa_scheme Es256 = None
 rsa_scheme Es384 = None
+rsa_scheme EdDsa = None
 
 -- the algorithm of a curve (RFC 7518, 3.4)
 abbrev pub curve_algorithm : EllipticCurve → List ℕ
@@ -57,6 +61,10 @@ curve_algorithm P384 = codes "ES384"
 abbrev pub is_of_curve : EllipticCurve → SignatureAlgorithm → Bool
 is_of_curve curve algorithm = bytes_eq (algorithm_name algorithm) (curve_algorithm curve)
 
+-- whether the algorithm is EdDSA, which has keys of its own (RFC 8037, 3.1)
+abbrev pub is_eddsa : SignatureAlgorithm → Bool
+is_eddsa algorithm = bytes_eq (algorithm_name algorithm) (codes "EdDSA")
+
 -- the octets are a signature of the message by the RSA key and this scheme; without a scheme, no
 -- octets are one
 abbrev pub IsSignatureIn : Option SignatureScheme → RsaKey → List ℕ → List ℕ → Type 0
@@ -64,8 +72,9 @@ IsSignatureIn (Some scheme) key message signature = IsRsaSignature scheme key.mo
 IsSignatureIn None key message signature = ⊥
 
 -- the octets are a signature of the message by this algorithm and this key: by the RSA scheme of the
--- algorithm, or by ECDSA if the algorithm is the one of the key's curve
+-- algorithm, by ECDSA if the algorithm is the one of the key's curve, or by Ed25519 if it is EdDSA
 abbrev pub IsSignatureBy : SignatureAlgorithm → PublicKey → List ℕ → List ℕ → Type 0
 IsSignatureBy algorithm (Rsa key) message signature = IsSignatureIn (rsa_scheme algorithm) key message signature
 IsSignatureBy algorithm (Ecdsa key) message signature =
     IsTrue (is_of_curve key.curve algorithm) × IsEcdsaSignature key message signature
+IsSignatureBy algorithm (Eddsa key) message signature = IsTrue (is_eddsa algorithm) × IsEddsaSignature key message signature

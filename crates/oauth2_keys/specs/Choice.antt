@@ -3,13 +3,13 @@ use Rattle.std.specs.Prelude.{ℕ, List, [], ◌∷◌, codes, bytes_eq, Bool, t
 use Rattle.oauth2_openid.specs.Rules.{is_among}
 use Rattle.oauth2_keys.specs.declared.algorithm.SignatureAlgorithm.{SignatureAlgorithm}
 use Rattle.oauth2_keys.specs.declared.public_key.PublicKey.{PublicKey}
-use Rattle.oauth2_keys.specs.declared.public_key.PublicKey.TheVariants.{Rsa, Ecdsa}
+use Rattle.oauth2_keys.specs.declared.public_key.PublicKey.TheVariants.{Rsa, Ecdsa, Eddsa}
 use Rattle.oauth2_keys.specs.declared.key_error.KeyError.{KeyError}
 use Rattle.oauth2_keys.specs.declared.json_web_key.ListedKey.{ListedKey}
 use Rattle.oauth2_keys.specs.declared.json_web_key.ListedKey.TheVariants.{Usable, Unusable}
 use Rattle.oauth2_keys.specs.declared.signature_error.SignatureError.{SignatureError}
 use Rattle.oauth2_keys.specs.declared.signature_error.SignatureError.TheVariants as error
-use Rattle.oauth2_keys.specs.Algorithm.{algorithm_name, is_of_curve, rsa_scheme}
+use Rattle.oauth2_keys.specs.Algorithm.{algorithm_name, is_eddsa, is_of_curve, rsa_scheme}
 use Rattle.oauth2_keys.specs.Key.{Key}
 
 -- RFC 7517, 4.2: the use is absent, or `sig`
@@ -34,10 +34,12 @@ fits_key_id None (Some told) = false
 fits_key_id (Some key_id) (Some told) = bytes_eq key_id told
 
 -- RFC 7518, 3.1: the key has the type that the algorithm requires: RSA for one with an RSA scheme
--- (3.3 and 3.5), and the curve of the algorithm for ES256 and ES384 (3.4)
+-- (3.3 and 3.5), the curve of the algorithm for ES256 and ES384 (3.4), and Ed25519 for EdDSA (RFC
+-- 8037, 3.1)
 abbrev pub fits_type : PublicKey → SignatureAlgorithm → Bool
 fits_type (Rsa key) algorithm = is_some (rsa_scheme algorithm)
 fits_type (Ecdsa key) algorithm = is_of_curve key.curve algorithm
+fits_type (Eddsa key) algorithm = is_eddsa algorithm
 
 -- whether a token with this algorithm and this key identifier may be signed by the key
 abbrev pub is_for : SignatureAlgorithm → Option (List ℕ) → Key → Bool

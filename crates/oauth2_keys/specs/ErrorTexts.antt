@@ -2,9 +2,10 @@
 use Rattle.std.specs.Prelude.{ℕ, List, ◌++◌, codes}
 use Rattle.rsa_signatures.specs.ErrorTexts.{key_error_text as rsa_error_text}
 use Rattle.ecdsa_signatures.specs.ErrorTexts.{key_error_text as ecdsa_error_text}
+use Rattle.eddsa_signatures.specs.ErrorTexts.{key_error_text as eddsa_error_text}
 use Rattle.oauth2_keys.specs.Members.{member_name}
 use Rattle.oauth2_keys.specs.declared.key_error.KeyError.{KeyError}
-use Rattle.oauth2_keys.specs.declared.key_error.KeyError.TheVariants.{Private, Missing, WrongType, NotBase64, UnknownType, UnknownCurve, WrongSize, Rsa, Ecdsa}
+use Rattle.oauth2_keys.specs.declared.key_error.KeyError.TheVariants.{Private, Missing, WrongType, NotBase64, UnknownType, UnknownCurve, WrongSize, Rsa, Ecdsa, Eddsa}
 use Rattle.oauth2_keys.specs.declared.key_members.KeyReadError.{KeyReadError}
 use Rattle.oauth2_keys.specs.declared.key_members.KeyReadError.TheVariants.{Fault, Memory}
 use Rattle.oauth2_keys.specs.declared.signature_error.SignatureError.{SignatureError}
@@ -16,11 +17,12 @@ key_error_text Private = codes "the key is a private key or a secret"
 key_error_text (Missing member) = codes "the key has no member " ++ member_name member
 key_error_text (WrongType member) = codes "the member " ++ member_name member ++ codes " has another type"
 key_error_text (NotBase64 member) = codes "the member " ++ member_name member ++ codes " is not base64url"
-key_error_text UnknownType = codes "the key type is not RSA or EC"
-key_error_text UnknownCurve = codes "the curve is not P-256 or P-384"
+key_error_text UnknownType = codes "the key type is not RSA, EC or OKP"
+key_error_text UnknownCurve = codes "the curve is not supported"
 key_error_text (WrongSize member) = codes "the member " ++ member_name member ++ codes " is not as long as the curve says"
 key_error_text (Rsa error) = rsa_error_text error
 key_error_text (Ecdsa error) = ecdsa_error_text error
+key_error_text (Eddsa error) = eddsa_error_text error
 
 -- the text for each reason why a key could not be read
 abbrev pub key_read_error_text : KeyReadError → List ℕ

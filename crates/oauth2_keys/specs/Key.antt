@@ -1,4 +1,4 @@
--- A JSON Web Key that signatures can be checked with (RFC 7517, 4; RFC 7518, 6).
+-- A JSON Web Key that signatures can be checked with (RFC 7517, 4; RFC 7518, 6; RFC 8037, 2).
 use Rattle.std.specs.Prelude.{ℕ, List, length, codes, bytes_eq, ◌==◌, if◌then◌else◌, Option, Some, None, option_and_then, Result, Ok, Err}
 use Rattle.serde_json.specs.Data.{Data}
 use Rattle.serde_json.specs.Find.{get, as_str}
@@ -9,6 +9,8 @@ use Rattle.ecdsa_signatures.specs.Curve.{coordinate_size}
 use Rattle.ecdsa_signatures.specs.PublicKey.{PublicKey as EcdsaKey, key_of as ecdsa_key_of}
 use Rattle.ecdsa_signatures.specs.declared.curve.EllipticCurve.{EllipticCurve}
 use Rattle.ecdsa_signatures.specs.declared.key_error.EcdsaKeyError.{EcdsaKeyError}
+use Rattle.eddsa_signatures.specs.PublicKey.{PublicKey as EddsaKey, key_of as eddsa_key_of}
+use Rattle.eddsa_signatures.specs.declared.key_error.EddsaKeyError.{EddsaKeyError}
 use Rattle.oauth2_keys.specs.declared.key_error.KeyMember.{KeyMember}
 use Rattle.oauth2_keys.specs.declared.key_error.KeyMember.TheVariants as member
 use Rattle.oauth2_keys.specs.declared.key_error.KeyError.{KeyError}
@@ -66,12 +68,30 @@ key_on (Some curve) d = curve_key curve d
 abbrev pub elliptic_key : Data → KeyReading PublicKey
 elliptic_key d = key_then (needed_text member.Curve d) (λ name. key_on (curve_named name) d)
 
--- the public key of this key type, which has to be `RSA` or `EC` (RFC 7517, 4.1; RFC 7518, 6.1)
+-- a key of Ed25519, or its fault as a `KeyError`
+abbrev pub eddsa_of : Result EddsaKey EddsaKeyError → KeyReading PublicKey
+eddsa_of (Ok k) = Ok (kind.Eddsa k)
+eddsa_of (Err e) = Err (error.Eddsa e)
+
+-- the key of Ed25519 of the member `x`, which has its octets (RFC 8037, 2)
+abbrev pub eddsa_key : Data → KeyReading PublicKey
+eddsa_key d = key_then (octets member.X d) (λ x. eddsa_of (eddsa_key_of x))
+
+-- the public key of an octet key pair with the members `crv` and `x`; the curve has to be Ed25519
+-- (RFC 8037, 2)
+abbrev pub octet_key : Data → KeyReading PublicKey
+octet_key d =
+    key_then (needed_text member.Curve d) (λ name.
+    if bytes_eq name (codes "Ed25519") then eddsa_key d else Err error.UnknownCurve)
+
+-- the public key of this key type, which has to be `RSA`, `EC` or `OKP` (RFC 7517, 4.1; RFC 7518,
+-- 6.1; RFC 8037, 2)
 abbrev pub of_type : List ℕ → Data → KeyReading PublicKey
 of_type key_type d =
     if bytes_eq key_type (codes "RSA") then rsa_key d
     else (if bytes_eq key_type (codes "EC") then elliptic_key d
-    else Err error.UnknownType)
+    else (if bytes_eq key_type (codes "OKP") then octet_key d
+    else Err error.UnknownType))
 
 -- the public key of a JSON Web Key, by its member `kty` (RFC 7517, 4.1)
 unfoldable pub public_key : Data → KeyReading PublicKey

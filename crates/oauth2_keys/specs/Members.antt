@@ -1,4 +1,4 @@
--- The members of a JSON Web Key (RFC 7517, 4; RFC 7518, 6).
+-- The members of a JSON Web Key (RFC 7517, 4; RFC 7518, 6; RFC 8037, 2).
 use Rattle.std.specs.Prelude.{◌≡◌, ℕ, List, [], ◌∷◌, codes, Bool, ◌||◌, Option, Some, None, is_some, Result, Ok, Err}
 use Rattle.serde_json.specs.Data.{Data, null, boolean, number, string, array, object, Items, no_items, item}
 use Rattle.serde_json.specs.Find.{get}
@@ -39,7 +39,8 @@ abbrev pub key_then : {A B : Type 0} → KeyReading A → (A → KeyReading B) �
 key_then (Ok a) f = f a
 key_then (Err e) f = Err e
 
--- a private key has a member `d`, a secret a member `k` (RFC 7518, 6.2.2.1, 6.3.2.1 and 6.4.1)
+-- a private key has a member `d`, a secret a member `k` (RFC 7518, 6.2.2.1, 6.3.2.1 and 6.4.1; RFC
+-- 8037, 2)
 abbrev pub is_private : Data → Bool
 is_private key = is_some (get (codes "d") key) || is_some (get (codes "k") key)
 

@@ -1,4 +1,4 @@
--- The thumbprint of a JSON Web Key (RFC 7638).
+-- The thumbprint of a JSON Web Key (RFC 7638; RFC 8037, 2).
 use Rattle.std.specs.Prelude.{ℕ, List, ◌++◌, codes, bytes_eq, if◌then◌else◌, Option, Some, None, Ok, Err}
 use Rattle.serde_json.specs.Data.{Data}
 use Rattle.ecdsa_signatures.specs.declared.curve.EllipticCurve.{EllipticCurve}
@@ -31,13 +31,24 @@ canonical_on (Some curve) key = Ok (elliptic_text curve) ⊛ base64_text member.
 abbrev pub elliptic_canonical : Data → KeyReading (List ℕ)
 elliptic_canonical key = key_then (needed_text member.Curve key) (λ name. canonical_on (curve_named name) key)
 
--- that text of a key, whose key type has to be `RSA` or `EC`
+-- the same for a key of Ed25519 (RFC 8037, 2 and A.3)
+abbrev pub eddsa_text : List ℕ → List ℕ
+eddsa_text x = codes "{\"crv\":\"Ed25519\",\"kty\":\"OKP\",\"x\":\"" ++ x ++ codes "\"}"
+
+-- that text of an octet key pair, whose curve has to be Ed25519
+abbrev pub octet_canonical : Data → KeyReading (List ℕ)
+octet_canonical key =
+    key_then (needed_text member.Curve key) (λ name.
+    if bytes_eq name (codes "Ed25519") then Ok eddsa_text ⊛ base64_text member.X key else Err error.UnknownCurve)
+
+-- that text of a key, whose key type has to be `RSA`, `EC` or `OKP`
 abbrev pub canonical : Data → KeyReading (List ℕ)
 canonical key =
     key_then (needed_text member.KeyType key) (λ key_type.
     if bytes_eq key_type (codes "RSA") then rsa_canonical key
     else (if bytes_eq key_type (codes "EC") then elliptic_canonical key
-    else Err error.UnknownType))
+    else (if bytes_eq key_type (codes "OKP") then octet_canonical key
+    else Err error.UnknownType)))
 
 -- 3: the SHA-256 digest of that text, in base64url
 abbrev pub thumbprint : Data → KeyReading (List ℕ)

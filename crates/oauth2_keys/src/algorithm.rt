@@ -5,6 +5,7 @@ ghost use Rattle.oauth2_keys.specs.Algorithm.{
   algorithm_name,
   algorithm_named,
   curve_algorithm,
+  is_eddsa,
   is_of_curve,
   rsa_scheme,
 };
@@ -12,7 +13,8 @@ ghost use Rattle.oauth2_keys.specs.Algorithm.{
 use ecdsa_signatures::EllipticCurve;
 use rsa_signatures::{HashFunction, SignatureScheme};
 
-/// An algorithm for signatures that a public key checks (RFC 7518, 3.1). `none` is not one of them.
+/// An algorithm for signatures that a public key checks (RFC 7518, 3.1; RFC 8037, 3.1). `none` is
+/// not one of them.
 #[derive(Clone, Copy, Debug, PartialEq, Eq, Drop)]
 pub enum SignatureAlgorithm {
     /// `RS256`
@@ -31,6 +33,8 @@ pub enum SignatureAlgorithm {
     Es256,
     /// `ES384`
     Es384,
+    /// `EdDSA`, with a key on the curve Ed25519
+    Eddsa,
 }
 
 impl SignatureAlgorithm {
@@ -47,6 +51,7 @@ impl SignatureAlgorithm {
             "PS512" => Some(SignatureAlgorithm::Ps512),
             "ES256" => Some(SignatureAlgorithm::Es256),
             "ES384" => Some(SignatureAlgorithm::Es384),
+            "EdDSA" => Some(SignatureAlgorithm::Eddsa),
             _ => None,
         }
     }
@@ -64,6 +69,7 @@ impl SignatureAlgorithm {
             SignatureAlgorithm::Ps512 => "PS512",
             SignatureAlgorithm::Es256 => "ES256",
             SignatureAlgorithm::Es384 => "ES384",
+            SignatureAlgorithm::Eddsa => "EdDSA",
         }
     }
 
@@ -78,8 +84,17 @@ impl SignatureAlgorithm {
             SignatureAlgorithm::Ps256 => Some(SignatureScheme::Pss(HashFunction::Sha256)),
             SignatureAlgorithm::Ps384 => Some(SignatureScheme::Pss(HashFunction::Sha384)),
             SignatureAlgorithm::Ps512 => Some(SignatureScheme::Pss(HashFunction::Sha512)),
-            SignatureAlgorithm::Es256 | SignatureAlgorithm::Es384 => None,
+            SignatureAlgorithm::Es256 | SignatureAlgorithm::Es384 | SignatureAlgorithm::Eddsa => {
+                None
+            }
         }
+    }
+
+    // Whether the algorithm is `EdDSA`.
+    pub(crate) fn is_eddsa(self) -> bool
+        ensures { result ≡ is_eddsa self }
+    {
+        self.name() == "EdDSA"
     }
 
     // Whether the algorithm is the one of this curve.

@@ -88,6 +88,7 @@ pub(crate) fn fits_type(key: &PublicKey, algorithm: SignatureAlgorithm) -> bool
     match key {
         PublicKey::Rsa(_) => algorithm.rsa_scheme().is_some(),
         PublicKey::Ecdsa(key) => algorithm.is_of_curve(key.curve()),
+        PublicKey::Eddsa(_) => algorithm.is_eddsa(),
     }
 }
 

@@ -16,8 +16,10 @@ ghost use Rattle.oauth2_keys.specs.Choice.{is_for};
 ghost use Rattle.oauth2_keys.specs.Key.{
   coordinate,
   curve_key,
+  eddsa_key,
   elliptic_key,
   key_reading,
+  octet_key,
   public_key,
   rsa_key,
   told_key_id,
@@ -32,6 +34,7 @@ use crate::key_error::{KeyError, KeyMember};
 use crate::key_members::{KeyReadError, is_private, needed_text, octets, own_text, own_texts};
 use crate::public_key::PublicKey;
 use ecdsa_signatures::{EcdsaPublicKey, EllipticCurve};
+use eddsa_signatures::EddsaPublicKey;
 use rsa_signatures::RsaPublicKey;
 use serde_json::Value;
 use std::alloc::{AllocError, Global};
@@ -140,6 +143,29 @@ fn elliptic_key(alloc: Global, key: &Value) -> Result<PublicKey, KeyReadError>
     }
 }
 
+fn eddsa_key(alloc: Global, key: &Value) -> Result<PublicKey, KeyReadError>
+    ensures { KeyReadsAs (λ k. k) result (eddsa_key (view key.now)) }
+{
+    let octets = octets(alloc, key, KeyMember::X)?;
+    match EddsaPublicKey::new(octets.as_slice()) {
+        Ok(key) => Ok(PublicKey::Eddsa(key)),
+        Err(error) => Err(KeyReadError::Fault(KeyError::Eddsa(error))),
+    }
+}
+
+fn octet_key(alloc: Global, key: &Value) -> Result<PublicKey, KeyReadError>
+    ensures { KeyReadsAs (λ k. k) result (octet_key (view key.now)) }
+{
+    match needed_text(key, KeyMember::Curve) {
+        Ok(name) => if name == "Ed25519" {
+            eddsa_key(alloc, key)
+        } else {
+            Err(KeyReadError::Fault(KeyError::UnknownCurve))
+        },
+        Err(fault) => Err(KeyReadError::Fault(fault)),
+    }
+}
+
 #[tactic(auto, unfolding(crate::specs::Key::public_key))]
 fn public_key(alloc: Global, key: &Value) -> Result<PublicKey, KeyReadError>
     ensures { KeyReadsAs (λ k. k) result (public_key (view key.now)) }
@@ -149,6 +175,8 @@ fn public_key(alloc: Global, key: &Value) -> Result<PublicKey, KeyReadError>
             rsa_key(alloc, key)
         } else if key_type == "EC" {
             elliptic_key(alloc, key)
+        } else if key_type == "OKP" {
+            octet_key(alloc, key)
         } else {
             Err(KeyReadError::Fault(KeyError::UnknownType))
         },

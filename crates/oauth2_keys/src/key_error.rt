@@ -5,11 +5,12 @@ ghost use Rattle.oauth2_keys.specs.ErrorTexts.{key_error_text};
 ghost use Rattle.oauth2_keys.specs.Members.{member_name};
 
 use ecdsa_signatures::EcdsaKeyError;
+use eddsa_signatures::EddsaKeyError;
 use oauth2_types::display::write_display;
 use rsa_signatures::RsaKeyError;
 use std::fmt;
 
-/// A member of a JSON Web Key (RFC 7517, 4; RFC 7518, 6.2.1 and 6.3.1).
+/// A member of a JSON Web Key (RFC 7517, 4; RFC 7518, 6.2.1 and 6.3.1; RFC 8037, 2).
 #[derive(Clone, Copy, Debug, PartialEq, Eq, Drop)]
 pub enum KeyMember {
     /// `kty`
@@ -38,7 +39,7 @@ pub enum KeyMember {
 #[derive(Clone, Copy, Debug, PartialEq, Eq, Drop)]
 pub enum KeyError {
     /// It is a private key or a secret: it has a member `d` or `k` (RFC 7518, 6.2.2, 6.3.2 and
-    /// 6.4.1). Whoever can read the set can sign with it.
+    /// 6.4.1; RFC 8037, 2). Whoever can read the set can sign with it.
     Private,
     /// The member is missing, or null.
     Missing(KeyMember),
@@ -46,9 +47,9 @@ pub enum KeyError {
     WrongType(KeyMember),
     /// The text of the member is not base64url without padding.
     NotBase64(KeyMember),
-    /// The key type (`kty`) is neither `RSA` nor `EC`.
+    /// The key type (`kty`) is none of `RSA`, `EC` and `OKP`.
     UnknownType,
-    /// The curve (`crv`) is neither `P-256` nor `P-384`.
+    /// The curve (`crv`) is neither `P-256` nor `P-384` for `EC`, or not `Ed25519` for `OKP`.
     UnknownCurve,
     /// The coordinate does not have as many octets as those of the curve, which is 32 for `P-256` and
     /// 48 for `P-384` (RFC 7518, 6.2.1.2 and 6.2.1.3).
@@ -57,6 +58,8 @@ pub enum KeyError {
     Rsa(RsaKeyError),
     /// The coordinates of a key on a curve are refused.
     Ecdsa(EcdsaKeyError),
+    /// The octets of a key of Ed25519 are refused.
+    Eddsa(EddsaKeyError),
 }
 
 impl KeyMember {
@@ -108,14 +111,15 @@ impl fmt::Display for KeyError {
                 f,
                 format_args!("the member {member} is not base64url"),
             ),
-            KeyError::UnknownType => f.write_str("the key type is not RSA or EC"),
-            KeyError::UnknownCurve => f.write_str("the curve is not P-256 or P-384"),
+            KeyError::UnknownType => f.write_str("the key type is not RSA, EC or OKP"),
+            KeyError::UnknownCurve => f.write_str("the curve is not supported"),
             KeyError::WrongSize(member) => write_display(
                 f,
                 format_args!("the member {member} is not as long as the curve says"),
             ),
             KeyError::Rsa(error) => write_display(f, error),
             KeyError::Ecdsa(error) => write_display(f, error),
+            KeyError::Eddsa(error) => write_display(f, error),
         }
     }
 }

@@ -5,6 +5,7 @@ ghost use Rattle.oauth2_keys.specs.Algorithm.{IsSignatureBy};
 
 use crate::algorithm::SignatureAlgorithm;
 use ecdsa_signatures::EcdsaPublicKey;
+use eddsa_signatures::EddsaPublicKey;
 use rsa_signatures::RsaPublicKey;
 
 /// A public key. There is a variant for each type of key that signatures can be checked with.
@@ -14,6 +15,8 @@ pub enum PublicKey {
     Rsa(RsaPublicKey),
     /// `kty` is `EC` (RFC 7518, 6.2).
     Ecdsa(EcdsaPublicKey),
+    /// `kty` is `OKP`, and the curve is Ed25519 (RFC 8037, 2).
+    Eddsa(EddsaPublicKey),
 }
 
 impl PublicKey {
@@ -30,6 +33,7 @@ impl PublicKey {
             PublicKey::Ecdsa(key) => {
                 algorithm.is_of_curve(key.curve()) && key.verify(message, signature)
             }
+            PublicKey::Eddsa(key) => algorithm.is_eddsa() && key.verify(message, signature),
         }
     }
 }

@@ -1,4 +1,4 @@
-//! The thumbprint of a key (RFC 7638).
+//! The thumbprint of a key (RFC 7638; RFC 8037, 2).
 
 ghost use Rattle.std.specs.Prelude.{◌≡◌, IfOk, Some, codes, string_bytes};
 ghost use Rattle.serde_json.specs.View.{view};
@@ -8,8 +8,10 @@ ghost use Rattle.oauth2_keys.specs.Members.{KeyReadsAs};
 ghost use Rattle.oauth2_keys.specs.Thumbprint.{
   canonical,
   canonical_on,
+  eddsa_text,
   elliptic_canonical,
   elliptic_text,
+  octet_canonical,
   rsa_canonical,
   rsa_text,
   thumbprint,
@@ -81,6 +83,29 @@ fn elliptic_canonical(alloc: Global, key: &Value) -> Result<String, KeyReadError
     }
 }
 
+fn eddsa_text(alloc: Global, x: &str) -> Result<String, AllocError>
+    ensures { IfOk result (λ text. string_bytes text ≡ eddsa_text x.now) }
+{
+    let mut text = String::from_str(alloc, "{\"crv\":\"Ed25519\",\"kty\":\"OKP\",\"x\":\"")?;
+    text.push_str(x)?;
+    text.push_str("\"}")?;
+    Ok(text)
+}
+
+fn octet_canonical(alloc: Global, key: &Value) -> Result<String, KeyReadError>
+    ensures { KeyReadsAs string_bytes result (octet_canonical (view key.now)) }
+{
+    match needed_text(key, KeyMember::Curve) {
+        Ok(name) => if name == "Ed25519" {
+            let x = base64_text(alloc, key, KeyMember::X)?;
+            Ok(eddsa_text(alloc, x)?)
+        } else {
+            Err(KeyReadError::Fault(KeyError::UnknownCurve))
+        },
+        Err(fault) => Err(KeyReadError::Fault(fault)),
+    }
+}
+
 fn canonical(alloc: Global, key: &Value) -> Result<String, KeyReadError>
     ensures { KeyReadsAs string_bytes result (canonical (view key.now)) }
 {
@@ -89,6 +114,8 @@ fn canonical(alloc: Global, key: &Value) -> Result<String, KeyReadError>
             rsa_canonical(alloc, key)
         } else if key_type == "EC" {
             elliptic_canonical(alloc, key)
+        } else if key_type == "OKP" {
+            octet_canonical(alloc, key)
         } else {
             Err(KeyReadError::Fault(KeyError::UnknownType))
         },
@@ -103,7 +130,7 @@ fn base64url(alloc: Global, octets: &[u8]) -> Result<String, AllocError>
     URL_SAFE_NO_PAD.encode(alloc, octets)
 }
 
-/// The SHA-256 thumbprint of a JSON Web Key in base64url, for an RSA key or a key on a curve. For a
+/// The SHA-256 thumbprint of a JSON Web Key in base64url, for a key of each type of `PublicKey`. For a
 /// private key it is that of the public key. The members are taken as they are written, so they
 /// have to be written as RFC 7518 requires: `n` and `e` without leading zeros.
 pub fn thumbprint(alloc: Global, key: &Value) -> Result<String, KeyReadError>
