@@ -1,0 +1,25 @@
+-- A connector that gives each of its connections a deadline.
+use Rattle.std.specs.Prelude.{◌≡◌, ◌+◌, min, Result, Ok, Err}
+use Rattle.std.specs.Duration.{as_nanos, max_nanos}
+use Rattle.std.specs.declared.time.Duration.{Duration}
+use Rattle.oauth2_http1.specs.Origin.{Place}
+use Rattle.oauth2_deadlines.specs.declared.connector.DeadlineConnector.{DeadlineConnector}
+use Rattle.oauth2_deadlines.specs.declared.stream.DeadlineStream.{DeadlineStream}
+
+-- the time that is so much later; no time is later than the greatest duration
+abbrev pub IsLater : Duration → Duration → Duration → Type 0
+IsLater begun most_time deadline = as_nanos deadline ≡ min (as_nanos begun + as_nanos most_time) max_nanos
+
+module _ {C S E K : Type 0} (tells : K → Duration → K → Type 0) (opens : C → Place → Duration → Result S E → C → Type 0) where
+  -- the clock is read once, before the connection is opened, and the deadline is so much later. The
+  -- opening itself takes at most that time.
+  abbrev pub OpensInTime : DeadlineConnector C K → Place → Result (DeadlineStream S K) E → DeadlineConnector C K → Type 0
+  OpensInTime before place (Ok opened) after =
+      (after.most_time ≡ before.most_time)
+      × opens before.connect place before.most_time (Ok opened.stream) after.connect
+      × (opened.clock ≡ after.clock)
+      × ((begun : Duration) × tells before.clock begun after.clock × IsLater begun before.most_time opened.deadline)
+  OpensInTime before place (Err e) after =
+      (after.most_time ≡ before.most_time)
+      × opens before.connect place before.most_time (Err e) after.connect
+      × ((begun : Duration) × tells before.clock begun after.clock)

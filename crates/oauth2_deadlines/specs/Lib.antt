@@ -1,0 +1,3 @@
+pub mod Deadline
+pub mod Connector
+pub mod TimeOut

@@ -1,0 +1,9 @@
+//! Tests of `oauth2_deadlines`: exchanges with a server in memory, by a clock that goes on by one
+//! second whenever it is read. Each write, flush and read takes one reading.
+
+#![tactic(auto)]
+
+#[cfg(test)]
+mod exchanges;
+#[cfg(test)]
+mod slow_server;
