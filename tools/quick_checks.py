@@ -32,7 +32,7 @@ def pages():
     """What the pages say of the sources."""
     reading = os.path.join('docs', 'READING.md')
     return [of_tool('definitions', '--check', reading), of_tool('examples'), of_tool('crate-pages'), of_tool('standards'),
-            of_tool('public-names', '--check', NAMES)]
+            of_tool('public-names', '--check', NAMES), of_tool('pictures', '--check')]
 
 
 def tools():

@@ -35,6 +35,12 @@ def layers_of(text):
     return [layer for layer in found if any(layer)]
 
 
+def pages(root=ROOT):
+    """The paths of the pages, from the top of the repository, without those of the crates."""
+    docs = sorted(it for it in os.listdir(os.path.join(root, 'docs')) if it.endswith('.md'))
+    return ['README.md', 'CONTRIBUTING.md', *(os.path.join('docs', it) for it in docs)]
+
+
 def below(root=ROOT):
     """The crates of the repository that each one stands on, lowest first."""
     uses = {name: row.partition(':')[2].split() for name, row in lines(root).items()}
