@@ -9,7 +9,7 @@ from concurrent.futures import ThreadPoolExecutor, as_completed
 import program
 import repository
 
-NAMES = os.path.join('docs', 'public-names.txt')
+NAMES, COSTS = os.path.join('docs', 'public-names.txt'), os.path.join('docs', 'GATE.md')
 RUNNING = set()  # the processes under way
 
 # A check: what it is called, the folder in which its command runs and what that reads on standard input, and a function that says by the
@@ -32,7 +32,7 @@ def pages():
     """What the pages say of the sources."""
     reading = os.path.join('docs', 'READING.md')
     return [of_tool('definitions', '--check', reading), of_tool('examples'), of_tool('crate-pages'), of_tool('standards'),
-            of_tool('public-names', '--check', NAMES), of_tool('pictures', '--check')]
+            of_tool('public-names', '--check', NAMES), of_tool('pictures', '--check'), of_tool('gate-costs', '--check', COSTS)]
 
 
 def tools():

@@ -137,6 +137,12 @@ class Table(unittest.TestCase):
         row = tool.load('gate-costs').row('`low`', [it._replace(peak=2_500 << 20) for it in CHECKS[:5]])
         self.assertEqual(row, '| `low` | 10 |  | 10 | 2 | 10 | 2,500 |')
 
+    def test_crates_without_a_row(self):
+        page = '<!-- gate costs: so -->\n| `low` | 10 |\n<!-- end -->\n\n<!-- crates without a row -->\n%s<!-- end -->\n\n| `high` | 1 |\n'
+        with_list = tool.load('gate-costs').with_list
+        self.assertEqual(with_list(page % '`old`.\n', ['low', 'high', 'tests']), page % '`high`, `tests`.\n')
+        self.assertEqual(with_list(page % '', ['low']), page % 'none.\n')
+
 
 if __name__ == '__main__':
     unittest.main()

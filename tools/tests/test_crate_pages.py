@@ -42,6 +42,14 @@ class Order(unittest.TestCase):
         self.assertEqual(crate_pages.faults_of_order('one: url\n# High\ntwo: one\n'), ['one is under no heading'])
 
 
+class Kit(unittest.TestCase):
+    def test_crates_of_the_kit(self):
+        rows = {'one': 'one: url', 'two': 'two: one json'}
+        page = '`json`\n## What is not proved\n\n- trusted: `url`%s\n\n## Test it\n\n`json`\n'
+        self.assertEqual(crate_pages.faults_of_kit(page % ', `json`', rows), [])
+        self.assertEqual(crate_pages.faults_of_kit(page % '', rows), ['the crate json of the kit is not among what is trusted'])
+
+
 class Layers(unittest.TestCase):
     PAGE = '# A\n\n## The crates\n\n### Low\n\nText.\n\n- [`one`](../crates/one/README.md): `two` uses it\n  → no `three`: text\n' \
            '\n### High\n\n- `two` and\n  `three`: tests\n\n## More\n\n- `four`: text\n'

@@ -49,9 +49,9 @@ class Marks(unittest.TestCase):
 
     def shows(self, kind, beginnings, wanted):
         mark = '<!-- %s a.rt\n%s-->\n' % (kind, ''.join(it + '\n' for it in beginnings))
-        page = examples.filled('page.md', mark)
+        page = examples.filled(mark)
         self.assertEqual(page, mark + '```rust\n// a.rt\n%s```\n' % textwrap.dedent(wanted))
-        self.assertEqual(examples.filled('page.md', page), page)
+        self.assertEqual(examples.filled(page), page)
 
     def test_an_item(self):
         self.shows('example', ['pub fn one'], '''\
@@ -91,13 +91,13 @@ class Marks(unittest.TestCase):
     def test_a_mark_that_names_nothing(self):
         for mark in ('<!-- code a.rt\npub fn two\n-->\n', '<!-- code b.rt\npub fn one\n-->\n', '<!-- shown a.rt\n-->\n'):
             with self.subTest(mark), self.assertRaises(examples.BadMark):
-                examples.filled('page.md', mark)
+                examples.filled(mark)
 
     def test_blocks_without_a_file(self):
         block = '```rust\nfn main() {}\n```\n'
         for mark, lines in (('<!-- not built here: REASON -->\n', []), ('<!-- tried by tools/readme -->\n', []), ('', [1])):
             with self.subTest(mark):
-                self.assertEqual(examples.filled('page.md', mark + block), mark + block)
+                self.assertEqual(examples.filled(mark + block), mark + block)
                 self.assertEqual(examples.without_mark(mark + block), lines)
 
     def test_links(self):
