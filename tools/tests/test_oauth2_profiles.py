@@ -1,6 +1,7 @@
 """Tests of `tools/oauth2 --profile` over a stand-in of the program and a server on this machine: settings and tokens by name."""
 import json
 import os
+import re
 import stat
 import sys
 import unittest
@@ -12,6 +13,7 @@ from stand_in import OK
 from test_oauth2_openid import Case as OpenIdCase
 
 sys.path.insert(0, tool.TOOLS)
+import profiles
 from endings import Stop
 
 WORK = 'client_id = "of-work"\ntoken_url = "%s/token"\n'
@@ -41,6 +43,18 @@ class Case(stand_in.Case):
 
     def ids(self):
         return [it['client']['id'] for it in self.scripts()]
+
+
+class Page(Case):
+    def test_profiles_on_the_page(self):
+        with open(os.path.join(os.path.dirname(tool.TOOLS), 'docs', 'TOOL.md'), encoding='utf-8') as f:
+            blocks = [it.replace('    ', '') for it in re.findall(r'(?m)(?:^ {4}.*\n|^\n(?= {4}))+', f.read())]
+        shown = [it.lstrip() for it in blocks if '[profile.' in it]
+        self.assertGreater(len(shown), 5)
+        for text in shown:
+            with self.subTest(text):
+                _, found = profiles.profiles_in(self.profiles(text))
+                self.assertTrue(all('client_id' in it for it in found.values()))
 
 
 class Profiles(Case):

@@ -48,6 +48,21 @@ def taken(page):
         return readme.holds(readme.steps_of(page), top, 'http://127.0.0.1:1'), said.getvalue()
 
 
+class Scripts(unittest.TestCase):
+    def test_runs_of_a_program(self):
+        with tempfile.TemporaryDirectory() as folder:
+            path = os.path.join(folder, 'program')
+            with open(path, 'w') as f:
+                f.write('#!/bin/sh\nread -r it; echo "read $it"; exit 1\n')
+            os.chmod(path, 0o755)
+            for lines, wanted in (('read {}\n', 'docs/A.md'), ('read\n', None)):
+                said = io.StringIO()
+                with contextlib.redirect_stdout(said):
+                    holds = readme.holds_scripts([('docs/A.md', readme.shown_scripts.Shown('{}\n', 1, lines))], path)
+                self.assertEqual(holds, wanted is not None)
+                self.assertEqual('docs/A.md: {}: line 1' in said.getvalue(), not holds)
+
+
 class Steps(unittest.TestCase):
     def test_files_and_commands(self):
         self.assertEqual(list(readme.steps_of(PAGE)), [

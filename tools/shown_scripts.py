@@ -1,0 +1,55 @@
+"""The scripts on the pages and the lines that they print there; for tools/readme and the tools' tests."""
+import collections
+import json
+import os
+import re
+import subprocess
+
+import repository
+import sources
+
+PAGES = tuple(os.path.join('docs', it) for it in ('SCRIPT.md', 'C.md'))
+BLOCK = r'((?:^ {4}.*\n)+)'
+# A block, the paragraph below it and the block below that, which may begin the next such three.
+SHOWN = re.compile(BLOCK + r'(?=\n((?:^\S.*\n)+)\n' + BLOCK + ')', re.M)
+
+# A script as a page has it, with which status it ends if the page says so, and the lines that it prints.
+Shown = collections.namedtuple('Shown', 'script status lines')
+
+
+def is_script(text):
+    """Whether a text is the JSON of a script."""
+    try:
+        found = json.loads(text)
+    except ValueError:
+        return False
+    return isinstance(found, dict) and 'command' in found
+
+
+def scripts_on(page):
+    """The scripts of a page, each a block of its own above one with its lines."""
+    for block, between, lines in SHOWN.findall(page):
+        script, lines = (re.sub('(?m)^    ', '', it) for it in (block, lines))
+        status = re.search(r'\bexit (\d)\b', between)
+        if is_script(script):
+            yield Shown(script, int(status.group(1)) if status else None, lines)
+
+
+def all_shown():
+    """The scripts of all pages, each with its page."""
+    return [(page, it) for page in PAGES for it in scripts_on(sources.read(os.path.join(repository.ROOT, page)))]
+
+
+def difference(shown, status, lines):
+    """How the run of a script differs from what the page says, or None."""
+    if lines != shown.lines:
+        here, there = lines.splitlines() + [''], shown.lines.splitlines() + ['']
+        at = next((at for at, pair in enumerate(zip(here, there)) if pair[0] != pair[1]), min(len(here), len(there)) - 1)
+        return 'line %d is %r, and on the page %r' % (at + 1, here[at], there[at])
+    return None if shown.status in (None, status) else 'it ends with status %d, and on the page with %d' % (status, shown.status)
+
+
+def fault_of(shown, path):
+    """Why the run of a script by a program is not as the page says, or None."""
+    run = subprocess.run([path], input=shown.script.encode(), capture_output=True, env={})
+    return difference(shown, run.returncode, run.stdout.decode(errors='replace'))

@@ -1,0 +1,72 @@
+"""Tests of tools/shown_scripts.py: which scripts a page shows, and that those which are stored too print there what the page says."""
+import os
+import re
+import sys
+import unittest
+
+sys.dont_write_bytecode = True
+sys.path.insert(0, os.path.dirname(os.path.dirname(os.path.abspath(__file__))))
+import repository
+import shown_scripts
+import sources
+from shown_scripts import Shown
+
+PAGE = '''A script:
+
+    {"command": "a"}
+
+prints, with exit 1,
+
+    one
+    two
+
+Another one is
+
+    {"command": "b",
+     "params": {}}
+
+and it prints
+
+    three
+
+    {"a": 1}
+
+is none.
+
+    four
+'''
+STATUS = {'Answered': 0, 'Fault': 1, 'BadScript': 2}
+
+
+class Pages(unittest.TestCase):
+    def test_scripts_of_a_page(self):
+        self.assertEqual(list(shown_scripts.scripts_on(PAGE)), [
+            Shown('{"command": "a"}\n', 1, 'one\ntwo\n'), Shown('{"command": "b",\n "params": {}}\n', None, 'three\n')])
+
+    def test_differences(self):
+        shown = Shown('', 1, 'one\ntwo\n')
+        for status, lines, wanted in ((1, 'one\ntwo\n', None), (0, 'one\ntwo\n', 'it ends with status 0, and on the page with 1'),
+                                      (1, 'one\n2\n', "line 2 is '2', and on the page 'two'"),
+                                      (1, 'one\n', "line 2 is '', and on the page 'two'")):
+            with self.subTest(lines):
+                self.assertEqual(shown_scripts.difference(shown, status, lines), wanted)
+
+
+class Stored(unittest.TestCase):
+    """The scripts of the pages that crates/oauth2_scripts_tests has too, with what the proved program writes of them."""
+
+    def test_lines_of_stored_scripts(self):
+        folder = os.path.join(repository.CRATES, 'oauth2_scripts_tests')
+        scripts = [it for it in sources.read(os.path.join(folder, 'stdin')).splitlines() if it and not it.startswith('#')]
+        printed = re.split(r'(?m)^Ok\((\w+)\)\n', re.sub(r'(?m)^#.*\n', '', sources.read(os.path.join(folder, 'stdout'))))
+        stored = dict(zip(scripts, zip(printed[0::2], printed[1::2])))
+        self.assertEqual(len(scripts), len(printed) // 2)
+        found = [(it, stored[it.script.rstrip()]) for _, it in shown_scripts.all_shown() if it.script.rstrip() in stored]
+        self.assertGreater(len(found), 9)
+        for shown, (lines, end) in found:
+            with self.subTest(shown.script):
+                self.assertIsNone(shown_scripts.difference(shown, STATUS[end], lines))
+
+
+if __name__ == '__main__':
+    unittest.main()
