@@ -14,7 +14,7 @@ SCRIPTS = os.path.join('crates', 'oauth2_scripts_tests', 'stdin')
 
 
 class BadCount(Exception):
-    """A mark that names no files, by which there is nothing to count, or that would end its paragraph."""
+    """A mark that names no files, by which there is nothing to count, that would end its paragraph, or that is no comment on GitHub."""
 
 
 def read(path):
@@ -70,4 +70,6 @@ def filled(page):
     """A page with the numbers as they are counted."""
     for mark in AT_BEGINNING.findall(page):
         raise BadCount('a mark at the beginning of a line is not in the paragraph: %s' % mark)
+    for mark in [it for _, _, it, _ in MARK.findall(page) if '--' in it]:
+        raise BadCount('a comment with two hyphens in it is none: %s' % mark)
     return MARK.sub(lambda m: m.group(1) + shown(KINDS[m.group(2)](m.group(3)), m.group(4)), page)

@@ -57,9 +57,10 @@ class Counts(unittest.TestCase):
             with self.subTest(mark), self.assertRaises(counts.BadCount):
                 counts.filled('There are %s3.' % mark)
 
-    def test_a_mark_that_would_end_its_paragraph(self):
-        with self.assertRaises(counts.BadCount):
-            counts.filled('There are\n  <!-- count a/one.rt: fn -->2.\n')
+    def test_marks_that_a_page_would_show_otherwise(self):
+        for page in 'There are\n  <!-- count a/one.rt: fn -->2.\n', 'There are <!-- count a/one.rt: (?:--)?fn -->2.\n':
+            with self.subTest(page), self.assertRaises(counts.BadCount):
+                counts.filled(page)
 
 
 if __name__ == '__main__':

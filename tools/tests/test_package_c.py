@@ -80,6 +80,13 @@ class PackageC(unittest.TestCase):
         self.assertEqual(re.findall(r'global: (.*);', text_of(C, 'exports.map')), [', '.join(found)])
         self.assertIn('#define LIFECRIB_VERSION "%s"' % version.VERSION, header)
 
+    def test_the_pages_have_the_function_and_the_version(self):
+        for declared in dict(exports()).values():
+            self.assertIn(declared, joined(text_of(repository.ROOT, 'docs', 'C.md')))
+        for page in repository.pages():
+            found = re.findall(r'\blifecrib[-_](?:c-)?(\d+\.\d+\.\d+)', text_of(repository.ROOT, page))
+            self.assertLessEqual(set(found), {version.VERSION}, page)
+
     def test_the_header_has_the_numbers_of_the_crate(self):
         lines = text_of(CRATE, 'lines.rt')
         numbers = dict(re.findall(r'RunStatus::(\w+) => (\d)', lines))
