@@ -27,6 +27,12 @@ class Pages(unittest.TestCase):
     def test_a_path_that_went(self):
         self.assertEqual(faults('`specs/Pears.antt`\n'), ['no file or folder `specs/Pears.antt`'])
 
+    def test_code_of_the_page(self):
+        page = 'Here:\n\n    let pairs = Pairs::of(%s)?; // not::looked at\n    const ROWS: u8 = 1; pairs.len(ROWS, "Text")\n\n- `x`\n    Wrapped\n'
+        self.assertEqual(crate_pages.faults_of_code(page % 'form(1)', {'Pairs', 'of', 'form', 'len'}), [])
+        found = crate_pages.faults_of_code(page % 'from(1)', {'Pairs', 'of', 'form', 'len'})
+        self.assertEqual(found, ['no `from` of its code in the crates'])
+
     def test_a_long_page(self):
         self.assertEqual(faults('a line\n' * 61), ['61 lines, and not at most 60'])
 
@@ -87,6 +93,7 @@ class Names(unittest.TestCase):
 
     def test_a_name_of_others_on_no_page(self):
         self.assertEqual(self.faults('', others=('gh', 'curl')), ['tools/names.txt: curl is on no page'])
+        self.assertEqual(crate_pages.faults_of_names([], set(), ('curl',), ['curl']), [])
 
     def test_columns_of_another_library(self):
         table = '| Theirs | Here | Why |\n|---|---|---|\n| `pear(\\|x\\|)` | `append_pair` | %s |\n'
