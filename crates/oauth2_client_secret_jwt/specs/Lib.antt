@@ -1,0 +1,4 @@
+pub mod Assertion
+pub mod ErrorTexts
+pub mod Signing
+pub mod private

@@ -1,0 +1,14 @@
+//! Authentication by `client_secret_jwt` (OpenID Connect Core 1.0, section 9): a client signs a JWT
+//! with its secret, which it never sends.
+
+#![tactic(auto)]
+
+mod claims;
+mod client_secret_jwt;
+mod clock;
+mod error;
+mod signed;
+
+pub use client_secret_jwt::ClientSecretJwt;
+pub use clock::{Clock, RuntimeClock};
+pub use error::{ClientSecretJwtError, SecretTooShort};
