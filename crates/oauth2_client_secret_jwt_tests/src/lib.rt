@@ -1,0 +1,12 @@
+//! Tests of assertions that a client signs with its secret.
+
+#![tactic(auto)]
+
+#[cfg(test)]
+mod clock;
+#[cfg(test)]
+mod failures;
+#[cfg(test)]
+mod parts;
+#[cfg(test)]
+mod tokens;
