@@ -1,0 +1,91 @@
+//! The examples of RFC 8707. Our requests have the same parameters as these, in an order of their
+//! own: a code comes before `redirect_uri`. A space in a scope is a plus sign.
+
+use crate::sender::{check_body, client, with_both};
+use oauth2::{AuthorizationCode, CsrfToken, RefreshToken, Scope};
+use oauth2_resource_indicators::ResourceIndicators;
+use oauth2_tests_support::{check, check_text, text};
+use std::alloc::Global;
+use std::test::Fail;
+
+// Section 2.1, figure 1, by the client of the other examples: the implicit grant.
+#[test]
+fn an_implicit_grant(rt: HostRuntime) -> Result<(), Fail> {
+    let alloc = rt.alloc();
+    let client = client(alloc)?;
+    let state = CsrfToken::new(text(alloc, "XzZaJlcwYew1u0QBrRv_Gw")?);
+    let request = client
+        .authorize_url(alloc, move || state)
+        .use_implicit_flow()
+        .add_resource("https://api.example.com/app/".into())?;
+    let (url, _) = request.url(alloc)?;
+    check_text(
+        url.as_str(),
+        "https://authorization-server.example.com/as/authorization.oauth2?response_type=token\
+&client_id=s6BhdRkqt3&state=XzZaJlcwYew1u0QBrRv_Gw\
+&redirect_uri=https%3A%2F%2Fclient.example.org%2Fcb\
+&resource=https%3A%2F%2Fapi.example.com%2Fapp%2F",
+    )
+}
+
+// Section 2.1, figure 2: a code for two resources.
+#[test]
+fn an_authorization(rt: HostRuntime) -> Result<(), Fail> {
+    let alloc = rt.alloc();
+    let client = client(alloc)?;
+    let state = CsrfToken::new(text(alloc, "tNwzQ87pC6llebpmac_IDeeq-mCR2wLDYljHUZUAWuI")?);
+    let request = client
+        .authorize_url(alloc, move || state)
+        .add_scope(Scope::new(text(alloc, "calendar")?))?
+        .add_scope(Scope::new(text(alloc, "contacts")?))?;
+    let (url, _) = with_both(request)?.url(alloc)?;
+    check_text(
+        url.as_str(),
+        "https://authorization-server.example.com/as/authorization.oauth2?response_type=code\
+&client_id=s6BhdRkqt3&state=tNwzQ87pC6llebpmac_IDeeq-mCR2wLDYljHUZUAWuI\
+&redirect_uri=https%3A%2F%2Fclient.example.org%2Fcb&scope=calendar+contacts\
+&resource=https%3A%2F%2Fcal.example.com%2F&resource=https%3A%2F%2Fcontacts.example.com%2F",
+    )
+}
+
+// Section 2.2, figure 3: the code, for one of them.
+#[test]
+fn a_code(rt: HostRuntime) -> Result<(), Fail> {
+    let alloc = rt.alloc();
+    let client = client(alloc)?;
+    let code = AuthorizationCode::new(text(alloc, "10esc29BWC2qZB0acc9v8zAv9ltc2pko105tQauZ")?);
+    let request = client
+        .exchange_code(alloc, code)
+        .add_resource("https://cal.example.com/".into())?
+        .prepare_request(alloc)?;
+    check_body(
+        &request,
+        "grant_type=authorization_code&code=10esc29BWC2qZB0acc9v8zAv9ltc2pko105tQauZ\
+&redirect_uri=https%3A%2F%2Fclient.example.org%2Fcb&resource=https%3A%2F%2Fcal.example.com%2F",
+    )?;
+    let header = request
+        .headers()
+        .get("authorization")
+        .map(|value| value.as_bytes());
+    check(
+        header == Some(b"Basic czZCaGRSa3F0Mzpoc3FFelFsVW9IQUU5cHg0RlNyNHlJ".as_slice()),
+        "authorization",
+    )
+}
+
+// Section 2.2, figure 5: the refresh token, for the other one. To the byte.
+#[test]
+fn a_refresh_token(rt: HostRuntime) -> Result<(), Fail> {
+    let alloc = rt.alloc();
+    let client = client(alloc)?;
+    let token = RefreshToken::new(text(alloc, "4LTC8lb0acc6Oy4esc1Nk9BWC0imAwH7kic16BDC2")?);
+    let request = client
+        .exchange_refresh_token(alloc, &token)
+        .add_resource("https://contacts.example.com/".into())?
+        .prepare_request(alloc)?;
+    check_body(
+        &request,
+        "grant_type=refresh_token&refresh_token=4LTC8lb0acc6Oy4esc1Nk9BWC0imAwH7kic16BDC2\
+&resource=https%3A%2F%2Fcontacts.example.com%2F",
+    )
+}
