@@ -186,5 +186,36 @@ class Signatures(unittest.TestCase):
         self.assertGreater(differences, 5)
 
 
+class Batches(unittest.TestCase):
+    @staticmethod
+    def script(found):
+        return ''.join('%s\n' % it for it in ['the key', *found]), ['the key']
+
+    def judged(self, told, count=2 * TOOL.BATCH + 7):
+        with mock.patch.object(TOOL, 'told', lambda _, text: told(text.splitlines())):
+            return TOOL.judged('/program', self.script, [*map(str, range(count))])
+
+    def test_each_has_the_key(self):
+        sizes = []
+        said, is_fine = self.judged(lambda lines: sizes.append(len(lines)) or lines)
+        self.assertEqual((said, is_fine), ([*map(str, range(2 * TOOL.BATCH + 7))], True))
+        self.assertEqual(sizes, [TOOL.BATCH + 1, TOOL.BATCH + 1, 8])
+
+    def test_a_program_that_says_less_or_more(self):
+        said, is_fine = self.judged(lambda lines: lines[:-1])
+        self.assertEqual((len(said), said.count('nothing'), said[-2], is_fine), (2 * TOOL.BATCH + 7, 3, str(2 * TOOL.BATCH + 5), False))
+        self.assertEqual(self.judged(lambda lines: lines + ['more'])[1], False)
+        self.assertEqual(self.judged(lambda lines: ['another key', *lines[1:]])[1], False)
+
+    def test_how_far_it_is(self):
+        said = io.StringIO()
+        with mock.patch.object(TOOL, 'SAYS_EVERY', 0), contextlib.redirect_stderr(said):
+            it = TOOL.Progress('RSA', 9)
+            it.add(2, 0)
+            it.add(3, 1)
+        self.assertEqual(said.getvalue(), 'tools/compare-signatures: RSA: 2 of 9 cases, 0 differences so far\n'
+                                          'tools/compare-signatures: RSA: 5 of 9 cases, 1 differences so far\n')
+
+
 if __name__ == '__main__':
     unittest.main()
