@@ -23,6 +23,7 @@ import renewal
 import signals
 
 MOMENTS = int(os.environ.get('MOMENTS', '5'))  # of a renewal, at which each signal comes
+TRIES = 20  # of such a renewal, where a signal comes before the tool has begun
 
 
 class Case(stand_in.Case):
@@ -63,18 +64,31 @@ class Case(stand_in.Case):
         return status, out.strip(), err
 
 
+def has_not_begun(status, err):
+    """Whether SIGINT met Python before it ran anything of the tool, as it does with "Fatal Python error: init_sys_streams"."""
+    return status == 1 and 'KeyboardInterrupt' in err and 'oauth2' not in err
+
+
 class Interrupted(Case):
     def one(self, number, login, is_asked, after):
         """Sends a signal so many seconds after a renewal has begun, or after the server has got it: how that ends, and the next one."""
         path = self.cache(login)
-        run = self.start('token', '--cache', path)
-        while is_asked and login not in self.logins:
-            time.sleep(0.01)
-        time.sleep(after)
-        with contextlib.suppress(ProcessLookupError):
-            os.kill(run.pid, number)
-        err = run.communicate(timeout=120)[1]
-        self.assertEqual(sorted(glob.glob(path + '*')), [path])
+        with open(path, encoding='utf-8') as f:
+            kept = f.read()
+        for _ in range(TRIES):
+            run = self.start('token', '--cache', path)
+            while is_asked and login not in self.logins:
+                time.sleep(0.01)
+            time.sleep(after)
+            with contextlib.suppress(ProcessLookupError):
+                os.kill(run.pid, number)
+            err = run.communicate(timeout=120)[1]
+            self.assertEqual(sorted(glob.glob(path + '*')), [path])
+            if not has_not_begun(run.returncode, err):
+                break
+            with open(path, encoding='utf-8') as f:
+                self.assertEqual((f.read(), login in self.logins), (kept, False))
+            after += 0.05
         return (run.returncode, err), self.token(path, '--margin', '7200')[::2]
 
     def test_each_signal_at_several_moments(self):
@@ -87,6 +101,13 @@ class Interrupted(Case):
             found = list(pool.map(lambda row: self.one(*row), rows))
         self.assertEqual({status for _, (status, _) in found}, {0}, found)
         self.assertLessEqual({status for (status, _), _ in found}, {0, 129, 130, 143, -1, -2, -15}, found)
+
+    def test_a_signal_before_the_tool_has_begun(self):
+        fatal = "Fatal Python error: init_sys_streams: can't initialize sys standard streams\n"
+        for status, err, wanted in ((1, fatal + 'KeyboardInterrupt\n', True), (1, 'File "/a/tools/oauth2", line 7\nKeyboardInterrupt\n', False),
+                                    (1, 'tools/oauth2: KeyboardInterrupt', False), (-2, fatal + 'KeyboardInterrupt\n', False),
+                                    (1, 'MemoryError\n', False)):
+            self.assertEqual(has_not_begun(status, err), wanted)
 
     def test_a_signal_waits_for_the_reply(self):
         waits = threading.Event()
