@@ -59,7 +59,8 @@ class Faults(unittest.TestCase):
             if end != 'Ok(BadScript)':
                 ignored += script_faults.told_of(script.encode(), False)
                 self.assertIn(script_faults.ELSE, script_faults.told_of(script.encode(), True), script[:200])
-        known = [('"params" of "redirect"', it) for it in ('code', 'extra', 'scopes', 'verifier')]
+        known = [('"params" of "authorize"', 'client_assertion')]
+        known += [('"params" of "redirect"', it) for it in ('code', 'extra', 'scopes', 'verifier')]
         known += [('"params" of "refresh"', 'verifier'), ('the script', 'x')]
         self.assertEqual(sorted(set(ignored)), ['%s: "%s" is ignored' % it for it in known])
 
@@ -71,7 +72,17 @@ class Page(unittest.TestCase):
         text = sources.read(os.path.join(SPECS, name + '.antt'))
         if name.endswith('Params'):
             text = text[text.rindex('\nunfoldable pub '):]
-        return [re.findall(r'(?:%s)[ (\w]* \(codes "(\w+)"\)' % kinds, text) for kinds in ('needed_part', 'needed_part|present_part|list_part|get')]
+            text += self.sent_last(text, sources.read(os.path.join(SPECS, 'Sent.antt')))
+        return [re.findall(r'(?:%s)[ (\w]* \(codes "(\w+)"\) d\b' % kinds, text) for kinds in ('needed_part', 'needed_part|present_part|list_part|get')]
+
+    def sent_last(self, text, parts):
+        """The definitions that a text names of those of what a request sends last, and those that they name."""
+        found = ''
+        for part in re.findall(r'\nunfoldable pub .*?(?=\n\n|\Z)', parts, re.S):
+            name = part.split()[2]
+            if re.search(r'\b%s\b' % name, text):
+                found += part + self.sent_last(part, parts.replace(part, ''))
+        return found
 
     def test_names_are_those_of_the_definitions(self):
         known, commands = script_faults.tables()

@@ -4,7 +4,8 @@ use Rattle.serde_json.specs.Data.{Data}
 use Rattle.serde_json.specs.Find.{as_str}
 use Rattle.oauth2_types.specs.Pkce.{Challenge}
 use Rattle.oauth2_urls.specs.Addressed.{Addressed}
-use Rattle.oauth2_script.specs.Part.{◌>>=◌, address, list_part, needed_part, present_part, pair_part, challenge_part}
+use Rattle.oauth2_script.specs.Part.{◌>>=◌, address, list_part, needed_part, present_part, challenge_part}
+use Rattle.oauth2_script.specs.Sent.{resources_and_extra}
 
 -- the parameters of an authorization URL (RFC 6749, 4.1.1; RFC 7636, 4.3); the nonce is that of
 -- OpenID Connect Core 1.0, 3.1.2.1
@@ -22,7 +23,7 @@ unfoldable pub authorize_params : Data → Option AuthorizeParams
 authorize_params d = do
   state ← needed_part as_str (codes "state") d
   scopes ← list_part as_str (codes "scopes") d
-  extra_params ← list_part pair_part (codes "extra") d
+  extra_params ← resources_and_extra d
   challenge ← present_part challenge_part (codes "verifier") d
   redirect ← present_part address (codes "redirect") d
   response_type ← present_part as_str (codes "response_type") d

@@ -2,7 +2,8 @@
 use Rattle.std.specs.Prelude.{ℕ, List, Option, Some, codes}
 use Rattle.serde_json.specs.Data.{Data}
 use Rattle.serde_json.specs.Find.{as_str}
-use Rattle.oauth2_script.specs.Part.{◌>>=◌, list_part, pair_part}
+use Rattle.oauth2_script.specs.Part.{◌>>=◌, list_part}
+use Rattle.oauth2_script.specs.Sent.{sent_params}
 
 -- the scopes and the further parameters of a request (RFC 6749, 4.4.2)
 pub record ClientCredentialsParams : Type 0 where
@@ -13,5 +14,5 @@ pub record ClientCredentialsParams : Type 0 where
 unfoldable pub client_credentials_params : Data → Option ClientCredentialsParams
 client_credentials_params d = do
   scopes ← list_part as_str (codes "scopes") d
-  extra_params ← list_part pair_part (codes "extra") d
+  extra_params ← sent_params d
   Some (record { scopes = scopes; extra_params = extra_params })

@@ -4,7 +4,8 @@ use Rattle.serde_json.specs.Data.{Data}
 use Rattle.oauth2_json.specs.Reading.{Reading}
 use Rattle.oauth2_replies.specs.Device.{DeviceAuthorization, device_reading}
 use Rattle.oauth2_replies.specs.Kept.{any_object}
-use Rattle.oauth2_script.specs.Part.{◌>>=◌, needed_part, present_part, list_part, pair_part, duration, count}
+use Rattle.oauth2_script.specs.Part.{◌>>=◌, needed_part, present_part, duration, count}
+use Rattle.oauth2_script.specs.Sent.{sent_params}
 
 -- the parameters of a poll for a token (RFC 8628, 3.4); lengths of time in nanoseconds
 pub record DevicePollParams : Type 0 where
@@ -34,5 +35,5 @@ device_poll_params d = do
   max_polls ← needed_part count (codes "max_polls") d
   timeout ← present_part duration (codes "timeout") d
   cap ← present_part duration (codes "cap") d
-  extra_params ← list_part pair_part (codes "extra") d
+  extra_params ← sent_params d
   Some (record { device = device; max_polls = max_polls; timeout = timeout; cap = cap; extra_params = extra_params })

@@ -2,7 +2,8 @@
 use Rattle.std.specs.Prelude.{ℕ, List, Option, Some, codes}
 use Rattle.serde_json.specs.Data.{Data}
 use Rattle.serde_json.specs.Find.{as_str}
-use Rattle.oauth2_script.specs.Part.{◌>>=◌, needed_part, present_part, list_part, pair_part}
+use Rattle.oauth2_script.specs.Part.{◌>>=◌, needed_part, present_part}
+use Rattle.oauth2_script.specs.Sent.{asserted_extra}
 
 -- the token, its type hint and the further parameters of an introspection request (RFC 7662, 2.1)
 pub record IntrospectParams : Type 0 where
@@ -15,5 +16,5 @@ unfoldable pub introspect_params : Data → Option IntrospectParams
 introspect_params d = do
   token ← needed_part as_str (codes "token") d
   hint ← present_part as_str (codes "hint") d
-  extra_params ← list_part pair_part (codes "extra") d
+  extra_params ← asserted_extra d
   Some (record { token = token; hint = hint; extra_params = extra_params })

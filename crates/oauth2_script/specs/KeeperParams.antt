@@ -2,7 +2,8 @@
 use Rattle.std.specs.Prelude.{ℕ, List, Option, Some, codes}
 use Rattle.serde_json.specs.Data.{Data}
 use Rattle.serde_json.specs.Find.{as_str}
-use Rattle.oauth2_script.specs.Part.{◌>>=◌, needed_part, present_part, list_part, pair_part, duration}
+use Rattle.oauth2_script.specs.Part.{◌>>=◌, needed_part, present_part, list_part, duration}
+use Rattle.oauth2_script.specs.Sent.{sent_params}
 
 -- the parameters of a new keeper; lengths of time in nanoseconds
 pub record KeeperParams : Type 0 where
@@ -26,6 +27,6 @@ keeper_params d = do
   life ← needed_part duration (codes "life") d
   refresh ← present_part as_str (codes "refresh") d
   scopes ← list_part as_str (codes "scopes") d
-  extra_params ← list_part pair_part (codes "extra") d
+  extra_params ← sent_params d
   retry_after ← present_part duration (codes "retry_after") d
   Some (record { margin = margin; life = life; refresh = refresh; scopes = scopes; extra_params = extra_params; retry_after = retry_after })

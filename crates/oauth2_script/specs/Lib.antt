@@ -1,4 +1,5 @@
 pub mod Part
+pub mod Sent
 pub mod Gives
 pub mod Adapter
 pub mod Client

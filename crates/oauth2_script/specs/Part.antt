@@ -6,6 +6,7 @@ use Rattle.http_header.specs.Token.{is_value_byte}
 use Rattle.serde_json.specs.Data.{Data, Items, no_items, item}
 use Rattle.serde_json.specs.Find.{get, as_str, as_array, as_number, as_u64, as_i64}
 use Rattle.oauth2_types.specs.Pkce.{Challenge, sha256_challenge}
+use Rattle.oauth2_resource_indicators.specs.AbsoluteUri.{is_absolute_uri}
 use Rattle.oauth2_urls.specs.Addressed.{Addressed}
 use Rattle.url.specs.Parts.{Parts}
 use Rattle.url.specs.Parser.{Parsed, parse_url}
@@ -63,6 +64,14 @@ address_of text (Err e) = None
 -- a text that is a URL, without a base (URL Standard)
 abbrev pub address : Data → Option Addressed
 address d = as_str d >>= λ text. address_of text (parse_url None text)
+
+-- a text that is an absolute URI without a fragment (RFC 3986, 4.3)
+abbrev pub uri_of : List ℕ → Option (List ℕ)
+uri_of text = if is_absolute_uri text then Some text else None
+
+-- an absolute URI without a fragment, as a resource has to be (RFC 8707, 2)
+abbrev pub uri : Data → Option (List ℕ)
+uri d = as_str d >>= uri_of
 
 -- a text of 43 to 128 bytes, the lengths of a code verifier (RFC 7636, 4.1)
 abbrev pub verifier_of : List ℕ → Option (List ℕ)

@@ -2,7 +2,8 @@
 use Rattle.std.specs.Prelude.{ℕ, List, Option, Some, codes}
 use Rattle.serde_json.specs.Data.{Data}
 use Rattle.serde_json.specs.Find.{as_str}
-use Rattle.oauth2_script.specs.Part.{◌>>=◌, needed_part, list_part, pair_part}
+use Rattle.oauth2_script.specs.Part.{◌>>=◌, needed_part, list_part}
+use Rattle.oauth2_script.specs.Sent.{sent_params}
 
 -- the name, the password, the scopes and the further parameters of a request (RFC 6749, 4.3.2)
 pub record PasswordParams : Type 0 where
@@ -17,5 +18,5 @@ password_params d = do
   username ← needed_part as_str (codes "username") d
   password ← needed_part as_str (codes "password") d
   scopes ← list_part as_str (codes "scopes") d
-  extra_params ← list_part pair_part (codes "extra") d
+  extra_params ← sent_params d
   Some (record { username = username; password = password; scopes = scopes; extra_params = extra_params })

@@ -2,7 +2,8 @@
 use Rattle.std.specs.Prelude.{ℕ, List, Option, Some, codes}
 use Rattle.serde_json.specs.Data.{Data}
 use Rattle.serde_json.specs.Find.{as_str}
-use Rattle.oauth2_script.specs.Part.{◌>>=◌, needed_part, list_part, pair_part}
+use Rattle.oauth2_script.specs.Part.{◌>>=◌, needed_part, list_part}
+use Rattle.oauth2_script.specs.Sent.{sent_params}
 
 -- the refresh token, the scopes and the further parameters of a request (RFC 6749, 6)
 pub record RefreshParams : Type 0 where
@@ -15,5 +16,5 @@ unfoldable pub refresh_params : Data → Option RefreshParams
 refresh_params d = do
   refresh_token ← needed_part as_str (codes "refresh_token") d
   scopes ← list_part as_str (codes "scopes") d
-  extra_params ← list_part pair_part (codes "extra") d
+  extra_params ← sent_params d
   Some (record { refresh_token = refresh_token; scopes = scopes; extra_params = extra_params })

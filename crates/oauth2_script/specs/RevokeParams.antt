@@ -3,7 +3,8 @@ use Rattle.std.specs.Prelude.{ℕ, List, Option, Some, None, unwrap_or, if◌the
 use Rattle.std.specs.Str.{bytes_eq}
 use Rattle.serde_json.specs.Data.{Data}
 use Rattle.serde_json.specs.Find.{as_str}
-use Rattle.oauth2_script.specs.Part.{◌>>=◌, needed_part, present_part, list_part, pair_part}
+use Rattle.oauth2_script.specs.Part.{◌>>=◌, needed_part, present_part}
+use Rattle.oauth2_script.specs.Sent.{asserted_extra}
 use Rattle.oauth2_script.specs.declared.revoke_params.TokenKind.{TokenKind}
 use Rattle.oauth2_script.specs.declared.revoke_params.TokenKind.TheVariants.{Access, Refresh}
 
@@ -28,5 +29,5 @@ unfoldable pub revoke_params : Data → Option RevokeParams
 revoke_params d = do
   token ← needed_part as_str (codes "token") d
   kind ← present_part kind (codes "kind") d
-  extra_params ← list_part pair_part (codes "extra") d
+  extra_params ← asserted_extra d
   Some (record { token = token; kind = unwrap_or kind Access; extra_params = extra_params })

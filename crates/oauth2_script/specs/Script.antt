@@ -1,5 +1,5 @@
 -- A script, and how it is read from the bytes of the input.
-use Rattle.std.specs.Prelude.{ℕ, ℤ, List, Option, Some, None, option_map, if◌then◌else◌, codes}
+use Rattle.std.specs.Prelude.{ℕ, ℤ, ◌&&◌, List, Option, Some, None, is_some, option_map, if◌then◌else◌, codes}
 use Rattle.std.specs.Str.{is_utf8}
 use Rattle.serde_json.specs.Data.{Data, object, no_members}
 use Rattle.serde_json.specs.Find.{get, as_str, as_object}
@@ -22,6 +22,11 @@ abbrev pub object_or_empty : Option Data → Option Data
 object_or_empty None = Some (object no_members)
 object_or_empty (Some d) = option_map (λ _. d) (as_object d)
 
+-- the client, by the member `client_assertion` of `params`: a client with a secret sends no
+-- assertion, since a request authenticates its client once (RFC 6749, 2.3)
+abbrev pub once_authenticated : Option Data → Client → Option Client
+once_authenticated assertion c = if is_some assertion && is_some c.secret then None else Some c
+
 -- reads a script from a JSON value; `None` if any part of it is bad
 unfoldable pub script_of : Data → Option Script
 script_of d = do
@@ -30,7 +35,8 @@ script_of d = do
   readings ← list_part moment (codes "readings") d
   params ← object_or_empty (get (codes "params") d)
   command ← command_of name params
-  client ← needed_part client (codes "client") d
+  given ← needed_part client (codes "client") d
+  client ← once_authenticated (get (codes "client_assertion") params) given
   Some (record { client = client; command = command; replies = replies; readings = readings })
 
 -- the script that the bytes of an input are; `None` for a bad script

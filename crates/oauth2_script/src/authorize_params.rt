@@ -4,6 +4,7 @@ ghost use Rattle.oauth2_script.specs.AuthorizeParams as spec;
 
 use crate::part::{Part, listed, needed, optional};
 use crate::script_error::ScriptError;
+use crate::sent_params::resources_and_extra;
 use oauth2_types::{CsrfToken, PkceCodeChallenge, ResponseType, Scope};
 use oauth2_urls::RedirectUrl;
 use serde_json::Value;
@@ -35,7 +36,7 @@ impl Part for AuthorizeParams {
     fn from_value(alloc: Global, value: &Value) -> Result<AuthorizeParams, ScriptError> {
         let state = needed(alloc, value, "state")?;
         let scopes = listed(alloc, value, "scopes")?;
-        let extra_params = listed(alloc, value, "extra")?;
+        let extra_params = resources_and_extra(alloc, value)?;
         let challenge = optional(alloc, value, "verifier")?;
         let redirect = optional(alloc, value, "redirect")?;
         let response_type = optional(alloc, value, "response_type")?;

@@ -4,6 +4,7 @@ ghost use Rattle.oauth2_script.specs.ClientCredentialsParams as spec;
 
 use crate::part::{Part, listed};
 use crate::script_error::ScriptError;
+use crate::sent_params::sent_params;
 use oauth2_types::Scope;
 use serde_json::Value;
 use std::alloc::Global;
@@ -27,7 +28,7 @@ impl Part for ClientCredentialsParams {
     #[tactic(auto, unfolding(crate::specs::ClientCredentialsParams::client_credentials_params))]
     fn from_value(alloc: Global, value: &Value) -> Result<ClientCredentialsParams, ScriptError> {
         let scopes = listed(alloc, value, "scopes")?;
-        let extra_params = listed(alloc, value, "extra")?;
+        let extra_params = sent_params(alloc, value)?;
         Ok(ClientCredentialsParams {
             scopes,
             extra_params,

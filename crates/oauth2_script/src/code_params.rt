@@ -2,8 +2,9 @@
 
 ghost use Rattle.oauth2_script.specs.CodeParams as spec;
 
-use crate::part::{Part, listed, needed, optional};
+use crate::part::{Part, needed, optional};
 use crate::script_error::ScriptError;
+use crate::sent_params::sent_params;
 use oauth2_types::{AuthorizationCode, PkceCodeVerifier};
 use oauth2_urls::RedirectUrl;
 use serde_json::Value;
@@ -32,7 +33,7 @@ impl Part for CodeParams {
         let code = needed(alloc, value, "code")?;
         let verifier = optional(alloc, value, "verifier")?;
         let redirect = optional(alloc, value, "redirect")?;
-        let extra_params = listed(alloc, value, "extra")?;
+        let extra_params = sent_params(alloc, value)?;
         Ok(CodeParams {
             code,
             verifier,

@@ -6,6 +6,7 @@ ghost use Rattle.oauth2_script.specs.DeviceAuthorizationParams as spec;
 
 use crate::part::{Part, listed};
 use crate::script_error::ScriptError;
+use crate::sent_params::sent_params;
 use oauth2_types::Scope;
 use serde_json::Value;
 use std::alloc::Global;
@@ -28,7 +29,7 @@ impl Part for DeviceAuthorizationParams {
 
     fn from_value(alloc: Global, value: &Value) -> Result<DeviceAuthorizationParams, ScriptError> {
         let scopes = listed(alloc, value, "scopes")?;
-        let extra_params = listed(alloc, value, "extra")?;
+        let extra_params = sent_params(alloc, value)?;
         Ok(DeviceAuthorizationParams {
             scopes,
             extra_params,

@@ -2,8 +2,9 @@
 
 ghost use Rattle.oauth2_script.specs.DevicePollParams as spec;
 
-use crate::part::{Part, listed, needed, optional};
+use crate::part::{Part, needed, optional};
 use crate::script_error::ScriptError;
+use crate::sent_params::sent_params;
 use oauth2_json::{FromJson, ReadError};
 use oauth2_replies::StandardDeviceAuthorizationResponse;
 use serde_json::Value;
@@ -61,7 +62,7 @@ impl Part for DevicePollParams {
         let max_polls = needed(alloc, value, "max_polls")?;
         let timeout = optional(alloc, value, "timeout")?;
         let cap = optional(alloc, value, "cap")?;
-        let extra_params = listed(alloc, value, "extra")?;
+        let extra_params = sent_params(alloc, value)?;
         Ok(DevicePollParams {
             device,
             max_polls,

@@ -2,8 +2,9 @@
 
 ghost use Rattle.oauth2_script.specs.IntrospectParams as spec;
 
-use crate::part::{Part, listed, needed, optional};
+use crate::part::{Part, needed, optional};
 use crate::script_error::ScriptError;
+use crate::sent_params::asserted_extra;
 use oauth2_types::AccessToken;
 use serde_json::Value;
 use std::alloc::Global;
@@ -30,7 +31,7 @@ impl Part for IntrospectParams {
     fn from_value(alloc: Global, value: &Value) -> Result<IntrospectParams, ScriptError> {
         let token = needed(alloc, value, "token")?;
         let hint = optional(alloc, value, "hint")?;
-        let extra_params = listed(alloc, value, "extra")?;
+        let extra_params = asserted_extra(alloc, value)?;
         Ok(IntrospectParams {
             token,
             hint,

@@ -4,6 +4,7 @@ ghost use Rattle.oauth2_script.specs.KeeperParams as spec;
 
 use crate::part::{Part, listed, needed, optional};
 use crate::script_error::ScriptError;
+use crate::sent_params::sent_params;
 use oauth2_types::{RefreshToken, Scope};
 use serde_json::Value;
 use std::alloc::Global;
@@ -39,7 +40,7 @@ impl Part for KeeperParams {
         let life = needed(alloc, value, "life")?;
         let refresh = optional(alloc, value, "refresh")?;
         let scopes = listed(alloc, value, "scopes")?;
-        let extra_params = listed(alloc, value, "extra")?;
+        let extra_params = sent_params(alloc, value)?;
         let retry_after = optional(alloc, value, "retry_after")?;
         Ok(KeeperParams {
             margin,

@@ -2,6 +2,7 @@
 
 #![tactic(auto)]
 
+mod absolute_uri;
 mod access_token_params;
 mod adapter;
 mod authorize_params;
@@ -24,6 +25,7 @@ mod reply;
 mod revoke_params;
 mod script;
 mod script_error;
+mod sent_params;
 mod texts;
 mod urls;
 

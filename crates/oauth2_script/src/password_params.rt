@@ -4,6 +4,7 @@ ghost use Rattle.oauth2_script.specs.PasswordParams as spec;
 
 use crate::part::{Part, listed, needed};
 use crate::script_error::ScriptError;
+use crate::sent_params::sent_params;
 use oauth2_types::{ResourceOwnerPassword, ResourceOwnerUsername, Scope};
 use serde_json::Value;
 use std::alloc::Global;
@@ -31,7 +32,7 @@ impl Part for PasswordParams {
         let username = needed(alloc, value, "username")?;
         let password = needed(alloc, value, "password")?;
         let scopes = listed(alloc, value, "scopes")?;
-        let extra_params = listed(alloc, value, "extra")?;
+        let extra_params = sent_params(alloc, value)?;
         Ok(PasswordParams {
             username,
             password,

@@ -4,6 +4,7 @@ ghost use Rattle.oauth2_script.specs.RefreshParams as spec;
 
 use crate::part::{Part, listed, needed};
 use crate::script_error::ScriptError;
+use crate::sent_params::sent_params;
 use oauth2_types::{RefreshToken, Scope};
 use serde_json::Value;
 use std::alloc::Global;
@@ -29,7 +30,7 @@ impl Part for RefreshParams {
     fn from_value(alloc: Global, value: &Value) -> Result<RefreshParams, ScriptError> {
         let refresh_token = needed(alloc, value, "refresh_token")?;
         let scopes = listed(alloc, value, "scopes")?;
-        let extra_params = listed(alloc, value, "extra")?;
+        let extra_params = sent_params(alloc, value)?;
         Ok(RefreshParams {
             refresh_token,
             scopes,

@@ -2,8 +2,9 @@
 
 ghost use Rattle.oauth2_script.specs.RevokeParams as spec;
 
-use crate::part::{Part, listed, needed, optional};
+use crate::part::{Part, needed, optional};
 use crate::script_error::ScriptError;
+use crate::sent_params::asserted_extra;
 use serde_json::Value;
 use std::alloc::Global;
 
@@ -57,7 +58,7 @@ impl Part for RevokeParams {
     fn from_value(alloc: Global, value: &Value) -> Result<RevokeParams, ScriptError> {
         let token = needed(alloc, value, "token")?;
         let kind = optional(alloc, value, "kind")?;
-        let extra_params = listed(alloc, value, "extra")?;
+        let extra_params = asserted_extra(alloc, value)?;
         Ok(RevokeParams {
             token,
             kind: kind.unwrap_or(TokenKind::Access),

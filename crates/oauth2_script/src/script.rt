@@ -5,7 +5,7 @@ ghost use Rattle.serde_json.specs.View.{view};
 ghost use Rattle.serde_json.specs.Data.{object, no_members};
 ghost use Rattle.oauth2_script.specs.Script as spec;
 ghost use Rattle.oauth2_script.specs.Gives.{Gives};
-ghost use Rattle.oauth2_script.specs.Views.{script_view};
+ghost use Rattle.oauth2_script.specs.Views.{client_view, script_view};
 
 use crate::client_part::ClientPart;
 use crate::command::{Command, command_of};
@@ -45,6 +45,21 @@ fn params_of<'v>(params: Option<&'v Value>, empty: &'v Value) -> Result<&'v Valu
     }
 }
 
+// The client; `Bad` if it has a secret and an assertion.
+fn once_authenticated(
+    assertion: Option<&Value>,
+    client: ClientPart,
+) -> Result<ClientPart, ScriptError>
+    ensures read { Gives client_view result (spec.once_authenticated
+        (option_map (λ v. view v.now) assertion.entry) (client_view client)) }
+    ensures fed { IfErr result (λ e. e ≡ ScriptError.Bad) }
+{
+    if assertion.is_some() && client.secret.is_some() {
+        return Err(ScriptError::Bad);
+    }
+    Ok(client)
+}
+
 #[tactic(auto, unfolding(crate::specs::Script::script_of))]
 fn script_of(alloc: Global, value: &Value) -> Result<Script, ScriptError>
     ensures { Gives script_view result (spec.script_of (view value.now)) }
@@ -55,7 +70,8 @@ fn script_of(alloc: Global, value: &Value) -> Result<Script, ScriptError>
     let empty = Value::Object(Map::new(alloc));
     let params = params_of(value.get("params"), &empty)?;
     let command = command_of(alloc, name.as_str(), params)?;
-    let client = needed(alloc, value, "client")?;
+    let client: ClientPart = needed(alloc, value, "client")?;
+    let client = once_authenticated(params.get("client_assertion"), client)?;
     Ok(Script {
         client,
         command,
