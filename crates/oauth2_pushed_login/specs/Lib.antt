@@ -1,0 +1,4 @@
+pub mod PushMembers
+pub mod Route
+pub mod PushedUrl
+pub mod ErrorTexts
