@@ -1,0 +1,4 @@
+pub mod Details
+pub mod FaultText
+pub mod Shown
+pub mod private
