@@ -1,6 +1,6 @@
 -- Runs in which a token is renewed once, and the next renewal comes too late with what it was given.
-use Rattle.std.proofs.Common.{◌≡◌, ℕ, List, [], ◌∷◌, Some, refl, arith}
-use Rattle.oauth2_shared_token.specs.declared.renewal.SharedToken.{SharedToken}
+use Rattle.std.proofs.Common.{◌≡◌, ℕ, List, [], ◌∷◌, Some, None, refl, arith}
+use Rattle.std.specs.Prelude.{pos}
 use Rattle.oauth2_shared_token.specs.declared.renewal.Content.TheVariants as content
 use Rattle.oauth2_shared_token.specs.declared.renewal.Told.TheVariants as told
 use Rattle.oauth2_shared_token.specs.State.{Token, at_rest, begin}
@@ -9,7 +9,7 @@ use Rattle.oauth2_shared_token.specs.Run.{IsRun, at_last, times_sent, newest_giv
 use Rattle.oauth2_shared_token.specs.Fleet.{Happening, Turned, Took, ToMark, ToKeep, SignsIn, fleet_of, IsFleetRun, all_events}
 
 abbrev token : ℕ → Token
-token n = record { access = n; refresh = n }
+token n = record { access = n ∷ []; refresh = n ∷ []; accepted_at = pos n; lifetime = None }
 
 abbrev events : List SharedEvent
 events =
@@ -38,7 +38,7 @@ is_run = (
   ),
 )
 
-sent_once : times_sent 0 events ≡ 1
+sent_once : times_sent (0 ∷ []) events ≡ 1
 sent_once = refl
 
 stored_at_last : (at_last (begin (token 0)) events).store ≡ at_rest 4 (token 2)
@@ -50,22 +50,19 @@ late = refl
 
 -- a fleet that makes these events: two machines read version 0 at rest, and the store takes the mark of the
 -- second, which reads it, since the reply was lost
-abbrev shared : ℕ → SharedToken
-shared n = record { access = n; refresh = n }
-
 abbrev happenings : List Happening
 happenings =
-    Turned 0 (told.Stored (record { version = 0; content = content.AtRest (shared 0) }))
-    ∷ Turned 1 (told.Stored (record { version = 0; content = content.AtRest (shared 0) }))
+    Turned 0 (told.Stored (record { version = 0; content = content.AtRest (token 0) }))
+    ∷ Turned 1 (told.Stored (record { version = 0; content = content.AtRest (token 0) }))
     ∷ Took (ToMark 1 0 (token 0))
-    ∷ Turned 1 (told.Stored (record { version = 1; content = content.Marked (shared 0) 1 }))
-    ∷ Turned 1 (told.Answer (shared 1))
+    ∷ Turned 1 (told.Stored (record { version = 1; content = content.Marked (token 0) 1 }))
+    ∷ Turned 1 (told.Answer (token 1))
     ∷ Took (ToKeep 1 0 (token 1))
-    ∷ Turned 2 (told.Stored (record { version = 2; content = content.AtRest (shared 1) }))
+    ∷ Turned 2 (told.Stored (record { version = 2; content = content.AtRest (token 1) }))
     ∷ Took (ToMark 2 2 (token 1))
     ∷ SignsIn 2 3 (token 2)
     ∷ Turned 2 told.Done
-    ∷ Turned 2 (told.Answer (shared 3))
+    ∷ Turned 2 (told.Answer (token 3))
     ∷ []
 
 fleet_runs : IsFleetRun (fleet_of (token 0)) happenings

@@ -4,7 +4,6 @@ use Rattle.std.proofs.lemmas.Bool.{cases_eq}
 use Rattle.std.proofs.lemmas.List.{append-nil}
 use Rattle.std.specs.List.{Contains}
 use Rattle.std.proofs.lemmas.List.Elements.{Contains-append_cases}
-use Rattle.oauth2_shared_token.specs.declared.renewal.SharedToken.{SharedToken}
 use Rattle.oauth2_shared_token.specs.declared.renewal.Content.{Content}
 use Rattle.oauth2_shared_token.specs.declared.renewal.Content.TheVariants as content
 use Rattle.oauth2_shared_token.specs.declared.renewal.Learnt.{Learnt}
@@ -18,7 +17,7 @@ use Rattle.oauth2_shared_token.specs.declared.renewal.Step.TheVariants as step
 use Rattle.oauth2_shared_token.specs.State.{Token, token_in, Stored, at_rest, marked, empty, Stage, NotBegun, Asking, Marking, Sending, Holding, Returning, Done, put, Shared, stage_of, begin}
 use Rattle.oauth2_shared_token.specs.Event.{SharedEvent, Asked, Marked, Sent, Given, Kept, Withdrew, GivenBack, SignedIn, Allowed, LoggedIn, LoggedOut, CanHappen, Fits, WasMarked, WasFree, WasStored, stored, gone_on, after}
 use Rattle.oauth2_shared_token.specs.Run.{IsRun, at_last}
-use Rattle.oauth2_shared_token.specs.Renewal.{turn_of, looked_at, read_again, sent_if, returned_if, again_in, stored_of, token_of, Knows, IsSo, IsOfOthers, events_of, next_turn}
+use Rattle.oauth2_shared_token.specs.Renewal.{turn_of, looked_at, read_again, sent_if, returned_if, again_in, stored_of, Knows, IsSo, IsOfOthers, events_of, next_turn}
 use Rattle.oauth2_shared_token.specs.Fleet.{Request, ToMark, ToKeep, ToReturn, Fleet, phase_of, Happening, Turned, Took, SignsIn, Allows, LogsIn, LogsOut, CanOccur, turned, taken, later, events_in, fleet_of, IsFleetRun, fleet_at_last, all_events, handed_out, EachFleetRuns, EachFleetSendsOnce, EachHandedOutWasStored}
 use Rattle.oauth2_shared_token.proofs.Places.{put-same, put-other, only_one, none_in_nothing}
 use Rattle.oauth2_shared_token.proofs.Lists.{run-append, at_last-append}
@@ -130,17 +129,17 @@ module _ (f : Fleet) (s : Shared) (a : Agrees f s) where
       }
 
   -- what all machines know, after one has got further
-  knows_put : (t : Shared) (i : ℕ) (p : Phase) → Knows t i p → ((j : ℕ) → j ≢ i → Knows t j (phase_of f j)) → (j : ℕ) → Knows t j (get_or (put phase.Looking f.phases i p) j phase.Looking)
+  knows_put : (t : Shared) (i : ℕ) (p : Phase Token) → Knows t i p → ((j : ℕ) → j ≢ i → Knows t j (phase_of f j)) → (j : ℕ) → Knows t j (get_or (put phase.Looking f.phases i p) j phase.Looking)
   knows_put t i p here others j =
       elim (cases_eq j i) [
         | inl same ↦
             let is : get_or (put phase.Looking f.phases i p) j phase.Looking ≡ p = rw same (put-same phase.Looking f.phases i p) in
-            subst (λ (q : Phase). Knows t j q) (sym is) (subst (λ (k : ℕ). Knows t k p) (sym same) here)
-        | inr ne ↦ subst (λ (q : Phase). Knows t j q) (sym (put-other phase.Looking f.phases i j p ne)) (others j ne)
+            subst (λ (q : Phase Token). Knows t j q) (sym is) (subst (λ (k : ℕ). Knows t k p) (sym same) here)
+        | inr ne ↦ subst (λ (q : Phase Token). Knows t j q) (sym (put-other phase.Looking f.phases i j p ne)) (others j ne)
       ]
 
   -- a turn that makes no event
-  agrees_silent : (i : ℕ) (p : Phase) → Knows s i p → Agrees (record { store = f.store; past = f.past; phases = put phase.Looking f.phases i p; requests = f.requests ++ [] }) s
+  agrees_silent : (i : ℕ) (p : Phase Token) → Knows s i p → Agrees (record { store = f.store; past = f.past; phases = put phase.Looking f.phases i p; requests = f.requests ++ [] }) s
   agrees_silent i p known =
       record {
         store = a.store;
@@ -151,7 +150,7 @@ module _ (f : Fleet) (s : Shared) (a : Agrees f s) where
       }
 
   -- a turn that makes an event and asks nothing of the store, or asks one thing
-  agrees_turned : (i : ℕ) (p : Phase) (event : SharedEvent) (requests : List Request) → CanHappen s event → Knows (after s event) i p → ((j : ℕ) → j ≢ i → IsOfOthers j event) → s.store ≡ (after s event).store → s.past ≡ (after s event).past → ((r : Request) → Contains requests r → IsOpen (after s event) r) → Agrees (record { store = f.store; past = f.past; phases = put phase.Looking f.phases i p; requests = f.requests ++ requests }) (after s event)
+  agrees_turned : (i : ℕ) (p : Phase Token) (event : SharedEvent) (requests : List Request) → CanHappen s event → Knows (after s event) i p → ((j : ℕ) → j ≢ i → IsOfOthers j event) → s.store ≡ (after s event).store → s.past ≡ (after s event).past → ((r : Request) → Contains requests r → IsOpen (after s event) r) → Agrees (record { store = f.store; past = f.past; phases = put phase.Looking f.phases i p; requests = f.requests ++ requests }) (after s event)
   agrees_turned i p event requests can known others store past new =
       record {
         store = a.store ∙ store;
@@ -167,22 +166,22 @@ module _ (f : Fleet) (s : Shared) (a : Agrees f s) where
   the_only : {A : Type 0} (x y : A) → Contains (x ∷ []) y → y ≡ x
   the_only {A} x y h = only_one x y h.0 h.1 h.2
 
-  agrees_step : (i : ℕ) (p : Phase) (step : Step) → IsRun s (events_of i step) → Knows (at_last s (events_of i step)) i p → Agrees (turned f i (turn_of p step)) (at_last s (events_of i step))
+  agrees_step : (i : ℕ) (p : Phase Token) (step : Step Token) → IsRun s (events_of i step) → Knows (at_last s (events_of i step)) i p → Agrees (turned f i (turn_of p step)) (at_last s (events_of i step))
   agrees_step i p step.Look run known = agrees_silent i p known
   agrees_step i p (step.Mark version token) run known =
-      agrees_turned i p (Asked i version (token_of token)) (ToMark i version (token_of token) ∷ []) run.0 known (λ j ne. ne) refl refl (λ r h.
-      let is : r ≡ ToMark i version (token_of token) = the_only (ToMark i version (token_of token)) r h in
-      subst (IsOpen (after s (Asked i version (token_of token)))) (sym is) (inl (put-same NotBegun s.renewals i (Asking version (token_of token)))))
+      agrees_turned i p (Asked i version token) (ToMark i version token ∷ []) run.0 known (λ j ne. ne) refl refl (λ r h.
+      let is : r ≡ ToMark i version token = the_only (ToMark i version token) r h in
+      subst (IsOpen (after s (Asked i version token))) (sym is) (inl (put-same NotBegun s.renewals i (Asking version token))))
   agrees_step i p (step.Send version token) run known =
-      agrees_turned i p (Sent i version (token_of token)) [] run.0 known (λ j ne. ne) refl refl (λ r h. absurd (none_in_nothing r h))
+      agrees_turned i p (Sent i version token) [] run.0 known (λ j ne. ne) refl refl (λ r h. absurd (none_in_nothing r h))
   agrees_step i p (step.Keep version new) run known =
-      agrees_turned i p (Given i version (token_of new)) (ToKeep i version (token_of new) ∷ []) run.0 known (λ j ne. ne) refl refl (λ r h.
-      let is : r ≡ ToKeep i version (token_of new) = the_only (ToKeep i version (token_of new)) r h in
-      subst (IsOpen (after s (Given i version (token_of new)))) (sym is) (inl (put-same NotBegun s.renewals i (Holding version (token_of new)))))
+      agrees_turned i p (Given i version new) (ToKeep i version new ∷ []) run.0 known (λ j ne. ne) refl refl (λ r h.
+      let is : r ≡ ToKeep i version new = the_only (ToKeep i version new) r h in
+      subst (IsOpen (after s (Given i version new))) (sym is) (inl (put-same NotBegun s.renewals i (Holding version new))))
   agrees_step i p (step.GiveBack version token) run known =
-      agrees_turned i p (Withdrew i version (token_of token)) (ToReturn i version (token_of token) ∷ []) run.0 known (λ j ne. ne) refl refl (λ r h.
-      let is : r ≡ ToReturn i version (token_of token) = the_only (ToReturn i version (token_of token)) r h in
-      subst (IsOpen (after s (Withdrew i version (token_of token)))) (sym is) (inl (put-same NotBegun s.renewals i (Returning version (token_of token)))))
+      agrees_turned i p (Withdrew i version token) (ToReturn i version token ∷ []) run.0 known (λ j ne. ne) refl refl (λ r h.
+      let is : r ≡ ToReturn i version token = the_only (ToReturn i version token) r h in
+      subst (IsOpen (after s (Withdrew i version token))) (sym is) (inl (put-same NotBegun s.renewals i (Returning version token))))
   agrees_step i p step.Repeat run known = agrees_silent i p known
   agrees_step i p (step.InUse other token) run known = agrees_silent i p known
   agrees_step i p step.LoggedOut run known = agrees_silent i p known
@@ -254,29 +253,29 @@ each_fleet_sends_once start happenings r run once =
 abbrev WasRead : List Stored → Token → Type 0
 WasRead past token = (p : Stored) × Contains past p × (token_in p.content ≡ Some token)
 
-handed_looking : (past : List Stored) (version : ℕ) (c : Content) (out : Token) → Contains past (stored_of (record { version = version; content = c })) → handed_out (looked_at version c).step ≡ Some out → WasRead past out
+handed_looking : (past : List Stored) (version : ℕ) (c : Content Token) (out : Token) → Contains past (stored_of (record { version = version; content = c })) → handed_out (looked_at version c).step ≡ Some out → WasRead past out
 handed_looking past version (content.AtRest token) out seen e = absurd cc
 handed_looking past version (content.Marked token other) out seen e = (stored_of (record { version = version; content = content.Marked token other }), seen, e)
 handed_looking past version content.Empty out seen e = absurd cc
 
-none_sent : {P : Type 0} (version : ℕ) (token : SharedToken) (l : Learnt) (out : Token) → handed_out (sent_if version token l).step ≡ Some out → P
+none_sent : {P : Type 0} (version : ℕ) (token : Token) (l : Learnt) (out : Token) → handed_out (sent_if version token l).step ≡ Some out → P
 none_sent version token learnt.Taken out e = absurd cc
 none_sent version token learnt.Lost out e = absurd cc
 none_sent version token learnt.Open out e = absurd cc
 
-none_returned : {P : Type 0} (version : ℕ) (token : SharedToken) (l : Learnt) (out : Token) → handed_out (returned_if version token l).step ≡ Some out → P
+none_returned : {P : Type 0} (version : ℕ) (token : Token) (l : Learnt) (out : Token) → handed_out (returned_if version token l).step ≡ Some out → P
 none_returned version token learnt.Taken out e = absurd cc
 none_returned version token learnt.Lost out e = absurd cc
 none_returned version token learnt.Open out e = absurd cc
 
-none_again : {P : Type 0} (p : Phase) (t : Told) (out : Token) → handed_out (again_in p t).step ≡ Some out → P
+none_again : {P : Type 0} (p : Phase Token) (t : Told Token) (out : Token) → handed_out (again_in p t).step ≡ Some out → P
 none_again p (told.Stored q) out e = absurd cc
 none_again p told.Done out e = absurd cc
 none_again p told.Nothing out e = absurd cc
 none_again p (told.Answer new) out e = absurd cc
 none_again p told.Stop out e = absurd cc
 
-handed : (past : List Stored) (name : ℕ) (p : Phase) (t : Told) (out : Token) → IsSo past name p t → handed_out (next_turn name p t).step ≡ Some out → WasRead past out
+handed : (past : List Stored) (name : ℕ) (p : Phase Token) (t : Told Token) (out : Token) → IsSo past name p t → handed_out (next_turn name p t).step ≡ Some out → WasRead past out
 handed past name phase.Looking (told.Stored q) out so e = handed_looking past q.version q.content out so e
 handed past name phase.Looking told.Done out so e = absurd cc
 handed past name phase.Looking told.Nothing out so e = absurd cc

@@ -1,7 +1,6 @@
 -- What a renewal knows of itself is so after its steps, and stays so.
 use Rattle.std.proofs.Common.{◌≡◌, ◌≢◌, ℕ, List, get_or, refl, ap, sym, subst, ◌∙◌, ◌⊎◌, inl, inr}
 use Rattle.std.proofs.lemmas.Bool.{cases_eq}
-use Rattle.oauth2_shared_token.specs.declared.renewal.SharedToken.{SharedToken}
 use Rattle.oauth2_shared_token.specs.declared.renewal.Content.{Content}
 use Rattle.oauth2_shared_token.specs.declared.renewal.Content.TheVariants as content
 use Rattle.oauth2_shared_token.specs.declared.renewal.Learnt.{Learnt}
@@ -13,42 +12,42 @@ use Rattle.oauth2_shared_token.specs.declared.renewal.Told.TheVariants as told
 use Rattle.oauth2_shared_token.specs.State.{Token, Stage, NotBegun, Asking, Marking, Sending, Holding, Returning, Done, put, Shared, stage_of}
 use Rattle.oauth2_shared_token.specs.Event.{Asked, Marked, Sent, Given, Kept, Withdrew, GivenBack, SignedIn, Allowed, LoggedIn, LoggedOut, after}
 use Rattle.oauth2_shared_token.specs.Run.{at_last}
-use Rattle.oauth2_shared_token.specs.Renewal.{looked_at, read_again, sent_if, returned_if, again_in, token_of, Knows, events_of, next_turn, EachStepIsKnown, WhatIsKnownStays}
+use Rattle.oauth2_shared_token.specs.Renewal.{looked_at, read_again, sent_if, returned_if, again_in, Knows, events_of, next_turn, EachStepIsKnown, WhatIsKnownStays}
 use Rattle.oauth2_shared_token.proofs.Places.{put-same, put-other}
 
-looked : (s : Shared) (name version : ℕ) (c : Content) → Knows (at_last s (events_of name (looked_at version c).step)) name (looked_at version c).phase
-looked s name version (content.AtRest token) = inl (put-same NotBegun s.renewals name (Asking version (token_of token)))
+looked : (s : Shared) (name version : ℕ) (c : Content Token) → Knows (at_last s (events_of name (looked_at version c).step)) name (looked_at version c).phase
+looked s name version (content.AtRest token) = inl (put-same NotBegun s.renewals name (Asking version token))
 looked s name version (content.Marked token other) = tt
 looked s name version content.Empty = tt
 
 sent : (s : Shared) (name version : ℕ) (t : Token) → stage_of (after s (Sent name version t)) name ≡ Sending version
 sent s name version t = put-same NotBegun s.renewals name (Sending version)
 
-known_sent : (s : Shared) (name version : ℕ) (token : SharedToken) (l : Learnt) → Knows s name (phase.Asking version token) → Knows (at_last s (events_of name (sent_if version token l).step)) name (sent_if version token l).phase
-known_sent s name version token learnt.Taken knows = sent s name version (token_of token)
+known_sent : (s : Shared) (name version : ℕ) (token : Token) (l : Learnt) → Knows s name (phase.Asking version token) → Knows (at_last s (events_of name (sent_if version token l).step)) name (sent_if version token l).phase
+known_sent s name version token learnt.Taken knows = sent s name version token
 known_sent s name version token learnt.Lost knows = tt
 known_sent s name version token learnt.Open knows = knows
 
-known_returned : (s : Shared) (name version : ℕ) (token : SharedToken) (l : Learnt) → Knows s name (phase.Leaving version token) → Knows (at_last s (events_of name (returned_if version token l).step)) name (returned_if version token l).phase
-known_returned s name version token learnt.Taken knows = inl (put-same NotBegun s.renewals name (Returning version (token_of token)))
+known_returned : (s : Shared) (name version : ℕ) (token : Token) (l : Learnt) → Knows s name (phase.Leaving version token) → Knows (at_last s (events_of name (returned_if version token l).step)) name (returned_if version token l).phase
+known_returned s name version token learnt.Taken knows = inl (put-same NotBegun s.renewals name (Returning version token))
 known_returned s name version token learnt.Lost knows = tt
 known_returned s name version token learnt.Open knows = knows
 
-known_repeated : (s : Shared) (name : ℕ) (p : Phase) (t : Told) → Knows s name p → Knows (at_last s (events_of name (again_in p t).step)) name (again_in p t).phase
+known_repeated : (s : Shared) (name : ℕ) (p : Phase Token) (t : Told Token) → Knows s name p → Knows (at_last s (events_of name (again_in p t).step)) name (again_in p t).phase
 known_repeated s name p (told.Stored q) knows = tt
 known_repeated s name p told.Done knows = tt
 known_repeated s name p told.Nothing knows = knows
 known_repeated s name p (told.Answer new) knows = tt
 known_repeated s name p told.Stop knows = tt
 
-pub step_is_known : (s : Shared) (name : ℕ) (p : Phase) (t : Told) → Knows s name p → Knows (at_last s (events_of name (next_turn name p t).step)) name (next_turn name p t).phase
+pub step_is_known : (s : Shared) (name : ℕ) (p : Phase Token) (t : Told Token) → Knows s name p → Knows (at_last s (events_of name (next_turn name p t).step)) name (next_turn name p t).phase
 step_is_known s name phase.Looking (told.Stored p) knows = looked s name p.version p.content
 step_is_known s name phase.Looking told.Done knows = knows
 step_is_known s name phase.Looking told.Nothing knows = knows
 step_is_known s name phase.Looking (told.Answer t) knows = knows
 step_is_known s name phase.Looking told.Stop knows = tt
 step_is_known s name (phase.Asking version token) (told.Stored p) knows = known_sent s name version token (read_again name version p) knows
-step_is_known s name (phase.Asking version token) told.Done knows = sent s name version (token_of token)
+step_is_known s name (phase.Asking version token) told.Done knows = sent s name version token
 step_is_known s name (phase.Asking version token) told.Nothing knows = knows
 step_is_known s name (phase.Asking version token) (told.Answer t) knows = knows
 step_is_known s name (phase.Asking version token) told.Stop knows = knows
@@ -60,7 +59,7 @@ step_is_known s name (phase.Leaving version token) told.Stop knows = knows
 step_is_known s name (phase.Sending version) (told.Stored p) knows = tt
 step_is_known s name (phase.Sending version) told.Done knows = tt
 step_is_known s name (phase.Sending version) told.Nothing knows = tt
-step_is_known s name (phase.Sending version) (told.Answer t) knows = inl (put-same NotBegun s.renewals name (Holding version (token_of t)))
+step_is_known s name (phase.Sending version) (told.Answer t) knows = inl (put-same NotBegun s.renewals name (Holding version t))
 step_is_known s name (phase.Sending version) told.Stop knows = tt
 step_is_known s name (phase.Keeping version new) t knows = known_repeated s name (phase.Keeping version new) t knows
 step_is_known s name (phase.Returning version token) t knows = known_repeated s name (phase.Returning version token) t knows
@@ -70,16 +69,16 @@ pub each_step_is_known : EachStepIsKnown
 each_step_is_known s name phase told reached knows so = step_is_known s name phase told knows
 
 -- the stages that a renewal may have as it knows
-abbrev may_be : Phase → Stage → Type 0
+abbrev may_be : Phase Token → Stage → Type 0
 may_be phase.Looking x = x ≡ NotBegun
-may_be (phase.Asking version token) x = (x ≡ Asking version (token_of token)) ⊎ (x ≡ Marking version (token_of token))
-may_be (phase.Leaving version token) x = (x ≡ Asking version (token_of token)) ⊎ (x ≡ Marking version (token_of token))
+may_be (phase.Asking version token) x = (x ≡ Asking version token) ⊎ (x ≡ Marking version token)
+may_be (phase.Leaving version token) x = (x ≡ Asking version token) ⊎ (x ≡ Marking version token)
 may_be (phase.Sending version) x = x ≡ Sending version
-may_be (phase.Keeping version new) x = (x ≡ Holding version (token_of new)) ⊎ (x ≡ Done)
-may_be (phase.Returning version token) x = (x ≡ Returning version (token_of token)) ⊎ (x ≡ Done)
+may_be (phase.Keeping version new) x = (x ≡ Holding version new) ⊎ (x ≡ Done)
+may_be (phase.Returning version token) x = (x ≡ Returning version token) ⊎ (x ≡ Done)
 may_be phase.Over x = Unit {0}
 
-to : (s : Shared) (name : ℕ) (p : Phase) → Knows s name p → may_be p (stage_of s name)
+to : (s : Shared) (name : ℕ) (p : Phase Token) → Knows s name p → may_be p (stage_of s name)
 to s name phase.Looking k = k
 to s name (phase.Asking version token) k = k
 to s name (phase.Leaving version token) k = k
@@ -88,7 +87,7 @@ to s name (phase.Keeping version new) k = k
 to s name (phase.Returning version token) k = k
 to s name phase.Over k = k
 
-from : (s : Shared) (name : ℕ) (p : Phase) → may_be p (stage_of s name) → Knows s name p
+from : (s : Shared) (name : ℕ) (p : Phase Token) → may_be p (stage_of s name) → Knows s name p
 from s name phase.Looking k = k
 from s name (phase.Asking version token) k = k
 from s name (phase.Leaving version token) k = k
@@ -97,11 +96,11 @@ from s name (phase.Keeping version new) k = k
 from s name (phase.Returning version token) k = k
 from s name phase.Over k = k
 
-marked_then : (p : Phase) (version : ℕ) (token : Token) (x : Stage) → x ≡ Asking version token → may_be p x → may_be p (Marking version token)
+marked_then : (p : Phase Token) (version : ℕ) (token : Token) (x : Stage) → x ≡ Asking version token → may_be p x → may_be p (Marking version token)
 marked_then phase.Looking v t x is k = absurd cc
-marked_then (phase.Asking version token) v t x is (inl k) = let e : Asking v t ≡ Asking version (token_of token) = sym is ∙ k in inr cc
+marked_then (phase.Asking version token) v t x is (inl k) = let e : Asking v t ≡ Asking version token = sym is ∙ k in inr cc
 marked_then (phase.Asking version token) v t x is (inr k) = absurd cc
-marked_then (phase.Leaving version token) v t x is (inl k) = let e : Asking v t ≡ Asking version (token_of token) = sym is ∙ k in inr cc
+marked_then (phase.Leaving version token) v t x is (inl k) = let e : Asking v t ≡ Asking version token = sym is ∙ k in inr cc
 marked_then (phase.Leaving version token) v t x is (inr k) = absurd cc
 marked_then (phase.Sending version) v t x is k = absurd cc
 marked_then (phase.Keeping version new) v t x is (inl k) = absurd cc
@@ -110,7 +109,7 @@ marked_then (phase.Returning version token) v t x is (inl k) = absurd cc
 marked_then (phase.Returning version token) v t x is (inr k) = absurd cc
 marked_then phase.Over v t x is k = tt
 
-kept_then : (p : Phase) (version : ℕ) (new : Token) (x : Stage) → x ≡ Holding version new → may_be p x → may_be p Done
+kept_then : (p : Phase Token) (version : ℕ) (new : Token) (x : Stage) → x ≡ Holding version new → may_be p x → may_be p Done
 kept_then phase.Looking v t x is k = absurd cc
 kept_then (phase.Asking version token) v t x is (inl k) = absurd cc
 kept_then (phase.Asking version token) v t x is (inr k) = absurd cc
@@ -121,7 +120,7 @@ kept_then (phase.Keeping version new) v t x is k = inr refl
 kept_then (phase.Returning version token) v t x is k = inr refl
 kept_then phase.Over v t x is k = tt
 
-returned_then : (p : Phase) (version : ℕ) (token : Token) (x : Stage) → x ≡ Returning version token → may_be p x → may_be p Done
+returned_then : (p : Phase Token) (version : ℕ) (token : Token) (x : Stage) → x ≡ Returning version token → may_be p x → may_be p Done
 returned_then phase.Looking v t x is k = absurd cc
 returned_then (phase.Asking version token) v t x is (inl k) = absurd cc
 returned_then (phase.Asking version token) v t x is (inr k) = absurd cc
@@ -132,10 +131,10 @@ returned_then (phase.Keeping version new) v t x is k = inr refl
 returned_then (phase.Returning version token) v t x is k = inr refl
 returned_then phase.Over v t x is k = tt
 
-other_place : (p : Phase) (xs : List Stage) (i name : ℕ) (x : Stage) → name ≢ i → may_be p (get_or xs name NotBegun) → may_be p (get_or (put NotBegun xs i x) name NotBegun)
+other_place : (p : Phase Token) (xs : List Stage) (i name : ℕ) (x : Stage) → name ≢ i → may_be p (get_or xs name NotBegun) → may_be p (get_or (put NotBegun xs i x) name NotBegun)
 other_place p xs i name x ne k = subst (may_be p) (sym (put-other NotBegun xs i name x ne)) k
 
-this_place : (p : Phase) (xs : List Stage) (i name : ℕ) (x : Stage) → name ≡ i → may_be p x → may_be p (get_or (put NotBegun xs i x) name NotBegun)
+this_place : (p : Phase Token) (xs : List Stage) (i name : ℕ) (x : Stage) → name ≡ i → may_be p x → may_be p (get_or (put NotBegun xs i x) name NotBegun)
 this_place p xs i name x same k =
     let is : get_or (put NotBegun xs i x) name NotBegun ≡ x = rw same (put-same NotBegun xs i x) in
     subst (may_be p) (sym is) k

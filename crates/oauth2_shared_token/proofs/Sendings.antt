@@ -7,7 +7,7 @@ use Rattle.oauth2_shared_token.specs.Run.{IsRun, has_refresh, times_sent, times_
 use Rattle.oauth2_shared_token.specs.Laws.{EachSendingWasStored, EachIsSentAtMostOnce}
 use Rattle.oauth2_shared_token.proofs.Versions.{IsSound, sound_after, sound_begin, asked_is_stored}
 
-module _ (r : ℕ) where
+module _ (r : List ℕ) where
   -- how many sendings of it are still open: to a renewal, to whoever marks what is at rest, to all
   abbrev held : Stage → ℕ
   held NotBegun = 0

@@ -2,7 +2,6 @@
 use Rattle.std.proofs.Common.{◌≡◌, ℕ, ◌+◌, List, [], ◌∷◌, get_or, Some, None, Bool, true, false, nat_lt, if◌then◌else◌, refl, ap, sym, subst, ◌∙◌, ◌⊎◌, inl, inr}
 use Rattle.std.specs.List.{Contains}
 use Rattle.std.proofs.lemmas.Bool.Decides.{eqb_tells}
-use Rattle.oauth2_shared_token.specs.declared.renewal.SharedToken.{SharedToken}
 use Rattle.oauth2_shared_token.specs.declared.renewal.Content.{Content}
 use Rattle.oauth2_shared_token.specs.declared.renewal.Content.TheVariants as content
 use Rattle.oauth2_shared_token.specs.declared.renewal.StoredValue.{StoredValue}
@@ -15,7 +14,7 @@ use Rattle.oauth2_shared_token.specs.declared.renewal.Told.TheVariants as told
 use Rattle.oauth2_shared_token.specs.State.{Token, user_of, Stored, at_rest, marked, empty, Stage, NotBegun, Asking, Marking, Sending, Holding, Returning, Done, put, Shared, stage_of, begin}
 use Rattle.oauth2_shared_token.specs.Event.{SharedEvent, Asked, Marked, Sent, Given, Kept, Withdrew, GivenBack, SignedIn, Allowed, LoggedIn, LoggedOut, CanHappen, after}
 use Rattle.oauth2_shared_token.specs.Run.{IsRun, at_last}
-use Rattle.oauth2_shared_token.specs.Renewal.{looked_at, past_or_open, seen_in, read_again, sent_if, returned_if, again_in, token_of, stored_of, IsReached, Knows, IsSo, events_of, EachStepCanHappen, next_turn}
+use Rattle.oauth2_shared_token.specs.Renewal.{looked_at, past_or_open, seen_in, read_again, sent_if, returned_if, again_in, stored_of, IsReached, Knows, IsSo, events_of, EachStepCanHappen, next_turn}
 use Rattle.oauth2_shared_token.proofs.Places.{put-same, read-put, in_one_more, only_one}
 
 -- it didn't ask to mark anything yet, or the store didn't take that
@@ -122,60 +121,60 @@ open_is_not_taken : (is_past : Bool) → past_or_open is_past ≡ learnt.Taken �
 open_is_not_taken true e = cc
 open_is_not_taken false e = cc
 
-seen_is_own : (past : List Stored) (name w : ℕ) (is_past : Bool) (c : Content) → Contains past (stored_of (record { version = w; content = c })) → seen_in name is_past c ≡ learnt.Taken → (t : Token) × Contains past (marked w t name)
+seen_is_own : (past : List Stored) (name w : ℕ) (is_past : Bool) (c : Content Token) → Contains past (stored_of (record { version = w; content = c })) → seen_in name is_past c ≡ learnt.Taken → (t : Token) × Contains past (marked w t name)
 seen_is_own past name w is_past (content.AtRest token) seen e = absurd (open_is_not_taken is_past e)
 seen_is_own past name w is_past (content.Marked token other) seen e =
     elim (eqb_tells other name) [
-      | inl mine ↦ (token_of token, subst (λ (k : ℕ). Contains past (marked w (token_of token) k)) mine.1 seen)
+      | inl mine ↦ (token, subst (λ (k : ℕ). Contains past (marked w token k)) mine.1 seen)
       | inr theirs ↦ absurd (open_is_not_taken is_past (ap (λ (b : Bool). if b then learnt.Taken else past_or_open is_past) (sym theirs.0) ∙ e))
     ]
 seen_is_own past name w is_past content.Empty seen e = absurd (open_is_not_taken is_past e)
 
 -- who reads its own mark can send
-own_mark : (s : Shared) (name version : ℕ) (t : Token) (p : StoredValue) → MarksAreTaken s → (stage_of s name ≡ Asking version t) ⊎ (stage_of s name ≡ Marking version t) → Contains s.past (stored_of p) → read_again name version p ≡ learnt.Taken → stage_of s name ≡ Marking version t
+own_mark : (s : Shared) (name version : ℕ) (t : Token) (p : StoredValue Token) → MarksAreTaken s → (stage_of s name ≡ Asking version t) ⊎ (stage_of s name ≡ Marking version t) → Contains s.past (stored_of p) → read_again name version p ≡ learnt.Taken → stage_of s name ≡ Marking version t
 own_mark s name version t p taken knows seen e =
     let own = seen_is_own s.past name p.version (nat_lt version p.version) p.content seen e in
     can_send s name version p.version t own.0 taken own.1 knows
 
-step_sent : (s : Shared) (name version : ℕ) (token : SharedToken) (l : Learnt) → (l ≡ learnt.Taken → stage_of s name ≡ Marking version (token_of token)) → IsRun s (events_of name (sent_if version token l).step)
+step_sent : (s : Shared) (name version : ℕ) (token : Token) (l : Learnt) → (l ≡ learnt.Taken → stage_of s name ≡ Marking version token) → IsRun s (events_of name (sent_if version token l).step)
 step_sent s name version token learnt.Taken can = (can refl, tt)
 step_sent s name version token learnt.Lost can = tt
 step_sent s name version token learnt.Open can = tt
 
-step_returned : (s : Shared) (name version : ℕ) (token : SharedToken) (l : Learnt) → (l ≡ learnt.Taken → stage_of s name ≡ Marking version (token_of token)) → IsRun s (events_of name (returned_if version token l).step)
+step_returned : (s : Shared) (name version : ℕ) (token : Token) (l : Learnt) → (l ≡ learnt.Taken → stage_of s name ≡ Marking version token) → IsRun s (events_of name (returned_if version token l).step)
 step_returned s name version token learnt.Taken can = (can refl, tt)
 step_returned s name version token learnt.Lost can = tt
 step_returned s name version token learnt.Open can = tt
 
-step_looking : (s : Shared) (name version : ℕ) (c : Content) → stage_of s name ≡ NotBegun → Contains s.past (stored_of (record { version = version; content = c })) → IsRun s (events_of name (looked_at version c).step)
+step_looking : (s : Shared) (name version : ℕ) (c : Content Token) → stage_of s name ≡ NotBegun → Contains s.past (stored_of (record { version = version; content = c })) → IsRun s (events_of name (looked_at version c).step)
 step_looking s name version (content.AtRest token) new h = ((new, h), tt)
 step_looking s name version (content.Marked token other) new h = tt
 step_looking s name version content.Empty new h = tt
 
-step_repeated : (s : Shared) (name : ℕ) (p : Phase) (t : Told) → IsRun s (events_of name (again_in p t).step)
+step_repeated : (s : Shared) (name : ℕ) (p : Phase Token) (t : Told Token) → IsRun s (events_of name (again_in p t).step)
 step_repeated s name p (told.Stored q) = tt
 step_repeated s name p told.Done = tt
 step_repeated s name p told.Nothing = tt
 step_repeated s name p (told.Answer new) = tt
 step_repeated s name p told.Stop = tt
 
-pub step_can_happen : (s : Shared) (name : ℕ) (p : Phase) (t : Told) → MarksAreTaken s → Knows s name p → IsSo s.past name p t → IsRun s (events_of name (next_turn name p t).step)
+pub step_can_happen : (s : Shared) (name : ℕ) (p : Phase Token) (t : Told Token) → MarksAreTaken s → Knows s name p → IsSo s.past name p t → IsRun s (events_of name (next_turn name p t).step)
 step_can_happen s name phase.Looking (told.Stored p) taken knows so = step_looking s name p.version p.content knows so
 step_can_happen s name phase.Looking told.Done taken knows so = tt
 step_can_happen s name phase.Looking told.Nothing taken knows so = tt
 step_can_happen s name phase.Looking (told.Answer new) taken knows so = tt
 step_can_happen s name phase.Looking told.Stop taken knows so = tt
 step_can_happen s name (phase.Asking version token) (told.Stored p) taken knows so =
-    step_sent s name version token (read_again name version p) (λ e. own_mark s name version (token_of token) p taken knows so e)
+    step_sent s name version token (read_again name version p) (λ e. own_mark s name version token p taken knows so e)
 step_can_happen s name (phase.Asking version token) told.Done taken knows so =
-    (can_send s name version (version + 1) (token_of token) (token_of token) taken so knows, tt)
+    (can_send s name version (version + 1) token token taken so knows, tt)
 step_can_happen s name (phase.Asking version token) told.Nothing taken knows so = tt
 step_can_happen s name (phase.Asking version token) (told.Answer new) taken knows so = tt
 step_can_happen s name (phase.Asking version token) told.Stop taken knows so = tt
 step_can_happen s name (phase.Leaving version token) (told.Stored p) taken knows so =
-    step_returned s name version token (read_again name version p) (λ e. own_mark s name version (token_of token) p taken knows so e)
+    step_returned s name version token (read_again name version p) (λ e. own_mark s name version token p taken knows so e)
 step_can_happen s name (phase.Leaving version token) told.Done taken knows so =
-    (can_send s name version (version + 1) (token_of token) (token_of token) taken so knows, tt)
+    (can_send s name version (version + 1) token token taken so knows, tt)
 step_can_happen s name (phase.Leaving version token) told.Nothing taken knows so = tt
 step_can_happen s name (phase.Leaving version token) (told.Answer new) taken knows so = tt
 step_can_happen s name (phase.Leaving version token) told.Stop taken knows so = tt

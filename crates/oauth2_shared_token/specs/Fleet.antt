@@ -12,7 +12,7 @@ use Rattle.oauth2_shared_token.specs.State.{Token, Stored, at_rest, marked, empt
 use Rattle.oauth2_shared_token.specs.Event.{SharedEvent, Marked, Kept, GivenBack, SignedIn, Allowed, LoggedIn}
 use Rattle.oauth2_shared_token.specs.Event.{LoggedOut, Fits, WasMarked, WasFree, WasStored}
 use Rattle.oauth2_shared_token.specs.Run.{IsRun, at_last, has_refresh, times_sent, times_stored, tokens_stored}
-use Rattle.oauth2_shared_token.specs.Renewal.{next_turn, token_of, IsSo, events_of}
+use Rattle.oauth2_shared_token.specs.Renewal.{next_turn, IsSo, events_of}
 
 -- what a renewal asks of the store
 pub data Request : Type 0 where
@@ -28,17 +28,17 @@ pub data Request : Type 0 where
 pub record Fleet : Type 0 where
   pub store : Stored
   pub past : List Stored
-  pub phases : List Phase
+  pub phases : List (Phase Token)
   pub requests : List Request
 
 -- how far the machine of this name is
-abbrev pub phase_of : Fleet → ℕ → Phase
+abbrev pub phase_of : Fleet → ℕ → Phase Token
 phase_of f i = slice_index_or f.phases i phase.Looking
 
 -- what happens in a fleet. A machine that stopped or is paused is one to which nothing happens
 pub data Happening : Type 0 where
   -- the machine of this name is told this, and takes its next turn
-  Turned : ℕ → Told → Happening
+  Turned : ℕ → Told Token → Happening
   -- the store takes a request, which may be late or repeated
   Took : Request → Happening
   -- somebody read this version marked by this renewal and logged in anew, and the store takes that
@@ -63,19 +63,19 @@ CanOccur f (LogsIn version new) = WasFree f.past version × Fits f.store version
 CanOccur f (LogsOut version) = WasStored f.past version × Fits f.store version
 
 -- the requests of a step
-abbrev pub requests_of : ℕ → Step → List Request
+abbrev pub requests_of : ℕ → Step Token → List Request
 requests_of i step.Look = []
-requests_of i (step.Mark version token) = ToMark i version (token_of token) ∷ []
+requests_of i (step.Mark version token) = ToMark i version token ∷ []
 requests_of i (step.Send version token) = []
-requests_of i (step.Keep version new) = ToKeep i version (token_of new) ∷ []
-requests_of i (step.GiveBack version token) = ToReturn i version (token_of token) ∷ []
+requests_of i (step.Keep version new) = ToKeep i version new ∷ []
+requests_of i (step.GiveBack version token) = ToReturn i version token ∷ []
 requests_of i step.Repeat = []
 requests_of i (step.InUse other token) = []
 requests_of i step.LoggedOut = []
 requests_of i step.End = []
 
 -- a machine has taken this turn
-abbrev pub turned : Fleet → ℕ → Turn → Fleet
+abbrev pub turned : Fleet → ℕ → Turn Token → Fleet
 turned f i turn =
     record {
       store = f.store;
@@ -142,27 +142,27 @@ EachFleetRuns =
 -- once
 abbrev pub EachFleetSendsOnce : Type 0
 EachFleetSendsOnce =
-    (start : Token) (happenings : List Happening) (r : ℕ) →
+    (start : Token) (happenings : List Happening) (r : List ℕ) →
     IsFleetRun (fleet_of start) happenings →
     let events = all_events (fleet_of start) happenings in
     has_refresh r start + times_stored r events ≤ 1 → times_sent r events ≤ 1
 
 -- the token that a step hands out
-abbrev pub handed_out : Step → Option Token
+abbrev pub handed_out : Step Token → Option Token
 handed_out step.Look = None
 handed_out (step.Mark version token) = None
 handed_out (step.Send version token) = None
 handed_out (step.Keep version new) = None
 handed_out (step.GiveBack version token) = None
 handed_out step.Repeat = None
-handed_out (step.InUse other token) = Some (token_of token)
+handed_out (step.InUse other token) = Some token
 handed_out step.LoggedOut = None
 handed_out step.End = None
 
 -- each token that a machine hands out, whenever that is, came to be stored before
 abbrev pub EachHandedOutWasStored : Type 0
 EachHandedOutWasStored =
-    (start : Token) (happenings : List Happening) (i : ℕ) (told : Told) (token : Token) →
+    (start : Token) (happenings : List Happening) (i : ℕ) (told : Told Token) (token : Token) →
     IsFleetRun (fleet_of start) happenings →
     let now = fleet_at_last (fleet_of start) happenings in
     CanOccur now (Turned i told) →

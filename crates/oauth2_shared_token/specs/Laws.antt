@@ -9,14 +9,14 @@ use Rattle.oauth2_shared_token.specs.Run.{tokens_stored, newest, newest_given}
 -- a refresh token is sent no more often than it was stored
 abbrev pub EachSendingWasStored : Type 0
 EachSendingWasStored =
-    (start : Token) (events : List SharedEvent) (r : ℕ) →
+    (start : Token) (events : List SharedEvent) (r : List ℕ) →
     IsRun (begin start) events →
     times_sent r events ≤ has_refresh r start + times_stored r events
 
 -- so one that the server gave once is sent at most once, unless a caller said that it may be used again
 abbrev pub EachIsSentAtMostOnce : Type 0
 EachIsSentAtMostOnce =
-    (start : Token) (events : List SharedEvent) (r : ℕ) →
+    (start : Token) (events : List SharedEvent) (r : List ℕ) →
     IsRun (begin start) events →
     has_refresh r start + times_stored r events ≤ 1 →
     times_sent r events ≤ 1

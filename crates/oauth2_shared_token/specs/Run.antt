@@ -1,5 +1,5 @@
 -- A finished list of events, and what is read off it.
-use Rattle.std.specs.Prelude.{ℕ, ◌+◌, ◌==◌, if◌then◌else◌, List, [], ◌∷◌, Option, Some, None}
+use Rattle.std.specs.Prelude.{ℕ, ◌+◌, bytes_eq, if◌then◌else◌, List, [], ◌∷◌, Option, Some, None}
 use Rattle.oauth2_shared_token.specs.State.{Token, Shared}
 use Rattle.oauth2_shared_token.specs.Event.{SharedEvent, Asked, Marked, Sent, Given, Kept, Withdrew, GivenBack, SignedIn}
 use Rattle.oauth2_shared_token.specs.Event.{Allowed, LoggedIn, LoggedOut, CanHappen, after}
@@ -15,11 +15,11 @@ at_last s [] = s
 at_last s (event ∷ events) = at_last (after s event) events
 
 -- 1 if the token has this refresh token
-abbrev pub has_refresh : ℕ → Token → ℕ
-has_refresh r token = if r == token.refresh then 1 else 0
+abbrev pub has_refresh : List ℕ → Token → ℕ
+has_refresh r token = if bytes_eq r token.refresh then 1 else 0
 
 -- how often a refresh token is sent
-abbrev pub times_sent : ℕ → List SharedEvent → ℕ
+abbrev pub times_sent : List ℕ → List SharedEvent → ℕ
 times_sent r [] = 0
 times_sent r (Asked i version token ∷ events) = times_sent r events
 times_sent r (Marked i version token ∷ events) = times_sent r events
@@ -35,7 +35,7 @@ times_sent r (LoggedOut version ∷ events) = times_sent r events
 
 -- how often it comes to be stored, as part of a new token or because a caller said so: not where a mark on
 -- it is taken off
-abbrev pub times_stored : ℕ → List SharedEvent → ℕ
+abbrev pub times_stored : List ℕ → List SharedEvent → ℕ
 times_stored r [] = 0
 times_stored r (Asked i version token ∷ events) = times_stored r events
 times_stored r (Marked i version token ∷ events) = times_stored r events

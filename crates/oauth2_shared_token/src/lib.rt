@@ -12,4 +12,4 @@ pub use laws::{
     no_lease_ends_early, none_is_lost_untold, one_runs_at_once, sendings_were_stored,
     the_newest_given_is_stored, what_is_known_stays, what_is_stored_is_the_newest,
 };
-pub use renewal::{Content, Learnt, Phase, SharedToken, Step, StoredValue, Told, Turn, next_turn};
+pub use renewal::{Content, Learnt, Phase, Step, StoredValue, Told, Turn, next_turn, read_again};

@@ -15,83 +15,76 @@ ghost use Rattle.oauth2_shared_token.specs.Renewal.{
   sent_if,
 };
 
-/// A token, by the numbers that stand for its two texts.
-#[derive(Clone, Copy)]
-pub struct SharedToken {
-    pub access: u64,
-    pub refresh: u64,
-}
-
-/// What a version holds.
-#[derive(Clone, Copy)]
-pub enum Content {
+/// What a version holds. `T` is the type of a token, here and below: this machine only passes it on.
+#[derive(Drop)]
+pub enum Content<T> {
     /// A token that no renewal uses.
-    AtRest(SharedToken),
+    AtRest(T),
     /// A token whose refresh token the renewal of this name uses: its mark.
-    Marked(SharedToken, u64),
+    Marked(T, u128),
     /// No token: somebody logged out.
     Empty,
 }
 
 /// What the store keeps under a name.
-#[derive(Clone, Copy)]
-pub struct StoredValue {
+#[derive(Drop)]
+pub struct StoredValue<T> {
     pub version: u64,
-    pub content: Content,
+    pub content: Content<T>,
 }
 
 /// How far a renewal is, as it knows it.
-#[derive(Clone, Copy)]
-pub enum Phase {
+#[derive(Drop)]
+pub enum Phase<T> {
     /// It looks at what is stored.
     Looking,
     /// It asked to mark this version, which holds this token.
-    Asking(u64, SharedToken),
+    Asking(u64, T),
     /// It asked for the same, and is to send nothing.
-    Leaving(u64, SharedToken),
+    Leaving(u64, T),
     /// It sent the refresh token of this version.
     Sending(u64),
     /// It asked to keep this token in the place of its mark on this version.
-    Keeping(u64, SharedToken),
+    Keeping(u64, T),
     /// It asked to take its mark off this version, which holds this token.
-    Returning(u64, SharedToken),
+    Returning(u64, T),
     /// It does nothing more.
     Over,
 }
 
 /// What a renewal is told.
-#[derive(Clone, Copy)]
-pub enum Told {
+#[derive(Drop)]
+pub enum Told<T> {
     /// The store holds this, or held it.
-    Stored(StoredValue),
+    Stored(StoredValue<T>),
     /// The store did what it was asked.
     Done,
     /// The store refused, or it is not known whether it did what it was asked.
     Nothing,
     /// The server gave this token.
-    Answer(SharedToken),
+    Answer(T),
     /// The caller wants nothing to be sent any more.
     Stop,
 }
 
 /// What a renewal does next.
-#[derive(Clone, Copy)]
-pub enum Step {
+#[derive(Drop)]
+pub enum Step<T> {
     /// Load what is stored.
     Look,
     /// Ask the store to mark this version.
-    Mark(u64, SharedToken),
+    Mark(u64, T),
     /// Send the refresh token of this version to the server (RFC 6749, 6).
-    Send(u64, SharedToken),
+    Send(u64, T),
     /// Ask the store to put this token in the place of the mark on this version.
-    Keep(u64, SharedToken),
+    Keep(u64, T),
     /// Ask the store to put the old token, unsent, in the place of the mark on this version.
-    GiveBack(u64, SharedToken),
+    GiveBack(u64, T),
     /// Ask the store for the same again.
     Repeat,
     /// The refresh token is in use by this renewal, or was and nobody ended that. The old token is
     /// handed out, whose access token may still be good.
-    InUse(u64, SharedToken),
+    InUse(u128, T),
     /// Somebody logged out, so only a new login ends that.
     LoggedOut,
     /// The renewal is over.
@@ -99,10 +92,10 @@ pub enum Step {
 }
 
 /// How far a renewal is after it was told something, and what it does next.
-#[derive(Clone, Copy)]
-pub struct Turn {
-    pub phase: Phase,
-    pub step: Step,
+#[derive(Drop)]
+pub struct Turn<T> {
+    pub phase: Phase<T>,
+    pub step: Step<T>,
 }
 
 /// What a load says of a mark that was asked for.
@@ -117,7 +110,7 @@ pub enum Learnt {
 }
 
 /// What is at rest is asked for.
-fn after_looking(told: Told) -> Turn
+fn after_looking<T: Copy + Drop>(told: Told<T>) -> Turn<T>
     ensures { result ≡ after_looking told }
 {
     match told {
@@ -153,13 +146,13 @@ fn past_or_open(is_past: bool) -> Learnt
 }
 
 /// What this value says of the mark of this renewal on that version.
-fn read_again(name: u64, version: u64, p: StoredValue) -> Learnt
-    ensures { result ≡ read_again name version p }
+pub fn read_again<T>(name: u128, version: u64, p: &StoredValue<T>) -> Learnt
+    ensures { result ≡ read_again name version p.now }
 {
     let is_past = version < p.version;
-    match p.content {
+    match &p.content {
         Content::Marked(_, other) => {
-            if other == name {
+            if *other == name {
                 Learnt::Taken
             } else {
                 past_or_open(is_past)
@@ -169,7 +162,7 @@ fn read_again(name: u64, version: u64, p: StoredValue) -> Learnt
     }
 }
 
-fn sent_if(version: u64, token: SharedToken, learnt: Learnt) -> Turn
+fn sent_if<T: Copy + Drop>(version: u64, token: T, learnt: Learnt) -> Turn<T>
     ensures { result ≡ sent_if version token learnt }
 {
     match learnt {
@@ -189,11 +182,11 @@ fn sent_if(version: u64, token: SharedToken, learnt: Learnt) -> Turn
 }
 
 /// It sends once it is told that the store took its mark, or reads its own mark.
-fn after_asking(name: u64, version: u64, token: SharedToken, told: Told) -> Turn
+fn after_asking<T: Copy + Drop>(name: u128, version: u64, token: T, told: Told<T>) -> Turn<T>
     ensures { result ≡ after_asking name version token told }
 {
     match told {
-        Told::Stored(p) => sent_if(version, token, read_again(name, version, p)),
+        Told::Stored(p) => sent_if(version, token, read_again(name, version, &p)),
         Told::Done => sent_if(version, token, Learnt::Taken),
         Told::Stop => Turn {
             phase: Phase::Leaving(version, token),
@@ -203,7 +196,7 @@ fn after_asking(name: u64, version: u64, token: SharedToken, told: Told) -> Turn
     }
 }
 
-fn returned_if(version: u64, token: SharedToken, learnt: Learnt) -> Turn
+fn returned_if<T: Copy + Drop>(version: u64, token: T, learnt: Learnt) -> Turn<T>
     ensures { result ≡ returned_if version token learnt }
 {
     match learnt {
@@ -223,18 +216,18 @@ fn returned_if(version: u64, token: SharedToken, learnt: Learnt) -> Turn
 }
 
 /// In the place of sending it gives its mark back.
-fn after_leaving(name: u64, version: u64, token: SharedToken, told: Told) -> Turn
+fn after_leaving<T: Copy + Drop>(name: u128, version: u64, token: T, told: Told<T>) -> Turn<T>
     ensures { result ≡ after_leaving name version token told }
 {
     match told {
-        Told::Stored(p) => returned_if(version, token, read_again(name, version, p)),
+        Told::Stored(p) => returned_if(version, token, read_again(name, version, &p)),
         Told::Done => returned_if(version, token, Learnt::Taken),
         _ => returned_if(version, token, Learnt::Open),
     }
 }
 
 /// It keeps what it was given, and sends no more.
-fn after_sending(version: u64, told: Told) -> Turn
+fn after_sending<T: Copy + Drop>(version: u64, told: Told<T>) -> Turn<T>
     ensures { result ≡ after_sending version told }
 {
     match told {
@@ -250,7 +243,7 @@ fn after_sending(version: u64, told: Told) -> Turn
 }
 
 /// It asks again while it is told nothing.
-fn after_keeping(version: u64, new: SharedToken, told: Told) -> Turn
+fn after_keeping<T: Copy + Drop>(version: u64, new: T, told: Told<T>) -> Turn<T>
     ensures { result ≡ after_keeping version new told }
 {
     match told {
@@ -266,7 +259,7 @@ fn after_keeping(version: u64, new: SharedToken, told: Told) -> Turn
 }
 
 /// Here too.
-fn after_returning(version: u64, token: SharedToken, told: Told) -> Turn
+fn after_returning<T: Copy + Drop>(version: u64, token: T, told: Told<T>) -> Turn<T>
     ensures { result ≡ after_returning version token told }
 {
     match told {
@@ -282,7 +275,7 @@ fn after_returning(version: u64, token: SharedToken, told: Told) -> Turn
 }
 
 /// What the renewal of this name does next.
-pub fn next_turn(name: u64, phase: Phase, told: Told) -> Turn
+pub fn next_turn<T: Copy + Drop>(name: u128, phase: Phase<T>, told: Told<T>) -> Turn<T>
     ensures { result ≡ next_turn name phase told }
 {
     match phase {
