@@ -16,6 +16,11 @@ ghost use Rattle.oauth2_shared_token.specs.Laws.{
   WhatIsStoredIsTheNewest,
 };
 ghost use Rattle.oauth2_shared_token.specs.Lease.{NoLeaseEndsEarly};
+ghost use Rattle.oauth2_shared_token.specs.Names.{
+  EachIsSentOnceOverNames,
+  EachNameRuns,
+  EachSendingOverNamesWasStored,
+};
 ghost use Rattle.oauth2_shared_token.specs.Renewal.{
   EachStepCanHappen,
   EachStepIsKnown,
@@ -98,4 +103,20 @@ pub fn one_runs_at_once()
 /// A mark that is overdue by one clock is past its end by the clock of the renewal that wrote it.
 pub fn no_lease_ends_early()
     ensures { NoLeaseEndsEarly }
+{}
+
+/// Of a store with a value under each of many names, what happens under one name is a run of its
+/// fleet, whatever happens under the others.
+pub fn each_name_runs()
+    ensures { EachNameRuns }
+{}
+
+/// A refresh token is sent no more often, over all names, than it was stored under any of them.
+pub fn sendings_over_names_were_stored()
+    ensures { EachSendingOverNamesWasStored }
+{}
+
+/// So one that came to be stored once, under one name, is sent at most once over all names.
+pub fn each_is_sent_once_over_names()
+    ensures { EachIsSentOnceOverNames }
 {}
