@@ -95,7 +95,8 @@ def error_in(outcome):
     return json.loads(found['error']) if 'error' in found else None
 
 
-NO_SECRET = 'no secret was sent: OAUTH2_CLIENT_SECRET, --client-secret-file or --ask-secret gives one'
+NO_SECRET = ('no secret was sent: OAUTH2_CLIENT_SECRET, --client-secret-file or --ask-secret gives one, and --client-assertion-file an '
+             'assertion')
 
 
 def fault_of(outcome, where='', hint='is the URL that of the endpoint?', has_secret=True):

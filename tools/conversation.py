@@ -101,13 +101,15 @@ def sleep_until(end):
         time.sleep(min(end - time.monotonic(), 3600))
 
 
-def answered(path, script, limit, renewal=None, sleep=sleep):
-    """Does what the program says until its answer stands: what came of it. renewal is told of what is sent, if that is a refresh token."""
+def answered(path, script, limit, renewal=None, sleep=sleep, fresh=dict):
+    """Does what the program says until its answer stands: what came of it. renewal is told of what is sent, if that is a refresh token, and
+    fresh gives the parameters that may have changed since the last request."""
     script, sleeps, url, asked_at, got = dict(script, replies=[]), 0, None, int(time.time()), Reply(None)
     if script['command'] == 'device_poll':
         script['readings'] = [asked_at] * 2  # as the poll begins, and in its first round
     most = script['params'].get('max_polls')
     while True:
+        script['params'] = {**script['params'], **fresh()}
         if most:  # the next request and what follows it: the program makes no more of them than that
             script['params'] = dict(script['params'], max_polls=min(most, len(script['replies']) + 2))
         event, status = step(path, script, sleeps)

@@ -7,6 +7,7 @@ import sys
 
 import answers
 import endings
+import grants
 import openid
 import profiles
 import program
@@ -108,7 +109,7 @@ def port_of(text):
 
 
 def add_for_all(it, name):
-    it.set_defaults(cache=None, extra=None, openid=False, anew=False, ask_secret=False, client_secret_file=None)
+    it.set_defaults(cache=None, extra=None, resource=None, openid=False, anew=False, ask_secret=False, client_secret_file=None)
     it.add_argument('--profile', metavar='NAME', help='the profile whose settings are used, and whose token is kept')
     it.add_argument('--no-profile', action='store_true', help='use no profile, also if the file of profiles names a default one')
     it.add_argument('--config', type=file_of, metavar='FILE', help='the file of settings: JSON, or profiles if it ends in .toml')
@@ -121,7 +122,8 @@ def add_for_requests(it, name):
         if takes(name, setting):
             it.add_argument(flag_of(setting), help=what)
     for setting, what in FILES.items():
-        it.add_argument(flag_of(setting), type=file_of, metavar='FILE', help=what)
+        if takes(name, setting):
+            it.add_argument(flag_of(setting), type=file_of, metavar='FILE', help=what)
     it.add_argument('--verbose', action='store_true',
                     help='show each request and reply on standard error, with *** in the place of each secret')
     if name not in WITHOUT_CLIENT:
@@ -136,6 +138,8 @@ def add_for_requests(it, name):
 
 def add_for_tokens(it):
     it.add_argument('--scope', action='append', help='a scope, or several with spaces between them; may be given again')
+    it.add_argument('--resource', action='append', type=grants.uri_of, metavar='URI',
+                    help='the URI of what the token is to be good for (RFC 8707); may be given again')
     it.add_argument('--output', choices=answers.OUTPUTS, default='json',
                     help='; '.join('%s: %s' % form for form in answers.OUTPUTS.items()) + ' (%(default)s)')
     it.add_argument('--expires', action='store_true',

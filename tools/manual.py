@@ -70,23 +70,24 @@ def values_of(action: argparse.Action) -> str:
 
 def bash(name: str, parser: argparse.ArgumentParser, commands: Parsers) -> str:
     """The completion of bash."""
-    values: dict[str, list[str]] = {}
+    values: dict[tuple[str, str], list[str]] = {}  # the commands by a flag and what may follow it there
     flags = []
     for command, it in commands.items():
         found = actions_of(it)
         flags.append('        %s) words="%s" ;;' % (command, ' '.join(at.option_strings[-1] for at in found)))
         for at in found:
-            known = values.setdefault(at.option_strings[-1], [])
-            known += [word for word in values_of(at).split() if word not in known]
-    files = '|'.join(flag for flag, known in values.items() if 'FILE' in known)
-    words = ['        %s) COMPREPLY=($(compgen -W "%s" -- "$word")); return ;;' % (flag, ' '.join(known))
-             for flag, known in values.items() if known and 'FILE' not in known]
+            values.setdefault((at.option_strings[-1], values_of(at)), []).append(command)
+    alike = {flag for flag, _ in values if sum(it == flag for it, _ in values) == 1}
+    lines = []
+    for (flag, known), those in values.items():
+        places = '|'.join('%s\\ %s' % (it, flag) for it in (['*'] if flag in alike else those))
+        made = '-f' if known == 'FILE' else '-W "%s"' % known
+        lines += ['        %s) COMPREPLY=($(compgen %s -- "$word")); return ;;' % (places, made)] * bool(known)
     top = ' '.join([*commands, *(it.option_strings[-1] for it in actions_of(parser))])
     return '\n'.join([
         '# Completion of %s for bash.' % name, '_%s() {' % name,
         '    local word=${COMP_WORDS[COMP_CWORD]} before=${COMP_WORDS[COMP_CWORD-1]} words',
-        '    case $before in',
-        '        %s) COMPREPLY=($(compgen -f -- "$word")); return ;;' % files, *words, '    esac',
+        '    case "${COMP_WORDS[1]} $before" in', *lines, '    esac',
         '    case ${COMP_WORDS[1]} in', *flags, '        *) words="%s" ;;' % top, '    esac',
         '    if [ "$COMP_CWORD" = 1 ]; then words="%s"; fi' % top,
         '    COMPREPLY=($(compgen -W "$words" -- "$word"))', '}',

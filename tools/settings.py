@@ -15,25 +15,28 @@ from endings import BAD_SETTING, Stop, status_at, tell
 LOOPBACK = ('localhost', '127.0.0.1', '::1')
 URLS = {'auth_url': 'the authorization endpoint', 'token_url': 'the token endpoint', 'device_url': 'the device authorization endpoint',
         'introspection_url': 'the introspection endpoint', 'revocation_url': 'the revocation endpoint',
-        'userinfo_url': 'the UserInfo endpoint', 'jwks_url': 'where the issuer has its keys (RFC 7517)',
+        'userinfo_url': 'the UserInfo endpoint',
+        'jwks_url': 'where the issuer has its keys (RFC 7517)',
         'redirect': 'where the server sends the user back (with --listen: http://127.0.0.1/ if not given)'}
 # The member of an issuer's metadata that has each endpoint (RFC 8414, 2; RFC 8628, 4; OpenID Connect Discovery 1.0, 3).
 ENDPOINTS = {'auth_url': 'authorization_endpoint', 'token_url': 'token_endpoint', 'device_url': 'device_authorization_endpoint',
-             'introspection_url': 'introspection_endpoint', 'revocation_url': 'revocation_endpoint', 'userinfo_url': 'userinfo_endpoint',
-             'jwks_url': 'jwks_uri'}
+             'introspection_url': 'introspection_endpoint', 'revocation_url': 'revocation_endpoint',
+             'userinfo_url': 'userinfo_endpoint', 'jwks_url': 'jwks_uri'}
 # The settings that are texts, each with what it is.
 TEXTS = {'client_id': "the client's identifier",
          'server': 'a server that the tool knows, with its endpoints: %s' % ', '.join(servers.SERVERS), 'auth': 'where the secret goes: basic (a header; the default) or body',
          'issuer': 'the issuer, whose metadata names the endpoints that are not set (RFC 8414)',
          'id_token_issuer': 'the issuer of the ID token of --openid, if it is not --issuer', 'username': "the user's name", **URLS}
-# The settings that are paths of files, each with what it has (RFC 8705, 2).
+# The settings that are paths of files, each with what it has (RFC 8705, 2; RFC 7523, 2.2).
 FILES = {'cacert': 'a file with the certificates of the authorities that are trusted; no others are',
          'client_cert': "a file with the client's certificate, which servers get that ask for one",
-         'client_key': 'the file with the key of that certificate, if it is another one'}
+         'client_key': 'the file with the key of that certificate, if it is another one',
+         'client_assertion_file': 'a file with a JWT that stands for the client in place of a secret; it is read anew for each request'}
+OF_TLS = ('cacert', 'client_cert', 'client_key')
 NEEDED = {'login': ('auth_url', 'token_url', 'redirect'), 'token': ('token_url',), 'password': ('token_url', 'username'),
-          'refresh': ('token_url',), 'device': ('device_url', 'token_url'), 'introspect': ('introspection_url',),
-          'revoke': ('revocation_url',), 'logout': ('revocation_url',), 'whoami': ('userinfo_url',), 'status': (),
-          'git-credential': (), 'verify-token': ('jwks_url',)}
+          'refresh': ('token_url',), 'device': ('device_url', 'token_url'),
+          'introspect': ('introspection_url',), 'revoke': ('revocation_url',), 'logout': ('revocation_url',), 'whoami': ('userinfo_url',),
+          'status': (), 'git-credential': (), 'verify-token': ('jwks_url',)}
 WITHOUT_CLIENT = ('verify-token',)  # the commands for which no client is registered
 # Those that only some commands take, each with the commands that take it and can do without it.
 OPTIONAL = {'username': (), 'id_token_issuer': ('login',), **dict.fromkeys(URLS, ()), 'jwks_url': ('login',)}
@@ -42,7 +45,7 @@ OPTIONAL = {'username': (), 'id_token_issuer': ('login',), **dict.fromkeys(URLS,
 def takes(command, name):
     """Whether a command takes a setting."""
     if command in WITHOUT_CLIENT:
-        return name == 'issuer' or name in NEEDED[command]
+        return name == 'issuer' or name in OF_TLS or name in NEEDED[command]
     return name not in OPTIONAL or command in OPTIONAL[name] or name in NEEDED[command]
 
 
@@ -53,13 +56,17 @@ def flag_of(name):
 # The flags that a user may look for, and what there is in their place: a flag is in the list of processes.
 OF_CLIENT = 'OAUTH2_CLIENT_SECRET, --client-secret-file FILE or --ask-secret'
 NO_FLAGS = {'--client-secret': OF_CLIENT, '--secret': OF_CLIENT, '--password': 'OAUTH2_PASSWORD or a line of standard input',
-            '--token': 'OAUTH2_TOKEN or a line of standard input', '--refresh-token': 'OAUTH2_REFRESH_TOKEN or a line of standard input'}
+            '--token': 'OAUTH2_TOKEN or a line of standard input', '--refresh-token': 'OAUTH2_REFRESH_TOKEN or a line of standard input',
+            '--client-assertion': '--client-assertion-file FILE'}
 # What each command sends itself, so that --extra may not: no parameter may come twice (RFC 6749, 3.1 and 3.2).
 TO_TOKEN = ('grant_type', 'client_secret')
 SENT = {'login': ('response_type', 'client_id', 'redirect_uri', 'state', 'code_challenge', 'code_challenge_method'), 'token': TO_TOKEN,
         'password': (*TO_TOKEN, 'username', 'password'), 'refresh': (*TO_TOKEN, 'refresh_token'), 'device': TO_TOKEN,
         'introspect': ('client_secret', 'token'), 'revoke': ('client_secret', 'token', 'token_type_hint'),
         'logout': ('client_secret', 'token', 'token_type_hint'), 'whoami': (), 'git-credential': (), 'verify-token': ()}
+# What is sent beside that where a setting or flag of the tool asks for it.
+OF_ASSERTION = ('client_assertion', 'client_assertion_type')
+OF_FLAGS = ('max_age', 'resource')
 
 
 def settings_of(given, kept):
@@ -153,8 +160,12 @@ def check(given, found):
             check_url(name, found[name], flag_of(name))
     if found['auth'] not in (None, 'basic', 'body'):
         raise Stop('--auth is "%s": it has to be basic or body' % found['auth'], BAD_SETTING)
+    if given.command not in WITHOUT_CLIENT and found['client_assertion_file'] and (found['client_secret'] or given.ask_secret):
+        raise Stop('there are a secret of the client and --client-assertion-file: a client shows one of both (RFC 6749, 2.3), so leave the '
+                   'other out', BAD_SETTING)
     sent = SENT[given.command] + ('scope',) * bool(found['scopes']) + ('nonce',) * bool(given.openid)
-    sent += ('max_age',) * (getattr(given, 'max_age', None) is not None)
+    sent += OF_ASSERTION * bool(found['client_assertion_file'])
+    sent += tuple(name for name in OF_FLAGS if getattr(given, name, None) is not None)
     for name, _ in given.extra or ():
         if name in sent:
             raise Stop('--extra %s: the tool sends that parameter itself' % name, BAD_SETTING)

@@ -16,8 +16,10 @@ FORMAT = 'cache of tools/oauth2, 1'
 # What the file has: of which request the token came, when, until when it is good, the reply, the refresh token that is newest, and who
 # signed in by an ID token that was checked.
 TYPES = {'command': str, 'client_id': str, 'server': (str, type(None)), 'issuer': (str, type(None)), 'token_url': str, 'auth': (str, type(None)),
-         'username': (str, type(None)), 'scopes': list, 'extra': list, 'obtained_at': int, 'expires_at': int, 'answer': str,
+         'username': (str, type(None)), 'scopes': list, 'extra': list, 'resource': list, 'obtained_at': int, 'expires_at': int, 'answer': str,
          'refresh_token': (str, type(None)), 'user': (dict, type(None))}
+
+OF_EARLIER = {'server': None, 'issuer': None, 'user': None, 'resource': []}  # what the files of earlier versions do not have
 
 
 def entry_in(text, path):
@@ -25,9 +27,10 @@ def entry_in(text, path):
     if not text:
         return None
     try:
-        found = {'server': None, 'issuer': None, 'user': None, **json.loads(text)}  # the files of earlier versions have none
+        found = {**OF_EARLIER, **json.loads(text)}
         is_ours = found.pop('format') == FORMAT and found.keys() == TYPES.keys() and all(isinstance(found[it], TYPES[it]) for it in TYPES)
-        texts = [*found['scopes'], *(it for pair in found['extra'] for it in pair), answers.member(found['answer'], 'access_token')]
+        texts = [*found['scopes'], *found['resource'], *(it for pair in found['extra'] for it in pair)]
+        texts.append(answers.member(found['answer'], 'access_token'))
         texts += [found['user'][name] for name in ('iss', 'sub')] if found['user'] is not None else []
         is_ours = is_ours and all(isinstance(it, str) for it in texts)
     except (ValueError, KeyError, TypeError, AttributeError, RecursionError):

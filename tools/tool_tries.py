@@ -1,5 +1,6 @@
 """What tools/try-servers tries of tools/oauth2 itself: endpoints by discovery, the listener, also with a browser, ID tokens, the cache, a
-proxy, profiles, what other programs get, and endpoints that answer what they should not."""
+proxy, profiles, what other programs get, JWTs as the client's authentication, and endpoints that answer what they should not."""
+import base64
 import http.server
 import json
 import os
@@ -280,6 +281,35 @@ def proxy(tries):
     run = tries.start('token', HTTPS_PROXY='http://127.0.0.1:%d' % it.socket.getsockname()[1])
     tries.end('client credentials through a proxy', run, '', 'access_token')
     tries.row('the proxy got', str(it.asked), it.asked and it.asked.startswith('CONNECT localhost:%d ' % tries.server.port))
+
+
+def signed(folder, key, **claims):
+    """A JWT with these claims that openssl signs by RS256."""
+    parts = [base64.urlsafe_b64encode(json.dumps(it).encode()).decode().rstrip('=') for it in ({'alg': 'RS256', 'typ': 'JWT'}, claims)]
+    run = subprocess.run(['openssl', 'dgst', '-sha256', '-sign', os.path.join(folder, key + '.key')], input='.'.join(parts).encode(),
+                         check=True, capture_output=True)
+    return '.'.join([*parts, base64.urlsafe_b64encode(run.stdout).decode().rstrip('=')])
+
+
+def at_authlib(tries):
+    """The results of the client's own JWT, which others write into a file; each has an identifier that the server takes once."""
+    folder, url, now = tries.server.folder, tries.server.base + tries.server.urls['token_url'], int(time.time())
+    path, good = os.path.join(folder, 'client.jwt'), {'iss': 'code', 'sub': 'code', 'aud': url, 'exp': now + 600}
+
+    def run(tried, jwt, wanted):
+        with open(path, 'w', encoding='utf-8') as f:
+            f.write(jwt + '\n')
+        tries.end('client: ' + tried, tries.start('token', '--client-assertion-file', path), '', wanted)
+    run('a JWT in place of a secret', signed(folder, 'client', **good, jti='1'), 'access_token')
+    run('the same again', signed(folder, 'client', **good, jti='1'), '!invalid_client')
+    run('a new one in the file', signed(folder, 'client', **good, jti='2'), 'access_token')
+    for number, (tried, key, claims) in enumerate((('one that has expired', 'client', {**good, 'exp': 1}),
+                                                   ('one for another server', 'client', {**good, 'aud': 'https://x.example/'}),
+                                                   ('one of another client', 'client', {**good, 'sub': 'issuer', 'iss': 'issuer'}),
+                                                   ('one signed by another key', 'grant', good)), 3):
+        run(tried, signed(folder, key, **claims, jti=str(number)), '!invalid_client')
+    tries.end('client: neither a JWT nor a secret', tries.start('token'), '', '!invalid_client')
+    return tries.results
 
 
 # Endpoints that answer what they should not. Each has the path under which it is, the status and headers of its reply, its body, and what

@@ -10,6 +10,7 @@ import sys
 import tempfile
 import threading
 import unittest
+import urllib.parse
 
 import tool
 
@@ -29,7 +30,10 @@ replies = iter(script.get('replies', []))
 KNOWN = ('access_token', 'token_type', 'expires_in', 'refresh_token', 'scope', 'active', 'device_code', 'user_code', 'verification_uri',
          'interval')
 GRANTS = {'code': 'authorization_code', 'client_credentials': 'client_credentials', 'device_poll': 'device', 'refresh': 'refresh_token',
-          'password': 'password'}
+          'password': 'password', 'exchange_token': 'urn:ietf:params:oauth:grant-type:token-exchange', 'assertion': 'by an assertion'}
+# The params that are sent under their own names, a pair each.
+SENT = ('code', 'verifier', 'refresh_token', 'username', 'password', 'assertion', 'kind', 'audience', 'subject_token', 'subject_token_type',
+        'actor_token', 'actor_token_type', 'requested_token_type')
 
 def end(status, *line):
     print('answer', *line)
@@ -38,6 +42,8 @@ def end(status, *line):
 def reply_of(url, pairs):
     """Shows a request, and answers the next reply."""
     login = '%%s:%%s' %% (client['id'], client['secret']) if 'secret' in client else None
+    if 'client_assertion' in params:
+        pairs = pairs + [('client_assertion_type', 'jwt'), ('client_assertion', params['client_assertion'])]
     print('request POST ' + url)
     print('authorization ' + ('Basic ' + base64.b64encode(login.encode()).decode() if login else 'none'))
     print('body ' + json.dumps(urllib.parse.urlencode(pairs)))
@@ -85,11 +91,27 @@ def poll():
     for at in range(1, params['max_polls'] + 1):
         if clock[min(at, len(clock) - 1)] > clock[0] + params.get('timeout', found['expires_in']):
             end(1, 'fault "Server returned error response: expired_token: This device code has expired."')
-        reply = reply_of(client['token_url'], [('grant_type', 'device'), ('device_code', found['device_code'])])
+        reply = reply_of(client['token_url'], [('grant_type', 'device'), ('device_code', found['device_code'])] + more_of())
         if not reply.get('fail') and 'pending' not in reply['body']:
             read(reply)
         print('sleep %%d.000000000' %% found['interval'])
     end(1, 'fault "Other error: polling limit reached"')
+
+def push():
+    """Pushes an authorization request, and shows the URL with its name."""
+    pairs = [('client_id', client['id']), ('state', params['state']), ('redirect_uri', client['redirect'])] + more_of()
+    reply = reply_of(client['push_url'], pairs)
+    if reply.get('status') == 200:
+        end(1, 'fault "Failed to parse server response" "error" Missing')
+    if reply.get('status') != 201:
+        read(reply)
+    found = json.loads(reply['body'])
+    print('url', json.dumps(client['auth_url'] + '?' + urllib.parse.urlencode({'client_id': client['id'], 'request_uri': found['request_uri']})))
+    end(0, 'ok', json.dumps(found))
+
+def more_of():
+    """The pairs that come last."""
+    return [('resource', it) for it in params.get('resource', [])] + [tuple(it) for it in params.get('extra', [])]
 
 def id_token():
     """Reads an ID token, and looks at some of the rules."""
@@ -123,13 +145,13 @@ def access_token():
         end(1, 'fault "the token has expired"')
     end(0, 'ok', json.dumps(dict(claims, active=True), separators=(',', ':')))
 
-if client.get('id') == 'bad':
+if client.get('id') == 'bad' or 'secret' in client and 'client_assertion' in params:
     print('bad script')
     sys.exit(2)
 elif command == 'authorize':
     query = [('client_id', client['id']), ('state', params['state']), ('redirect_uri', client['redirect'])]
     query += [('nonce', params['nonce'])] if 'nonce' in params else []
-    query += params.get('extra', [])
+    query += more_of()
     print('url', json.dumps(client['auth_url'] + '?' + urllib.parse.urlencode(query)))
     end(0, 'ok', json.dumps(params['state']))
 elif command == 'redirect':
@@ -147,14 +169,16 @@ elif command == 'id_token':
 elif command == 'access_token':
     access_token()
 elif command == 'device_authorization':
-    read(reply_of(client['device_url'], [('client_id', client['id'])]))
+    read(reply_of(client['device_url'], [('client_id', client['id'])] + more_of()))
+elif command == 'push':
+    push()
 elif command == 'device_poll':
     poll()
 elif command in GRANTS:
-    pairs = [(it, params[it]) for it in ('code', 'verifier', 'refresh_token', 'username', 'password') if it in params]
+    pairs = [(it, value) for it in SENT if it in params for value in (params[it] if it == 'audience' else [params[it]])]
     if 'scopes' in params:
         pairs += [('scope', ' '.join(params['scopes']))]
-    pairs += params.get('extra', [])
+    pairs += more_of()
     read(reply_of(client['token_url'], [('grant_type', GRANTS[command])] + pairs))
 elif command == 'introspect':
     read(reply_of(client['introspection_url'], [('token', params['token'])]))
@@ -188,7 +212,9 @@ class Handler(http.server.BaseHTTPRequestHandler):
         self.send(*self.server.documents.get(self.path, (404, {}, '')))
 
     def do_POST(self):
-        asked = dict(it.partition('=')[::2] for it in self.rfile.read(int(self.headers['Content-Length'])).decode().split('&'))
+        body = self.rfile.read(int(self.headers['Content-Length'])).decode()
+        self.server.forms.append(urllib.parse.parse_qsl(body, keep_blank_values=True))
+        asked = dict(it.partition('=')[::2] for it in body.split('&'))
         self.server.asked.append((self.path, asked, dict(self.headers)))
         reply = self.server.reply(asked) if callable(self.server.reply) else self.server.reply
         self.send(*reply if isinstance(reply, tuple) else (200, {}, reply))
@@ -205,14 +231,15 @@ class Handler(http.server.BaseHTTPRequestHandler):
 
 
 class Server(http.server.ThreadingHTTPServer):
-    """Answers each POST by .reply, an object, a text, a triple with status and headers, or a function of the form; notes it in .asked.
+    """Answers each POST by .reply, an object, a text, a triple with status and headers, or a function of the form; notes it in .asked, and
+    its pairs in .forms.
     Answers each GET by the triple that .documents has for the path, or by 404; notes it in .looked_at."""
     block_on_close = False
 
     def __init__(self, certificate=None, clients=None):
         """Speaks TLS, if there is a file of a certificate; and asks for that of a client, if there is a file of those that it takes."""
         super().__init__(('127.0.0.1', 0), Handler)
-        self.asked, self.reply, self.url = [], OK, 'http%s://127.0.0.1:%d' % ('s' * bool(certificate), self.server_port)
+        self.asked, self.forms, self.reply, self.url = [], [], OK, 'http%s://127.0.0.1:%d' % ('s' * bool(certificate), self.server_port)
         if certificate:
             context = ssl.SSLContext(ssl.PROTOCOL_TLS_SERVER)
             context.load_cert_chain(certificate)

@@ -142,7 +142,7 @@ class Manuals(unittest.TestCase):
 
     @unittest.skipUnless(shutil.which('bash'), 'there is no bash here')
     def test_completion(self):
-        for words, wanted in (('lo', 'login logout'), ('token --output he', 'header'), ('status --output t', 'token text'),
+        for words, wanted in (('lo', 'login logout'), ('token --output he', 'header'), ('status --output t', 'text'),
                               ('status --pro', '--profile'), ('revoke --kind ', 'access refresh'), ('token --client-s', '--client-secret-file')):
             line = self.bash + 'COMP_WORDS=(lifecrib %s); COMP_CWORD=%d; _lifecrib; echo ${COMPREPLY[@]}'
             given = words.split() + ['""'] * words.endswith(' ')

@@ -1,8 +1,13 @@
-"""Tests of what tools/try-servers leaves out where a program is not there."""
+"""Tests of what tools/try-servers leaves out where a program is not there, and of the JWTs that it signs."""
+import base64
 import contextlib
 import io
+import json
 import os
+import shutil
+import subprocess
 import sys
+import tempfile
 import unittest
 from unittest import mock
 
@@ -29,6 +34,23 @@ class Examples(unittest.TestCase):
             self.assertIsNone(path)
             self.assertIn('the rows "over a connection" are left out: ', said)
             self.assertIn(why, said)
+
+
+class Jwts(unittest.TestCase):
+    @unittest.skipUnless(shutil.which('openssl'), 'there is no openssl here')
+    def test_openssl_takes_the_signature(self):
+        with tempfile.TemporaryDirectory() as room:
+            paths = [os.path.join(room, it) for it in ('a.key', 'a.pem', 'signature')]
+            for words in (['genrsa', '-out', paths[0], '2048'], ['rsa', '-in', paths[0], '-pubout', '-out', paths[1]]):
+                subprocess.run(['openssl', *words], check=True, capture_output=True)
+            jwt = try_servers.tool_tries.signed(room, 'a', iss='x', exp=1)
+            self.assertNotIn('=', jwt)
+            head, claims, signature = (base64.urlsafe_b64decode(it + '==') for it in jwt.split('.'))
+            self.assertEqual((json.loads(head)['alg'], json.loads(claims)), ('RS256', {'iss': 'x', 'exp': 1}))
+            with open(paths[2], 'wb') as f:
+                f.write(signature)
+            words = ['openssl', 'dgst', '-sha256', '-verify', paths[1], '-signature', paths[2]]
+            subprocess.run(words, input=jwt.rpartition('.')[0].encode(), check=True, capture_output=True)
 
 
 if __name__ == '__main__':

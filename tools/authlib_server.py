@@ -1,0 +1,111 @@
+"""A token endpoint by Authlib, at https on this machine, for tools/try-servers: it takes a JWT of the client (RFC 7523, 2.2) by
+JWTBearerClientAssertion.
+
+It runs in a Python that has Authlib: authlib_server.py PORT, in a folder with cert.pem and key.pem. The client that asserts itself is
+"code", whose key is client.pem there; that of the client "issuer" is grant.pem.
+"""
+import http.server
+import json
+import ssl
+import sys
+import urllib.parse
+
+from authlib.oauth2 import rfc6749, rfc6750, rfc7523
+
+PORT = int(sys.argv[1])
+TOKEN_URL = 'https://localhost:%d/token' % PORT
+KEYS = {'issuer': 'grant.pem', 'code': 'client.pem'}
+
+
+class Client(rfc6749.ClientMixin):
+    def __init__(self, name):
+        self.name = name
+
+    def get_client_id(self):
+        return self.name
+
+    def get_allowed_scope(self, scope):
+        return scope
+
+    def check_endpoint_auth_method(self, method, _endpoint):
+        return method == ByAssertion.CLIENT_AUTH_METHOD
+
+    def check_grant_type(self, grant_type):
+        return True
+
+    def key(self):
+        """The public key of the client."""
+        with open(KEYS[self.name], 'rb') as f:
+            return f.read()
+
+
+def client_of(name):
+    return Client(name) if name in KEYS else None
+
+
+class ByAssertion(rfc7523.JWTBearerClientAssertion):
+    seen = set()
+
+    def validate_jti(self, _claims, jti):
+        """Whether a token comes for the first time."""
+        is_new = jti not in self.seen
+        self.seen.add(jti)
+        return is_new
+
+    def resolve_client_public_key(self, client, _headers):
+        return client.key()
+
+
+class ByClient(rfc6749.ClientCredentialsGrant):
+    TOKEN_ENDPOINT_AUTH_METHODS = [ByAssertion.CLIENT_AUTH_METHOD]
+
+
+class Server(rfc6749.AuthorizationServer):
+    def query_client(self, client_id):
+        return client_of(client_id)
+
+    def save_token(self, _token, _request):
+        """Keeps none."""
+
+    def send_signal(self, *_, **__):
+        """Sends none."""
+
+    def create_oauth2_request(self, request):
+        return request
+
+    def handle_response(self, status, body, headers):
+        return status, body, headers
+
+
+SERVER = Server(['read'])
+SERVER.register_token_generator('default', rfc6750.BearerTokenGenerator(lambda **_: 'a token of Authlib'))
+SERVER.register_client_auth_method(ByAssertion.CLIENT_AUTH_METHOD, ByAssertion(TOKEN_URL))
+SERVER.register_grant(ByClient)
+
+
+class Handler(http.server.BaseHTTPRequestHandler):
+    def do_POST(self):
+        text = self.rfile.read(int(self.headers['Content-Length'])).decode()
+        form = dict(urllib.parse.parse_qsl(text, keep_blank_values=True))
+        asked = rfc6749.OAuth2Request('POST', TOKEN_URL, form, dict(self.headers))
+        status, body, headers = SERVER.create_token_response(asked)
+        self.send_response(status)
+        for name, value in headers:
+            self.send_header(name, value)
+        self.end_headers()
+        self.wfile.write(json.dumps(body).encode())
+
+    def log_message(self, *_):
+        """Says nothing."""
+
+
+def main():
+    server = http.server.ThreadingHTTPServer(('127.0.0.1', PORT), Handler)
+    context = ssl.SSLContext(ssl.PROTOCOL_TLS_SERVER)
+    context.load_cert_chain('cert.pem', 'key.pem')
+    server.socket = context.wrap_socket(server.socket, server_side=True)
+    server.serve_forever()
+
+
+if __name__ == '__main__':
+    main()
