@@ -12,12 +12,13 @@ from endings import BAD_SETTING, FAULT, NO_ANSWER, NO_MEMORY, Stop
 from http_requests import RETRIED, Reply, reply_to
 
 LAST_READING = 253402207200  # that a script may have
-# What a line of the program says. Of a request, value is its URL; of another line, what follows its kind.
-Event = collections.namedtuple('Event', 'kind value method authorization body', defaults=(None, None, None))
+# What a line of the program says. Of a request, value is its URL; of another line, what follows its kind. Of an answer, user_url is the URL
+# to which the user is sent, if the program shows one.
+Event = collections.namedtuple('Event', 'kind value method authorization body user_url', defaults=(None, None, None, None))
 # What came of a command: the program's status, its answer, the last reply as the script has it (none where there was none), the URL of
 # the request for that, when it was sent, and what only this tool knows of it: why there is no reply, or where it sends to; and whether
-# another try may have another result.
-Outcome = collections.namedtuple('Outcome', 'status answer reply url asked_at note may_retry', defaults=(None, False))
+# another try may have another result. Last is the URL to which the user is sent.
+Outcome = collections.namedtuple('Outcome', 'status answer reply url asked_at note may_retry user_url', defaults=(None, False, None))
 
 
 def program_path(tool='oauth2'):
@@ -65,14 +66,16 @@ def ran(path, script):
 
 def events_in(lines):
     """The requests, with the lines that make them, the sleeps, the URL and the answer."""
-    rows = [line.partition(' ')[::2] for line in lines]
+    rows, user_url = [line.partition(' ')[::2] for line in lines], None
     for at, (kind, value) in enumerate(rows):
         if kind == 'request':
             authorization, body = rows[at + 1][1], json.loads(rows[at + 2][1])
             method, _, url = value.partition(' ')
             yield Event(kind, url, method, None if authorization == 'none' else authorization, body)
-        elif kind in ('sleep', 'url', 'answer'):
-            yield Event(kind, value)
+        elif kind == 'url':
+            user_url = json.loads(value)
+        elif kind in ('sleep', 'answer'):
+            yield Event(kind, value, user_url=user_url)
 
 
 def next_of(events, replies, sleeps):
@@ -119,7 +122,8 @@ def answered(path, script, limit, renewal=None, sleep=sleep, fresh=dict):
             then = step(path, later, sleeps + 1)
             event, status = then if then[0].kind == 'answer' else (event, status)  # one that no reply decides needs no wait
         if event.kind == 'answer':
-            return Outcome(status, event.value, (script['replies'] or [None])[-1], url, asked_at, got.note, got.may_retry)
+            last = (script['replies'] or [None])[-1]
+            return Outcome(status, event.value, last, url, asked_at, got.note, got.may_retry, event.user_url)
         if got.note:
             endings.tell(got.note)
         if event.kind == 'request':

@@ -10,6 +10,7 @@ from settings import ENDPOINTS, check_url, flag_of
 # The places of an issuer's metadata, in the order in which they are asked: RFC 8414, 3, and OpenID Connect Discovery 1.0, 4.
 PLACES = ('oauth-authorization-server', 'openid-configuration')
 ALIASES = 'mtls_endpoint_aliases'
+REQUIRES_PUSH = 'require_pushed_authorization_requests'
 ANOTHER = "metadata is another issuer's"
 
 
@@ -37,9 +38,10 @@ def metadata_of(path, settings, limit):
 
 
 def with_others(found, body, by_certificate):
-    """The metadata that the program has read, and of their text what it does not read: the UserInfo endpoint, and for a client that
-    shows its certificate the endpoints where it does (RFC 8705, 5)."""
-    more = {name: json.loads(value) for name, value in answers.others(body, ()) if name in ('userinfo_endpoint', ALIASES)}
+    """The metadata that the program has read, and of their text what it does not read: the UserInfo endpoint, what is said of pushed
+    logins (RFC 9126, 5), and for a client that shows its certificate the endpoints where it does (RFC 8705, 5)."""
+    unread = (ENDPOINTS['userinfo_url'], ENDPOINTS['push_url'], REQUIRES_PUSH, ALIASES)
+    more = {name: json.loads(value) for name, value in answers.others(body, ()) if name in unread}
     aliases = more.pop(ALIASES, None) if by_certificate else None
     if isinstance(aliases, dict):
         more.update((name, aliases[name]) for name in ENDPOINTS.values() if name in aliases and name != ENDPOINTS['auth_url'])
@@ -69,3 +71,8 @@ def endpoint(metadata, name):
 def must_name_issuer(metadata):
     """Whether a redirect has to name the issuer: where its server says that it does, or nobody has asked (RFC 9207, 2.4 and 3)."""
     return metadata is None or metadata.get('authorization_response_iss_parameter_supported') is True
+
+
+def must_push(metadata):
+    """Whether a server takes a login only if its parameters are pushed, as far as metadata were asked for (RFC 9126, 5)."""
+    return metadata is not None and metadata.get(REQUIRES_PUSH) is True

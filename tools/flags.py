@@ -18,8 +18,9 @@ from settings import FILES, NO_FLAGS, TEXTS, WITHOUT_CLIENT, flag_of, takes
 
 OF_KEPT = ('status', 'whoami', 'logout', 'git-credential')  # the commands that are about a token that is kept, so that its place has to be known
 GIVES_NO_TOKEN = ('introspect', 'revoke', 'verify-token', *OF_KEPT)
+KEEPS_NONE = ('exchange', 'assertion')  # the commands that give a token and keep none
 # The one place to which a further parameter goes, of a command that has several.
-EXTRA_GOES = {'login': ', of the authorization URL alone', 'device': ', of the first request alone, which asks for the code'}
+EXTRA_GOES = {'login': ', of the authorization request alone', 'device': ', of the first request alone, which asks for the code'}
 MORE = 'tools/oauth2 --help says where settings and secrets come from, and what the exit status means.'
 STDIN = '%s, or a line of standard input that a terminal does not show.'
 # Each command: what it does, more of that, and an example.
@@ -29,7 +30,8 @@ ABOUT = {
               'does not show; or with --listen it waits for the browser on this machine, at the path of --redirect (RFC 8252, 7.3).\n'
               'It goes on only if the program reads a code from that address: its state has to be the one that was sent, and with\n'
               '--issuer it has to name that issuer. If metadata were asked for and do not promise the name, it may be left out.\n'
-              'With --openid the server has to send an ID token, which the program checks.',
+              'With --openid the server has to send an ID token, which the program checks.\n'
+              'With --push the program sends the parameters to the server first, so that the URL does not have them (RFC 9126).',
               'tools/oauth2 login --client-id aaa --auth-url https://as.example/authorize --token-url https://as.example/token \\\n'
               '    --redirect http://127.0.0.1/back --listen --scope openid'),
     'token': ('asks for a token for the client itself, by its client credentials',
@@ -39,6 +41,16 @@ ABOUT = {
                  'tools/oauth2 password --client-id aaa --token-url https://as.example/token --username ann'),
     'refresh': ('exchanges a refresh token', 'The refresh token is the one of --cache, OAUTH2_REFRESH_TOKEN' + STDIN % '',
                 'tools/oauth2 refresh --client-id aaa --token-url https://as.example/token'),
+    'exchange': ('exchanges a token for another one',
+                 'The token that is exchanged is the one of --subject-token-file, OAUTH2_SUBJECT_TOKEN%s\n'
+                 "With --actor-token-type the token of who acts for the subject goes with it: that of --actor-token-file,\n"
+                 'OAUTH2_ACTOR_TOKEN%s\n'
+                 'A type is one of %s, or another URI.' % (STDIN % '', STDIN % '', ', '.join(grants.TYPES)),
+                 'tools/oauth2 exchange --client-id aaa --ask-secret --token-url https://as.example/token --audience https://api.example'),
+    'assertion': ('exchanges an assertion of another issuer',
+                  'The assertion is the one of --assertion-file, OAUTH2_ASSERTION' + STDIN % '' + '\n'
+                  'It is a JWT, or with --kind saml2 the XML of a SAML 2.0 assertion, which is encoded here.',
+                  'tools/oauth2 assertion --client-id aaa --token-url https://as.example/token --assertion-file account.jwt'),
     'device': ('signs in on another device', 'Prints the code and where to enter it, then asks until the server answers.',
                'tools/oauth2 device --client-id aaa --device-url https://as.example/device --token-url https://as.example/token'),
     'introspect': ('asks about a token', 'The token is ' + STDIN % 'OAUTH2_TOKEN',
@@ -109,7 +121,7 @@ def port_of(text):
 
 
 def add_for_all(it, name):
-    it.set_defaults(cache=None, extra=None, resource=None, openid=False, anew=False, ask_secret=False, client_secret_file=None)
+    it.set_defaults(cache=None, extra=None, resource=None, openid=False, push=False, anew=False, ask_secret=False, client_secret_file=None)
     it.add_argument('--profile', metavar='NAME', help='the profile whose settings are used, and whose token is kept')
     it.add_argument('--no-profile', action='store_true', help='use no profile, also if the file of profiles names a default one')
     it.add_argument('--config', type=file_of, metavar='FILE', help='the file of settings: JSON, or profiles if it ends in .toml')
@@ -145,6 +157,9 @@ def add_for_tokens(it):
     it.add_argument('--expires', action='store_true',
                     help='with --output json: add the moment at which the token ends, as expires_at (RFC 3339)')
     it.add_argument('--show', action='store_true', help='write the tokens to a terminal without a warning')
+
+
+def add_for_caches(it):
     it.add_argument('--cache', type=file_of, metavar='FILE',
                     help='keep the token in this file, and use the one that it has while that is good')
     add_for_renewals(it)
@@ -177,12 +192,19 @@ def add_for_one(it, name):
                         help='receive the redirect at this port of this machine; 0, or no PORT, takes a free one')
         it.add_argument('--wait', type=seconds_of, default=600, metavar='SECONDS', help='how long --listen waits (%(default)s)')
         it.add_argument('--no-browser', action='store_true', help='open no browser with --listen')
+        it.add_argument('--push', action='store_true',
+                        help='send the parameters to the server before the user goes there (RFC 9126), as --push-url does')
         it.add_argument('--openid', action='store_true', help='ask for an ID token (OpenID Connect), check it, and name the user')
         it.add_argument('--max-age', type=whole_from(0), metavar='SECONDS',
                         help='with --openid: how long ago the user may have signed in (--cache then signs in anew, too)')
         it.add_argument('--leeway', type=whole_from(0), metavar='SECONDS',
                         help="with --openid: how far this clock and the server's may differ (%d)" % openid.LEEWAY)
         it.add_argument('--algorithm', help='with --openid: the algorithm of the ID token that is registered (else any but none)')
+    if name == 'exchange':
+        add_for_exchange(it)
+    if name == 'assertion':
+        it.add_argument('--kind', choices=('jwt', 'saml2'), default='jwt', help='what the assertion is (%(default)s)')
+        it.add_argument('--assertion-file', type=file_of, metavar='FILE', help='a file with the assertion')
     if name == 'introspect':
         it.add_argument('--hint', help='what the token is, as access_token')
     if name == 'verify-token':
@@ -198,6 +220,18 @@ def add_for_one(it, name):
         it.add_argument('--give-up', type=whole_from(0), metavar='SECONDS', help='when to give up (else as the server says)')
         it.add_argument('--cap', type=whole_from(0), metavar='SECONDS',
                         help='a request without a reply doubles the wait before the next one, up to this (10)')
+
+
+def add_for_exchange(it):
+    default = grants.type_of('access_token')
+    it.add_argument('--subject-token-file', type=file_of, metavar='FILE', help='a file with the token that is exchanged')
+    it.add_argument('--subject-token-type', type=grants.type_of, metavar='TYPE', default=default, help='what that token is (access_token)')
+    it.add_argument('--actor-token-file', type=file_of, metavar='FILE', help='a file with the token of who acts for the subject')
+    it.add_argument('--actor-token-type', type=grants.type_of, metavar='TYPE', help='what that token is; without this flag there is none')
+    it.add_argument('--requested-token-type', type=grants.type_of, metavar='TYPE',
+                    help='what the new token is to be (else as the server says)')
+    it.add_argument('--audience', action='append', metavar='NAME',
+                    help='for whom the new token is, as the server knows it; may be given again')
 
 
 class Parser(argparse.ArgumentParser):
@@ -244,6 +278,8 @@ def parser_of(doc):
             add_for_kept(it, name)
         if name not in GIVES_NO_TOKEN:
             add_for_tokens(it)
+        if name not in (*GIVES_NO_TOKEN, *KEEPS_NONE):
+            add_for_caches(it)
         add_for_one(it, name)
     return parser, several.choices
 
@@ -289,6 +325,8 @@ def check_flags(parser, given):
             parser.error('%s goes with --openid' % flag_of(name))
     if given.command == 'login':
         given.anew = given.anew or given.max_age is not None
+    if given.command == 'exchange' and given.actor_token_file and not given.actor_token_type:
+        parser.error('--actor-token-file goes with --actor-token-type')
     if given.command == 'revoke' and given.cache and given.kind:
         parser.error('--kind goes without --cache')
     if given.command not in GIVES_NO_TOKEN and given.expires and given.output != 'json':

@@ -4,8 +4,11 @@ from __future__ import annotations
 import argparse
 import re
 
+import grants
+
 Parsers = dict[str, argparse.ArgumentParser]
 FILES = ('FILE',)  # what a flag's value is called that is the name of a file
+WORDS = {'TYPE': grants.TYPES}  # what may follow a flag whose value is called so, beside others
 
 
 def actions_of(parser: argparse.ArgumentParser) -> list[argparse.Action]:
@@ -65,7 +68,7 @@ def values_of(action: argparse.Action) -> str:
     """What may follow a flag: words, a file, or nothing that is known."""
     if action.choices:
         return ' '.join(map(str, action.choices))
-    return 'FILE' if action.metavar in FILES else ''
+    return 'FILE' if action.metavar in FILES else ' '.join(WORDS.get(str(action.metavar), ()))
 
 
 def bash(name: str, parser: argparse.ArgumentParser, commands: Parsers) -> str:

@@ -29,7 +29,7 @@ KEEPS = (*SIGNS_IN, 'refresh', 'status', 'logout', 'whoami', 'git-credential')
 PATHS = ('client_secret_file', *FILES)
 # What each member of a profile has to be.
 KINDS: dict[str, type] = {**dict.fromkeys((*TEXTS, 'client_secret', *PATHS, 'sign_in'), str),
-                          'scopes': list, 'openid': bool, 'listen': int}
+                          'scopes': list, 'openid': bool, 'push': bool, 'listen': int}
 SAID = {str: 'a text', list: 'a list of texts', bool: 'true or false', int: 'a whole number'}
 
 
@@ -166,6 +166,7 @@ def apply(given: argparse.Namespace) -> None:
     members = given.of_profile.members
     if given.command == 'login':
         given.openid = given.openid or members.get('openid', False)
+        given.push = given.push or members.get('push', False)
         if given.listen is None:
             given.listen = members.get('listen')
     if given.command in KEEPS and not given.cache:

@@ -15,13 +15,13 @@ from endings import BAD_SETTING, Stop, status_at, tell
 LOOPBACK = ('localhost', '127.0.0.1', '::1')
 URLS = {'auth_url': 'the authorization endpoint', 'token_url': 'the token endpoint', 'device_url': 'the device authorization endpoint',
         'introspection_url': 'the introspection endpoint', 'revocation_url': 'the revocation endpoint',
-        'userinfo_url': 'the UserInfo endpoint',
+        'userinfo_url': 'the UserInfo endpoint', 'push_url': 'the endpoint to which the parameters of a login are pushed (RFC 9126)',
         'jwks_url': 'where the issuer has its keys (RFC 7517)',
         'redirect': 'where the server sends the user back (with --listen: http://127.0.0.1/ if not given)'}
-# The member of an issuer's metadata that has each endpoint (RFC 8414, 2; RFC 8628, 4; OpenID Connect Discovery 1.0, 3).
+# The member of an issuer's metadata that has each endpoint (RFC 8414, 2; RFC 8628, 4; RFC 9126, 5; OpenID Connect Discovery 1.0, 3).
 ENDPOINTS = {'auth_url': 'authorization_endpoint', 'token_url': 'token_endpoint', 'device_url': 'device_authorization_endpoint',
              'introspection_url': 'introspection_endpoint', 'revocation_url': 'revocation_endpoint',
-             'userinfo_url': 'userinfo_endpoint', 'jwks_url': 'jwks_uri'}
+             'userinfo_url': 'userinfo_endpoint', 'jwks_url': 'jwks_uri', 'push_url': 'pushed_authorization_request_endpoint'}
 # The settings that are texts, each with what it is.
 TEXTS = {'client_id': "the client's identifier",
          'server': 'a server that the tool knows, with its endpoints: %s' % ', '.join(servers.SERVERS), 'auth': 'where the secret goes: basic (a header; the default) or body',
@@ -34,12 +34,12 @@ FILES = {'cacert': 'a file with the certificates of the authorities that are tru
          'client_assertion_file': 'a file with a JWT that stands for the client in place of a secret; it is read anew for each request'}
 OF_TLS = ('cacert', 'client_cert', 'client_key')
 NEEDED = {'login': ('auth_url', 'token_url', 'redirect'), 'token': ('token_url',), 'password': ('token_url', 'username'),
-          'refresh': ('token_url',), 'device': ('device_url', 'token_url'),
+          'refresh': ('token_url',), 'exchange': ('token_url',), 'assertion': ('token_url',), 'device': ('device_url', 'token_url'),
           'introspect': ('introspection_url',), 'revoke': ('revocation_url',), 'logout': ('revocation_url',), 'whoami': ('userinfo_url',),
           'status': (), 'git-credential': (), 'verify-token': ('jwks_url',)}
 WITHOUT_CLIENT = ('verify-token',)  # the commands for which no client is registered
 # Those that only some commands take, each with the commands that take it and can do without it.
-OPTIONAL = {'username': (), 'id_token_issuer': ('login',), **dict.fromkeys(URLS, ()), 'jwks_url': ('login',)}
+OPTIONAL = {'username': (), 'id_token_issuer': ('login',), **dict.fromkeys(URLS, ()), 'jwks_url': ('login',), 'push_url': ('login',)}
 
 
 def takes(command, name):
@@ -57,16 +57,22 @@ def flag_of(name):
 OF_CLIENT = 'OAUTH2_CLIENT_SECRET, --client-secret-file FILE or --ask-secret'
 NO_FLAGS = {'--client-secret': OF_CLIENT, '--secret': OF_CLIENT, '--password': 'OAUTH2_PASSWORD or a line of standard input',
             '--token': 'OAUTH2_TOKEN or a line of standard input', '--refresh-token': 'OAUTH2_REFRESH_TOKEN or a line of standard input',
-            '--client-assertion': '--client-assertion-file FILE'}
+            '--client-assertion': '--client-assertion-file FILE',
+            **{'--%s-token' % it: 'OAUTH2_%s_TOKEN, --%s-token-file FILE or a line of standard input' % (it.upper(), it)
+               for it in ('subject', 'actor')},
+            '--assertion': 'OAUTH2_ASSERTION, --assertion-file FILE or standard input'}
 # What each command sends itself, so that --extra may not: no parameter may come twice (RFC 6749, 3.1 and 3.2).
 TO_TOKEN = ('grant_type', 'client_secret')
 SENT = {'login': ('response_type', 'client_id', 'redirect_uri', 'state', 'code_challenge', 'code_challenge_method'), 'token': TO_TOKEN,
         'password': (*TO_TOKEN, 'username', 'password'), 'refresh': (*TO_TOKEN, 'refresh_token'), 'device': TO_TOKEN,
+        'exchange': (*TO_TOKEN, 'client_id', 'scope', 'subject_token', 'subject_token_type', 'actor_token', 'actor_token_type',
+                     'requested_token_type'),
+        'assertion': (*TO_TOKEN, 'client_id', 'scope', 'assertion'),
         'introspect': ('client_secret', 'token'), 'revoke': ('client_secret', 'token', 'token_type_hint'),
         'logout': ('client_secret', 'token', 'token_type_hint'), 'whoami': (), 'git-credential': (), 'verify-token': ()}
 # What is sent beside that where a setting or flag of the tool asks for it.
 OF_ASSERTION = ('client_assertion', 'client_assertion_type')
-OF_FLAGS = ('max_age', 'resource')
+OF_FLAGS = ('max_age', 'resource', 'audience')
 
 
 def settings_of(given, kept):
@@ -128,10 +134,20 @@ def secret_in(path, label):
     return text
 
 
-def missing_of(command, found):
-    """What a command needs and no setting has, unless the issuer's metadata may have it."""
-    of_client = () if command in WITHOUT_CLIENT else ('client_id',)
-    needed = [name for name in of_client + NEEDED[command] if not found[name]]
+def pushes(given, found):
+    """Whether the settings say that the parameters of a login are pushed (RFC 9126)."""
+    return given.command == 'login' and bool(given.push or found['push_url'])
+
+
+def needed_of(given, found):
+    """What a run needs beside the client."""
+    return NEEDED[given.command] + ('push_url',) * pushes(given, found)
+
+
+def missing_of(given, found):
+    """What a run needs and no setting has, unless the issuer's metadata may have it."""
+    of_client = () if given.command in WITHOUT_CLIENT else ('client_id',)
+    needed = [name for name in of_client + needed_of(given, found) if not found[name]]
     return [name for name in needed if not found['issuer'] or name not in ENDPOINTS]
 
 
@@ -142,7 +158,7 @@ OR = {**dict.fromkeys(ENDPOINTS, '; or --issuer, to discover it'),
 
 def check_complete(given, found, path=None):
     """Stops where a setting that a command needs is missing. path is that of a cache that has no token yet."""
-    for name in missing_of(given.command, found):
+    for name in missing_of(given, found):
         first = ''
         if path and given.command in ('token', 'refresh'):
             first = ('there is no token in %s yet: sign in first, by %s login %s; or ask for one here: '
@@ -154,7 +170,7 @@ def check_complete(given, found, path=None):
 
 def check(given, found):
     """Stops at a setting of a command that can't be used."""
-    needed = NEEDED[given.command]
+    needed = needed_of(given, found)
     for name in (*needed, *['issuer'] * any(not found[it] for it in needed)):
         if found[name] and (name in URLS or name == 'issuer'):
             check_url(name, found[name], flag_of(name))
@@ -164,7 +180,7 @@ def check(given, found):
         raise Stop('there are a secret of the client and --client-assertion-file: a client shows one of both (RFC 6749, 2.3), so leave the '
                    'other out', BAD_SETTING)
     sent = SENT[given.command] + ('scope',) * bool(found['scopes']) + ('nonce',) * bool(given.openid)
-    sent += OF_ASSERTION * bool(found['client_assertion_file'])
+    sent += OF_ASSERTION * bool(found['client_assertion_file']) + ('request_uri',) * pushes(given, found)
     sent += tuple(name for name in OF_FLAGS if getattr(given, name, None) is not None)
     for name, _ in given.extra or ():
         if name in sent:

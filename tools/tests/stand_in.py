@@ -27,13 +27,14 @@ with open(%r, 'a') as f:
     f.write(json.dumps(script) + '\\n')
 client, params, command = script['client'], script.get('params', {}), script['command']
 replies = iter(script.get('replies', []))
-KNOWN = ('access_token', 'token_type', 'expires_in', 'refresh_token', 'scope', 'active', 'device_code', 'user_code', 'verification_uri',
-         'interval')
+KNOWN = ('access_token', 'token_type', 'expires_in', 'refresh_token', 'scope', 'issued_token_type', 'active', 'device_code', 'user_code',
+         'verification_uri', 'interval')
 GRANTS = {'code': 'authorization_code', 'client_credentials': 'client_credentials', 'device_poll': 'device', 'refresh': 'refresh_token',
-          'password': 'password', 'exchange_token': 'urn:ietf:params:oauth:grant-type:token-exchange', 'assertion': 'by an assertion'}
+          'password': 'password', 'exchange_token': 'urn:ietf:params:oauth:grant-type:token-exchange',
+          'assertion': 'urn:ietf:params:oauth:grant-type:%%s-bearer' %% params.get('kind')}
 # The params that are sent under their own names, a pair each.
-SENT = ('code', 'verifier', 'refresh_token', 'username', 'password', 'assertion', 'kind', 'audience', 'subject_token', 'subject_token_type',
-        'actor_token', 'actor_token_type', 'requested_token_type')
+SENT = ('code', 'verifier', 'refresh_token', 'username', 'password', 'assertion', 'audience', 'requested_token_type', 'subject_token',
+        'subject_token_type', 'actor_token', 'actor_token_type')
 
 def end(status, *line):
     print('answer', *line)
@@ -62,6 +63,8 @@ def read(reply):
         found = json.loads(reply['body'])
     except ValueError:
         end(1, 'fault "Failed to parse server response" "" NotJson')
+    if command == 'exchange_token' and reply['status'] == 200 and 'issued_token_type' not in found:
+        end(1, 'fault "Failed to parse server response" "issued_token_type" Missing')
     if reply['status'] == 200:
         kept = {it: found[it] for it in KNOWN if it in found}
         end(0, 'ok', json.dumps(kept, separators=(',', ':')))
@@ -99,7 +102,10 @@ def poll():
 
 def push():
     """Pushes an authorization request, and shows the URL with its name."""
-    pairs = [('client_id', client['id']), ('state', params['state']), ('redirect_uri', client['redirect'])] + more_of()
+    pairs = [('response_type', 'code'), ('client_id', client['id']), ('state', params['state']), ('redirect_uri', client['redirect'])]
+    pairs += [('scope', ' '.join(params.get('scopes', [])))] + [('nonce', it) for it in [params.get('nonce')] if it] + more_of()
+    if 'request_uri' in dict(pairs):
+        end(1, 'fault "URL has the parameter `request_uri`"')
     reply = reply_of(client['push_url'], pairs)
     if reply.get('status') == 200:
         end(1, 'fault "Failed to parse server response" "error" Missing')
@@ -175,6 +181,8 @@ elif command == 'push':
 elif command == 'device_poll':
     poll()
 elif command in GRANTS:
+    if params.get('kind') == 'saml2':
+        params['assertion'] = base64.urlsafe_b64encode(params['assertion'].encode()).decode().rstrip('=')
     pairs = [(it, value) for it in SENT if it in params for value in (params[it] if it == 'audience' else [params[it]])]
     if 'scopes' in params:
         pairs += [('scope', ' '.join(params['scopes']))]
