@@ -1,8 +1,9 @@
 """A token endpoint by Authlib, at https on this machine, for tools/try-servers: it takes a JWT of the client (RFC 7523, 2.2) by
-JWTBearerClientAssertion.
+JWTBearerClientAssertion, and one of an issuer as a grant (RFC 7523, 2.1) by JWTBearerGrant. Of the exchange of a token (RFC 8693) Authlib
+has nothing, so Exchange here is a grant of our own.
 
 It runs in a Python that has Authlib: authlib_server.py PORT, in a folder with cert.pem and key.pem. The client that asserts itself is
-"code", whose key is client.pem there; that of the client "issuer" is grant.pem.
+"code", whose key is client.pem there; that of the client "issuer", which gives tokens for the user "ann", is grant.pem.
 """
 import http.server
 import json
@@ -15,6 +16,8 @@ from authlib.oauth2 import rfc6749, rfc6750, rfc7523
 PORT = int(sys.argv[1])
 TOKEN_URL = 'https://localhost:%d/token' % PORT
 KEYS = {'issuer': 'grant.pem', 'code': 'client.pem'}
+USERS = ('ann',)
+TOKEN, TOKEN_TYPE, AUDIENCE = 'a token of Authlib', 'urn:ietf:params:oauth:token-type:', 'https://api.example/'
 
 
 class Client(rfc6749.ClientMixin):
@@ -60,6 +63,52 @@ class ByClient(rfc6749.ClientCredentialsGrant):
     TOKEN_ENDPOINT_AUTH_METHODS = [ByAssertion.CLIENT_AUTH_METHOD]
 
 
+class ByJwt(rfc7523.JWTBearerGrant):
+    CLAIMS_OPTIONS = {**rfc7523.JWTBearerGrant.CLAIMS_OPTIONS, 'aud': {'essential': True, 'value': TOKEN_URL}}
+
+    def resolve_issuer_client(self, issuer):
+        if issuer != 'issuer':
+            raise rfc6749.errors.InvalidGrantError()
+        return client_of(issuer)
+
+    def resolve_client_key(self, client, _headers, _payload):
+        return client.key()
+
+    def authenticate_user(self, subject):
+        return subject if subject in USERS else None
+
+    def has_granted_permission(self, _client, _user):
+        return True
+
+
+class InvalidTarget(rfc6749.errors.OAuth2Error):
+    error = 'invalid_target'
+
+
+class Exchange(rfc6749.BaseGrant, rfc6749.TokenEndpointMixin):
+    """RFC 8693, 2: of the token that this server gives; the actor's token is a JWT of the issuer."""
+    GRANT_TYPE = 'urn:ietf:params:oauth:grant-type:token-exchange'
+    TOKEN_ENDPOINT_AUTH_METHODS = [ByAssertion.CLIENT_AUTH_METHOD]
+
+    def validate_token_request(self):
+        form = self.request.form
+        self.request.client = self.authenticate_token_endpoint_client()
+        if (form.get('subject_token'), form.get('subject_token_type')) != (TOKEN, TOKEN_TYPE + 'access_token'):
+            raise rfc6749.errors.InvalidRequestError()
+        if ('actor_token' in form) != ('actor_token_type' in form) or form.get('actor_token_type', TOKEN_TYPE + 'jwt') != TOKEN_TYPE + 'jwt':
+            raise rfc6749.errors.InvalidRequestError()
+        if 'actor_token' in form:
+            ByJwt(self.request, self.server).process_assertion_claims(form['actor_token'])
+        if form.get('audience', AUDIENCE) != AUDIENCE:
+            raise InvalidTarget()
+
+    def create_token_response(self):
+        issued = self.request.form.get('requested_token_type', TOKEN_TYPE + 'access_token')
+        kind = 'Bearer' if issued == TOKEN_TYPE + 'access_token' else 'N_A'
+        token = {'access_token': 'another token', 'issued_token_type': issued, 'token_type': kind, 'expires_in': 60}
+        return 200, token, self.TOKEN_RESPONSE_HEADER
+
+
 class Server(rfc6749.AuthorizationServer):
     def query_client(self, client_id):
         return client_of(client_id)
@@ -78,9 +127,11 @@ class Server(rfc6749.AuthorizationServer):
 
 
 SERVER = Server(['read'])
-SERVER.register_token_generator('default', rfc6750.BearerTokenGenerator(lambda **_: 'a token of Authlib'))
+SERVER.register_token_generator('default', rfc6750.BearerTokenGenerator(lambda **_: TOKEN))
 SERVER.register_client_auth_method(ByAssertion.CLIENT_AUTH_METHOD, ByAssertion(TOKEN_URL))
 SERVER.register_grant(ByClient)
+SERVER.register_grant(ByJwt)
+SERVER.register_grant(Exchange)
 
 
 class Handler(http.server.BaseHTTPRequestHandler):

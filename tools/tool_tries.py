@@ -1,5 +1,6 @@
 """What tools/try-servers tries of tools/oauth2 itself: endpoints by discovery, the listener, also with a browser, ID tokens, the cache, a
-proxy, profiles, what other programs get, JWTs as the client's authentication, and endpoints that answer what they should not."""
+proxy, profiles, what other programs get, JWTs as the client's authentication and as grants, exchanges, and endpoints that answer what they
+should not."""
 import base64
 import http.server
 import json
@@ -28,6 +29,7 @@ def at_server(tries):
         firefox_at_listener(tries)
     if tries.server.issuer:
         discovery(tries)
+        pushes(tries)
     openid(tries)
     cache(tries)
     proxy(tries)
@@ -110,6 +112,20 @@ def discovery(tries):
     tries.end('discovery: the redirect names no issuer', run, back.replace('&' + named, '').replace(named, '') + '\n', 'access_token')
     by_other = {**none, 'OAUTH2_ISSUER': server.base}
     tries.end('discovery: an issuer without metadata', tries.start('token', **by_other), '', '!can not be discovered')
+
+
+def pushes(tries):
+    """Logins whose parameters are pushed, by --issuer alone (RFC 9126)."""
+    server, none = tries.server, dict.fromkeys(('OAUTH2_' + name.upper() for name in tries.server.urls), '')
+    for tried, at, flags in ('pushed: ', server.issuer, ['--push']), ('pushed, since the server requires it: ', server.requires_push, []):
+        by_issuer = {**none, 'OAUTH2_ISSUER': server.base + at}
+        run, url = tries.login_begun(*flags, **by_issuer)
+        names = sorted(urllib.parse.parse_qs(urllib.parse.urlsplit(url).query))
+        tries.row(tried + 'what the URL has', ', '.join(names), names == ['client_id', 'request_uri'])
+        tries.end(tried + 'code with PKCE', run, server.agreed(url) + '\n', 'access_token')
+        for wrong, name, value in ('a wrong secret', 'CLIENT_SECRET', 'wrong'), ('another redirect', 'REDIRECT', 'https://x.example/'):
+            run = tries.start('login', *flags, **{**by_issuer, 'OAUTH2_' + name: value})
+            tries.end(tried + wrong, run, '', '!invalid_|unauthorized_|error response')
 
 
 def by_openid(server):
@@ -292,7 +308,15 @@ def signed(folder, key, **claims):
 
 
 def at_authlib(tries):
-    """The results of the client's own JWT, which others write into a file; each has an identifier that the server takes once."""
+    """The results of JWTs, the client's own and those of an issuer, and of exchanges."""
+    own_jwts(tries)
+    jwts_of_issuer(tries)
+    exchanges(tries)
+    return tries.results
+
+
+def own_jwts(tries):
+    """The client's own JWT, which others write into a file; each has an identifier that the server takes once."""
     folder, url, now = tries.server.folder, tries.server.base + tries.server.urls['token_url'], int(time.time())
     path, good = os.path.join(folder, 'client.jwt'), {'iss': 'code', 'sub': 'code', 'aud': url, 'exp': now + 600}
 
@@ -309,7 +333,42 @@ def at_authlib(tries):
                                                    ('one signed by another key', 'grant', good)), 3):
         run(tried, signed(folder, key, **claims, jti=str(number)), '!invalid_client')
     tries.end('client: neither a JWT nor a secret', tries.start('token'), '', '!invalid_client')
-    return tries.results
+
+
+def jwts_of_issuer(tries):
+    """A JWT of an issuer, which says for which user a token is."""
+    folder, url, now = tries.server.folder, tries.server.base + tries.server.urls['token_url'], int(time.time())
+    good = {'iss': 'issuer', 'sub': 'ann', 'aud': url, 'iat': now, 'exp': now + 600}
+
+    def run(tried, key, wanted, **claims):
+        jwt = signed(folder, key, **{**good, **claims})
+        tries.end('assertion: ' + tried, tries.start('assertion', OAUTH2_ASSERTION=jwt), '', wanted)
+    run('a JWT of the issuer', 'grant', 'access_token')
+    other = 'https://x.example/'
+    for tried, key, claims in (('one that has expired', 'grant', {'exp': 1}), ('one for another server', 'grant', {'aud': other}),
+                               ('one for an unknown user', 'grant', {'sub': 'eve'}), ('one of another issuer', 'grant', {'iss': 'code'}),
+                               ('one signed by another key', 'client', {})):
+        run(tried, key, '!invalid_grant', **claims)
+
+
+def exchanges(tries):
+    """The exchange of a token that the server has given, for the client that has a JWT, and with the token of an actor."""
+    folder, url, now = tries.server.folder, tries.server.base + tries.server.urls['token_url'], int(time.time())
+    path, numbers = os.path.join(folder, 'client.jwt'), iter(range(100, 200))
+    actor = signed(folder, 'grant', iss='issuer', sub='ann', aud=url, exp=now + 600)
+
+    def run(tried, wanted, *flags, **env):
+        with open(path, 'w', encoding='utf-8') as f:
+            f.write(signed(folder, 'client', iss='code', sub='code', aud=url, exp=now + 600, jti=str(next(numbers))))
+        it = tries.start('exchange', '--client-assertion-file', path, *flags, **{'OAUTH2_SUBJECT_TOKEN': 'a token of Authlib', **env})
+        tries.end('exchange: ' + tried, it, '', wanted)
+    acts = ['--actor-token-type', 'jwt']
+    run('a token for another', '"issued_token_type":"urn:ietf:params:oauth:token-type:access_token"', '--audience', 'https://api.example/')
+    run('with the token of an actor, for a JWT', '"token_type":"(?i:n_a)"', *acts, '--requested-token-type', 'jwt', OAUTH2_ACTOR_TOKEN=actor)
+    run('for an unknown audience', '!invalid_target', '--audience', 'https://x.example/')
+    run('another token', '!invalid_request', OAUTH2_SUBJECT_TOKEN='x')
+    run('a token of another type', '!invalid_request', '--subject-token-type', 'saml2')
+    run('the token of an actor that another key signed', '!invalid_grant', *acts, OAUTH2_ACTOR_TOKEN=actor + 'x')
 
 
 # Endpoints that answer what they should not. Each has the path under which it is, the status and headers of its reply, its body, and what
