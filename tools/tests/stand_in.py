@@ -14,6 +14,10 @@ import urllib.parse
 
 import tool
 
+sys.path.insert(0, tool.TOOLS)
+import program  # noqa: E402, of the folder above
+import repository  # noqa: E402, likewise
+
 # A run in the background has signals that are ignored, and what it starts inherits that. The tests send these signals.
 for number in (signal.SIGHUP, signal.SIGINT, signal.SIGQUIT):
     if signal.getsignal(number) == signal.SIG_IGN:
@@ -324,3 +328,12 @@ class Case(unittest.TestCase):
         """The scripts that the stand-in was given."""
         with open(self.notes, encoding='utf-8') as f:
             return [json.loads(it) for it in f]
+
+
+@unittest.skipUnless(repository.has_kit(), 'there is no kit here')
+class ByProgram:
+    """Has the tests of a Case run the program itself, compiled without proofs if there is no proved one, and not the stand-in."""
+
+    def setUp(self):
+        super().setUp()
+        self.env['OAUTH2_PROGRAM'] = program.PROGRAM if program.is_proved() else program.unproved(lambda: None)

@@ -7,6 +7,7 @@ import unittest
 import urllib.parse
 
 import grant_replies
+import stand_in
 import test_oauth2_grants
 from grant_replies import GRANT, TYPE, jwt_of, saml_of
 
@@ -49,7 +50,7 @@ class Exchanges(Case):
         self.replies.audiences.append('a b')
         answer = self.answered('exchange', '--actor-token-type', 'jwt', '--requested-token-type', 'jwt', '--audience', 'api', '--audience', 'a b',
                                '--resource', A, '--resource', B, '--scope', 'x y', '--extra', 'foo=bar', OAUTH2_ACTOR_TOKEN='a1')
-        self.assertEqual((answer['issued_token_type'], answer['token_type']), (TYPE + 'jwt', 'N_A'))
+        self.assertEqual((answer['issued_token_type'], answer['token_type'].upper()), (TYPE + 'jwt', 'N_A'))
         self.assertEqual(self.sent(), {'grant_type': [GRANT + 'token-exchange'], 'subject_token': ['s1'], 'actor_token': ['a1'],
                                        'subject_token_type': [TYPE + 'access_token'], 'actor_token_type': [TYPE + 'jwt'],
                                        'requested_token_type': [TYPE + 'jwt'], 'audience': ['api', 'a b'], 'resource': [A, B],
@@ -85,7 +86,7 @@ class Exchanges(Case):
     def test_output(self):
         self.assertEqual(self.run_tool('exchange', '--output', 'header')[1], 'Authorization: Bearer t8\n')
         self.assertRegex(self.answered('exchange', '--expires')['expires_at'], r'^\d{4}-')
-        self.refused_after('the token is of the type "N_A", and only for "bearer"', 125, 'exchange', '--requested-token-type', 'jwt', '--output',
+        self.refused_after(', and only for "bearer" this tool knows the header', 125, 'exchange', '--requested-token-type', 'jwt', '--output',
                            'header')
         self.assertEqual(self.run_tool('exchange', '--requested-token-type', 'jwt', '--output', 'token')[1], 't8\n')
 
@@ -193,6 +194,14 @@ class Assertions(Case):
             self.assertEqual(status, 0)
             self.assertIn('&assertion=***', err)
             self.assertNotIn(self.jwt, err)
+
+
+class ExchangesByProgram(stand_in.ByProgram, Exchanges):
+    pass
+
+
+class AssertionsByProgram(stand_in.ByProgram, Assertions):
+    pass
 
 
 if __name__ == '__main__':

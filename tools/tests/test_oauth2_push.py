@@ -6,6 +6,7 @@ import urllib.parse
 import urllib.request
 
 import grant_replies
+import stand_in
 import test_oauth2_grants
 from test_oauth2_discovery import FIRST
 from test_oauth2_grants import JWT, OTHER_JWT, REDIRECT
@@ -171,6 +172,10 @@ class Pushes(Case):
         self.assertEqual(run.returncode, 0)
         self.assertNotIn(JWT, err)
         self.assertIn('> POST ' + self.push_url, err)
+
+
+class PushesByProgram(stand_in.ByProgram, Pushes):
+    pass
 
 
 if __name__ == '__main__':
