@@ -3,6 +3,7 @@ use Rattle.std.specs.Prelude.{ℕ, List, Option, Some, None, unwrap_or, if◌the
 use Rattle.std.specs.Str.{bytes_eq}
 use Rattle.serde_json.specs.Data.{Data}
 use Rattle.serde_json.specs.Find.{as_str}
+use Rattle.url.specs.Parts.{Parts}
 use Rattle.oauth2_urls.specs.Addressed.{Addressed}
 use Rattle.oauth2_wire.specs.declared.request.AuthType.{AuthType}
 use Rattle.oauth2_wire.specs.declared.request.AuthType.TheVariants.{BasicAuth, RequestBody}
@@ -10,15 +11,17 @@ use Rattle.oauth2_wire.specs.declared.content_type.ReplyRule.{ReplyRule}
 use Rattle.oauth2_wire.specs.declared.content_type.ReplyRule.TheVariants.{Prefix, MediaType}
 use Rattle.oauth2_script.specs.Adapter.{adapter}
 use Rattle.oauth2_script.specs.declared.adapter.Adapter.{Adapter}
-use Rattle.oauth2_script.specs.Part.{◌>>=◌, needed_part, present_part, list_part, address}
+use Rattle.oauth2_script.specs.Part.{◌>>=◌, needed_part, present_part, list_part, address, url_part}
 
--- the endpoints of the client that the script sets: members `auth_url`, `token_url` and so on
+-- the endpoints of the client that the script sets: members `auth_url`, `token_url` and so on;
+-- `push_url` is the pushed authorization request endpoint (RFC 9126, 2)
 pub record ClientEndpoints : Type 0 where
   pub auth : Option Addressed
   pub token : Option Addressed
   pub device : Option Addressed
   pub introspection : Option Addressed
   pub revocation : Option Addressed
+  pub push : Option Parts
 
 -- the member `client` of a script; its identifier and its secret are bytes
 pub record Client : Type 0 where
@@ -58,7 +61,8 @@ endpoints d = do
   device ← present_part address (codes "device_url") d
   introspection ← present_part address (codes "introspection_url") d
   revocation ← present_part address (codes "revocation_url") d
-  Some (record { auth = auth; token = token; device = device; introspection = introspection; revocation = revocation })
+  push ← present_part url_part (codes "push_url") d
+  Some (record { auth = auth; token = token; device = device; introspection = introspection; revocation = revocation; push = push })
 
 -- reads the object `client`; `auth` is `basic`, `reply_rule` is `prefix` and `adapters` are none if
 -- absent

@@ -65,6 +65,15 @@ address_of text (Err e) = None
 abbrev pub address : Data → Option Addressed
 address d = as_str d >>= λ text. address_of text (parse_url None text)
 
+-- the URL, if the parser of the URL Standard accepts the text
+abbrev pub url_of : Parsed Parts → Option Parts
+url_of (Ok url) = Some url
+url_of (Err e) = None
+
+-- a text that is a URL, without a base (URL Standard); only the URL is kept
+abbrev pub url_part : Data → Option Parts
+url_part d = as_str d >>= λ text. url_of (parse_url None text)
+
 -- a text that is an absolute URI without a fragment (RFC 3986, 4.3)
 abbrev pub uri_of : List ℕ → Option (List ℕ)
 uri_of text = if is_absolute_uri text then Some text else None

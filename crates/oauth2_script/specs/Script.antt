@@ -6,14 +6,14 @@ use Rattle.serde_json.specs.Find.{get, as_str, as_object}
 use Rattle.serde_json.specs.Read.{read}
 use Rattle.oauth2_script.specs.Part.{◌>>=◌, needed_part, list_part, moment}
 use Rattle.oauth2_script.specs.Client.{Client, client}
-use Rattle.oauth2_script.specs.Command.{Command, command_of}
 use Rattle.oauth2_script.specs.Replies.{Reply, reply}
+use Rattle.oauth2_script.specs.ScriptCommand.{ScriptCommand, script_command_of}
 
 -- the client, its command, the replies of the server, and the readings of the clock in nanoseconds
 -- since 1970
 pub record Script : Type 0 where
   pub client : Client
-  pub command : Command
+  pub command : ScriptCommand
   pub replies : List Reply
   pub readings : List ℤ
 
@@ -34,7 +34,7 @@ script_of d = do
   replies ← list_part reply (codes "replies") d
   readings ← list_part moment (codes "readings") d
   params ← object_or_empty (get (codes "params") d)
-  command ← command_of name params
+  command ← script_command_of name params
   given ← needed_part client (codes "client") d
   client ← once_authenticated (get (codes "client_assertion") params) given
   Some (record { client = client; command = command; replies = replies; readings = readings })

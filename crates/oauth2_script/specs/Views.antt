@@ -6,6 +6,8 @@ use Rattle.serde_json.specs.View.{view}
 use Rattle.oauth2_replies.specs.Device.{device_seen}
 use Rattle.oauth2_script.specs.Client as client_spec
 use Rattle.oauth2_script.specs.Command as command_spec
+use Rattle.oauth2_script.specs.GrantCommand as grant_spec
+use Rattle.oauth2_script.specs.ScriptCommand as script_command_spec
 use Rattle.oauth2_script.specs.Replies as replies_spec
 use Rattle.oauth2_script.specs.Script as script_spec
 use Rattle.oauth2_script.specs.CodeParams as code_spec
@@ -22,6 +24,10 @@ use Rattle.oauth2_script.specs.KeeperParams as keeper_spec
 use Rattle.oauth2_script.specs.MetadataParams as metadata_spec
 use Rattle.oauth2_script.specs.IdTokenParams as id_token_spec
 use Rattle.oauth2_script.specs.AccessTokenParams as access_token_spec
+use Rattle.oauth2_script.specs.ExtensionParams as extension_spec
+use Rattle.oauth2_script.specs.ExchangeTokenParams as exchange_token_spec
+use Rattle.oauth2_script.specs.AssertionParams as assertion_spec
+use Rattle.oauth2_script.specs.PushParams as push_spec
 use Rattle.oauth2_script.specs.declared.code_params.CodeParams.{CodeParams}
 use Rattle.oauth2_script.specs.declared.refresh_params.RefreshParams.{RefreshParams}
 use Rattle.oauth2_script.specs.declared.password_params.PasswordParams.{PasswordParams}
@@ -40,10 +46,19 @@ use Rattle.oauth2_script.specs.declared.access_token_params.AccessTokenParams.{A
 use Rattle.oauth2_script.specs.declared.id_token_params.IdTokenParams.{IdTokenParams}
 use Rattle.oauth2_script.specs.declared.id_token_params.IssuerParam.{IssuerParam}
 use Rattle.oauth2_script.specs.declared.id_token_params.IssuerParam.TheVariants.{Is, OneOf, PerTenant}
+use Rattle.oauth2_script.specs.declared.extension_params.ExtensionParams.{ExtensionParams}
+use Rattle.oauth2_script.specs.declared.exchange_token_params.TypedTokenParam.{TypedTokenParam}
+use Rattle.oauth2_script.specs.declared.exchange_token_params.ExchangeTokenParams.{ExchangeTokenParams}
+use Rattle.oauth2_script.specs.declared.assertion_params.AssertionParams.{AssertionParams}
+use Rattle.oauth2_script.specs.declared.push_params.PushParams.{PushParams}
 use Rattle.oauth2_script.specs.declared.client_part.ClientPart.{ClientPart}
 use Rattle.oauth2_script.specs.declared.client_part.ClientEndpoints.{ClientEndpoints}
 use Rattle.oauth2_script.specs.declared.command.Command.{Command}
 use Rattle.oauth2_script.specs.declared.command.Command.TheVariants.{Code, Refresh, Password, ClientCredentials, Introspect, Revoke, DeviceAuthorization, DevicePoll, Authorize, Redirect, Keeper, Metadata, IdToken, AccessToken}
+use Rattle.oauth2_script.specs.declared.grant_command.GrantCommand.{GrantCommand}
+use Rattle.oauth2_script.specs.declared.grant_command.GrantCommand.TheVariants.{Extension, ExchangeToken, Assertion, Push}
+use Rattle.oauth2_script.specs.declared.script_command.ScriptCommand.{ScriptCommand}
+use Rattle.oauth2_script.specs.declared.script_command.ScriptCommand.TheVariants.{Plain, Grant}
 use Rattle.oauth2_script.specs.declared.reply.HttpReply.{HttpReply}
 use Rattle.oauth2_script.specs.declared.reply.Reply.{Reply}
 use Rattle.oauth2_script.specs.declared.reply.Reply.TheVariants.{Replied, Failed}
@@ -192,9 +207,49 @@ access_token_view p = record {
   leeway = as_nanos p.leeway;
 }
 
+-- the parameters of the command `extension` as contracts see them
+abbrev pub extension_view : ExtensionParams → extension_spec.ExtensionParams
+extension_view p = record {
+  grant_type = p.grant_type;
+  scopes = p.scopes.items;
+  extra_params = map (λ e. (string_bytes e.0, string_bytes e.1)) p.extra_params.items;
+}
+
+-- a token and its type as contracts see them
+abbrev pub typed_token_view : TypedTokenParam → exchange_token_spec.TypedToken
+typed_token_view t = record { token = string_bytes t.token; token_type = t.token_type }
+
+-- the parameters of the command `exchange_token` as contracts see them
+abbrev pub exchange_token_view : ExchangeTokenParams → exchange_token_spec.ExchangeTokenParams
+exchange_token_view p = record {
+  subject = typed_token_view p.subject;
+  actor = option_map typed_token_view p.actor;
+  requested_token_type = p.requested_token_type;
+  resources = p.resources.items;
+  audiences = map string_bytes p.audiences.items;
+  scopes = p.scopes.items;
+  extra_params = map (λ e. (string_bytes e.0, string_bytes e.1)) p.extra_params.items;
+}
+
+-- the parameters of the command `assertion` as contracts see them
+abbrev pub assertion_view : AssertionParams → assertion_spec.AssertionParams
+assertion_view p = record {
+  kind = p.kind;
+  assertion = string_bytes p.assertion;
+  scopes = p.scopes.items;
+  extra_params = map (λ e. (string_bytes e.0, string_bytes e.1)) p.extra_params.items;
+}
+
+-- the parameters of the command `push` as contracts see them
+abbrev pub push_view : PushParams → push_spec.PushParams
+push_view p = record {
+  authorize = authorize_view p.authorize;
+  asserted = map (λ e. (string_bytes e.0, string_bytes e.1)) p.asserted.items;
+}
+
 -- the endpoints of the client as contracts see them
 abbrev pub endpoints_view : ClientEndpoints → client_spec.ClientEndpoints
-endpoints_view e = record { auth = e.auth; token = e.token; device = e.device; introspection = e.introspection; revocation = e.revocation }
+endpoints_view e = record { auth = e.auth; token = e.token; device = e.device; introspection = e.introspection; revocation = e.revocation; push = e.push }
 
 -- the client of the script as contracts see it
 abbrev pub client_view : ClientPart → client_spec.Client
@@ -221,7 +276,7 @@ abbrev pub stored_reply : Reply → replies_spec.Reply
 stored_reply (Replied r) = replies_spec.replied (http_reply_view r)
 stored_reply Failed = replies_spec.failed
 
--- the command of the script, with its parameters, as contracts see it
+-- a command with its parameters, as contracts see it
 abbrev pub command_view : Command → command_spec.Command
 command_view (Code p) = command_spec.code (code_view p)
 command_view (Refresh p) = command_spec.refresh (refresh_view p)
@@ -238,11 +293,23 @@ command_view (Metadata p) = command_spec.metadata (metadata_view p)
 command_view (IdToken p) = command_spec.id_token (id_token_view p)
 command_view (AccessToken p) = command_spec.access_token (access_token_view p)
 
+-- a command for a further grant or for a pushed request, as contracts see it
+abbrev pub grant_view : GrantCommand → grant_spec.GrantCommand
+grant_view (Extension p) = grant_spec.extension (extension_view p)
+grant_view (ExchangeToken p) = grant_spec.exchange_token (exchange_token_view p)
+grant_view (Assertion p) = grant_spec.assertion (assertion_view p)
+grant_view (Push p) = grant_spec.push (push_view p)
+
+-- the command of the script, with its parameters, as contracts see it
+abbrev pub script_command_view : ScriptCommand → script_command_spec.ScriptCommand
+script_command_view (Plain c) = script_command_spec.plain (command_view c)
+script_command_view (Grant c) = script_command_spec.grant (grant_view c)
+
 -- the whole script as contracts see it; the readings in nanoseconds since 1970
 abbrev pub script_view : Script → script_spec.Script
 script_view s = record {
   client = client_view s.client;
-  command = command_view s.command;
+  command = script_command_view s.command;
   replies = map stored_reply s.replies.items;
   readings = map (λ t. t.nanosecond) s.readings.items;
 }

@@ -12,6 +12,7 @@ use oauth2_urls::{
 use oauth2_wire::{AuthType, ReplyRule};
 use serde_json::Value;
 use std::alloc::Global;
+use url::Url;
 
 /// The client of a script; endpoints that the script does not set are `None`.
 #[derive(Drop)]
@@ -34,6 +35,8 @@ pub struct ClientEndpoints {
     pub device: Option<DeviceAuthorizationUrl>,
     pub introspection: Option<IntrospectionUrl>,
     pub revocation: Option<RevocationUrl>,
+    /// The pushed authorization request endpoint (RFC 9126, section 2).
+    pub push: Option<Url>,
 }
 
 impl Part for AuthType {
@@ -96,12 +99,14 @@ impl Part for ClientEndpoints {
         let device = optional(alloc, value, "device_url")?;
         let introspection = optional(alloc, value, "introspection_url")?;
         let revocation = optional(alloc, value, "revocation_url")?;
+        let push = optional(alloc, value, "push_url")?;
         Ok(ClientEndpoints {
             auth,
             token,
             device,
             introspection,
             revocation,
+            push,
         })
     }
 }

@@ -8,9 +8,9 @@ ghost use Rattle.oauth2_script.specs.Gives.{Gives};
 ghost use Rattle.oauth2_script.specs.Views.{client_view, script_view};
 
 use crate::client_part::ClientPart;
-use crate::command::{Command, command_of};
 use crate::part::{listed, needed};
 use crate::reply::Reply;
+use crate::script_command::{ScriptCommand, script_command_of};
 use crate::script_error::ScriptError;
 use jiff_core::Timestamp;
 use serde_json::{Map, Value};
@@ -20,7 +20,7 @@ use std::alloc::Global;
 #[derive(Drop)]
 pub struct Script {
     pub client: ClientPart,
-    pub command: Command,
+    pub command: ScriptCommand,
     /// One reply for each call, in order; after the last one a call fails.
     pub replies: Vec<Reply>,
     /// What the clock shows, one after the other.
@@ -69,7 +69,7 @@ fn script_of(alloc: Global, value: &Value) -> Result<Script, ScriptError>
     let readings = listed(alloc, value, "readings")?;
     let empty = Value::Object(Map::new(alloc));
     let params = params_of(value.get("params"), &empty)?;
-    let command = command_of(alloc, name.as_str(), params)?;
+    let command = script_command_of(alloc, name.as_str(), params)?;
     let client: ClientPart = needed(alloc, value, "client")?;
     let client = once_authenticated(params.get("client_assertion"), client)?;
     Ok(Script {

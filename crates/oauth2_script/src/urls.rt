@@ -9,6 +9,7 @@ use oauth2_urls::{
 };
 use serde_json::Value;
 use std::alloc::Global;
+use url::Url;
 
 impl Part for AuthUrl {
     ghost use Rattle.oauth2_urls.specs.Addressed.{Addressed};
@@ -97,5 +98,20 @@ impl Part for TokenUrl {
     fn from_value(alloc: Global, value: &Value) -> Result<TokenUrl, ScriptError> {
         let text = String::from_value(alloc, value)?;
         Ok(TokenUrl::new(alloc, text)?)
+    }
+}
+
+impl Part for Url {
+    ghost use Rattle.url.specs.Parts.{Parts};
+
+    ghost Meaning = { Parts };
+
+    ghost meaning = { λ url. url };
+
+    ghost reading = { spec.url_part };
+
+    fn from_value(alloc: Global, value: &Value) -> Result<Url, ScriptError> {
+        let text = value.as_str().ok_or(ScriptError::Bad)?;
+        Ok(Url::parse(alloc, text)?)
     }
 }
