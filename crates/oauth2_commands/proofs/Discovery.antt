@@ -29,7 +29,8 @@ use Rattle.oauth2_commands.specs.Metadata.{IsDiscovered, IsMetadataOutput, docum
 use Rattle.oauth2_commands.specs.private.Discovery.{HasRoom, MetadataSeen, discovery_output, metadata_meaning}
 use Rattle.oauth2_commands.proofs.NoFloats.{metadata_data-no_float}
 use Rattle.oauth2_request_commands.specs.Out.{Output, failure_output, Adds, AddsOutput}
-use Rattle.oauth2_request_commands.specs.private.Results.{ErrorResponse, ShownFault, end_output, error_seen}
+use Rattle.oauth2_request_commands.specs.Faults.{end_output}
+use Rattle.oauth2_request_commands.specs.private.Results.{ErrorResponse, ShownFault, error_seen}
 use Rattle.oauth2_request_commands.specs.declared.status.RunStatus.{RunStatus}
 use Rattle.oauth2_request_commands.proofs.Results.{free_of}
 

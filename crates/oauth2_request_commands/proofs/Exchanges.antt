@@ -22,7 +22,7 @@ use Rattle.oauth2_request_commands.specs.Out.{Output, success_output, failure_ou
 use Rattle.oauth2_world.specs.Replay.{Replays, ReplaysOrStarves, reply_seen, client_replies}
 use Rattle.oauth2_script.specs.Replies.{Reply}
 use Rattle.oauth2_world.specs.Replies.{next_reply}
-use Rattle.oauth2_request_commands.specs.private.Results.{end_output}
+use Rattle.oauth2_request_commands.specs.Faults.{end_output}
 use Rattle.oauth2_world.specs.declared.replay.ScriptedClient.{ScriptedClient}
 use Rattle.oauth2_world.specs.declared.replay.NoReply.{NoReply}
 use Rattle.oauth2_request_commands.specs.declared.status.RunStatus.{RunStatus}

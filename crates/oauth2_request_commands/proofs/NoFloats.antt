@@ -15,7 +15,7 @@ use Rattle.oauth2_times.specs.Instants.{second_data, second_of}
 use Rattle.oauth2_json.specs.Words.{joined_words}
 use Rattle.oauth2_replies.specs.Device.{device_rows}
 use Rattle.oauth2_introspection.specs.Introspection.{introspection_rows}
-use Rattle.oauth2_replies.specs.Token.{token_rows}
+use Rattle.oauth2_replies.specs.Token.{Token, token_rows}
 use Rattle.oauth2_request_commands.specs.Exchange.{BasicToken, token_data}
 use Rattle.oauth2_request_commands.specs.DeviceAuthorization.{BasicDevice, device_data}
 use Rattle.oauth2_request_commands.specs.Introspect.{BasicIntrospection, introspection_data}
@@ -85,12 +85,14 @@ pub put_all-no_float : (rs : List Row) (ms : Members) → AreFree rs → members
 put_all-no_float [] ms h g = g
 put_all-no_float (r ∷ rs) ms (h, hs) g = put_some-no_float r.0 r.1 (put_all rs ms) h (put_all-no_float rs ms hs g)
 
+-- the members of every token response hold none, whatever text its type is
+pub token_rows-free : {E T : Type 0} (token_type : List ℕ) (r : Token E T) → AreFree (token_rows (string token_type) r)
+token_rows-free token_type r = (refl, (refl, (numbers_free r.expires_in, (texts_free (λ s. s) r.refresh_token, (texts_free joined_words r.scopes, tt)))))
+
 pub token_data-no_float : (r : BasicToken) → has_float (token_data r) ≡ false
 unfolding token_data
 token_data-no_float r =
-    let free : AreFree (token_rows (string (token_code_text r.token_type)) r) =
-    (refl, (refl, (numbers_free r.expires_in, (texts_free (λ s. s) r.refresh_token, (texts_free joined_words r.scopes, tt))))) in
-    put_all-no_float (token_rows (string (token_code_text r.token_type)) r) no_members free refl
+    put_all-no_float (token_rows (string (token_code_text r.token_type)) r) no_members (token_rows-free (token_code_text r.token_type) r) refl
 
 pub device_data-no_float : (r : BasicDevice) → has_float (device_data r) ≡ false
 unfolding device_data

@@ -28,8 +28,8 @@ use Rattle.oauth2_request_commands.specs.DevicePoll.{device_error_display}
 use Rattle.oauth2_request_commands.specs.Introspect.{BasicIntrospection, introspection_data}
 use Rattle.oauth2_request_commands.specs.Out.{Output, success_output, failure_output, AddsOutput}
 use Rattle.oauth2_world.specs.Lines.{fault_line}
-use Rattle.oauth2_request_commands.specs.Faults.{configuration_output, fault_output}
-use Rattle.oauth2_request_commands.specs.private.Results.{end_output, TokenSeen, token_meaning}
+use Rattle.oauth2_request_commands.specs.Faults.{configuration_output, end_output, fault_output}
+use Rattle.oauth2_request_commands.specs.private.Results.{TokenSeen, token_meaning}
 use Rattle.oauth2_request_commands.specs.private.Results.{ErrorResponse, error_seen, RevocationErrorResponse, revocation_error_seen}
 use Rattle.oauth2_world.specs.declared.replay.NoReply.{NoReply}
 use Rattle.oauth2_request_commands.proofs.NoFloats.{token_data-no_float, device_data-no_float, introspection_data-no_float}

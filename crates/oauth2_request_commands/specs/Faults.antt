@@ -1,5 +1,5 @@
--- What the output shows of a request that failed.
-use Rattle.std.specs.Prelude.{ℕ, List, string_bytes, codes}
+-- What the output shows of the result of a request, and of one that is not made.
+use Rattle.std.specs.Prelude.{ℕ, List, Result, Ok, Err, string_bytes, codes}
 use Rattle.oauth2_json.specs.Reading.{fault_of}
 use Rattle.oauth2_wire.specs.declared.error.ConfigurationError.{ConfigurationError}
 use Rattle.oauth2_wire.specs.declared.error.ConfigurationError.TheVariants.{MissingUrl, InsecureUrl}
@@ -19,6 +19,11 @@ module _ {T : Type 0} (text : T → List ℕ) where
   fault_output (Parse fault body) = not_read (fault_of fault)
   fault_output (Other given) = failure_output (other_text (string_bytes given))
   fault_output (Memory sent) = no_memory_output
+
+  -- what is shown of the result of a request: `shown` of an answer, or the error
+  abbrev pub end_output : {D : Type 0} → (D → Output) → Result D (RequestTokenError NoReply T) → Output
+  end_output shown (Ok answer) = shown answer
+  end_output shown (Err fault) = fault_output fault
 
 -- what is shown if the client lacks an endpoint, or if the URL of one is not `https`
 abbrev pub configuration_output : ConfigurationError → Output

@@ -19,8 +19,8 @@ ghost use Rattle.oauth2_world.specs.Lines.{line};
 ghost use Rattle.oauth2_world.specs.Replay.{ReplaysOrStarves, client_replies};
 ghost use Rattle.oauth2_world.specs.declared.replay.ScriptedClient.{ScriptedClient};
 ghost use Rattle.oauth2_request_commands.specs.Faults.{configuration_output, fault_output};
-ghost use Rattle.oauth2_request_commands.specs.private.Results.{end_output, token_meaning};
-ghost use Rattle.oauth2_request_commands.specs.private.Results.{revocation_output};
+ghost use Rattle.oauth2_request_commands.specs.Faults.{end_output};
+ghost use Rattle.oauth2_request_commands.specs.private.Results.{revocation_output, token_meaning};
 
 use crate::status::RunStatus;
 use oauth2::basic::{BasicErrorResponse, BasicRevocationErrorResponse, BasicTokenResponse};

@@ -2,13 +2,19 @@
 
 ghost use Rattle.std.specs.Prelude.{◌≡◌, ◌++◌, Some, codes, option_copied, unwrap_or, string_bytes};
 ghost use Rattle.std.specs.Prelude.{IfSome, IfNone, IsOkAnd, IsErrAnd, OnOk, IfOk, refl};
+ghost use Rattle.url.specs.Parts.{serialize};
+ghost use Rattle.oauth2_urls.specs.Addressed.{Addressed};
+ghost use Rattle.oauth2_form.specs.Query.{ExtendsQuery};
+ghost use Rattle.oauth2_requests.specs.Authorization.{query_pairs};
 ghost use Rattle.oauth2_wire.specs.ConfigurationError.{IsMissingUrl};
 ghost use Rattle.oauth2_wire.specs.Expected.{optional_pair};
 ghost use Rattle.oauth2_request_commands.specs.Authorize as spec;
 ghost use Rattle.oauth2.specs.NewRequest.{new_authorization};
+ghost use Rattle.oauth2.specs.Settings.{Settings};
 ghost use Rattle.oauth2_request_commands.specs.Client.{given_or};
-ghost use Rattle.oauth2_request_commands.specs.Out.{Adds};
+ghost use Rattle.oauth2_request_commands.specs.Out.{Adds, AddsOutput, after, success_output};
 ghost use Rattle.oauth2_script.specs.Views.{authorize_view};
+ghost use Rattle.oauth2_world.specs.Lines.{quotation};
 
 use crate::answer::show_configuration_error;
 use crate::client::ScriptClient;
@@ -16,11 +22,12 @@ use crate::extra::{Extensible, with_extra};
 use crate::status::RunStatus;
 use oauth2::{
     AuthorizationRequest, ConfigurationError, CsrfToken, ParamText, PkceCodeChallenge, RedirectRef,
-    RedirectUrl, ResponseType,
+    RedirectUrl, ResponseType, TryClone,
 };
 use oauth2_script::AuthorizeParams;
 use oauth2_world::{print_answer, quoted};
 use std::alloc::{AllocError, Global};
+use url::Url;
 
 impl<'a> Extensible<'a> for AuthorizationRequest<'a> {
     ghost with_params = { λ r f. record r { extra_params = f r.extra_params } };
@@ -106,8 +113,34 @@ fn with_nonce<'a>(
     }
 }
 
+/// The authorization URL for these parameters, and its state. The request has the client, the
+/// endpoint and this state, and nothing else yet.
+pub fn authorization_url(
+    alloc: Global,
+    request: AuthorizationRequest<'_>,
+    params: AuthorizeParams,
+) -> Result<(Url, CsrfToken), AllocError>
+    ensures { let p = authorize_view params in
+        IfOk result (λ made. (client : Settings) (url : Addressed)
+        → request.entry ≡ new_authorization client url p.state
+        → ExtendsQuery url.url made.0 (query_pairs (spec.authorization client p url))
+        × (made.1 ≡ p.state)) }
+{
+    let challenged = with_challenge(request, params.challenge);
+    let redirected = with_redirect(challenged, params.redirect);
+    let typed = with_response_type(alloc, redirected, params.response_type)?;
+    let scoped = typed.add_scopes(params.scopes)?;
+    let bound = with_nonce(scoped, params.nonce.as_deref())?;
+    let asked = with_extra(bound, params.extra_params.as_slice())?;
+    match asked.url(alloc) {
+        Ok(made) => Ok(made),
+        Err(_) => Err(AllocError),
+    }
+}
+
+/// Adds the line of the URL that the user is sent to.
 #[tactic(auto, unfolding(crate::specs::Authorize::url_line))]
-fn print_url(alloc: Global, lines: &mut String, url: &str) -> Result<(), AllocError>
+pub fn print_url(alloc: Global, lines: &mut String, url: &str) -> Result<(), AllocError>
     ensures { OnOk result (string_bytes lines.new
         ≡ string_bytes lines.old ++ spec.url_line url.now) }
 {
@@ -115,24 +148,20 @@ fn print_url(alloc: Global, lines: &mut String, url: &str) -> Result<(), AllocEr
     writeln!(lines, "url {url}")
 }
 
-// Adds the line of the URL of the request, and the line of its state.
+// Adds the line of the URL, and the line of the state.
 fn show_url(
     alloc: Global,
     lines: &mut String,
-    request: AuthorizationRequest<'_>,
+    url: &Url,
+    state: &CsrfToken,
 ) -> Result<RunStatus, AllocError>
-    ensures { IfOk result (λ status. Adds (string_bytes lines.old) (string_bytes lines.new) status
-        (spec.IsUrlShown request.entry)) }
+    ensures { IfOk result (λ status. AddsOutput (string_bytes lines.old) (string_bytes lines.new)
+        status (after (spec.url_line (serialize url.now)) (success_output (quotation state.now)))) }
 {
-    match request.url(alloc) {
-        Ok((url, state)) => {
-            print_url(alloc, lines, url.as_str())?;
-            let json = quoted(alloc, state.secret().as_str())?;
-            print_answer(lines, json.as_str())?;
-            Ok(RunStatus::Answered)
-        }
-        Err(_) => Err(AllocError),
-    }
+    print_url(alloc, lines, url.as_str())?;
+    let json = quoted(alloc, state.secret().as_str())?;
+    print_answer(lines, json.as_str())?;
+    Ok(RunStatus::Answered)
 }
 
 /// Shows the URL that the user is sent to, and the state (RFC 6749, section 4.1.1).
@@ -145,15 +174,11 @@ pub fn run_authorize(
     ensures { IfOk result (λ status. Adds (string_bytes lines.old) (string_bytes lines.new) status
         (spec.IsAuthorizeOutput client.now (authorize_view params))) }
 {
-    match start(alloc, client, params.state) {
+    let state = params.state.try_clone(alloc)?;
+    match start(alloc, client, state) {
         Ok(request) => {
-            let challenged = with_challenge(request, params.challenge);
-            let redirected = with_redirect(challenged, params.redirect);
-            let typed = with_response_type(alloc, redirected, params.response_type)?;
-            let scoped = typed.add_scopes(params.scopes)?;
-            let bound = with_nonce(scoped, params.nonce.as_deref())?;
-            let asked = with_extra(bound, params.extra_params.as_slice())?;
-            show_url(alloc, lines, asked)
+            let made = authorization_url(alloc, request, params)?;
+            show_url(alloc, lines, &made.0, &made.1)
         }
         Err(error) => show_configuration_error(alloc, lines, &error),
     }

@@ -36,6 +36,7 @@ pub fn client_of(part: ClientPart) -> ScriptClient
         device,
         introspection,
         revocation,
+        push: _,
     } = endpoints;
     let mut client = BasicClient::new(id)
         .set_auth_type(auth_type)

@@ -20,8 +20,8 @@ mod refresh;
 mod revoke;
 mod status;
 
-pub use answer::{show_answer, show_configuration_error, show_error_text, show_fault};
-pub use authorize::run_authorize;
+pub use answer::{show_answer, show_configuration_error, show_end, show_error_text, show_fault};
+pub use authorize::{authorization_url, print_url, run_authorize};
 pub use client::{ScriptClient, client_of};
 pub use client_credentials::run_client_credentials;
 pub use code::run_code;

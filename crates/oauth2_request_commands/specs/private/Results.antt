@@ -1,5 +1,5 @@
--- What the output shows of the result of a request.
-use Rattle.std.specs.Prelude.{ℕ, List, Result, Ok, Err, codes}
+-- What the code holds of the result of a request to a server without extensions.
+use Rattle.std.specs.Prelude.{ℕ, List, Result, codes}
 use Rattle.oauth2_codes.specs.Codes.{token_code}
 use Rattle.oauth2_codes.specs.ErrorCodes.{error_code, error_code_text, revocation_error_code, revocation_error_code_text}
 use Rattle.oauth2_codes.specs.ErrorResponse.{parts_of}
@@ -11,17 +11,9 @@ use Rattle.oauth2_replies.specs.Token.{Token, token_seen}
 use Rattle.oauth2_replies.specs.declared.token.EmptyExtraTokenFields.{EmptyExtraTokenFields}
 use Rattle.oauth2_wire.specs.declared.error.RequestTokenError.{RequestTokenError}
 use Rattle.oauth2_request_commands.specs.Exchange.{BasicToken, error_display}
-use Rattle.oauth2_request_commands.specs.Faults.{fault_output}
+use Rattle.oauth2_request_commands.specs.Faults.{end_output}
 use Rattle.oauth2_request_commands.specs.Out.{Output, success_output}
 use Rattle.oauth2_world.specs.declared.replay.NoReply.{NoReply}
-
-module _ {T : Type 0} (text : T → List ℕ) where
-  -- what is shown of the result of a request; `text` displays the error response of the server
-  abbrev pub end_output : {D : Type 0} → (D → Output) → Result D (RequestTokenError NoReply T) → Output
-  end_output shown (Ok answer) = shown answer
-  end_output shown (Err fault) = fault_output text fault
-
--- ---- the types of the code for a server without extensions
 
 -- an error response, as the code holds it (RFC 6749, 5.2)
 abbrev pub ErrorResponse : Type 0

@@ -9,7 +9,8 @@ use Rattle.oauth2_request_commands.specs.Exchange.{error_display}
 use Rattle.oauth2_commands.specs.Metadata.{get_lines, metadata_answer, metadata_output}
 use Rattle.oauth2_request_commands.specs.Out.{AddsOutput}
 use Rattle.oauth2_commands.specs.private.Discovery.{discovery_output, metadata_meaning}
-use Rattle.oauth2_request_commands.specs.private.Results.{end_output, error_seen}
+use Rattle.oauth2_request_commands.specs.Faults.{end_output}
+use Rattle.oauth2_request_commands.specs.private.Results.{error_seen}
 use Rattle.oauth2_commands.proofs.Discovery.{judged_shown, request_lines-get}
 use Rattle.oauth2_request_commands.proofs.Exchanges.{request_told}
 use Rattle.oauth2_commands.proofs.metadata.ask.Goals as goal

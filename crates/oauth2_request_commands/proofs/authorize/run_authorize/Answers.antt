@@ -1,36 +1,24 @@
-use Rattle.std.proofs.Common.{◌≡◌, codes}
-use Rattle.std.specs.Prelude.{option_copied}
+use Rattle.std.proofs.Common.{◌≡◌, codes, refl}
 use Rattle.std.proofs.lemmas.Result.{IfOk-weaker}
-use Rattle.oauth2_script.specs.Views.{authorize_view}
-use Rattle.oauth2_request_commands.proofs.Commands.{given_or-none, missing_told, command_told}
-use Rattle.oauth2_request_commands.proofs.Scopes.{all_added}
+use Rattle.url.specs.Parts.{serialize}
+use Rattle.oauth2_request_commands.specs.Authorize.{url_line}
+use Rattle.oauth2_request_commands.specs.Out.{Output, success_output, after}
+use Rattle.oauth2_world.specs.Lines.{quotation}
+use Rattle.oauth2_request_commands.proofs.Commands.{missing_told, command_told}
 use Rattle.oauth2_request_commands.proofs.authorize.run_authorize.Goals as goal
 
-pub returns-in_ok-asked-in-Ok : goal.returns-in_ok-asked-in-Ok
-returns-in_ok-asked-in-Ok c =
-    let p = authorize_view c.args.params in
-    let h = c.in_ok-scoped-in-Ok.ensures in
-    let all : h.1 ≡ p.scopes =
-    all_added c.args.params.scopes h.0 h.1 h.2.0 h.2.1 h.3 in
-    let nonce : option_copied c.as_deref.result ≡ p.nonce = c.as_deref.ensures.value in
+pub returns-in_ok-made-in-Ok : goal.returns-in_ok-made-in-Ok
+returns-in_ok-made-in-Ok c =
+    let made = c.in_ok-made-in-Ok.made in
+    let o : Output = after (url_line (serialize made.0)) (success_output (quotation made.1)) in
     IfOk-weaker c.show_url.result _ _
-    (λ status adds.
-    command_told (codes "authorization") _ _ _ c.args.client.now.auth_url _ _ status
-    c.in-Ok.ensures.there c.in-Ok.ensures.missing adds
-    (λ u start o shown.
-    rw (
-      c.in_ok-asked-in-Ok.ensures,
-      c.in_ok-bound-in-Ok.ensures,
-      nonce,
-      h.4,
-      all,
-      c.in_ok-typed-in-Ok.ensures,
-      c.with_redirect-redirected.ensures,
-      c.with_challenge-challenged.ensures,
-      start,
-      given_or-none p.challenge,
-      c.as_slice.ensures.value,
-    ) at shown))
+    (λ status told.
+    command_told (codes "authorization") (λ shown. shown ≡ o) _ _ c.args.client.now.auth_url _ _ status
+    c.in-Ok.ensures.there c.in-Ok.ensures.missing (o, refl, told.0, told.1)
+    (λ u start shown is.
+    let same = rw c.in_ok-state.ensures at start in
+    let facts = c.in_ok-made-in-Ok.ensures c.args.client.now u same in
+    (made.0, facts.0, rw facts.1 at is)))
     c.show_url.ensures
 
 pub returns-in-Err : goal.returns-in-Err
