@@ -1,0 +1,4 @@
+mod Requests
+mod Names
+mod ExchangeAnswers
+mod Pushes

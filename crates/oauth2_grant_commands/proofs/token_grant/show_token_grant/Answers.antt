@@ -1,0 +1,39 @@
+use Rattle.std.proofs.Common.{map, string_bytes}
+use Rattle.std.proofs.lemmas.Result.{IfOk-weaker}
+use Rattle.oauth2_codes.specs.ErrorCodes.{error_code, error_code_text}
+use Rattle.oauth2_codes.specs.ErrorResponse.{parts_of}
+use Rattle.oauth2_grants.specs.Extension.{extension_configuration}
+use Rattle.oauth2_request_commands.specs.Exchange.{error_display, token_answer, token_json}
+use Rattle.oauth2_request_commands.specs.private.Results.{token_meaning}
+use Rattle.oauth2_request_commands.proofs.Exchanges.{exchange_told}
+use Rattle.oauth2_request_commands.proofs.Results.{token_free, token_written-data, error_told}
+use Rattle.oauth2_wire.specs.ServerView.{pair_texts}
+use Rattle.oauth2_world.specs.Replay.{client_replies}
+use Rattle.oauth2_grant_commands.specs.TokenGrant.{IsTokenAsked}
+use Rattle.oauth2_grant_commands.proofs.Requests.{asked_told, refused_told}
+use Rattle.oauth2_grant_commands.proofs.token_grant.show_token_grant.Goals as goal
+
+pub show_end-requires : goal.show_end-requires
+show_end-requires c = token_free
+
+pub returns-in-Ok : goal.returns-in-Ok
+unfolding token_json
+returns-in-Ok c =
+    let r = c.in-Ok.asked in
+    IfOk-weaker c.show_end.result _ _
+    (λ status shows. λ fed.
+    asked_told (IsTokenAsked (client_replies c.args.http_client.now)) c.args.request _ _ _ status r c.in-Ok.ensures.ok
+    (exchange_told token_meaning (parts_of error_code) token_json (error_display error_code_text)
+    (token_answer r.base.reply_rule) (extension_configuration r) r.token_url
+    c.args.http_client.now c.request-end.new.http_client (string_bytes c.show_end.new.lines) status
+    c.request-end.result c.request-end.ensures.once fed
+    (shows _ token_written-data _ error_told)))
+    c.show_end.ensures
+
+pub returns-in-Err : goal.returns-in-Err
+returns-in-Err c =
+    IfOk-weaker c.show_grant_fault.result _ _
+    (λ status told. λ fed.
+    refused_told (IsTokenAsked (client_replies c.args.http_client.now)) c.args.request (map pair_texts c.args.extra.now) _ _ status
+    c.in-Err.fault c.in-Err.ensures.err told)
+    c.show_grant_fault.ensures
