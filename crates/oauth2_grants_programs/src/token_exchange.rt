@@ -38,12 +38,12 @@ impl Service {
 }
 
 /// A token for this API, on behalf of the user that `user_token` is of.
-fn exchanged(
+fn exchanged<'a>(
     alloc: Global,
     service: &Service,
     http_client: &mut CannedClient<'_>,
-    user_token: &str,
-    api: &str,
+    user_token: &'a str,
+    api: &'a str,
 ) -> anyhow::Result<TokenExchangeResponse> {
     let client = TokenClient::new(
         &AuthType::BasicAuth,
