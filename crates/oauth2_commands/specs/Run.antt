@@ -8,6 +8,7 @@ use Rattle.oauth2_world.specs.Adapted.{adapted_replies}
 use Rattle.oauth2_world.specs.Clock.{Clock, new_clock}
 use Rattle.oauth2_request_commands.specs.DeviceAuthorization.{IsDeviceAuthorizationOutput}
 use Rattle.oauth2_request_commands.specs.DevicePoll.{IsDevicePollOutput}
+use Rattle.oauth2_grant_commands.specs.Grant.{IsGrantOutput}
 use Rattle.oauth2_commands.specs.AccessToken.{IsAccessTokenOutput}
 use Rattle.oauth2_commands.specs.IdToken.{IsIdTokenOutput}
 use Rattle.oauth2_request_commands.specs.Introspect.{IsIntrospectOutput}
@@ -20,7 +21,9 @@ use Rattle.oauth2_request_commands.specs.Revoke.{IsRevokeOutput}
 use Rattle.oauth2_world.specs.Lines.{line}
 use Rattle.oauth2_request_commands.specs.Out.{Output}
 use Rattle.oauth2_script.specs.Command.{Command, code, refresh, password, client_credentials, introspect, revoke, device_authorization, device_poll, keeper, metadata, id_token, access_token, authorize, redirect}
+use Rattle.oauth2_script.specs.Client.{Client}
 use Rattle.oauth2_script.specs.Script.{Script, script_in}
+use Rattle.oauth2_script.specs.ScriptCommand.{ScriptCommand, plain, grant}
 use Rattle.oauth2_request_commands.specs.Client.{settings_of}
 use Rattle.oauth2_script.specs.Replies.{Reply}
 use Rattle.oauth2_request_commands.specs.declared.status.RunStatus.{RunStatus}
@@ -43,6 +46,11 @@ IsCommandOutput client clock replies (access_token p) o = IsAccessTokenOutput p 
 IsCommandOutput client clock replies (authorize p) o = IsAuthorizeOutput client p o
 IsCommandOutput client clock replies (redirect p) o = IsRedirectOutput p o
 
+-- the output of the command of a script, of either kind
+abbrev pub IsRunOutput : Client → Clock → List Reply → ScriptCommand → Output → Type 0
+IsRunOutput client clock replies (plain command) o = IsCommandOutput (settings_of client) clock replies command o
+IsRunOutput client clock replies (grant command) o = IsGrantOutput client replies command o
+
 -- the output for an input that is not a script
 abbrev pub bad_script : Output
 bad_script = record { lines = line (codes "bad script"); status = status.BadScript }
@@ -51,7 +59,7 @@ bad_script = record { lines = line (codes "bad script"); status = status.BadScri
 abbrev pub IsScriptOutput : Option Script → Output → Type 0
 IsScriptOutput None o = o ≡ bad_script
 IsScriptOutput (Some s) o =
-    IsCommandOutput (settings_of s.client) (new_clock s.readings) (adapted_replies s.client.adapters s.replies) s.command o
+    IsRunOutput s.client (new_clock s.readings) (adapted_replies s.client.adapters s.replies) s.command o
 
 -- `written` is the lines of an output that `IsOutput` allows, and `s` is its status
 abbrev pub Shows : List ℕ → RunStatus → (Output → Type 0) → Type 0

@@ -2,26 +2,39 @@
 
 ghost use Rattle.std.specs.Prelude.{◌≡◌, List, ℕ, Some, false, map, string_bytes, IfOk, IfSome};
 ghost use Rattle.std.specs.Io.KnownBytes.{Appends};
-ghost use Rattle.oauth2_request_commands.specs.Out.{Adds};
 ghost use Rattle.oauth2_request_commands.specs.Client.{settings_of};
+ghost use Rattle.oauth2_request_commands.specs.Out.{Adds};
 ghost use Rattle.oauth2_commands.specs.Input.{Calls};
-ghost use Rattle.oauth2_commands.specs.Run.{IsCommandOutput, IsScriptOutput, IsOutputOf, Shows};
-ghost use Rattle.oauth2_script.specs.Views.{client_view, command_view, script_view, stored_reply};
+ghost use Rattle.oauth2_commands.specs.Run.{
+  IsCommandOutput,
+  IsOutputOf,
+  IsRunOutput,
+  IsScriptOutput,
+  Shows,
+};
+ghost use Rattle.oauth2_script.specs.Views.{
+  client_view,
+  command_view,
+  script_command_view,
+  script_view,
+  stored_reply,
+};
 ghost use Rattle.oauth2_world.specs.Adapted.{adapted_replies};
 ghost use Rattle.oauth2_world.specs.Replay.{client_replies};
 
 use crate::command::run_command;
 use crate::input::{ScriptReader, read_input};
 use crate::status::RunFault;
+use oauth2_grant_commands::run_grant;
 use oauth2_request_commands::{RunStatus, client_of};
-use oauth2_script::{ClientPart, Command, Reply, Script, ScriptError, script_in};
+use oauth2_script::{ClientPart, Command, Reply, Script, ScriptCommand, ScriptError, script_in};
 use oauth2_world::{ScriptedClient, ScriptedClock, ScriptedWorld, adapt_replies};
 use std::alloc::{AllocError, Global};
 use std::collections::VecDeque;
 use std::io::Write;
 
 // Makes the client of the script, runs the command with it, and drops the client.
-fn run_by(
+fn run_plain(
     alloc: Global,
     client: ClientPart,
     command: Command,
@@ -34,6 +47,25 @@ fn run_by(
         (client_replies world.old.http_client) (command_view command))) }
 {
     run_command(alloc, &client_of(client), command, world)
+}
+
+// Runs the command, of either kind, with the client of the script, and drops the client.
+fn run_by(
+    alloc: Global,
+    client: ClientPart,
+    command: ScriptCommand,
+    world: &mut ScriptedWorld,
+) -> Result<RunStatus, AllocError>
+    ensures { IfOk result (λ status. world.new.http_client.is_starved ≡ false
+        → Adds (string_bytes world.old.http_client.lines)
+        (string_bytes world.new.http_client.lines) status
+        (IsRunOutput (client_view client) world.old.clock
+        (client_replies world.old.http_client) (script_command_view command))) }
+{
+    match command {
+        ScriptCommand::Plain(command) => run_plain(alloc, client, command, world),
+        ScriptCommand::Grant(command) => run_grant(alloc, &client, command, &mut world.http_client),
+    }
 }
 
 // The replies as the adapters of this client change them.

@@ -1,7 +1,7 @@
 use Rattle.std.proofs.Common.{◌≡◌}
 use Rattle.oauth2_request_commands.specs.Client.{settings_of}
 use Rattle.oauth2_script.specs.Views.{client_view}
-use Rattle.oauth2_commands.proofs.run.run_by.Goals as goal
+use Rattle.oauth2_commands.proofs.run.run_plain.Goals as goal
 
 pub returns : goal.returns
 returns c =
