@@ -68,20 +68,22 @@ class Faults(unittest.TestCase):
 class Page(unittest.TestCase):
     def defined(self, name):
         """The members that a file of definitions reads, and those of them that it needs: of a command's parameters by its last definition,
-        since those before it are of parts."""
+        and by those that this one reads the same object by."""
         text = sources.read(os.path.join(SPECS, name + '.antt'))
         if name.endswith('Params'):
+            parts = [it for it in re.findall(r'use Rattle\.oauth2_script\.specs\.(\w+)\.', text) if it == 'Sent' or it.endswith('Params')]
+            parts = ''.join(sources.read(os.path.join(SPECS, it + '.antt')) for it in parts) + text[:text.rindex('\nunfoldable pub ')]
             text = text[text.rindex('\nunfoldable pub '):]
-            text += self.sent_last(text, sources.read(os.path.join(SPECS, 'Sent.antt')))
+            text += self.parts_of(text, parts)
         return [re.findall(r'(?:%s)[ (\w]* \(codes "(\w+)"\) d\b' % kinds, text) for kinds in ('needed_part', 'needed_part|present_part|list_part|get')]
 
-    def sent_last(self, text, parts):
-        """The definitions that a text names of those of what a request sends last, and those that they name."""
+    def parts_of(self, text, parts):
+        """The definitions of these parts by which a text reads an object, and those by which they do."""
         found = ''
         for part in re.findall(r'\nunfoldable pub .*?(?=\n\n|\Z)', parts, re.S):
             name = part.split()[2]
-            if re.search(r'\b%s\b' % name, text):
-                found += part + self.sent_last(part, parts.replace(part, ''))
+            if re.search(r"\b%s d\b" % name, text):
+                found += part + self.parts_of(part, parts.replace(part, ''))
         return found
 
     def test_names_are_those_of_the_definitions(self):
@@ -91,7 +93,8 @@ class Page(unittest.TestCase):
         for name, names in files.items():
             with self.subTest(name):
                 self.assertEqual([sorted(it) for it in names], [sorted(it) for it in self.defined(name)])
-        self.assertEqual([*commands], re.findall(r'name \(codes "(\w+)"\)', sources.read(os.path.join(SPECS, 'Command.antt'))))
+        named = [sources.read(os.path.join(SPECS, it + '.antt')) for it in ('Command', 'ScriptCommand')]
+        self.assertEqual([*commands], re.findall(r'name \(codes "(\w+)"\)', ''.join(named)))
 
     def test_the_example_is_the_stored_run(self):
         script, printed = re.search(r'```json\n(.*?)```\n.*?\n((?:    [^\n]*\n)+)', PAGE, re.S).groups()
