@@ -1,0 +1,5 @@
+pub mod Call
+pub mod Renewal
+pub mod Laws
+pub mod Fleets
+pub mod private

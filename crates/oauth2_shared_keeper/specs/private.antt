@@ -1,0 +1,2 @@
+-- Definitions cited only by private functions.
+pub mod Part
