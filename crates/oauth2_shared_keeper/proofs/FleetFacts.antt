@@ -1,7 +1,7 @@
 -- The calls of renewals are turns of the machines of a fleet.
-use Rattle.std.proofs.Common.{◌≡◌, ℕ, ◌+◌, ◌≤◌, Bool, true, false, nat_lt, ◌==◌, if◌then◌else◌, List, [], ◌∷◌, ◌++◌, Option, Some, refl, ap, sym, ◌∙◌, subst, arith, append_assoc, add_assoc, zero-add, inl, inr}
+use Rattle.std.proofs.Common.{◌≡◌, ℕ, ◌+◌, ◌≤◌, Bool, true, false, nat_lt, ◌==◌, if◌then◌else◌, List, [], ◌∷◌, ◌++◌, Option, Some, refl, ap, sym, ◌∙◌, subst, arith, append_assoc, add_assoc, zero-add, ◌⊎◌, inl, inr}
 use Rattle.std.proofs.lemmas.Bool.Decides.{eqb_tells}
-use Rattle.std.proofs.lemmas.List.Elements.{Contains-append_left, Contains-append_cases, Contains-push}
+use Rattle.std.proofs.lemmas.List.Elements.{Contains-append_left, Contains-append_right, Contains-append_cases, Contains-push}
 use Rattle.std.specs.List.{Contains}
 use Rattle.std.specs.Prelude.{bytes_eq}
 use Rattle.std.proofs.lemmas.Slice.Eq.{bytes_eq-Decides}
@@ -18,15 +18,16 @@ use Rattle.oauth2_shared_token.specs.declared.renewal.Told.TheVariants as told
 use Rattle.oauth2_shared_token.specs.declared.renewal.Turn.{Turn}
 use Rattle.oauth2_shared_token.specs.State.{Token}
 use Rattle.oauth2_shared_token.specs.Event.{SharedEvent, Asked, Marked, Sent, Given, Kept, Withdrew, GivenBack, SignedIn, Allowed, LoggedIn, LoggedOut}
-use Rattle.oauth2_shared_token.specs.Run.{has_refresh, times_sent}
+use Rattle.oauth2_shared_token.specs.Run.{has_refresh, times_sent, times_stored}
 use Rattle.oauth2_shared_token.specs.Renewal.{turn_of, looked_at, seen_in, sent_if, returned_if, next_turn, events_of}
 use Rattle.oauth2_shared_token.specs.Fleet.{ToMark, ToKeep, ToReturn, Fleet, phase_of, Happening, Turned, Took, SignsIn, Allows, LogsIn, LogsOut, later, events_in, fleet_of, all_events}
 use Rattle.oauth2_shared_token.proofs.Places.{put-same, put-other, none_in_nothing}
 use Rattle.oauth2_shared_token.proofs.Fleets.{each_fleet_sends_once}
-use Rattle.oauth2_shared_keeper.specs.Call.{ToRefresh, Call, Refresh, request_of, told_by}
+use Rattle.oauth2_shared_keeper.specs.Call.{ToRefresh, Call, Load, Replace, Refresh, request_of, told_by, refreshes_in}
 use Rattle.oauth2_shared_keeper.specs.Renewal.{AsksInTurn, asked_again, asked_by, first_turn}
-use Rattle.oauth2_shared_keeper.specs.Fleets.{Event, Made, Other, calls_of, IsNoTurn, TurnsAreCalls, content_as, told_as, happenings_of, EachRefreshIsOfTheFleet, EachRefreshTokenIsOfOneRenewal}
-use Rattle.oauth2_shared_keeper.proofs.History.{the_only}
+use Rattle.oauth2_shared_keeper.specs.Fleets.{Event, Made, Other, calls_of, IsNoTurn, TurnsAreCalls, content_as, told_as, happenings_of, IsFleet, times_refreshed, EachRefreshIsOfTheFleet, EachRefreshTokenIsSentOnce}
+use Rattle.oauth2_shared_keeper.proofs.History.{the_only, none_given, sends_few, state_after}
+use Rattle.oauth2_shared_keeper.proofs.Runs.{refreshes_in-append}
 
 module _ {T U : Type 0} (view : T → U) where
   -- the same turn, with each token seen otherwise
@@ -280,9 +281,134 @@ module _ (r : List ℕ) (same : bytes_eq r r ≡ true) where
         ]
       ]
 
-pub each_refresh_token_is_of_one_renewal : (T : Type 0) → EachRefreshTokenIsOfOneRenewal T
-each_refresh_token_is_of_one_renewal T view start events r i j token other given gotten fleet once has gets is its =
+-- two calls that send it are of one renewal
+of_one_renewal : {T : Type 0} (view : T → Token) (start : Token) (events : List (Event T)) (r : List ℕ) (i j : ℕ) (token other : T) (given gotten : Option T)
+    → IsFleet view start events
+    → has_refresh r start + times_stored r (all_events (fleet_of start) (happenings_of view events)) ≤ 1
+    → Contains events (Made i (Refresh token given)) → Contains events (Made j (Refresh other gotten))
+    → (view token).refresh ≡ r → (view other).refresh ≡ r → i ≡ j
+of_one_renewal {T} view start events r i j token other given gotten fleet once has gets is its =
     let all : List SharedEvent = all_events (fleet_of start) (happenings_of view events) in
     let a = each_refresh_is_of_the_fleet T view start events i token given fleet has in
     let b = each_refresh_is_of_the_fleet T view start events j other gotten fleet gets in
     of_one r ((bytes_eq-Decides r r).1 refl) all i j a.0 b.0 (view token) (view other) (each_fleet_sends_once start (happenings_of view events) r fleet.run once) is its a.1 b.1
+
+at_most_one : (b : Bool) → (if b then 1 else 0) ≤ 1
+at_most_one true = omega arith
+at_most_one false = omega arith
+
+-- the calls of one renewal, and those of all
+module _ {T : Type 0} where
+  own_calls : (events : List (Event T)) (i : ℕ) (call : Call T) → Contains events (Made i call) → Contains (calls_of i events) call
+  own_calls [] i call has = absurd (none_in_nothing (Made i call) has)
+  own_calls (Other h ∷ events) i call has =
+      elim (Contains-append_cases (Other h ∷ []) events (Made i call) has) [
+        | inl here ↦ absurd (let e : Other h ≡ Made i call = the_only (Other h) (Made i call) here in cc)
+        | inr there ↦ own_calls events i call there
+      ]
+  own_calls (Made j made ∷ events) i call has =
+      elim (eqb_tells i j) [
+        | inl mine ↦
+            subst (λ (l : List (Call T)). Contains l call) (sym (ap (λ (b : Bool). if b then made ∷ calls_of i events else calls_of i events) mine.0))
+            (elim (Contains-append_cases (Made j made ∷ []) events (Made i call) has) [
+              | inl here ↦ (
+                  let e : Made j made ≡ Made i call = the_only (Made j made) (Made i call) here in
+                  let is : made ≡ call = cc in
+                  subst (λ (c : Call T). Contains (c ∷ calls_of i events) call) (sym is) (Contains-append_left (call ∷ []) (calls_of i events) call (Contains-push [] call)))
+              | inr there ↦ Contains-append_right (made ∷ []) (calls_of i events) call (own_calls events i call there)
+            ])
+        | inr theirs ↦
+            subst (λ (l : List (Call T)). Contains l call) (sym (ap (λ (b : Bool). if b then made ∷ calls_of i events else calls_of i events) theirs.0))
+            (elim (Contains-append_cases (Made j made ∷ []) events (Made i call) has) [
+              | inl here ↦ absurd (
+                  let e : Made j made ≡ Made i call = the_only (Made j made) (Made i call) here in
+                  let is : i ≡ j = cc in
+                  theirs.1 is)
+              | inr there ↦ own_calls events i call there
+            ])
+      ]
+
+  fewer : (events : List (Event T)) (i j : ℕ) (made : Call T) → refreshes_in (calls_of i (Made j made ∷ events)) ≤ 1 → refreshes_in (calls_of i events) ≤ 1
+  fewer events i j made few =
+      elim (eqb_tells i j) [
+        | inl mine ↦ (
+            let all = subst (λ (l : List (Call T)). refreshes_in l ≤ 1) (ap (λ (b : Bool). if b then made ∷ calls_of i events else calls_of i events) mine.0) few in
+            let sum = refreshes_in-append (made ∷ []) (calls_of i events) in
+            omega arith)
+        | inr theirs ↦ subst (λ (l : List (Call T)). refreshes_in l ≤ 1) (ap (λ (b : Bool). if b then made ∷ calls_of i events else calls_of i events) theirs.0) few
+      ]
+
+  module _ (view : T → Token) (r : List ℕ) where
+    -- no call sends it
+    abbrev NoneSends : List (Event T) → Type 0
+    NoneSends events = (j : ℕ) (u : T) (given : Option T) → Contains events (Made j (Refresh u given)) → (view u).refresh ≡ r → ⊥
+
+    -- it is this one, or another
+    tells : (token : T) → ((view token).refresh ≡ r) ⊎ (has_refresh r (view token) ≡ 0)
+    tells token = go (bytes_eq r (view token).refresh) refl where
+      go : (b : Bool) → bytes_eq r (view token).refresh ≡ b → ((view token).refresh ≡ r) ⊎ (has_refresh r (view token) ≡ 0)
+      go true is = inl (sym ((bytes_eq-Decides r (view token).refresh).0 is))
+      go false is = inr (ap (λ (b : Bool). if b then 1 else 0) is)
+
+    none_sent : (events : List (Event T)) → NoneSends events → times_refreshed view r events ≡ 0
+    none_sent [] none = refl
+    none_sent (Other h ∷ events) none = none_sent events (λ j u given has is. none j u given (Contains-append_right (Other h ∷ []) events _ has) is)
+    none_sent (Made i (Load shown) ∷ events) none =
+        let later_none : times_refreshed view r events ≡ 0 = none_sent events (λ j u given has is. none j u given (Contains-append_right (Made i (Load shown) ∷ []) events _ has) is) in
+        omega arith
+    none_sent (Made i (Replace v c done) ∷ events) none =
+        let later_none : times_refreshed view r events ≡ 0 = none_sent events (λ j u given has is. none j u given (Contains-append_right (Made i (Replace v c done) ∷ []) events _ has) is) in
+        omega arith
+    none_sent (Made i (Refresh token gotten) ∷ events) none =
+        let later_none : times_refreshed view r events ≡ 0 = none_sent events (λ j u given has is. none j u given (Contains-append_right (Made i (Refresh token gotten) ∷ []) events _ has) is) in
+        elim (tells token) [
+          | inl same ↦ absurd (none i token gotten (Contains-append_left (Made i (Refresh token gotten) ∷ []) events _ (Contains-push [] (Made i (Refresh token gotten)))) same)
+          | inr other ↦ omega arith
+        ]
+
+    -- all that send it are of one renewal
+    abbrev OneSends : List (Event T) → Type 0
+    OneSends events =
+        (i j : ℕ) (t u : T) (given gotten : Option T) → Contains events (Made i (Refresh t given)) → Contains events (Made j (Refresh u gotten))
+        → (view t).refresh ≡ r → (view u).refresh ≡ r → i ≡ j
+
+    one_later : (e : Event T) (events : List (Event T)) → OneSends (e ∷ events) → OneSends events
+    one_later e events one i j t u given gotten has gets is its =
+        one i j t u given gotten (Contains-append_right (e ∷ []) events _ has) (Contains-append_right (e ∷ []) events _ gets) is its
+
+    few_sent : (events : List (Event T)) → OneSends events → ((i : ℕ) → refreshes_in (calls_of i events) ≤ 1) → times_refreshed view r events ≤ 1
+    few_sent [] one each = omega arith
+    few_sent (Other h ∷ events) one each = few_sent events (one_later (Other h) events one) each
+    few_sent (Made i (Load shown) ∷ events) one each =
+        let later_few : times_refreshed view r events ≤ 1 = few_sent events (one_later (Made i (Load shown)) events one) (λ k. fewer events k i (Load shown) (each k)) in
+        omega arith
+    few_sent (Made i (Replace v c done) ∷ events) one each =
+        let later_few : times_refreshed view r events ≤ 1 = few_sent events (one_later (Made i (Replace v c done)) events one) (λ k. fewer events k i (Replace v c done) (each k)) in
+        omega arith
+    few_sent (Made i (Refresh token gotten) ∷ events) one each =
+        let call : Call T = Refresh token gotten in
+        elim (tells token) [
+          | inl same ↦ (
+              let mine : (i == i) ≡ true = elim (eqb_tells i i) [ inl equals ↦ equals.0 | inr differs ↦ absurd (differs.1 refl) ] in
+              let all : refreshes_in (call ∷ calls_of i events) ≤ 1 =
+              subst (λ (l : List (Call T)). refreshes_in l ≤ 1) (ap (λ (b : Bool). if b then call ∷ calls_of i events else calls_of i events) mine) (each i) in
+              let none : refreshes_in (calls_of i events) ≡ 0 = omega arith in
+              let head : Contains (Made i call ∷ events) (Made i call) = Contains-append_left (Made i call ∷ []) events (Made i call) (Contains-push [] (Made i call)) in
+              let later_none : NoneSends events =
+              (λ j u given has is.
+              let same_renewal : j ≡ i = one j i u token given gotten (Contains-append_right (Made i call ∷ []) events (Made j (Refresh u given)) has) head is same in
+              none_given (calls_of i events) u given none
+              (own_calls events i (Refresh u given) (subst (λ (k : ℕ). Contains events (Made k (Refresh u given))) same_renewal has))) in
+              let later_is : times_refreshed view r events ≡ 0 = none_sent events later_none in
+              let once : has_refresh r (view token) ≤ 1 = at_most_one (bytes_eq r (view token).refresh) in
+              omega arith)
+          | inr other ↦ (
+              let later_few : times_refreshed view r events ≤ 1 = few_sent events (one_later (Made i call) events one) (λ k. fewer events k i call (each k)) in
+              omega arith)
+        ]
+
+pub each_refresh_token_is_sent_once : (T : Type 0) → EachRefreshTokenIsSentOnce T
+each_refresh_token_is_sent_once T view start events r fleet once =
+    few_sent view r events
+    (λ i j t u given gotten has gets is its. of_one_renewal view start events r i j t u given gotten fleet once has gets is its)
+    (λ i. let asks = fleet.renewals i in sends_few i (calls_of i events) asks.0 (state_after i (calls_of i events) asks.0 asks.1))

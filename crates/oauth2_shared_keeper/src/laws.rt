@@ -1,7 +1,7 @@
 //! Laws of one renewal.
 
 ghost use Rattle.oauth2_shared_keeper.specs.Fleets.{EachRefreshIsOfTheFleet};
-ghost use Rattle.oauth2_shared_keeper.specs.Fleets.{EachRefreshTokenIsOfOneRenewal};
+ghost use Rattle.oauth2_shared_keeper.specs.Fleets.{EachRefreshTokenIsSentOnce};
 ghost use Rattle.oauth2_shared_keeper.specs.Laws.{EachGivenIsHandedOver, EachRenewalSendsOnce};
 ghost use Rattle.oauth2_shared_keeper.specs.Laws.{EachSendingIsMarked};
 
@@ -26,7 +26,7 @@ pub fn each_refresh_is_of_the_fleet<T>()
     ensures { EachRefreshIsOfTheFleet T }
 {}
 
-/// So of a refresh token that came to be stored once all sendings are of one renewal.
-pub fn each_refresh_token_is_of_one_renewal<T>()
-    ensures { EachRefreshTokenIsOfOneRenewal T }
+/// So the calls of all renewals send a refresh token that came to be stored once at most once.
+pub fn each_refresh_token_is_sent_once<T>()
+    ensures { EachRefreshTokenIsSentOnce T }
 {}

@@ -15,7 +15,7 @@ mod store;
 
 pub use client::RefreshClient;
 pub use laws::{
-    each_given_is_handed_over, each_refresh_is_of_the_fleet, each_refresh_token_is_of_one_renewal,
+    each_given_is_handed_over, each_refresh_is_of_the_fleet, each_refresh_token_is_sent_once,
     each_renewal_sends_once, each_sending_is_marked,
 };
 pub use limits::Limits;
