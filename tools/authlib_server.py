@@ -98,9 +98,15 @@ class Exchange(rfc6749.BaseGrant, rfc6749.TokenEndpointMixin):
         if ('actor_token' in form) != ('actor_token_type' in form) or form.get('actor_token_type', TOKEN_TYPE + 'jwt') != TOKEN_TYPE + 'jwt':
             raise rfc6749.errors.InvalidRequestError()
         if 'actor_token' in form:
-            ByJwt(self.request, self.server).process_assertion_claims(form['actor_token'])
+            self.check_actor(form['actor_token'])
         if form.get('audience', AUDIENCE) != AUDIENCE:
             raise InvalidTarget()
+
+    def check_actor(self, token):
+        try:
+            ByJwt(self.request, self.server).process_assertion_claims(token)
+        except rfc6749.errors.InvalidGrantError:
+            raise rfc6749.errors.InvalidRequestError()  # by 2.2.2
 
     def create_token_response(self):
         issued = self.request.form.get('requested_token_type', TOKEN_TYPE + 'access_token')

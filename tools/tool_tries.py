@@ -355,7 +355,7 @@ def exchanges(tries):
     """The exchange of a token that the server has given, for the client that has a JWT, and with the token of an actor."""
     folder, url, now = tries.server.folder, tries.server.base + tries.server.urls['token_url'], int(time.time())
     path, numbers = os.path.join(folder, 'client.jwt'), iter(range(100, 200))
-    actor = signed(folder, 'grant', iss='issuer', sub='ann', aud=url, exp=now + 600)
+    actor, other = (signed(folder, key, iss='issuer', sub='ann', aud=url, exp=now + 600) for key in ('grant', 'client'))
 
     def run(tried, wanted, *flags, **env):
         with open(path, 'w', encoding='utf-8') as f:
@@ -368,7 +368,7 @@ def exchanges(tries):
     run('for an unknown audience', '!invalid_target', '--audience', 'https://x.example/')
     run('another token', '!invalid_request', OAUTH2_SUBJECT_TOKEN='x')
     run('a token of another type', '!invalid_request', '--subject-token-type', 'saml2')
-    run('the token of an actor that another key signed', '!invalid_grant', *acts, OAUTH2_ACTOR_TOKEN=actor + 'x')
+    run('the token of an actor that another key signed', '!invalid_request', *acts, OAUTH2_ACTOR_TOKEN=other)
 
 
 # Endpoints that answer what they should not. Each has the path under which it is, the status and headers of its reply, its body, and what
