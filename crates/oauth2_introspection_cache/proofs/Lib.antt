@@ -1,0 +1,5 @@
+pub mod Asking
+pub mod Calls
+pub mod Kept
+pub mod LastUse
+pub mod RunLaws

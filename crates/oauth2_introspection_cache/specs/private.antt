@@ -1,0 +1,2 @@
+-- Definitions for contracts of functions that are not exported.
+pub mod Settled
