@@ -1,4 +1,4 @@
-"""Tests of tools/definitions: which definitions a text names that its functions do not rest on."""
+"""Tests of tools/definitions: which definitions a text names that its functions do not rest on, and the parts of a page."""
 import os
 import sys
 import unittest
@@ -24,6 +24,14 @@ class Strays(unittest.TestCase):
 
     def test_a_file_of_that_name(self):
         self.assertEqual(self.strays('In `answer.rt` and `crates/answer/specs/answer.antt`.'), [])
+
+
+class Parts(unittest.TestCase):
+    def test_what_is_ahead_is_counted_in_each_part(self):
+        empty = '<!-- overview -->\n<!-- end -->\n'
+        parts = [[('A', (9, 30), (9, 30)), ('B', (12, 40), (3, 10))], [('C', (10, 35), (1, 5))]]
+        rows = [line for line in definitions.with_overviews(empty * 2, parts).split('\n') if 'lines' in line]
+        self.assertEqual(rows, ['| A | 9, 30 lines | 9, 30 | 3, 10 |', '| B | 12, 40 lines | 3, 10 | 0, 0 |', '| C | 10, 35 lines | 1, 5 | 0, 0 |'])
 
 
 if __name__ == '__main__':
