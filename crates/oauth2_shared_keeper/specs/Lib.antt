@@ -2,4 +2,6 @@ pub mod Call
 pub mod Renewal
 pub mod Laws
 pub mod Fleets
+pub mod Keeper
+pub mod KeeperLaws
 pub mod private

@@ -1,2 +1,3 @@
 -- Definitions cited only by private functions.
 pub mod Part
+pub mod Turns

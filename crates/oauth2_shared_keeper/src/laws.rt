@@ -1,7 +1,9 @@
-//! Laws of one renewal.
+//! Laws of one renewal, and of a keeper.
 
 ghost use Rattle.oauth2_shared_keeper.specs.Fleets.{EachRefreshIsOfTheFleet};
 ghost use Rattle.oauth2_shared_keeper.specs.Fleets.{EachRefreshTokenIsSentOnce};
+ghost use Rattle.oauth2_shared_keeper.specs.KeeperLaws.{EachCallSendsOnce, EachCallSleepsLittle};
+ghost use Rattle.oauth2_shared_keeper.specs.KeeperLaws.{EachGoodIsGood, NoGivenIsLost};
 ghost use Rattle.oauth2_shared_keeper.specs.Laws.{EachGivenIsHandedOver, EachRenewalSendsOnce};
 ghost use Rattle.oauth2_shared_keeper.specs.Laws.{EachSendingIsMarked};
 
@@ -29,4 +31,26 @@ pub fn each_refresh_is_of_the_fleet<T>()
 /// So the calls of all renewals send a refresh token that came to be stored once at most once.
 pub fn each_refresh_token_is_sent_once<T>()
     ensures { EachRefreshTokenIsSentOnce T }
+{}
+
+/// A call of a keeper sends one refresh token at most, and that once. It begins at most one renewal
+/// in each round.
+pub fn each_call_sends_once<T, E>()
+    ensures { EachCallSendsOnce T E }
+{}
+
+/// A token that a keeper hands out as good was at rest and good when the clock was read, or the
+/// server gave it in that round and the store keeps it.
+pub fn each_good_is_good<T, E>()
+    ensures { EachGoodIsGood T E }
+{}
+
+/// The sleeps of a call are together at most `wait` for each round but one.
+pub fn each_call_sleeps_little<T, E>()
+    ensures { EachCallSleepsLittle T E }
+{}
+
+/// A token that the server gave in any round is handed to the caller.
+pub fn no_given_is_lost<T, E>()
+    ensures { NoGivenIsLost T E }
 {}

@@ -1,26 +1,38 @@
-//! One renewal of a token that many processes share: the machine of `oauth2_shared_token`, over a
-//! store and a client of the caller (RFC 6749, 6; RFC 9700, 4.14.2).
+//! A keeper of a token that many processes share, and one renewal of it: the machine of
+//! `oauth2_shared_token`, over a store and a client of the caller (RFC 6749, 6; RFC 9700, 4.14.2).
 
 #![tactic(auto)]
 
 mod calls;
 mod client;
+mod held;
 mod laws;
 mod limits;
 mod marking;
+mod outcome;
 mod renewal;
 mod renewed;
 mod replaced;
+mod settings;
+mod shared_keeper;
+mod shared_token;
 mod store;
+mod world;
 
 pub use client::RefreshClient;
+pub use held::Held;
 pub use laws::{
-    each_given_is_handed_over, each_refresh_is_of_the_fleet, each_refresh_token_is_sent_once,
-    each_renewal_sends_once, each_sending_is_marked,
+    each_call_sends_once, each_call_sleeps_little, each_given_is_handed_over, each_good_is_good,
+    each_refresh_is_of_the_fleet, each_refresh_token_is_sent_once, each_renewal_sends_once,
+    each_sending_is_marked, no_given_is_lost,
 };
 pub use limits::Limits;
 pub use oauth2_shared_token::{Content, StoredValue};
 pub use renewal::renew;
 pub use renewed::Renewed;
 pub use replaced::Replaced;
+pub use settings::KeeperSettings;
+pub use shared_keeper::SharedKeeper;
+pub use shared_token::SharedToken;
 pub use store::TokenStore;
+pub use world::KeeperWorld;

@@ -1,0 +1,77 @@
+-- The laws of a keeper.
+use Rattle.std.specs.Prelude.{◌≡◌, ℕ, ◌+◌, ◌-◌, ◌*◌, ◌≤◌, ℤ, Bool, IsTrue, List, [], ◌∷◌, ◌++◌, Option, Some, None}
+use Rattle.std.specs.Duration.{as_nanos}
+use Rattle.std.specs.List.{Contains}
+use Rattle.oauth2_shared_token.specs.declared.renewal.Content.TheVariants.{AtRest}
+use Rattle.oauth2_shared_keeper.specs.declared.held.Held.{Held}
+use Rattle.oauth2_shared_keeper.specs.declared.held.Held.TheVariants as held
+use Rattle.oauth2_shared_keeper.specs.declared.renewed.Renewed.TheVariants.{Kept}
+use Rattle.oauth2_shared_keeper.specs.declared.settings.KeeperSettings.{KeeperSettings}
+use Rattle.oauth2_shared_keeper.specs.Call.{Refresh, refreshes_in}
+use Rattle.oauth2_shared_keeper.specs.Keeper.{Round, Blind, Seen, Renewing, IsHeld, calls_in, Event, Reading, Slept, Drawn, events_in}
+
+-- how many of these rounds have a renewal
+abbrev pub renewals_in : {T E : Type 0} → List (Round T E) → ℕ
+renewals_in [] = 0
+renewals_in (Blind ∷ rounds) = renewals_in rounds
+renewals_in (Seen p now ∷ rounds) = renewals_in rounds
+renewals_in (Renewing p now name calls end ∷ rounds) = 1 + renewals_in rounds
+
+-- the sum of the sleeps among these calls, in nanoseconds
+abbrev pub slept_in : List Event → ℕ
+slept_in [] = 0
+slept_in (Reading now ∷ events) = slept_in events
+slept_in (Slept wait ∷ events) = as_nanos wait + slept_in events
+slept_in (Drawn name ∷ events) = slept_in events
+
+-- the token that a caller is handed as a good or a new one
+abbrev pub token_in : {T E : Type 0} → Held T E → Option T
+token_in (held.Good token) = Some token
+token_in (held.Old renewal version token) = None
+token_in held.LoggedOut = None
+token_in (held.Unkept renewal version new) = Some new
+token_in (held.Unanswered renewal version token error) = None
+token_in (held.Unclear renewal version token) = None
+token_in (held.NoNextVersion token) = None
+token_in (held.Unfinished renewal version token) = None
+token_in (held.InUse renewal token) = None
+token_in held.Lost = None
+token_in held.Unread = None
+
+module _ {T E : Type 0} (is_good : T → ℤ → ℕ → Bool) (settings : KeeperSettings) where
+  -- a load showed this token at rest, and it was good when the clock was read; or the server gave it in the
+  -- renewal of this round, and the store said that it keeps it
+  abbrev pub HandsOut : Round T E → T → Type 0
+  HandsOut Blind token = ⊥
+  HandsOut (Seen p now) token = (p.content ≡ AtRest token) × IsTrue (is_good token now.nanosecond (as_nanos settings.margin))
+  HandsOut (Renewing p now name calls end) token = end ≡ Kept token
+
+module _ (T E : Type 0) where
+  -- a call sends one refresh token at most, and begins at most one renewal a round
+  abbrev pub EachCallSendsOnce : Type 0
+  EachCallSendsOnce =
+      (is_good : T → ℤ → ℕ → Bool) (settings : KeeperSettings) (rounds : List (Round T E)) (result : Held T E) →
+      IsHeld is_good settings rounds result →
+      (refreshes_in (calls_in rounds) ≤ 1) × (renewals_in rounds ≤ settings.rounds)
+
+  -- a token that is handed out as good was good, or was just given and is kept
+  abbrev pub EachGoodIsGood : Type 0
+  EachGoodIsGood =
+      (is_good : T → ℤ → ℕ → Bool) (settings : KeeperSettings) (rounds : List (Round T E)) (token : T) →
+      IsHeld is_good settings rounds (held.Good token) →
+      (before : List (Round T E)) × (last : Round T E) × (rounds ≡ before ++ last ∷ []) × HandsOut is_good settings last token
+
+  -- a call sleeps once less than it may look, at most
+  abbrev pub EachCallSleepsLittle : Type 0
+  EachCallSleepsLittle =
+      (is_good : T → ℤ → ℕ → Bool) (settings : KeeperSettings) (rounds : List (Round T E)) (result : Held T E) →
+      IsHeld is_good settings rounds result →
+      slept_in (events_in settings.wait rounds) ≤ (settings.rounds - 1) * as_nanos settings.wait
+
+  -- a token that the server gave in any round is handed to the caller
+  abbrev pub NoGivenIsLost : Type 0
+  NoGivenIsLost =
+      (is_good : T → ℤ → ℕ → Bool) (settings : KeeperSettings) (rounds : List (Round T E)) (token new : T) (result : Held T E) →
+      IsHeld is_good settings rounds result →
+      Contains (calls_in rounds) (Refresh token (Some new)) →
+      token_in result ≡ Some new

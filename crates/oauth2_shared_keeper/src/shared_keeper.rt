@@ -1,0 +1,148 @@
+//! A keeper of a token that many processes share.
+
+ghost use Rattle.std.specs.Prelude.{◌≡◌, List, Err};
+ghost use Rattle.oauth2_shared_keeper.specs.Call.{StoreLeads, ClientLeads};
+ghost use Rattle.oauth2_shared_keeper.specs.Keeper.{
+  Round,
+  IsRound,
+  IsHeld,
+  WorldLeads,
+  IfNoAnswer,
+  calls_of,
+  calls_in,
+  events_of,
+  events_in,
+};
+ghost use Rattle.oauth2_shared_keeper.specs.private.Turns.{IfWaits, told_by};
+
+use crate::calls::load;
+use crate::client::RefreshClient;
+use crate::held::Held;
+use crate::outcome::{Outcome, after_renewal, verdict};
+use crate::renewal::renew;
+use crate::settings::KeeperSettings;
+use crate::shared_token::SharedToken;
+use crate::store::TokenStore;
+use crate::world::KeeperWorld;
+
+/// Hands out the token that a store keeps while it is good, and else renews it.
+#[derive(Drop)]
+pub struct SharedKeeper<S, C, W> {
+    /// The store that the processes share.
+    pub store: S,
+    /// The client that refreshes a token.
+    pub client: C,
+    /// The clock, the sleep and the random names.
+    pub world: W,
+    pub settings: KeeperSettings,
+}
+
+impl<S, C, W: KeeperWorld> SharedKeeper<S, C, W> {
+    /// Hands out the token that the store keeps under this name, or says why it does not. The keeper
+    /// looks in at most `rounds` rounds, and sleeps between two of them.
+    pub fn token<T: SharedToken + Drop>(&mut self, name: &str) -> Held<T, C::Error>
+    where
+        S: TokenStore<T>,
+        C: RefreshClient<T>,
+        requires store { S.is_ready self.old.store }
+        requires client { C.is_ready self.old.client }
+        requires world { W.is_ready self.old.world }
+        ensures call { (rounds : List (Round T C.Error))
+            × StoreLeads S.loads S.replaces name.now self.old.store (calls_in rounds) self.new.store
+            × ClientLeads C.refreshes self.old.client (calls_in rounds) self.new.client
+            × WorldLeads W.reads W.sleeps W.draws self.old.world
+            (events_in self.old.settings.wait rounds) self.new.world
+            × IsHeld T.is_good self.old.settings rounds result }
+        ensures error { IfNoAnswer result
+            (λ token error. C.refreshes self.old.client token (Err error) self.new.client) }
+        ensures settings { self.new.settings ≡ self.old.settings }
+        ensures store { S.is_ready self.new.store }
+        ensures client { C.is_ready self.new.client }
+        ensures world { W.is_ready self.new.world }
+    {
+        let settings = self.settings;
+        hold(
+            &mut self.store,
+            &mut self.client,
+            &mut self.world,
+            name,
+            settings,
+        )
+    }
+}
+
+// Looks in rounds, until one ends the call or none is left.
+fn hold<T: SharedToken + Drop, S: TokenStore<T>, C: RefreshClient<T>, W: KeeperWorld>(
+    store: &mut S,
+    client: &mut C,
+    world: &mut W,
+    name: &str,
+    settings: KeeperSettings,
+) -> Held<T, C::Error>
+    requires store { S.is_ready store.old }
+    requires client { C.is_ready client.old }
+    requires world { W.is_ready world.old }
+    ensures call { (rounds : List (Round T C.Error))
+        × StoreLeads S.loads S.replaces name.now store.old (calls_in rounds) store.new
+        × ClientLeads C.refreshes client.old (calls_in rounds) client.new
+        × WorldLeads W.reads W.sleeps W.draws world.old (events_in settings.wait rounds) world.new
+        × IsHeld T.is_good settings rounds result }
+    ensures error { IfNoAnswer result
+        (λ token error. C.refreshes client.old token (Err error) client.new) }
+    ensures store { S.is_ready store.new }
+    ensures client { C.is_ready client.new }
+    ensures world { W.is_ready world.new }
+{
+    let mut left = settings.rounds;
+    while left > 0 {
+        left -= 1;
+        match round(store, client, world, name, settings) {
+            Outcome::Ends(told) => return told,
+            Outcome::Waits(told) => {
+                if left == 0 {
+                    return told;
+                }
+                drop(told);
+                world.sleep(settings.wait);
+            }
+        }
+    }
+    Held::Unread
+}
+
+// Looks once.
+fn round<T: SharedToken + Drop, S: TokenStore<T>, C: RefreshClient<T>, W: KeeperWorld>(
+    store: &mut S,
+    client: &mut C,
+    world: &mut W,
+    name: &str,
+    settings: KeeperSettings,
+) -> Outcome<T, C::Error>
+    requires store { S.is_ready store.old }
+    requires client { C.is_ready client.old }
+    requires world { W.is_ready world.old }
+    ensures round { (round : Round T C.Error)
+        × StoreLeads S.loads S.replaces name.now store.old (calls_of round) store.new
+        × ClientLeads C.refreshes client.old (calls_of round) client.new
+        × WorldLeads W.reads W.sleeps W.draws world.old (events_of round) world.new
+        × IsRound T.is_good settings round result }
+    ensures error { IfNoAnswer (told_by result)
+        (λ token error. C.refreshes client.old token (Err error) client.new) }
+    ensures unsent { IfWaits result (client.old ≡ client.new) }
+    ensures store { S.is_ready store.new }
+    ensures client { C.is_ready client.new }
+    ensures world { W.is_ready world.new }
+{
+    let Some(value) = load(store, name) else {
+        return Outcome::Waits(Held::Unread);
+    };
+    let now = world.now();
+    match verdict(value, now, settings) {
+        Some(outcome) => outcome,
+        None => {
+            let renewal = world.draw();
+            let renewed = renew(store, client, name, renewal, settings.limits);
+            after_renewal(renewal, renewed)
+        }
+    }
+}
