@@ -64,6 +64,10 @@ module _ {T : Type 0} where
   abbrev pub IsOnlyGiven : List (Call T) → T → Type 0
   IsOnlyGiven calls new = (t g : T) → Contains calls (Refresh t (Some g)) → g ≡ new
 
+  -- the server gave this token
+  abbrev pub WasGiven : List (Call T) → T → Type 0
+  WasGiven calls new = (t : T) × Contains calls (Refresh t (Some new))
+
   -- what is not sent gives nothing
   pub none_given : (calls : List (Call T)) (t : T) (given : Option T) → refreshes_in calls ≡ 0 → Contains calls (Refresh t given) → ⊥
   none_given [] t given none has = absurd (omega (arith, has.1))
@@ -88,7 +92,7 @@ module _ {T : Type 0} where
           → Contains before (Replace v (content.Marked t name) false) → State before turn
       sends : (v : ℕ) (t : T) → turn ≡ sends_next v t → refreshes_in before ≡ 0 → Contains before (Load (Some (at_rest v t))) → WasTaken name before v t → State before turn
       keeps : (v : ℕ) (new : T) (s : Step T) → turn ≡ turn_of (phase.Keeping v new) s
-          → asked_by name (phase.Keeping v new) s ≡ Some (ToReplace (v + 1) (content.AtRest new)) → refreshes_in before ≡ 1 → IsOnlyGiven before new → State before turn
+          → asked_by name (phase.Keeping v new) s ≡ Some (ToReplace (v + 1) (content.AtRest new)) → refreshes_in before ≡ 1 → IsOnlyGiven before new → WasGiven before new → State before turn
       ends : turn.phase ≡ phase.Over → asked_by name turn.phase turn.step ≡ None → refreshes_in before ≤ 1
           → (turn.step ≡ step.End) ⊎ (refreshes_in before ≡ 0) → State before turn
 
@@ -148,21 +152,23 @@ module _ {T : Type 0} where
           | inl earlier ↦ absurd (none_given before u (Some g) none earlier)
           | inr here ↦ (let is : Refresh t (Some new) ≡ Refresh u (Some g) = here in cc)
         ])
+        (t, Contains-push before call)
     sends_step before v t None none =
         let n = more before (Refresh t None) 0 1 none refl in
         ends refl refl (omega arith) (inl refl)
 
-    keeps_step : (before : List (Call T)) (v : ℕ) (new : T) (s : Step T) (done : Bool) → refreshes_in before ≡ 1 → IsOnlyGiven before new
+    keeps_step : (before : List (Call T)) (v : ℕ) (new : T) (s : Step T) (done : Bool) → refreshes_in before ≡ 1 → IsOnlyGiven before new → WasGiven before new
         → Next before (turn_of (phase.Keeping v new) s) (Replace (v + 1) (content.AtRest new) done)
-    keeps_step before v new s true one only =
+    keeps_step before v new s true one only given =
         let n = more before (Replace (v + 1) (content.AtRest new) true) 1 0 one refl in
         ends refl refl (omega arith) (inl refl)
-    keeps_step before v new s false one only =
+    keeps_step before v new s false one only given =
         let call : Call T = Replace (v + 1) (content.AtRest new) false in
         keeps v new step.Repeat refl refl (more before call 1 0 one refl) (λ u g has. elim (Contains-push_cases before call (Refresh u (Some g)) has) [
           | inl earlier ↦ only u g earlier
           | inr here ↦ absurd (let is : Replace (v + 1) (content.AtRest new) false ≡ Refresh u (Some g) = here in cc)
         ])
+        (given.0, Contains-append_left before (call ∷ []) _ given.1)
 
     module _ (before : List (Call T)) (turn : Turn T) (call : Call T) (asked : asked_by name turn.phase turn.step ≡ Some (request_of call)) where
       -- at a turn that is known
@@ -189,9 +195,9 @@ module _ {T : Type 0} where
       step_more (sends v t is none rests taken) =
           let k = asked_refresh t call (asked_at (sends_next v t) is) in
           at (sends_next v t) (Refresh t k.0) is k.1 (sends_step before v t k.0 none)
-      step_more (keeps v new s is again one only) =
+      step_more (keeps v new s is again one only given) =
           let k = asked_replace (v + 1) (content.AtRest new) call (sym again ∙ asked_at (turn_of (phase.Keeping v new) s) is) in
-          at (turn_of (phase.Keeping v new) s) (Replace (v + 1) (content.AtRest new) k.0) is k.1 (keeps_step before v new s k.0 one only)
+          at (turn_of (phase.Keeping v new) s) (Replace (v + 1) (content.AtRest new) k.0) is k.1 (keeps_step before v new s k.0 one only given)
       step_more (ends is asks_none few how) = absurd (let e : None ≡ Some (request_of call) = sym asks_none ∙ asked in cc)
 
     state_run : (before xs : List (Call T)) (turn last : Turn T) → State before turn → AsksInTurn name turn xs last → State (before ++ xs) last
@@ -217,7 +223,7 @@ module _ {T : Type 0} where
     sends_few xs last (marks v t is none rests) = omega arith
     sends_few xs last (seeks v t is none rests asked) = omega arith
     sends_few xs last (sends v t is none rests taken) = omega arith
-    sends_few xs last (keeps v new s is again one only) = omega arith
+    sends_few xs last (keeps v new s is again one only given) = omega arith
     sends_few xs last (ends is asks_none few how) = few
 
     -- what is sent is that of a mark that was taken
@@ -236,7 +242,7 @@ module _ {T : Type 0} where
           subst (λ (k : T). Contains before (Load (Some (at_rest v k)))) same rests,
           subst (λ (k : T). WasTaken name before v k) same taken,
         )
-    at_sending before turn token (keeps v new s is again one only) asked =
+    at_sending before turn token (keeps v new s is again one only given) asked =
         absurd (
         let e : Some (ToReplace (v + 1) (content.AtRest new)) ≡ Some (ToRefresh token) = sym again ∙ subst (λ (k : Turn T). asked_by name k.phase k.step ≡ Some (ToRefresh token)) is asked in
         cc)
@@ -263,7 +269,7 @@ module _ {T : Type 0} where
     unsent_early before turn (marks v t is none rests) early = none
     unsent_early before turn (seeks v t is none rests asked) early = none
     unsent_early before turn (sends v t is none rests taken) early = none
-    unsent_early before turn (keeps v new s is again one only) early =
+    unsent_early before turn (keeps v new s is again one only given) early =
         absurd (let late : is_early turn.phase ≡ false = ap (λ (k : Turn T). is_early k.phase) is in cc)
     unsent_early before turn (ends is asks_none few how) early = absurd (let late : is_early turn.phase ≡ false = ap is_early is in cc)
 
@@ -273,7 +279,7 @@ module _ {T : Type 0} where
     unsent_over before turn (marks v t is none rests) over other = none
     unsent_over before turn (seeks v t is none rests asked) over other = none
     unsent_over before turn (sends v t is none rests taken) over other = none
-    unsent_over before turn (keeps v new s is again one only) over other =
+    unsent_over before turn (keeps v new s is again one only given) over other =
         absurd (let e : phase.Keeping v new ≡ phase.Over = sym (ap (λ (k : Turn T). k.phase) is) ∙ over in cc)
     unsent_over before turn (ends is asks_none few (inl end)) over other = absurd (other end)
     unsent_over before turn (ends is asks_none few (inr none)) over other = none
@@ -284,11 +290,40 @@ module _ {T : Type 0} where
     only_kept before turn v held (marks w u is none rests) in_phase t g has = absurd (none_given before t (Some g) none has)
     only_kept before turn v held (seeks w u is none rests asked) in_phase t g has = absurd (none_given before t (Some g) none has)
     only_kept before turn v held (sends w u is none rests taken) in_phase t g has = absurd (none_given before t (Some g) none has)
-    only_kept before turn v held (keeps w new s is again one only) in_phase t g has =
+    only_kept before turn v held (keeps w new s is again one only given) in_phase t g has =
         let e : phase.Keeping w new ≡ phase.Keeping v held = sym (ap (λ (k : Turn T). k.phase) is) ∙ in_phase in
         let same : new ≡ held = cc in
         only t g has ∙ same
     only_kept before turn v held (ends is asks_none few how) in_phase t g has = absurd (let e : phase.Over ≡ phase.Keeping v held = sym is ∙ in_phase in cc)
+
+    -- it was given by the server
+    was_given : (before : List (Call T)) (turn : Turn T) (v : ℕ) (held : T) → State before turn → turn.phase ≡ phase.Keeping v held → WasGiven before held
+    was_given before turn v held (looks is none) in_phase =
+        absurd (let e : phase.Looking ≡ phase.Keeping v held = sym (ap (λ (k : Turn T). k.phase) is) ∙ in_phase in cc)
+    was_given before turn v held (marks w u is none rests) in_phase =
+        absurd (let e : phase.Asking w u ≡ phase.Keeping v held = sym (ap (λ (k : Turn T). k.phase) is) ∙ in_phase in cc)
+    was_given before turn v held (seeks w u is none rests asked) in_phase =
+        absurd (let e : phase.Asking w u ≡ phase.Keeping v held = sym (ap (λ (k : Turn T). k.phase) is) ∙ in_phase in cc)
+    was_given before turn v held (sends w u is none rests taken) in_phase =
+        absurd (let e : phase.Sending w ≡ phase.Keeping v held = sym (ap (λ (k : Turn T). k.phase) is) ∙ in_phase in cc)
+    was_given before turn v held (keeps w new s is again one only given) in_phase =
+        let e : phase.Keeping w new ≡ phase.Keeping v held = sym (ap (λ (k : Turn T). k.phase) is) ∙ in_phase in
+        let same : new ≡ held = cc in
+        subst (λ (k : T). WasGiven before k) same given
+    was_given before turn v held (ends is asks_none few how) in_phase = absurd (let e : phase.Over ≡ phase.Keeping v held = sym is ∙ in_phase in cc)
+
+    -- a token that a renewal kept was given in it, and the store said that it keeps it
+    pub kept_was_given : (calls : List (Call T)) (v : ℕ) (held : T) → EndsWith name first_turn calls (phase.Keeping v held) (Replace (v + 1) (content.AtRest held) true)
+        → ((t : T) × Contains calls (Refresh t (Some held))) × ((version : ℕ) × Contains calls (Replace version (content.AtRest held) true))
+    kept_was_given calls v held e =
+        let call : Call T = Replace (v + 1) (content.AtRest held) true in
+        let given = was_given e.before e.turn v held (state_after e.before e.turn e.asks) e.in_phase in (
+          (
+            given.0,
+            subst (λ (l : List (Call T)). Contains l (Refresh given.0 (Some held))) (sym e.is) (Contains-append_left e.before (call ∷ []) _ given.1),
+          ),
+          (v + 1, subst (λ (l : List (Call T)). Contains l call) (sym e.is) (Contains-push e.before call)),
+        )
 
     module _ (calls : List (Call T)) (last : Turn T) (asks : AsksInTurn name first_turn calls last) (t new : T) (has : Contains calls (Refresh t (Some new))) where
       -- the last call is none that gave a token

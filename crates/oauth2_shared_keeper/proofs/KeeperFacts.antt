@@ -1,5 +1,6 @@
 -- The laws of a keeper.
-use Rattle.std.proofs.Common.{◌≡◌, ℕ, zero, suc, ◌+◌, ◌-◌, ◌*◌, ◌≤◌, Bool, true, false, List, [], ◌∷◌, ◌++◌, Option, Some, None, refl, ap, sym, ◌∙◌, subst, arith, ◌⊎◌, inl, inr}
+use Rattle.std.proofs.Common.{◌≡◌, ℕ, zero, suc, ◌+◌, ◌-◌, ◌*◌, ◌≤◌, Bool, true, false, List, [], ◌∷◌, ◌++◌, Some, None, refl, ap, sym, ◌∙◌}
+use Rattle.std.proofs.Common.{subst, arith, inl, inr}
 use Rattle.std.specs.Prelude.{ℤ, IsTrue}
 use Rattle.std.specs.Duration.{as_nanos}
 use Rattle.std.specs.List.{Contains}
@@ -8,7 +9,6 @@ use Rattle.std.proofs.lemmas.List.Elements.{Contains-append_cases}
 use Rattle.jiff.specs.Types.{Timestamp}
 use Rattle.oauth2_shared_token.specs.declared.renewal.Content.{Content}
 use Rattle.oauth2_shared_token.specs.declared.renewal.Content.TheVariants as content
-use Rattle.oauth2_shared_token.specs.declared.renewal.StoredValue.{StoredValue}
 use Rattle.oauth2_shared_keeper.specs.declared.held.Held.{Held}
 use Rattle.oauth2_shared_keeper.specs.declared.held.Held.TheVariants as held
 use Rattle.oauth2_shared_keeper.specs.declared.outcome.Outcome.{Outcome}
@@ -18,12 +18,14 @@ use Rattle.oauth2_shared_keeper.specs.declared.renewed.Renewed.TheVariants.{Kept
 use Rattle.oauth2_shared_keeper.specs.declared.renewed.Renewed.TheVariants.{Unanswered, Unclear, Unread, NoNextVersion}
 use Rattle.oauth2_shared_keeper.specs.declared.settings.KeeperSettings.{KeeperSettings}
 use Rattle.oauth2_shared_keeper.specs.Call.{Call, Load, Refresh, refreshes_in}
+use Rattle.oauth2_shared_keeper.specs.Renewal.{first_turn, IsEnd}
 use Rattle.oauth2_shared_keeper.specs.Laws.{new_token_in}
-use Rattle.oauth2_shared_keeper.specs.Keeper.{Round, Blind, Seen, Renewing, at_rest_if, marked_if, after_renewal, content_verdict, IsRound, Holds, calls_of, calls_in, Event, Reading, Slept, Drawn, events_of, events_in}
+use Rattle.oauth2_shared_keeper.specs.Keeper.{Round, Blind, Seen, Renewing, at_rest_if, marked_if, after_renewal, content_verdict, IsRound}
+use Rattle.oauth2_shared_keeper.specs.Keeper.{Holds, calls_of, calls_in, Event, Reading, Slept, Drawn, events_of, events_in}
 use Rattle.oauth2_shared_keeper.specs.KeeperLaws.{renewals_in, slept_in, token_in, HandsOut}
 use Rattle.oauth2_shared_keeper.specs.private.Turns.{told_by}
 use Rattle.oauth2_shared_keeper.proofs.Runs.{refreshes_in-append}
-use Rattle.oauth2_shared_keeper.proofs.History.{the_only, state_after, sends_few, none_given, handed_over}
+use Rattle.oauth2_shared_keeper.proofs.History.{the_only, state_after, sends_few, none_given, kept_was_given, handed_over}
 use Rattle.oauth2_shared_keeper.proofs.Unsent.{waiting_unsent}
 
 slept_in-append : (xs ys : List Event) → slept_in (xs ++ ys) ≡ slept_in xs + slept_in ys
@@ -58,25 +60,31 @@ module _ {T E : Type 0} where
 
   -- only a renewal that kept its token tells a good one
   good_is_kept : (name : ℕ) (end : Renewed T E) (token : T) → told_by (after_renewal name end) ≡ held.Good token → end ≡ Kept token
-  good_is_kept name (Kept new) token e = let k : held.Good new ≡ held.Good token = e in let same : new ≡ token = cc in ap (λ (t : T). Kept t) same
+  good_is_kept name (Kept new) token e =
+      let k : held.Good new ≡ held.Good token = e in
+      let same : new ≡ token = cc in
+      ap (λ (t : T). Kept t) same
   good_is_kept name (Unkept version new) token e = absurd (let k : held.Unkept name version new ≡ held.Good token = e in cc)
   good_is_kept name (InUse other old) token e = absurd (let k : held.InUse other old ≡ held.Good token = e in cc)
   good_is_kept name LoggedOut token e = absurd (let k : held.LoggedOut ≡ held.Good token = e in cc)
   good_is_kept name Lost token e = absurd (let k : held.Lost ≡ held.Good token = e in cc)
-  good_is_kept name (Unanswered version old error) token e = absurd (let k : held.Unanswered name version old error ≡ held.Good token = e in cc)
+  good_is_kept name (Unanswered version old error) token e =
+      absurd (let k : held.Unanswered name version old error ≡ held.Good token = e in cc)
   good_is_kept name (Unclear version old) token e = absurd (let k : held.Unclear name version old ≡ held.Good token = e in cc)
   good_is_kept name Unread token e = absurd (let k : held.Unread ≡ held.Good token = e in cc)
   good_is_kept name (NoNextVersion old) token e = absurd (let k : held.NoNextVersion old ≡ held.Good token = e in cc)
 
   -- what is told of a token at rest, and of a marked one
-  rests_good : (b : Bool) (t token : T) (outcome : Outcome T E) → at_rest_if b t ≡ Some outcome → told_by outcome ≡ held.Good token → (t ≡ token) × IsTrue b
+  rests_good : (b : Bool) (t token : T) (outcome : Outcome T E) → at_rest_if b t ≡ Some outcome → told_by outcome ≡ held.Good token
+      → (t ≡ token) × IsTrue b
   rests_good true t token outcome is told =
       let e : Some (Ends (held.Good t)) ≡ Some outcome = is in
       let same : Ends (held.Good t) ≡ outcome = cc in
       let k : held.Good t ≡ held.Good token = ap told_by same ∙ told in (cc, refl)
   rests_good false t token outcome is told = absurd (let e : None ≡ Some outcome = is in cc)
 
-  not_marked : (b : Bool) (renewal version : ℕ) (t token : T) (outcome : Outcome T E) → Some (marked_if b renewal version t) ≡ Some outcome → told_by outcome ≡ held.Good token → ⊥
+  not_marked : (b : Bool) (renewal version : ℕ) (t token : T) (outcome : Outcome T E) → Some (marked_if b renewal version t) ≡ Some outcome
+      → told_by outcome ≡ held.Good token → ⊥
   not_marked true renewal version t token outcome is told =
       let e : Some (Ends (held.Old renewal version t)) ≡ Some outcome = is in
       let same : Ends (held.Old renewal version t) ≡ outcome = cc in
@@ -95,7 +103,8 @@ module _ {T E : Type 0} where
   not_unread token outcome is told = let k : held.Unread ≡ held.Good token = sym (ap told_by is) ∙ told in cc
 
 module _ {T E : Type 0} (is_good : T → ℤ → ℕ → Bool) (settings : KeeperSettings) where
-  content_good : (now : Timestamp) (version : ℕ) (c : Content T) (token : T) (outcome : Outcome T E) → content_verdict is_good settings now version c ≡ Some outcome → told_by outcome ≡ held.Good token
+  content_good : (now : Timestamp) (version : ℕ) (c : Content T) (token : T) (outcome : Outcome T E)
+      → content_verdict is_good settings now version c ≡ Some outcome → told_by outcome ≡ held.Good token
       → (c ≡ content.AtRest token) × IsTrue (is_good token now.nanosecond (as_nanos settings.margin))
   content_good now version (content.AtRest t) token outcome is told =
       let k = rests_good (is_good t now.nanosecond (as_nanos settings.margin)) t token outcome is told in
@@ -104,10 +113,15 @@ module _ {T E : Type 0} (is_good : T → ℤ → ℕ → Bool) (settings : Keepe
       absurd (not_marked (is_good t now.nanosecond (as_nanos settings.old_margin)) renewal version t token outcome is told)
   content_good now version content.Empty token outcome is told = absurd (not_empty token outcome is told)
 
-  hands_out : (r : Round T E) (token : T) (outcome : Outcome T E) → IsRound is_good settings r outcome → told_by outcome ≡ held.Good token → HandsOut is_good settings r token
+  hands_out : (r : Round T E) (token : T) (outcome : Outcome T E) → IsRound is_good settings r outcome → told_by outcome ≡ held.Good token
+      → HandsOut is_good settings r token
   hands_out Blind token outcome is told = absurd (not_unread token outcome is told)
   hands_out (Seen p now) token outcome is told = content_good now p.version p.content token outcome is told
-  hands_out (Renewing p now name calls end) token outcome is told = good_is_kept name end token (sym (ap told_by is.2) ∙ told)
+  hands_out (Renewing p now name calls end) token outcome is told =
+      let kept = good_is_kept name end token (sym (ap told_by is.2) ∙ told) in
+      let how = subst (λ (x : Renewed T E). IsEnd name first_turn settings.limits.loads (settings.limits.repeats + 2) calls is.1.last x) kept
+      is.1.end in
+      kept_was_given name calls how.0 token how.2
 
   pub good_is_good : (left : ℕ) (rounds : List (Round T E)) (token : T) → Holds is_good settings left rounds (held.Good token)
       → (before : List (Round T E)) × (last : Round T E) × (rounds ≡ before ++ last ∷ []) × HandsOut is_good settings last token
@@ -133,7 +147,8 @@ module _ {T E : Type 0} (is_good : T → ℤ → ℕ → Bool) (settings : Keepe
   last_sends_few : (r : Round T E) (outcome : Outcome T E) → IsRound is_good settings r outcome → refreshes_in (calls_in (r ∷ [])) ≤ 1
   last_sends_few r outcome is = rw (append-nil (calls_of r)) (round_sends_few r outcome is)
 
-  pub sends_once : (left : ℕ) (rounds : List (Round T E)) (result : Held T E) → Holds is_good settings left rounds result → refreshes_in (calls_in rounds) ≤ 1
+  pub sends_once : (left : ℕ) (rounds : List (Round T E)) (result : Held T E) → Holds is_good settings left rounds result
+      → refreshes_in (calls_in rounds) ≤ 1
   sends_once left [] result h = omega arith
   sends_once left (r ∷ []) result (some, inl ends) = last_sends_few r (Ends result) ends
   sends_once left (r ∷ []) result (some, inr last) = last_sends_few r (Waits result) last.1
@@ -143,11 +158,13 @@ module _ {T E : Type 0} (is_good : T → ℤ → ℕ → Bool) (settings : Keepe
       rw (refreshes_in-append (calls_of r) (calls_in (next ∷ rounds)), none) (omega arith)
 
   -- a call that made a round was allowed one
-  some_left : (left : ℕ) (r : Round T E) (rounds : List (Round T E)) (result : Held T E) → Holds is_good settings left (r ∷ rounds) result → 1 ≤ left
+  some_left : (left : ℕ) (r : Round T E) (rounds : List (Round T E)) (result : Held T E) → Holds is_good settings left (r ∷ rounds) result
+      → 1 ≤ left
   some_left left r [] result h = h.0
   some_left left r (next ∷ rounds) result h = let k = some_left (left - 1) next rounds result h.1 in omega arith
 
-  pub few_renewals : (left : ℕ) (rounds : List (Round T E)) (result : Held T E) → Holds is_good settings left rounds result → renewals_in rounds ≤ left
+  pub few_renewals : (left : ℕ) (rounds : List (Round T E)) (result : Held T E) → Holds is_good settings left rounds result
+      → renewals_in rounds ≤ left
   few_renewals left [] result h = omega arith
   few_renewals left (r ∷ []) result h = let k = h.0 in let n = renewals_more r [] in omega arith
   few_renewals left (r ∷ next ∷ rounds) result h =
@@ -156,11 +173,13 @@ module _ {T E : Type 0} (is_good : T → ℤ → ℕ → Bool) (settings : Keepe
       let rest = few_renewals (left - 1) (next ∷ rounds) result h.1 in
       omega arith
 
-  pub sleeps_little : (w : ℕ) → as_nanos settings.wait ≡ w → (n left : ℕ) (rounds : List (Round T E)) (result : Held T E) → left ≤ n + 1 → Holds is_good settings left rounds result
+  pub sleeps_little : (w : ℕ) → as_nanos settings.wait ≡ w → (n left : ℕ) (rounds : List (Round T E)) (result : Held T E) → left ≤ n + 1
+      → Holds is_good settings left rounds result
       → slept_in (events_in settings.wait rounds) ≤ n * w
   sleeps_little w is n left [] result few h = omega arith
   sleeps_little w is n left (r ∷ []) result few h = let none = no_sleep r in omega arith
-  sleeps_little w is zero left (r ∷ next ∷ rounds) result few h = let k = some_left (left - 1) next rounds result h.1 in absurd (omega arith)
+  sleeps_little w is zero left (r ∷ next ∷ rounds) result few h =
+      let k = some_left (left - 1) next rounds result h.1 in absurd (omega arith)
   sleeps_little w is (suc n) left (r ∷ next ∷ rounds) result few h =
       let rest = sleeps_little w is n (left - 1) (next ∷ rounds) result (omega arith) h.1 in
       let sum = slept_in-append (events_of r) (Slept settings.wait ∷ events_in settings.wait (next ∷ rounds)) in
@@ -168,7 +187,8 @@ module _ {T E : Type 0} (is_good : T → ℤ → ℕ → Bool) (settings : Keepe
       omega arith
 
   -- what was given in a round is told
-  round_tells : (r : Round T E) (outcome : Outcome T E) (token new : T) → IsRound is_good settings r outcome → Contains (calls_of r) (Refresh token (Some new)) → token_in (told_by outcome) ≡ Some new
+  round_tells : (r : Round T E) (outcome : Outcome T E) (token new : T) → IsRound is_good settings r outcome
+      → Contains (calls_of r) (Refresh token (Some new)) → token_in (told_by outcome) ≡ Some new
   round_tells Blind outcome token new is has = absurd (none_given (Load None ∷ []) token (Some new) refl has)
   round_tells (Seen p now) outcome token new is has = absurd (none_given (Load (Some p) ∷ []) token (Some new) refl has)
   round_tells (Renewing p now name calls end) outcome token new is has =
@@ -179,9 +199,11 @@ module _ {T E : Type 0} (is_good : T → ℤ → ℕ → Bool) (settings : Keepe
             ∙ handed_over name calls is.1.last is.1.asks token new there settings.limits.loads (settings.limits.repeats + 2) end is.1.end
       ]
 
-  last_tells : (r : Round T E) (outcome : Outcome T E) (token new : T) → IsRound is_good settings r outcome → Contains (calls_in (r ∷ [])) (Refresh token (Some new)) → token_in (told_by outcome) ≡ Some new
+  last_tells : (r : Round T E) (outcome : Outcome T E) (token new : T) → IsRound is_good settings r outcome
+      → Contains (calls_in (r ∷ [])) (Refresh token (Some new)) → token_in (told_by outcome) ≡ Some new
   last_tells r outcome token new is has =
-      round_tells r outcome token new is (subst (λ (l : List (Call T)). Contains l (Refresh token (Some new))) (append-nil (calls_of r)) has)
+      round_tells r outcome token new is
+      (subst (λ (l : List (Call T)). Contains l (Refresh token (Some new))) (append-nil (calls_of r)) has)
 
   pub given_is_told : (left : ℕ) (rounds : List (Round T E)) (token new : T) (result : Held T E) → Holds is_good settings left rounds result
       → Contains (calls_in rounds) (Refresh token (Some new)) → token_in result ≡ Some new

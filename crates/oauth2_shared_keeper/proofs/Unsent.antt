@@ -1,5 +1,5 @@
 -- Renewals after which a keeper looks again: they sent nothing.
-use Rattle.std.proofs.Common.{◌≡◌, ℕ, ◌+◌, List, [], ◌∷◌, ◌++◌, Option, Some, None, Result, refl, ap, sym, ◌∙◌, arith}
+use Rattle.std.proofs.Common.{◌≡◌, ℕ, ◌+◌, List, [], ◌∷◌, Some, Result, refl, ap, sym, ◌∙◌, arith}
 use Rattle.oauth2_shared_token.specs.declared.renewal.Phase.TheVariants as phase
 use Rattle.oauth2_shared_token.specs.declared.renewal.StoredValue.{StoredValue}
 use Rattle.oauth2_shared_token.specs.declared.renewal.Step.TheVariants as step
@@ -37,7 +37,8 @@ module _ {T : Type 0} (name : ℕ) (calls : List (Call T)) (last : Turn T) (asks
   first_unsent : last ≡ first_turn → refreshes_in calls ≡ 0
   first_unsent is = unsent_early name calls last (state_after name calls last asks) (ap (λ (k : Turn T). is_early name k.phase) is)
 
-  lost_unsent : (version : ℕ) (token : T) (p : StoredValue T) → EndsWith name first_turn calls (phase.Asking version token) (Load (Some p)) → refreshes_in calls ≡ 0
+  lost_unsent : (version : ℕ) (token : T) (p : StoredValue T) → EndsWith name first_turn calls (phase.Asking version token) (Load (Some p))
+      → refreshes_in calls ≡ 0
   lost_unsent version token p e =
       let none = unsent_early name e.before e.turn (state_after name e.before e.turn e.asks) (ap (is_early name) e.in_phase) in
       ap refreshes_in e.is ∙ rw (refreshes_in-append e.before (Load (Some p) ∷ []), none) refl
@@ -55,13 +56,15 @@ module _ {T E : Type 0} (name : ℕ) where
     waiting_unsent loads replacements (InUse other token) h seen e = over_unsent name calls last asks other token h
     waiting_unsent loads replacements LoggedOut h seen e = absurd (ended held.LoggedOut seen e)
     waiting_unsent loads replacements Lost (v, t, p, is, ends) seen e = lost_unsent name calls last asks v t p ends
-    waiting_unsent loads replacements (Unanswered version token error) h seen e = absurd (ended (held.Unanswered name version token error) seen e)
+    waiting_unsent loads replacements (Unanswered version token error) h seen e =
+        absurd (ended (held.Unanswered name version token error) seen e)
     waiting_unsent loads replacements (Unclear version token) h seen e = absurd (ended (held.Unclear name version token) seen e)
     waiting_unsent loads replacements Unread h seen e = first_unsent name calls last asks h.0
     waiting_unsent loads replacements (NoNextVersion token) h seen e = absurd (ended (held.NoNextVersion token) seen e)
 
   -- where a keeper waits after a renewal, its client is as before
-  pub unsent_if_waits : {C CE : Type 0} (refreshes : C → T → Result T CE → C → Type 0) (c d : C) (limits : Limits) (calls : List (Call T)) (end : Renewed T E) (outcome : Outcome T E)
+  pub unsent_if_waits : {C CE : Type 0} (refreshes : C → T → Result T CE → C → Type 0) (c d : C) (limits : Limits) (calls : List (Call T))
+      (end : Renewed T E) (outcome : Outcome T E)
       → outcome ≡ after_renewal name end → ClientLeads refreshes c calls d → IsRenewal name limits calls end → IfWaits outcome (c ≡ d)
   unsent_if_waits refreshes c d limits calls end (Ends told) is leads r = tt
   unsent_if_waits refreshes c d limits calls end (Waits told) is leads r =

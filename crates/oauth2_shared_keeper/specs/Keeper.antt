@@ -111,9 +111,12 @@ events_in wait (round ∷ next ∷ rounds) = events_of round ++ Slept wait ∷ e
 abbrev pub WorldLeads : {W : Type 0} → (W → Timestamp → W → Type 0) → (W → Duration → W → Type 0) → (W → ℕ → W → Type 0)
     → W → List Event → W → Type 0
 WorldLeads {W} reads sleeps draws w [] last = w ≡ last
-WorldLeads {W} reads sleeps draws w (Reading now ∷ events) last = (next : W) × reads w now next × WorldLeads reads sleeps draws next events last
-WorldLeads {W} reads sleeps draws w (Slept wait ∷ events) last = (next : W) × sleeps w wait next × WorldLeads reads sleeps draws next events last
-WorldLeads {W} reads sleeps draws w (Drawn name ∷ events) last = (next : W) × draws w name next × WorldLeads reads sleeps draws next events last
+WorldLeads {W} reads sleeps draws w (Reading now ∷ events) last =
+    (next : W) × reads w now next × WorldLeads reads sleeps draws next events last
+WorldLeads {W} reads sleeps draws w (Slept wait ∷ events) last =
+    (next : W) × sleeps w wait next × WorldLeads reads sleeps draws next events last
+WorldLeads {W} reads sleeps draws w (Drawn name ∷ events) last =
+    (next : W) × draws w name next × WorldLeads reads sleeps draws next events last
 
 -- the token and the error, if a refresh token was sent and there is no new token
 abbrev pub IfNoAnswer : {T E : Type 0} → Held T E → (T → E → Type 0) → Type 0

@@ -1,13 +1,12 @@
 -- The laws of a keeper.
-use Rattle.std.specs.Prelude.{◌≡◌, ℕ, ◌+◌, ◌-◌, ◌*◌, ◌≤◌, ℤ, Bool, IsTrue, List, [], ◌∷◌, ◌++◌, Option, Some, None}
+use Rattle.std.specs.Prelude.{◌≡◌, ℕ, ◌+◌, ◌-◌, ◌*◌, ◌≤◌, ℤ, Bool, true, IsTrue, List, [], ◌∷◌, ◌++◌, Option, Some, None}
 use Rattle.std.specs.Duration.{as_nanos}
 use Rattle.std.specs.List.{Contains}
 use Rattle.oauth2_shared_token.specs.declared.renewal.Content.TheVariants.{AtRest}
 use Rattle.oauth2_shared_keeper.specs.declared.held.Held.{Held}
 use Rattle.oauth2_shared_keeper.specs.declared.held.Held.TheVariants as held
-use Rattle.oauth2_shared_keeper.specs.declared.renewed.Renewed.TheVariants.{Kept}
 use Rattle.oauth2_shared_keeper.specs.declared.settings.KeeperSettings.{KeeperSettings}
-use Rattle.oauth2_shared_keeper.specs.Call.{Refresh, refreshes_in}
+use Rattle.oauth2_shared_keeper.specs.Call.{Replace, Refresh, refreshes_in}
 use Rattle.oauth2_shared_keeper.specs.Keeper.{Round, Blind, Seen, Renewing, IsHeld, calls_in, Event, Reading, Slept, Drawn, events_in}
 
 -- how many of these rounds have a renewal
@@ -44,7 +43,8 @@ module _ {T E : Type 0} (is_good : T → ℤ → ℕ → Bool) (settings : Keepe
   abbrev pub HandsOut : Round T E → T → Type 0
   HandsOut Blind token = ⊥
   HandsOut (Seen p now) token = (p.content ≡ AtRest token) × IsTrue (is_good token now.nanosecond (as_nanos settings.margin))
-  HandsOut (Renewing p now name calls end) token = end ≡ Kept token
+  HandsOut (Renewing p now name calls end) token =
+      ((old : T) × Contains calls (Refresh old (Some token))) × ((version : ℕ) × Contains calls (Replace version (AtRest token) true))
 
 module _ (T E : Type 0) where
   -- a call sends one refresh token at most, and begins at most one renewal a round

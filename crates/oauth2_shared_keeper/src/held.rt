@@ -2,8 +2,8 @@
 
 /// What a keeper tells its caller. `T` is the type of a token, and `E` the error of the client.
 ///
-/// `renewal` is the name of the renewal that marked a token, and `version` the one that the mark has.
-/// With both a caller answers for the mark.
+/// `renewal` is the name of the renewal that marked a token, and `version` the one that the mark
+/// has. With both a caller answers for the mark.
 #[derive(Debug, Drop)]
 pub enum Held<T, E> {
     /// The store keeps this token, which is good or was just given by the server.
@@ -22,7 +22,8 @@ pub enum Held<T, E> {
         version: u64,
         token: T,
     },
-    /// This renewal sent the refresh token of this token, and there is no new token. The mark stands.
+    /// This renewal sent the refresh token of this token, and there is no new token. The mark
+    /// stands.
     Unanswered {
         renewal: u128,
         version: u64,
@@ -43,8 +44,8 @@ pub enum Held<T, E> {
         version: u64,
         token: T,
     },
-    /// In the last round the token was to be renewed, and another renewal had marked it. Its version
-    /// is not known.
+    /// In the last round the token was to be renewed, and another renewal had marked it. Its
+    /// version is not known.
     InUse {
         renewal: u128,
         token: T,

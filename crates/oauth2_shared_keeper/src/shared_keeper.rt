@@ -34,12 +34,13 @@ pub struct SharedKeeper<S, C, W> {
     pub client: C,
     /// The clock, the sleep and the random names.
     pub world: W,
+    /// When it hands out a token, and how often it looks.
     pub settings: KeeperSettings,
 }
 
 impl<S, C, W: KeeperWorld> SharedKeeper<S, C, W> {
-    /// Hands out the token that the store keeps under this name, or says why it does not. The keeper
-    /// looks in at most `rounds` rounds, and sleeps between two of them.
+    /// Hands out the token that the store keeps under this name, or says why it does not. The
+    /// keeper looks in at most `rounds` rounds, and sleeps between two of them.
     pub fn token<T: SharedToken + Drop>(&mut self, name: &str) -> Held<T, C::Error>
     where
         S: TokenStore<T>,

@@ -5,8 +5,8 @@ use std::time::Duration;
 
 /// The world that a keeper works in: a clock, a way to sleep and a source of random names.
 ///
-/// If every call is always allowed, do not define `is_ready`. If you do not define `reads`, `sleeps`
-/// and `draws`, contracts say nothing about what the world does.
+/// If every call is always allowed, do not define `is_ready`. If you do not define `reads`,
+/// `sleeps` and `draws`, contracts say nothing about what the world does.
 pub trait KeeperWorld {
     ghost use Rattle.std.specs.Prelude.{ℕ, ⊤};
     ghost use Rattle.std.specs.declared.time.Duration.{Duration};

@@ -1,11 +1,11 @@
 -- Single rounds of a keeper, and the rounds so far.
-use Rattle.std.specs.Prelude.{◌≡◌, ℕ, ℤ, Bool, List, [], ◌∷◌, ◌++◌}
+use Rattle.std.specs.Prelude.{ℕ, ℤ, Bool, List, [], ◌∷◌, ◌++◌}
 use Rattle.std.specs.declared.time.Duration.{Duration}
 use Rattle.oauth2_shared_keeper.specs.declared.held.Held.{Held}
 use Rattle.oauth2_shared_keeper.specs.declared.outcome.Outcome.{Outcome}
 use Rattle.oauth2_shared_keeper.specs.declared.outcome.Outcome.TheVariants.{Ends, Waits}
 use Rattle.oauth2_shared_keeper.specs.declared.settings.KeeperSettings.{KeeperSettings}
-use Rattle.oauth2_shared_keeper.specs.Keeper.{Round, IsRound, Event, Slept, events_of, IfNoAnswer}
+use Rattle.oauth2_shared_keeper.specs.Keeper.{Round, IsRound, Event, Slept, events_of}
 
 -- what the round would tell
 abbrev pub told_by : {T E : Type 0} → Outcome T E → Held T E

@@ -11,8 +11,10 @@ returns-in-Ends-clause-call g c =
       i.0 ++ t.0 ∷ [],
       store-push g.S.TokenStore.loads g.S.TokenStore.replaces a.name.now a.store.now c.loop-left.store c.round.new.store i.0 t.0 i.1 t.1,
       client-push g.C.RefreshClient.refreshes a.client.now c.loop-left.client c.round.new.client i.0 t.0 i.2 t.2,
-      world-last g.W.KeeperWorld.reads g.W.KeeperWorld.sleeps g.W.KeeperWorld.draws a.world.now c.loop-left.world c.round.new.world a.settings.wait i.0 t.0 i.3 t.3,
-      holds_after g.T.SharedToken.is_good a.settings i.0 t.0 c.loop-left.left a.settings.rounds c.in-Ends.told i.4 sum (omega arith, inl t.4),
+      world-last g.W.KeeperWorld.reads g.W.KeeperWorld.sleeps g.W.KeeperWorld.draws a.world.now c.loop-left.world c.round.new.world
+          a.settings.wait i.0 t.0 i.3 t.3,
+      holds_after g.T.SharedToken.is_good a.settings i.0 t.0 c.loop-left.left a.settings.rounds c.in-Ends.told i.4 sum
+          (omega arith, inl t.4),
     )
 
 pub returns-then-left-eq0-clause-call : goal.returns-then-left-eq0-clause-call
@@ -24,8 +26,10 @@ returns-then-left-eq0-clause-call g c =
       i.0 ++ t.0 ∷ [],
       store-push g.S.TokenStore.loads g.S.TokenStore.replaces a.name.now a.store.now c.loop-left.store c.round.new.store i.0 t.0 i.1 t.1,
       client-push g.C.RefreshClient.refreshes a.client.now c.loop-left.client c.round.new.client i.0 t.0 i.2 t.2,
-      world-last g.W.KeeperWorld.reads g.W.KeeperWorld.sleeps g.W.KeeperWorld.draws a.world.now c.loop-left.world c.round.new.world a.settings.wait i.0 t.0 i.3 t.3,
-      holds_after g.T.SharedToken.is_good a.settings i.0 t.0 c.loop-left.left a.settings.rounds c.in-Waits.told i.4 sum (omega arith, inr (omega arith, t.4)),
+      world-last g.W.KeeperWorld.reads g.W.KeeperWorld.sleeps g.W.KeeperWorld.draws a.world.now c.loop-left.world c.round.new.world
+          a.settings.wait i.0 t.0 i.3 t.3,
+      holds_after g.T.SharedToken.is_good a.settings i.0 t.0 c.loop-left.left a.settings.rounds c.in-Waits.told i.4 sum
+          (omega arith, inr (omega arith, t.4)),
     )
 
 pub loop-left-preserved : goal.loop-left-preserved
@@ -43,7 +47,8 @@ loop-left-preserved g c =
         i.0 ++ t.0 ∷ [],
         store-push g.S.TokenStore.loads g.S.TokenStore.replaces a.name.now a.store.now c.loop-left.store c.round.new.store i.0 t.0 i.1 t.1,
         client-push g.C.RefreshClient.refreshes a.client.now c.loop-left.client c.round.new.client i.0 t.0 i.2 t.2,
-        world-slept g.W.KeeperWorld.reads g.W.KeeperWorld.sleeps g.W.KeeperWorld.draws a.world.now c.loop-left.world c.round.new.world c.sleep.new.self a.settings.wait i.0 t.0 i.3 t.3 c.sleep.ensures.sleeps,
+        world-slept g.W.KeeperWorld.reads g.W.KeeperWorld.sleeps g.W.KeeperWorld.draws a.world.now c.loop-left.world c.round.new.world
+            c.sleep.new.self a.settings.wait i.0 t.0 i.3 t.3 c.sleep.ensures.sleeps,
         each_waits-push g.T.SharedToken.is_good a.settings i.0 t.0 c.in-Waits.told i.4 t.4,
         rw length-append (omega arith),
         λ none. absurd (omega arith),

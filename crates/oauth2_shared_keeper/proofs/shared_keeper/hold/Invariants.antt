@@ -1,4 +1,4 @@
-use Rattle.std.proofs.Common.{◌≡◌, List, ℕ, ◌+◌, length}
+use Rattle.std.proofs.Common.{◌≡◌, List, ◌+◌, length}
 use Rattle.oauth2_shared_keeper.specs.Call.{StoreLeads, ClientLeads}
 use Rattle.oauth2_shared_keeper.specs.Keeper.{Round, WorldLeads, calls_in}
 use Rattle.oauth2_shared_keeper.specs.private.Turns.{EachWaits, slept_events}
@@ -14,7 +14,8 @@ invariant-loop-left g l =
       so_far : (rounds : List (Round g.row.T.Denot g.row.C-Error.Denot))
           × StoreLeads g.S.TokenStore.loads g.S.TokenStore.replaces l.name l.fn.store (calls_in rounds) l.store
           × ClientLeads g.C.RefreshClient.refreshes l.fn.client (calls_in rounds) l.client
-          × WorldLeads g.W.KeeperWorld.reads g.W.KeeperWorld.sleeps g.W.KeeperWorld.draws l.fn.world (slept_events l.settings.wait rounds) l.world
+          × WorldLeads g.W.KeeperWorld.reads g.W.KeeperWorld.sleeps g.W.KeeperWorld.draws l.fn.world
+          (slept_events l.settings.wait rounds) l.world
           × EachWaits g.T.SharedToken.is_good l.settings rounds
           × (length rounds + l.left ≡ l.settings.rounds)
           × (l.left ≡ 0 → length rounds ≡ 0);

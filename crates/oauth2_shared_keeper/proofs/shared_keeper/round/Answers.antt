@@ -27,4 +27,5 @@ returns-in-None-clause-round g c =
 pub returns-in-None-clause-unsent : goal.returns-in-None-clause-unsent
 returns-in-None-clause-unsent g c =
     let r = c.renew-renewed.ensures.renewal in
-    unsent_if_waits c.draw-renewal.result g.C.RefreshClient.refreshes c.args.client.now c.renew-renewed.new.client c.args.settings.limits r.0 c.renew-renewed.result c.after_renewal.result c.after_renewal.ensures r.2 r.3
+    unsent_if_waits c.draw-renewal.result g.C.RefreshClient.refreshes c.args.client.now c.renew-renewed.new.client
+    c.args.settings.limits r.0 c.renew-renewed.result c.after_renewal.result c.after_renewal.ensures r.2 r.3
