@@ -1,8 +1,15 @@
-//! Tests of `oauth2_shared_keeper`: renewals over a store in memory, whose replies can be lost.
+//! Tests of `oauth2_shared_keeper`: renewals and calls of a keeper over a store in memory, whose
+//! replies can be lost.
 
 #![tactic(auto)]
 
 #[cfg(test)]
+mod keepers;
+#[cfg(test)]
 mod memory_store;
 #[cfg(test)]
 mod renewals;
+#[cfg(test)]
+mod still_world;
+#[cfg(test)]
+mod timed_token;

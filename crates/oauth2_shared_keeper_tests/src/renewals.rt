@@ -88,6 +88,7 @@ fn end_of(
         failing_loads,
         lost_replies,
         is_overtaken,
+        kept_next: None,
     };
     let mut server = Server {
         is_silent,
