@@ -138,7 +138,7 @@ module _ {T E : Type 0} (is_good : T → ℤ → ℕ → Bool) (settings : Keepe
   round_sends_few (Seen p now) outcome is = omega arith
   round_sends_few (Renewing p now name calls end) outcome is = sends_few name calls is.1.last (state_after name calls is.1.last is.1.asks)
 
-  waits_unsent : (r : Round T E) (seen : Held T E) → IsRound is_good settings r (Waits seen) → refreshes_in (calls_of r) ≡ 0
+  pub waits_unsent : (r : Round T E) (seen : Held T E) → IsRound is_good settings r (Waits seen) → refreshes_in (calls_of r) ≡ 0
   waits_unsent Blind seen is = refl
   waits_unsent (Seen p now) seen is = refl
   waits_unsent (Renewing p now name calls end) seen is =

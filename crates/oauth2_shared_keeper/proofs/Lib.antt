@@ -5,3 +5,5 @@ pub mod FleetFacts
 pub mod Unsent
 pub mod Rounds
 pub mod KeeperFacts
+pub mod KeeperSendings
+pub mod OldTokens

@@ -2,11 +2,15 @@
 use Rattle.std.specs.Prelude.{◌≡◌, ℕ, ◌+◌, ◌-◌, ◌*◌, ◌≤◌, ℤ, Bool, true, IsTrue, List, [], ◌∷◌, ◌++◌, Option, Some, None}
 use Rattle.std.specs.Duration.{as_nanos}
 use Rattle.std.specs.List.{Contains}
-use Rattle.oauth2_shared_token.specs.declared.renewal.Content.TheVariants.{AtRest}
+use Rattle.jiff.specs.Types.{Timestamp}
+use Rattle.oauth2_shared_token.specs.declared.renewal.Content.TheVariants.{AtRest, Marked}
+use Rattle.oauth2_shared_token.specs.declared.renewal.StoredValue.{StoredValue}
 use Rattle.oauth2_shared_keeper.specs.declared.held.Held.{Held}
 use Rattle.oauth2_shared_keeper.specs.declared.held.Held.TheVariants as held
+use Rattle.oauth2_shared_keeper.specs.declared.renewed.Renewed.{Renewed}
 use Rattle.oauth2_shared_keeper.specs.declared.settings.KeeperSettings.{KeeperSettings}
-use Rattle.oauth2_shared_keeper.specs.Call.{Replace, Refresh, refreshes_in}
+use Rattle.oauth2_shared_keeper.specs.Call.{Call, Replace, Refresh, refreshes_in}
+use Rattle.oauth2_shared_keeper.specs.Renewal.{IsRenewal}
 use Rattle.oauth2_shared_keeper.specs.Keeper.{Round, Blind, Seen, Renewing, IsHeld, calls_in, Event, Reading, Slept, Drawn, events_in}
 
 -- how many of these rounds have a renewal
@@ -54,12 +58,31 @@ module _ (T E : Type 0) where
       IsHeld is_good settings rounds result →
       (refreshes_in (calls_in rounds) ≤ 1) × (renewals_in rounds ≤ settings.rounds)
 
+  -- it sends each in a renewal of a name that it drew
+  abbrev pub EachSendingIsOfARenewal : Type 0
+  EachSendingIsOfARenewal =
+      (is_good : T → ℤ → ℕ → Bool) (settings : KeeperSettings) (rounds : List (Round T E)) (result : Held T E) (token : T) (given : Option T) →
+      IsHeld is_good settings rounds result →
+      Contains (calls_in rounds) (Refresh token given) →
+      (name : ℕ) × (calls : List (Call T)) × (end : Renewed T E) × Contains (events_in settings.wait rounds) (Drawn name)
+      × IsRenewal name settings.limits calls end × Contains calls (Refresh token given)
+
   -- a token that is handed out as good was good, or was just given and is kept
   abbrev pub EachGoodIsGood : Type 0
   EachGoodIsGood =
       (is_good : T → ℤ → ℕ → Bool) (settings : KeeperSettings) (rounds : List (Round T E)) (token : T) →
       IsHeld is_good settings rounds (held.Good token) →
       (before : List (Round T E)) × (last : Round T E) × (rounds ≡ before ++ last ∷ []) × HandsOut is_good settings last token
+
+  -- a token that is handed out as an old one was marked by that renewal, under that version, and was good still
+  -- when the clock was read
+  abbrev pub EachOldIsGood : Type 0
+  EachOldIsGood =
+      (is_good : T → ℤ → ℕ → Bool) (settings : KeeperSettings) (rounds : List (Round T E)) (renewal version : ℕ) (token : T) →
+      IsHeld is_good settings rounds (held.Old renewal version token) →
+      (before : List (Round T E)) × (p : StoredValue T) × (now : Timestamp) × (rounds ≡ before ++ Seen p now ∷ [])
+      × (p.version ≡ version) × (p.content ≡ Marked token renewal)
+      × IsTrue (is_good token now.nanosecond (as_nanos settings.old_margin))
 
   -- a call sleeps once less than it may look, at most
   abbrev pub EachCallSleepsLittle : Type 0

@@ -3,7 +3,8 @@
 ghost use Rattle.oauth2_shared_keeper.specs.Fleets.{EachRefreshIsOfTheFleet};
 ghost use Rattle.oauth2_shared_keeper.specs.Fleets.{EachRefreshTokenIsSentOnce};
 ghost use Rattle.oauth2_shared_keeper.specs.KeeperLaws.{EachCallSendsOnce, EachCallSleepsLittle};
-ghost use Rattle.oauth2_shared_keeper.specs.KeeperLaws.{EachGoodIsGood, NoGivenIsLost};
+ghost use Rattle.oauth2_shared_keeper.specs.KeeperLaws.{EachGoodIsGood, EachOldIsGood};
+ghost use Rattle.oauth2_shared_keeper.specs.KeeperLaws.{EachSendingIsOfARenewal, NoGivenIsLost};
 ghost use Rattle.oauth2_shared_keeper.specs.Laws.{EachGivenIsHandedOver, EachRenewalSendsOnce};
 ghost use Rattle.oauth2_shared_keeper.specs.Laws.{EachSendingIsMarked};
 
@@ -39,10 +40,21 @@ pub fn each_call_sends_once<T, E>()
     ensures { EachCallSendsOnce T E }
 {}
 
+/// It sends each in a renewal of a name that it drew.
+pub fn each_sending_is_of_a_renewal<T, E>()
+    ensures { EachSendingIsOfARenewal T E }
+{}
+
 /// A token that a keeper hands out as good was at rest and good when the clock was read, or the
 /// server gave it in that round and the store keeps it.
 pub fn each_good_is_good<T, E>()
     ensures { EachGoodIsGood T E }
+{}
+
+/// A token that a keeper hands out as an old one was marked by the renewal that it tells, and was
+/// good for `old_margin` when the clock was read.
+pub fn each_old_is_good<T, E>()
+    ensures { EachOldIsGood T E }
 {}
 
 /// The sleeps of a call are together at most `wait` for each round but one.
