@@ -13,6 +13,9 @@ BLOCK = r'((?:^ {4}.*\n)+)'
 # A block, the paragraph below it and the block below that, which may begin the next such three.
 SHOWN = re.compile(BLOCK + r'(?=\n((?:^\S.*\n)+)\n' + BLOCK + ')', re.M)
 
+# A printed line goes on in the page's next one, where that is four columns further in.
+GOES_ON = re.compile('\n {4}')
+
 # A script as a page has it, with which status it ends if the page says so, and the lines that it prints.
 Shown = collections.namedtuple('Shown', 'script status lines')
 
@@ -32,7 +35,7 @@ def scripts_on(page):
         script, lines = (re.sub('(?m)^    ', '', it) for it in (block, lines))
         status = re.search(r'\bexit (\d)\b', between)
         if is_script(script):
-            yield Shown(script, int(status.group(1)) if status else None, lines)
+            yield Shown(script, int(status.group(1)) if status else None, GOES_ON.sub('', lines))
 
 
 def all_shown():

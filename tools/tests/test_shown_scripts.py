@@ -18,7 +18,8 @@ PAGE = '''A script:
 prints, with exit 1,
 
     one
-    two
+    tw
+        o
 
 Another one is
 
