@@ -1,0 +1,2 @@
+pub mod LastUse
+pub mod RunLaws
