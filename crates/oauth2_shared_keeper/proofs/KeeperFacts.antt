@@ -158,10 +158,15 @@ module _ {T E : Type 0} (is_good : T → ℤ → ℕ → Bool) (settings : Keepe
       rw (refreshes_in-append (calls_of r) (calls_in (next ∷ rounds)), none) (omega arith)
 
   -- a call that made a round was allowed one
-  some_left : (left : ℕ) (r : Round T E) (rounds : List (Round T E)) (result : Held T E) → Holds is_good settings left (r ∷ rounds) result
+  pub some_left : (left : ℕ) (r : Round T E) (rounds : List (Round T E)) (result : Held T E) → Holds is_good settings left (r ∷ rounds) result
       → 1 ≤ left
   some_left left r [] result h = h.0
   some_left left r (next ∷ rounds) result h = let k = some_left (left - 1) next rounds result h.1 in omega arith
+
+  pub some_round : (left : ℕ) (rounds : List (Round T E)) (renewal version : ℕ) (token : T)
+      → Holds is_good settings left rounds (held.Unfinished renewal version token) → 1 ≤ left
+  some_round left [] renewal version token h = absurd (let k : held.Unfinished renewal version token ≡ held.Unread = h.1 in cc)
+  some_round left (r ∷ rounds) renewal version token h = some_left left r rounds (held.Unfinished renewal version token) h
 
   pub few_renewals : (left : ℕ) (rounds : List (Round T E)) (result : Held T E) → Holds is_good settings left rounds result
       → renewals_in rounds ≤ left

@@ -6,4 +6,5 @@ pub mod Unsent
 pub mod Rounds
 pub mod KeeperFacts
 pub mod KeeperSendings
-pub mod OldTokens
+pub mod MarkedTokens
+pub mod Waiting

@@ -1,5 +1,5 @@
 -- The laws of a keeper.
-use Rattle.std.specs.Prelude.{◌≡◌, ℕ, ◌+◌, ◌-◌, ◌*◌, ◌≤◌, ℤ, Bool, true, IsTrue, List, [], ◌∷◌, ◌++◌, Option, Some, None}
+use Rattle.std.specs.Prelude.{◌≡◌, ℕ, ◌+◌, ◌-◌, ◌*◌, ◌≤◌, ℤ, pos, ◌+ℤ◌, ◌≤ℤ◌, Bool, true, false, IsTrue, List, [], ◌∷◌, ◌++◌, Option, Some, None}
 use Rattle.std.specs.Duration.{as_nanos}
 use Rattle.std.specs.List.{Contains}
 use Rattle.jiff.specs.Types.{Timestamp}
@@ -26,6 +26,14 @@ slept_in [] = 0
 slept_in (Reading now ∷ events) = slept_in events
 slept_in (Slept wait ∷ events) = as_nanos wait + slept_in events
 slept_in (Drawn name ∷ events) = slept_in events
+
+-- from this moment on the clock is not set back, and no sleep is too short: no reading is earlier than what was
+-- before it, and the sleeps since then
+abbrev pub GoesOn : ℤ → List Event → Type 0
+GoesOn from [] = Unit {0}
+GoesOn from (Reading now ∷ events) = (from ≤ℤ now.nanosecond) × GoesOn now.nanosecond events
+GoesOn from (Slept wait ∷ events) = GoesOn (from +ℤ pos (as_nanos wait)) events
+GoesOn from (Drawn name ∷ events) = GoesOn from events
 
 -- the token that a caller is handed as a good or a new one
 abbrev pub token_in : {T E : Type 0} → Held T E → Option T
@@ -83,6 +91,18 @@ module _ (T E : Type 0) where
       (before : List (Round T E)) × (p : StoredValue T) × (now : Timestamp) × (rounds ≡ before ++ Seen p now ∷ [])
       × (p.version ≡ version) × (p.content ≡ Marked token renewal)
       × IsTrue (is_good token now.nanosecond (as_nanos settings.old_margin))
+
+  -- a token that is told as unfinished was marked by that renewal, under that version, and not good any more,
+  -- when the clock was read for the last time; that was after all the sleeps of all the rounds
+  abbrev pub EachUnfinishedWasWaitedFor : Type 0
+  EachUnfinishedWasWaitedFor =
+      (is_good : T → ℤ → ℕ → Bool) (settings : KeeperSettings) (rounds : List (Round T E)) (renewal version : ℕ) (token : T) →
+      IsHeld is_good settings rounds (held.Unfinished renewal version token) →
+      (before : List (Round T E)) × (p : StoredValue T) × (now : Timestamp) × (rounds ≡ before ++ Seen p now ∷ [])
+      × (p.version ≡ version) × (p.content ≡ Marked token renewal)
+      × (is_good token now.nanosecond (as_nanos settings.old_margin) ≡ false)
+      × ((from : ℤ) → GoesOn from (events_in settings.wait rounds) →
+      (from +ℤ pos ((settings.rounds - 1) * as_nanos settings.wait)) ≤ℤ now.nanosecond)
 
   -- a call sleeps once less than it may look, at most
   abbrev pub EachCallSleepsLittle : Type 0

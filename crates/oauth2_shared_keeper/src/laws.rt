@@ -4,7 +4,8 @@ ghost use Rattle.oauth2_shared_keeper.specs.Fleets.{EachRefreshIsOfTheFleet};
 ghost use Rattle.oauth2_shared_keeper.specs.Fleets.{EachRefreshTokenIsSentOnce};
 ghost use Rattle.oauth2_shared_keeper.specs.KeeperLaws.{EachCallSendsOnce, EachCallSleepsLittle};
 ghost use Rattle.oauth2_shared_keeper.specs.KeeperLaws.{EachGoodIsGood, EachOldIsGood};
-ghost use Rattle.oauth2_shared_keeper.specs.KeeperLaws.{EachSendingIsOfARenewal, NoGivenIsLost};
+ghost use Rattle.oauth2_shared_keeper.specs.KeeperLaws.{EachSendingIsOfARenewal, EachUnfinishedWasWaitedFor};
+ghost use Rattle.oauth2_shared_keeper.specs.KeeperLaws.{NoGivenIsLost};
 ghost use Rattle.oauth2_shared_keeper.specs.Laws.{EachGivenIsHandedOver, EachRenewalSendsOnce};
 ghost use Rattle.oauth2_shared_keeper.specs.Laws.{EachSendingIsMarked};
 
@@ -55,6 +56,13 @@ pub fn each_good_is_good<T, E>()
 /// good for `old_margin` when the clock was read.
 pub fn each_old_is_good<T, E>()
     ensures { EachOldIsGood T E }
+{}
+
+/// A token that is told as unfinished was marked by the renewal that it tells, and not good for
+/// `old_margin`, when the clock was read for the last time. That was after all rounds: where the clock
+/// goes on and sleeps take their time, no earlier than `wait` for each round but one after the call.
+pub fn each_unfinished_was_waited_for<T, E>()
+    ensures { EachUnfinishedWasWaitedFor T E }
 {}
 
 /// The sleeps of a call are together at most `wait` for each round but one.
