@@ -1,6 +1,6 @@
 -- A marked token that a keeper tells of was seen in its last round: good still, or not.
 use Rattle.std.proofs.Common.{◌≡◌, ℕ, ◌-◌, Bool, true, false, List, [], ◌∷◌, ◌++◌, Some, None, refl, ap, sym, ◌∙◌, subst, inl, inr}
-use Rattle.std.specs.Prelude.{ℤ, IsTrue}
+use Rattle.std.specs.Prelude.{ℤ}
 use Rattle.std.specs.Duration.{as_nanos}
 use Rattle.jiff.specs.Types.{Timestamp}
 use Rattle.oauth2_shared_token.specs.declared.renewal.Content.{Content}

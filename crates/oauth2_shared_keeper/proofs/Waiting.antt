@@ -7,7 +7,6 @@ use Rattle.jiff.specs.Types.{Timestamp}
 use Rattle.oauth2_shared_token.specs.declared.renewal.Content.{Content}
 use Rattle.oauth2_shared_token.specs.declared.renewal.Content.TheVariants as content
 use Rattle.oauth2_shared_token.specs.declared.renewal.StoredValue.{StoredValue}
-use Rattle.oauth2_shared_keeper.specs.declared.held.Held.{Held}
 use Rattle.oauth2_shared_keeper.specs.declared.held.Held.TheVariants as held
 use Rattle.oauth2_shared_keeper.specs.declared.outcome.Outcome.{Outcome}
 use Rattle.oauth2_shared_keeper.specs.declared.outcome.Outcome.TheVariants.{Ends, Waits}
@@ -16,7 +15,7 @@ use Rattle.oauth2_shared_keeper.specs.declared.renewed.Renewed.TheVariants.{Kept
 use Rattle.oauth2_shared_keeper.specs.declared.renewed.Renewed.TheVariants.{Unanswered, Unclear, Unread, NoNextVersion}
 use Rattle.oauth2_shared_keeper.specs.declared.settings.KeeperSettings.{KeeperSettings}
 use Rattle.oauth2_shared_keeper.specs.Keeper.{Round, Blind, Seen, Renewing, at_rest_if, marked_if, after_renewal, content_verdict}
-use Rattle.oauth2_shared_keeper.specs.Keeper.{IsRound, Holds, Event, Reading, Slept, Drawn, events_of, events_in}
+use Rattle.oauth2_shared_keeper.specs.Keeper.{IsRound, Holds, Event, Slept, events_of, events_in}
 use Rattle.oauth2_shared_keeper.specs.KeeperLaws.{GoesOn}
 use Rattle.oauth2_shared_keeper.proofs.KeeperFacts.{some_left}
 
