@@ -1,0 +1,23 @@
+use Rattle.std.proofs.Common.{rules}
+use Rattle.oauth2_wire.specs.Once.{AsksOnce}
+use Rattle.oauth2_wire.specs.Reply.{answer_of}
+use Rattle.oauth2_shared_login.proofs.Requesting.{requests_by}
+use Rattle.oauth2_shared_login.proofs.login_refresher.LoginRefresher.refresh_by.Goals as goal
+
+pub returns-in-Ok-clause-refreshes : goal.returns-in-Ok-clause-refreshes
+returns-in-Ok-clause-refreshes g c = (
+  c.time_fn-now.result,
+  c.in-Ok.response,
+  (search rules),
+  requests_by (λ rule. AsksOnce g.TR.FromJson.meaning g.TE.FromJson.meaning g.C.SyncHttpClient.step (answer_of rule g.TR.FromJson.reading g.TE.FromJson.reading))
+  c.args.self.now.client.now c.args.refresh_token _ _ _ c.exchange_refresh_token-request.result (search rules) (search rules) c.in-Ok.ensures.once,
+  (search rules),
+)
+
+pub returns-in-Err-clause-refreshes : goal.returns-in-Err-clause-refreshes
+returns-in-Err-clause-refreshes g c = (
+  c.time_fn-now.result,
+  (search rules),
+  requests_by (λ rule. AsksOnce g.TR.FromJson.meaning g.TE.FromJson.meaning g.C.SyncHttpClient.step (answer_of rule g.TR.FromJson.reading g.TE.FromJson.reading))
+  c.args.self.now.client.now c.args.refresh_token _ _ _ c.exchange_refresh_token-request.result (search rules) (search rules) c.in-Err.ensures.once,
+)
