@@ -159,7 +159,7 @@ module _ {T : Type 0} (view : T → Token) (i : ℕ) where
       let sends : (next_turn i p (told_as view said)).step ≡ step.Send v (view t) = ap (λ (k : Turn Token). k.step) same ∙ ap (step_as view) is in
       subst (λ (s : Step Token). Contains (sofar ++ events_of i s) (Sent i v (view t))) (sym sends) (Contains-push sofar (Sent i v (view t)))
 
-  phase_now : (f : Fleet) (turn : Turn T) (said : Told T) → phase_of f i ≡ phase_as view turn.phase
+  pub phase_now : (f : Fleet) (turn : Turn T) (said : Told T) → phase_of f i ≡ phase_as view turn.phase
       → phase_of (later f (Turned i (told_as view said))) i ≡ phase_as view (next_turn i turn.phase said).phase
   phase_now f turn said in_phase =
       put-same phase.Looking f.phases i (next_turn i (phase_of f i) (told_as view said)).phase
@@ -167,10 +167,10 @@ module _ {T : Type 0} (view : T → Token) (i : ℕ) where
       ∙ ap (λ (k : Turn Token). k.phase) (next-as view i turn.phase said))
 
   -- the calls of this renewal after this one, if it is its own
-  calls_mine : (j : ℕ) (call : Call T) (events : List (Event T)) → (i == j) ≡ true → calls_of i (Made j call ∷ events) ≡ call ∷ calls_of i events
+  pub calls_mine : (j : ℕ) (call : Call T) (events : List (Event T)) → (i == j) ≡ true → calls_of i (Made j call ∷ events) ≡ call ∷ calls_of i events
   calls_mine j call events mine = ap (λ (b : Bool). if b then call ∷ calls_of i events else calls_of i events) mine
 
-  calls_theirs : (j : ℕ) (call : Call T) (events : List (Event T)) → (i == j) ≡ false → calls_of i (Made j call ∷ events) ≡ calls_of i events
+  pub calls_theirs : (j : ℕ) (call : Call T) (events : List (Event T)) → (i == j) ≡ false → calls_of i (Made j call ∷ events) ≡ calls_of i events
   calls_theirs j call events theirs = ap (λ (b : Bool). if b then call ∷ calls_of i events else calls_of i events) theirs
 
   follow : (f : Fleet) (sofar : List SharedEvent) (events : List (Event T)) (turn last : Turn T) (token : T) (given : Option T) → TurnsAreCalls events

@@ -2,6 +2,7 @@ pub mod Runs
 pub mod Parts
 pub mod History
 pub mod FleetFacts
+pub mod StoreRuns
 pub mod Unsent
 pub mod Rounds
 pub mod KeeperFacts

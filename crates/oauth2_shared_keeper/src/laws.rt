@@ -8,6 +8,8 @@ ghost use Rattle.oauth2_shared_keeper.specs.KeeperLaws.{EachSendingIsOfARenewal,
 ghost use Rattle.oauth2_shared_keeper.specs.KeeperLaws.{NoGivenIsLost};
 ghost use Rattle.oauth2_shared_keeper.specs.Laws.{EachGivenIsHandedOver, EachRenewalSendsOnce};
 ghost use Rattle.oauth2_shared_keeper.specs.Laws.{EachSendingIsMarked};
+ghost use Rattle.oauth2_shared_keeper.specs.Stores.{EachStoreHasAFleet};
+ghost use Rattle.oauth2_shared_keeper.specs.Stores.{EachTokenOfAStoreIsSentOnce};
 
 /// A renewal sends one refresh token at most, and that once.
 pub fn each_renewal_sends_once<T, E>()
@@ -33,6 +35,20 @@ pub fn each_refresh_is_of_the_fleet<T>()
 /// So the calls of all renewals send a refresh token that came to be stored once at most once.
 pub fn each_refresh_token_is_sent_once<T>()
     ensures { EachRefreshTokenIsSentOnce T }
+{}
+
+/// Renewals over any store that puts something only in the place of the version that it has, and tells
+/// only what was stored, are such a fleet. It may do what it was asked late, again or never, its
+/// replies may be lost, loads may show old values, and renewals may stop anywhere.
+#[tactic(auto, using(crate::proofs::StoreRuns::each_store_has_a_fleet))]
+pub fn each_store_has_a_fleet<T>()
+    ensures { EachStoreHasAFleet T }
+{}
+
+/// So all renewals over a store send a refresh token that was put there once at most once.
+#[tactic(auto, using(crate::proofs::StoreRuns::each_token_of_a_store_is_sent_once))]
+pub fn each_token_of_a_store_is_sent_once<T>()
+    ensures { EachTokenOfAStoreIsSentOnce T }
 {}
 
 /// A call of a keeper sends one refresh token at most, and that once. It begins at most one renewal

@@ -25,7 +25,8 @@ pub use laws::{
     each_call_sends_once, each_call_sleeps_little, each_given_is_handed_over, each_good_is_good,
     each_old_is_good, each_refresh_is_of_the_fleet, each_refresh_token_is_sent_once,
     each_renewal_sends_once, each_sending_is_marked, each_sending_is_of_a_renewal,
-    each_unfinished_was_waited_for, no_given_is_lost,
+    each_store_has_a_fleet, each_token_of_a_store_is_sent_once, each_unfinished_was_waited_for,
+    no_given_is_lost,
 };
 pub use limits::Limits;
 pub use oauth2_shared_token::{Content, StoredValue};
