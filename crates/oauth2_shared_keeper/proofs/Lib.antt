@@ -8,4 +8,5 @@ pub mod Rounds
 pub mod KeeperFacts
 pub mod KeeperSendings
 pub mod MarkedTokens
+pub mod LoginTries
 pub mod Waiting

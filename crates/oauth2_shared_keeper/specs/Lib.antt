@@ -5,4 +5,5 @@ pub mod Fleets
 pub mod Stores
 pub mod Keeper
 pub mod KeeperLaws
+pub mod Logins
 pub mod private

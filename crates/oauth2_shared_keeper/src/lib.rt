@@ -8,6 +8,8 @@ mod client;
 mod held;
 mod laws;
 mod limits;
+mod logged_in;
+mod logins;
 mod marking;
 mod outcome;
 mod renewal;
@@ -29,6 +31,7 @@ pub use laws::{
     no_given_is_lost,
 };
 pub use limits::Limits;
+pub use logged_in::{LoggedIn, LoggedOut};
 pub use oauth2_shared_token::{Content, StoredValue};
 pub use renewal::renew;
 pub use renewed::Renewed;

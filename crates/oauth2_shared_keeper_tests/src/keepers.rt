@@ -11,7 +11,7 @@ use std::time::Duration;
 /// What is stored at first: a token that is good until this second, at rest or marked by the
 /// renewal 9, or none.
 #[derive(Clone, Copy)]
-enum Stored {
+pub enum Stored {
     AtRest(u64),
     Marked(u64),
     Empty,
@@ -19,9 +19,9 @@ enum Stored {
 
 /// What goes wrong: so many loads fail, so many replies are lost, somebody else is first, the
 /// server is silent.
-type Trouble = (u64, u64, bool, bool);
+pub type Trouble = (u64, u64, bool, bool);
 
-const NO_TROUBLE: Trouble = (0, 0, false, false);
+pub const NO_TROUBLE: Trouble = (0, 0, false, false);
 
 // What is stored, until when the token is good that another renewal keeps after the first load,
 // what goes wrong, what the keeper says at second 1000, how often it sends, and how many seconds it
@@ -132,7 +132,7 @@ fn content_of(stored: Stored) -> Content<TimedToken> {
 }
 
 // A keeper over a store that has this.
-fn keeper_of(
+pub fn keeper_of(
     stored: Stored,
     kept_next: Option<u64>,
     trouble: Trouble,

@@ -1,10 +1,12 @@
-//! Tests of `oauth2_shared_keeper`: renewals and calls of a keeper over a store in memory, whose
+//! Tests of `oauth2_shared_keeper`: renewals, calls of a keeper and logins over a store in memory, whose
 //! replies can be lost.
 
 #![tactic(auto)]
 
 #[cfg(test)]
 mod keepers;
+#[cfg(test)]
+mod logins;
 #[cfg(test)]
 mod memory_store;
 #[cfg(test)]

@@ -1,9 +1,8 @@
 -- What happens under one name is a run of its fleet.
-use Rattle.std.proofs.Common.{◌≡◌, ℕ, zero, suc, ◌+◌, ◌≤◌, List, [], ◌∷◌, Bool, true, false, if◌then◌else◌, ◌==◌, subst, sym, arith, inl, inr}
+use Rattle.std.proofs.Common.{ℕ, zero, suc, ◌+◌, ◌≤◌, List, [], ◌∷◌, Bool, if◌then◌else◌, ◌==◌, subst, sym, arith, inl, inr}
 use Rattle.std.proofs.lemmas.Bool.Decides.{eqb_tells}
-use Rattle.oauth2_shared_token.specs.State.{Token}
 use Rattle.oauth2_shared_token.specs.Run.{has_refresh, times_sent, times_stored}
-use Rattle.oauth2_shared_token.specs.Fleet.{Fleet, Happening, CanOccur, later, fleet_of, IsFleetRun}
+use Rattle.oauth2_shared_token.specs.Fleet.{Fleet, CanOccur, later, IsFleetRun}
 use Rattle.oauth2_shared_token.specs.Names.{AtName, later_at, IsRunAtNames, those_at, fleets_of, EachNameRuns, events_at, over_names, EachSendingOverNamesWasStored, EachIsSentOnceOverNames}
 use Rattle.oauth2_shared_token.proofs.Fleets.{each_fleet_runs}
 use Rattle.oauth2_shared_token.proofs.Sendings.{each_sending_was_stored}

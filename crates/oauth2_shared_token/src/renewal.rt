@@ -16,7 +16,7 @@ ghost use Rattle.oauth2_shared_token.specs.Renewal.{
 };
 
 /// What a version holds. `T` is the type of a token, here and below: this machine only passes it on.
-#[derive(Drop)]
+#[derive(Debug, Drop)]
 pub enum Content<T> {
     /// A token that no renewal uses.
     AtRest(T),
@@ -27,7 +27,7 @@ pub enum Content<T> {
 }
 
 /// What the store keeps under a name.
-#[derive(Drop)]
+#[derive(Debug, Drop)]
 pub struct StoredValue<T> {
     pub version: u64,
     pub content: Content<T>,
