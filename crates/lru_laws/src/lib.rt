@@ -1,10 +1,10 @@
-//! What the values of an `lru::LruCache` are after many calls: laws for those who keep something by
-//! name in one.
+//! What the values of an `lru::LruCache` are after many calls: laws for those who keep something
+//! by name in one.
 
 ghost use Rattle.lru_laws.specs.Runs.{EachKeyHasItsOwnValue, EachValueFoundWasLeft};
 
-/// Whatever happens to other keys, each value that is lent is as it was left when it was last put or
-/// lent under that key.
+/// Whatever happens to other keys, each value that is lent is as it was left when it was last put
+/// or lent under that key.
 #[tactic(auto, using(crate::proofs::RunLaws::has_its_own))]
 pub fn each_key_has_its_own_value<K: Eq, V>()
     ensures { EachKeyHasItsOwnValue V K.eq }

@@ -4,7 +4,8 @@ ghost use Rattle.oauth2_shared_keeper.specs.Fleets.{EachRefreshIsOfTheFleet};
 ghost use Rattle.oauth2_shared_keeper.specs.Fleets.{EachRefreshTokenIsSentOnce};
 ghost use Rattle.oauth2_shared_keeper.specs.KeeperLaws.{EachCallSendsOnce, EachCallSleepsLittle};
 ghost use Rattle.oauth2_shared_keeper.specs.KeeperLaws.{EachGoodIsGood, EachOldIsGood};
-ghost use Rattle.oauth2_shared_keeper.specs.KeeperLaws.{EachSendingIsOfARenewal, EachUnfinishedWasWaitedFor};
+ghost use Rattle.oauth2_shared_keeper.specs.KeeperLaws.{EachSendingIsOfARenewal};
+ghost use Rattle.oauth2_shared_keeper.specs.KeeperLaws.{EachUnfinishedWasWaitedFor};
 ghost use Rattle.oauth2_shared_keeper.specs.KeeperLaws.{NoGivenIsLost};
 ghost use Rattle.oauth2_shared_keeper.specs.Laws.{EachGivenIsHandedOver, EachRenewalSendsOnce};
 ghost use Rattle.oauth2_shared_keeper.specs.Laws.{EachSendingIsMarked};
@@ -37,9 +38,9 @@ pub fn each_refresh_token_is_sent_once<T>()
     ensures { EachRefreshTokenIsSentOnce T }
 {}
 
-/// Renewals over any store that puts something only in the place of the version that it has, and tells
-/// only what was stored, are such a fleet. It may do what it was asked late, again or never, its
-/// replies may be lost, loads may show old values, and renewals may stop anywhere.
+/// Renewals over any store that puts something only in the place of the version that it has, and
+/// tells only what was stored, are such a fleet. It may do what it was asked late, again or never,
+/// its replies may be lost, loads may show old values, and renewals may stop anywhere.
 #[tactic(auto, using(crate::proofs::StoreRuns::each_store_has_a_fleet))]
 pub fn each_store_has_a_fleet<T>()
     ensures { EachStoreHasAFleet T }
@@ -51,8 +52,8 @@ pub fn each_token_of_a_store_is_sent_once<T>()
     ensures { EachTokenOfAStoreIsSentOnce T }
 {}
 
-/// A call of a keeper sends one refresh token at most, and that once. It begins at most one renewal
-/// in each round.
+/// A call of a keeper sends one refresh token at most, and that once. It begins at most one
+/// renewal in each round.
 pub fn each_call_sends_once<T, E>()
     ensures { EachCallSendsOnce T E }
 {}
@@ -75,8 +76,9 @@ pub fn each_old_is_good<T, E>()
 {}
 
 /// A token that is told as unfinished was marked by the renewal that it tells, and not good for
-/// `old_margin`, when the clock was read for the last time. That was after all rounds: where the clock
-/// goes on and sleeps take their time, no earlier than `wait` for each round but one after the call.
+/// `old_margin`, when the clock was read for the last time. That was after all rounds: where the
+/// clock goes on and sleeps take their time, no earlier than `wait` for each round but one after
+/// the call.
 pub fn each_unfinished_was_waited_for<T, E>()
     ensures { EachUnfinishedWasWaitedFor T E }
 {}

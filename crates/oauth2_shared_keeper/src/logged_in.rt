@@ -9,8 +9,8 @@ pub enum LoggedIn<T> {
     Done,
     /// Somebody else was first, in each try. The store does not keep it.
     Refused(T),
-    /// The store was asked to put it in the place of this version, and did not say whether it did. It
-    /// may keep it, or come to keep it.
+    /// The store was asked to put it in the place of this version, and did not say whether it did.
+    /// It may keep it, or come to keep it.
     Unclear { version: u64, token: T },
     /// A load told nothing. The store does not keep it.
     Unread(T),

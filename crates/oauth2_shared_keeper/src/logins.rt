@@ -28,8 +28,8 @@ impl<S, C, W> SharedKeeper<S, C, W> {
         log_in(&mut self.store, name, token, self.settings.limits.loads)
     }
 
-    /// Answers for a mark: puts this token in the place of the version that the mark has, once. The
-    /// token is that of a new login, or the old one, which may then be used again.
+    /// Answers for a mark: puts this token in the place of the version that the mark has, once.
+    /// The token is that of a new login, or the old one, which may then be used again.
     pub fn answer<T: Drop>(&mut self, name: &str, version: u64, token: T) -> LoggedIn<T>
     where
         S: TokenStore<T>,
@@ -44,8 +44,8 @@ impl<S, C, W> SharedKeeper<S, C, W> {
         put(&mut self.store, name, version, token)
     }
 
-    /// Drops whatever the store has under this name, and hands it out. If somebody else is first, it
-    /// looks again, at most as often as a renewal loads.
+    /// Drops whatever the store has under this name, and hands it out. If somebody else is first,
+    /// it looks again, at most as often as a renewal loads.
     pub fn log_out<T: Drop>(&mut self, name: &str) -> LoggedOut<T>
     where
         S: TokenStore<T>,

@@ -3,7 +3,8 @@
 use crate::replaced::Replaced;
 use oauth2_shared_token::{Content, StoredValue};
 
-/// A store that many processes share. It keeps one value under each name. `T` is the type of a token.
+/// A store that many processes share. It keeps one value under each name. `T` is the type of a
+/// token.
 ///
 /// A call that fails may have happened, may happen later, or not.
 ///
@@ -25,8 +26,8 @@ pub trait TokenStore<T> {
     // after.
     ghost loads: { Self → List ℕ → Result (StoredValue T) Self.Error → Self → Type 0 } = { λ _ _ _ _. ⊤ };
 
-    // What a request to replace may tell, as a relation: the state before, the name, the version, the
-    // content, the result and the state after.
+    // What a request to replace may tell, as a relation: the state before, the name, the version,
+    // the content, the result and the state after.
     ghost replaces: { Self → List ℕ → ℕ → Content T → Result Replaced Self.Error → Self
         → Type 0 } = { λ _ _ _ _ _ _. ⊤ };
 
@@ -36,8 +37,8 @@ pub trait TokenStore<T> {
         ensures loads { loads self.old name.now result self.new }
         ensures ready { is_ready self.new };
 
-    /// Puts this in the place of what is stored under this name, if that has this version, and gives
-    /// it the next version, in one step that no other call divides.
+    /// Puts this in the place of what is stored under this name, if that has this version, and
+    /// gives it the next version, in one step that no other call divides.
     fn replace_if(
         &mut self,
         name: &str,

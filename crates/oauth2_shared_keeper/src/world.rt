@@ -15,8 +15,8 @@ pub trait KeeperWorld {
     // Every call is allowed in this state.
     ghost is_ready: { Self → Type 0 } = { λ _. ⊤ };
 
-    // What each call may do, as a relation: the state before, the argument or the result, the state
-    // after.
+    // What each call may do, as a relation: the state before, the argument or the result, the
+    // state after.
     ghost reads: { Self → Timestamp → Self → Type 0 } = { λ _ _ _. ⊤ };
 
     ghost sleeps: { Self → Duration → Self → Type 0 } = { λ _ _ _. ⊤ };

@@ -24,8 +24,8 @@ pub type Trouble = (u64, u64, bool, bool);
 pub const NO_TROUBLE: Trouble = (0, 0, false, false);
 
 // What is stored, until when the token is good that another renewal keeps after the first load,
-// what goes wrong, what the keeper says at second 1000, how often it sends, and how many seconds it
-// sleeps. A token at rest has to be good for 60 seconds, and a marked one for 10.
+// what goes wrong, what the keeper says at second 1000, how often it sends, and how many seconds
+// it sleeps. A token at rest has to be good for 60 seconds, and a marked one for 10.
 const ROWS: &[(Stored, Option<u64>, Trouble, &str, u64, u64)] = &[
     (
         Stored::AtRest(1060),

@@ -1,5 +1,5 @@
-//! Tests of `oauth2_shared_keeper`: renewals, calls of a keeper and logins over a store in memory, whose
-//! replies can be lost.
+//! Tests of `oauth2_shared_keeper`: renewals, calls of a keeper and logins over a store in memory,
+//! whose replies can be lost.
 
 #![tactic(auto)]
 

@@ -43,8 +43,8 @@ where
     pub default_lifetime: Duration,
 }
 
-/// Refreshes the logins of a server that uses no extension, for a `BasicClient` whose other endpoints
-/// are in these states.
+/// Refreshes the logins of a server that uses no extension, for a `BasicClient` whose other
+/// endpoints are in these states.
 pub type BasicLoginRefresher<
     'a,
     C,

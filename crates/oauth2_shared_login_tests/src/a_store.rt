@@ -80,7 +80,8 @@ fn settings() -> KeeperSettings {
     }
 }
 
-// The second, and what is handed out then, with how often the store was asked to replace something.
+// The second, and what is handed out then, with how often the store was asked to replace
+// something.
 const ROWS: &[(i64, &str, u64)] = &[
     (90, "t2 for 60s, then r2", 0),
     (91, "t3 for 600s, then r3", 2),

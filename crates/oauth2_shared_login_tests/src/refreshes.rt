@@ -47,7 +47,8 @@ const ROWS: &[Row] = &[
         sent: "grant_type=refresh_token&refresh_token=r1",
         becomes: "t2 for 60s, then r2",
     },
-    // The refresh token stays where the reply has none (RFC 6749, 6), and so it does the next time.
+    // The refresh token stays where the reply has none (RFC 6749, 6), and so it does the next
+    // time.
     Row {
         response: WITH_REFRESH_TOKEN,
         earlier: "r0",

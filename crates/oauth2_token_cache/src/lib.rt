@@ -1,4 +1,5 @@
-//! Keepers of tokens by what their tokens are for: for each scope, audience or user one of its own.
+//! Keepers of tokens by what their tokens are for: for each scope, audience or user one of its
+//! own.
 
 #![tactic(auto)]
 

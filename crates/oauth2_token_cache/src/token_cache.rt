@@ -14,8 +14,8 @@ use std::collections::hash_map::Equivalent;
 use std::hash::Hash;
 use std::num::NonZeroUsize;
 
-/// Keepers by name. `K` is the type of a keeper, and `N` that of a name. Where there is no room for
-/// another keeper, that one goes whose name was used longest ago.
+/// Keepers by name. `K` is the type of a keeper, and `N` that of a name. Where there is no room
+/// for another keeper, that one goes whose name was used longest ago.
 #[derive(Drop)]
 pub struct TokenCache<K, N: Eq + Hash = TokenName> {
     keepers: LruCache<N, K>,
@@ -35,8 +35,10 @@ impl<K, N: Eq + Hash> TokenCache<K, N> {
 
     /// The keeper of this name, which becomes the one that was used last.
     pub fn keeper<Q: Equivalent<N>>(&mut self, name: Q) -> Option<&mut K>
-        ensures* writes_back { sem 𝓛 (LendsKeeper K.row N.row N.Hash self.entry (Q.equivalent name) result) }
-        ensures keeper { option_copied_mut result ≡ lookup (Q.equivalent name) self.old.keepers.entries }
+        ensures* writes_back { sem 𝓛
+            (LendsKeeper K.row N.row N.Hash self.entry (Q.equivalent name) result) }
+        ensures keeper { option_copied_mut result
+            ≡ lookup (Q.equivalent name) self.old.keepers.entries }
     {
         self.keepers.get_mut(name)
     }
@@ -45,7 +47,8 @@ impl<K, N: Eq + Hash> TokenCache<K, N> {
     /// which there is no room now. That has its own refresh token, perhaps, which is to be stored
     /// or revoked. After an error nothing changed, and the error has what was handed in.
     pub fn insert(&mut self, name: N, keeper: K) -> Result<Option<(N, K)>, AllocFailed<(N, K)>>
-        ensures displaced { IfOk result (λ pair. pair ≡ displaced N.eq self.old.keepers name keeper) }
+        ensures displaced { IfOk result
+            (λ pair. pair ≡ displaced N.eq self.old.keepers name keeper) }
         ensures kept { OnOk result (self.new.keepers
             ≡ lru_cache (put_entries N.eq self.old.keepers name keeper) self.old.keepers.cap) }
         ensures returned { IfErr result (λ error. error.value ≡ (name, keeper)) }

@@ -19,8 +19,8 @@ enum Step {
     Remove,
 }
 
-// The steps, and what each shows: the keeper that goes, as its name and how often it was called, or
-// how often a keeper was called after its call.
+// The steps, and what each shows: the keeper that goes, as its name and how often it was called,
+// or how often a keeper was called after its call.
 const STEPS: &[(&str, Step, &str)] = &[
     ("mail", Step::Call, "none"),
     ("mail", Step::Insert(0), "none"),

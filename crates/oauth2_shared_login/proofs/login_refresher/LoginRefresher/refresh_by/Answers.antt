@@ -10,7 +10,7 @@ returns-in-Ok-clause-refreshes g c = (
   c.in-Ok.response,
   (search rules),
   requests_by (λ rule. AsksOnce g.TR.FromJson.meaning g.TE.FromJson.meaning g.C.SyncHttpClient.step (answer_of rule g.TR.FromJson.reading g.TE.FromJson.reading))
-  c.args.self.now.client.now c.args.refresh_token _ _ _ c.exchange_refresh_token-request.result (search rules) (search rules) c.in-Ok.ensures.once,
+      c.args.self.now.client.now c.args.refresh_token _ _ _ c.exchange_refresh_token-request.result (search rules) (search rules) c.in-Ok.ensures.once,
   (search rules),
 )
 
@@ -19,5 +19,5 @@ returns-in-Err-clause-refreshes g c = (
   c.time_fn-now.result,
   (search rules),
   requests_by (λ rule. AsksOnce g.TR.FromJson.meaning g.TE.FromJson.meaning g.C.SyncHttpClient.step (answer_of rule g.TR.FromJson.reading g.TE.FromJson.reading))
-  c.args.self.now.client.now c.args.refresh_token _ _ _ c.exchange_refresh_token-request.result (search rules) (search rules) c.in-Err.ensures.once,
+      c.args.self.now.client.now c.args.refresh_token _ _ _ c.exchange_refresh_token-request.result (search rules) (search rules) c.in-Err.ensures.once,
 )
