@@ -1,0 +1,136 @@
+"""Stores for tokens that many processes share, each as `oauth2_shared_keeper` wants one: a value under a name, with a version, which is
+replaced only over the version that is stored, in one step; for tools/try-shared-keepers.
+
+A value is a version and a text without line ends; a name that has none is version 0 and the text 'none'. `load` returns both, and `replace`
+whether it did what it was asked; None is silence, where it is not known. Both stores can keep a history of all values of a name.
+
+What a store rests on: a version names one value for ever. A RedisStore keeps that where the server runs with `appendonly yes` and
+`appendfsync always`, with `maxmemory-policy noeviction`, and without replicas that can be promoted. With `appendfsync everysec`, or with
+snapshots alone, a server that dies loses what it said to have done, and gives the versions of it a second time; so does a replica that is
+promoted, also in a cluster, since replication is asynchronous. After that, log in anew under another name. No key may have a time to live.
+A FileStore keeps it on a local file system: it writes another file, syncs it, renames it, and syncs the folder. Over a network file
+system it is only as good as that one's locks and renames.
+"""
+import contextlib
+import fcntl
+import os
+import tempfile
+
+NOTHING = (0, 'none')
+LAST = 2 ** 64 - 1  # the last version
+
+# KEYS: the value, its history; ARGV: the version that has to be stored, what takes its place, whether there is a history
+REPLACE = '''
+local stored = redis.call('GET', KEYS[1])
+local version = stored and string.match(stored, '^%d+') or '0'
+if version ~= ARGV[1] then return 0 end
+redis.call('SET', KEYS[1], ARGV[2])
+if ARGV[3] == '1' then redis.call('RPUSH', KEYS[2], ARGV[2]) end
+return 1
+'''
+
+
+def read_value(line):
+    """The version and the text of a stored line."""
+    version, _, text = line.partition(' ')
+    return int(version), text
+
+
+def line_of(version, text):
+    """What is stored in the place of this version."""
+    if '\n' in text or version >= LAST:
+        raise ValueError('not a value to store: %r over version %d' % (text, version))
+    return '%d %s' % (version + 1, text)
+
+
+class RedisStore:
+    """A store on Redis, by the module redis (Debian's python3-redis). Nothing is sent twice by itself."""
+
+    def __init__(self, host='127.0.0.1', port=6379, seconds=5, history=False, prefix='lifecrib:'):
+        import redis
+        self.faults, self.prefix, self.history = redis.RedisError, prefix, history
+        self.client = redis.Redis(host=host, port=port, socket_timeout=seconds, socket_connect_timeout=seconds, retry_on_timeout=False,
+                                  decode_responses=True)
+
+    def load(self, name):
+        try:
+            line = self.client.get(self.prefix + name)
+        except self.faults:
+            return None
+        return read_value(line) if line else NOTHING
+
+    def replace(self, name, version, text):
+        keys = (self.prefix + name, self.prefix + 'history:' + name)
+        try:
+            return bool(self.client.eval(REPLACE, 2, *keys, str(version), line_of(version, text), '1' if self.history else '0'))
+        except self.faults:
+            return None
+
+    def values(self, name):
+        """All values that a name ever had, if it has a history."""
+        return [read_value(line) for line in self.client.lrange(self.prefix + 'history:' + name, 0, -1)]
+
+
+class FileStore:
+    """A store in a folder, a file for each name. A name has to be good as the name of a file."""
+
+    def __init__(self, folder, history=False):
+        self.folder, self.history = folder, history
+        os.makedirs(folder, mode=0o700, exist_ok=True)
+
+    def path(self, name, ending=''):
+        if not name or name.startswith('.') or '/' in name:
+            raise ValueError('not the name of a file: %r' % name)
+        return os.path.join(self.folder, name + ending)
+
+    def load(self, name):
+        path = self.path(name)
+        try:
+            with open(path) as f:
+                return read_value(f.read())
+        except FileNotFoundError:
+            return NOTHING
+        except (OSError, ValueError):
+            return None
+
+    @contextlib.contextmanager
+    def locked(self, name):
+        with open(self.path(name, '.lock'), 'a') as f:
+            fcntl.flock(f, fcntl.LOCK_EX)
+            yield
+
+    def replace(self, name, version, text):
+        try:
+            with self.locked(name):
+                stored = self.load(name)
+                if stored is None or stored[0] != version:
+                    return None if stored is None else False
+                self.put(name, line_of(version, text))
+                return True
+        except OSError:
+            return None
+
+    def put(self, name, line):
+        """Puts a line in the place of a file; after an end at any moment the file is the old or the new one."""
+        if self.history:  # written first: a value that is there, and not in the file, is the last one that was tried
+            with open(self.path(name, '.history'), 'a') as f:
+                f.write(line + '\n')
+                f.flush()
+                os.fsync(f.fileno())
+        handle, new = tempfile.mkstemp(dir=self.folder)
+        with os.fdopen(handle, 'w') as f:
+            f.write(line)
+            f.flush()
+            os.fsync(f.fileno())
+        os.rename(new, self.path(name))
+        folder = os.open(self.folder, os.O_RDONLY)
+        try:
+            os.fsync(folder)
+        finally:
+            os.close(folder)
+
+    def values(self, name):
+        with open(self.path(name, '.history')) as f:
+            lines = [read_value(line.rstrip('\n')) for line in f if line.endswith('\n')]
+        # of two lines with one version the first was written by a process that was killed before it put its file there
+        return [it for it, after in zip(lines, lines[1:] + [(None, None)]) if it[0] != after[0]]
