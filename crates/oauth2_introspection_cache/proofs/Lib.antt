@@ -1,5 +1,4 @@
 pub mod Asking
 pub mod Calls
 pub mod Kept
-pub mod LastUse
 pub mod RunLaws

@@ -9,7 +9,7 @@ use Rattle.oauth2_wire.specs.Request.{RequestView}
 use Rattle.oauth2_introspection_cache.specs.Cache.{Cache, KeptAnswer, Outcome, remembered, active, inactive, failed, is_good_at, good_of, good_answer, forgetting, kept_after}
 use Rattle.oauth2_introspection_cache.specs.Runs.{Event, asked, forgotten, token_of, known_after, last_word, CacheRuns, EachAnswerWasTold, EachForgottenTokenIsAskedAbout, EachOutcomeIsKept}
 use Rattle.oauth2_introspection_cache.proofs.Kept.{digest_laws, still_kept, now_kept}
-use Rattle.oauth2_introspection_cache.proofs.LastUse.{IsNoneOr, Tracks, tracks-promoted, tracks-removed, tracks-put, tracks-nothing}
+use Rattle.lru_laws.proofs.LastUse.{IsNoneOr, Tracks, tracks-promoted, tracks-removed, tracks-put, tracks-nothing}
 
 module _ {D : Type 0} where
   -- what is known of each token after one event
