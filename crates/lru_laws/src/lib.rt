@@ -1,6 +1,8 @@
 //! What the values of an `lru::LruCache` are after many calls: laws for those who keep something
 //! by name in one.
 
+#![tactic(auto)]
+
 ghost use Rattle.lru_laws.specs.Runs.{EachKeyHasItsOwnValue, EachValueFoundWasLeft};
 
 /// Whatever happens to other keys, each value that is lent is as it was left when it was last put
