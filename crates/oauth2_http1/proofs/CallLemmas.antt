@@ -1,7 +1,8 @@
 -- Calls one after the other.
 use Rattle.std.proofs.Common.{OnOk, ◌≡◌, ℕ, ◌+◌, List, [], ◌∷◌, ◌++◌, Ok, Err, length, length-append, Option, refl, sym, ap, subst, ◌∙◌, add_assoc, zero-add, arith, take, drop, ◌-◌, append_assoc, take-append-drop}
 use Rattle.std.proofs.lemmas.List.{take_rest}
-use Rattle.std.specs.Prelude.{Result}
+use Rattle.std.specs.Prelude.{Result, nat_lt}
+use Rattle.std.proofs.lemmas.Bool.Decides.{nat_tests}
 use Rattle.std.specs.declared.io.Error.{Error}
 use Rattle.std.specs.Io.KnownBytes.{Keeps, ReadConsumes}
 use Rattle.std.specs.Io.{ReadsAtMost}
@@ -11,7 +12,8 @@ use Rattle.oauth2_http1.specs.declared.bounds.Bounds.{Bounds}
 use Rattle.oauth2_http1.specs.declared.source.ReplySource.{ReplySource}
 use Rattle.oauth2_http1.specs.declared.fault.ReplyFault.{ReplyFault}
 use Rattle.oauth2_http1.specs.declared.fault.ReplyFault.TheVariants as Fault
-use Rattle.oauth2_http1.specs.Calls.{given, successes, GoesOn, Made, Goes, Fails, TakesNone, ReadsOf, ReadsWithin, ReadFails}
+use Rattle.oauth2_http1.specs.Calls.{given, successes, GoesOn, Made, Goes, Fails, TakesNone, ReadsWithin, ReadFails}
+use Rattle.oauth2_http1.specs.Kept.{ReadsAny}
 use Rattle.oauth2_http1.specs.private.Phase.{Tried, Took, IsPartFault}
 
 given-append : (ss rs : List (Result ℕ Error)) → given (ss ++ rs) ≡ given ss + given rs
@@ -113,6 +115,15 @@ module _ {R : Type 0} (remaining : R → Option (List ℕ)) (reads : R → Resul
   pub Took-within : (bounds : Bounds) (a b : R) (s t : ReplySource) → Took remaining reads a b s t → s.bytes_left ≡ most_bytes bounds → s.reads_left ≡ bounds.max_reads
       → ReadsWithin remaining reads bounds a b
   Took-within bounds a b s t p bytes times = (p.all, omega (arith, p.bytes, bytes), omega (arith, p.times, times))
+
+  -- by how much is left, whether any byte was taken
+  pub Took-any : (bounds : Bounds) (a b : R) (s t : ReplySource) → Took remaining reads a b s t → s.bytes_left ≡ most_bytes bounds → s.reads_left ≡ bounds.max_reads
+      → ReadsAny remaining reads bounds (nat_lt t.bytes_left (most_bytes bounds)) a b
+  Took-any bounds a b s t p bytes times =
+      (p.all, omega (arith, p.bytes, bytes), omega (arith, p.times, times), below (given p.all.returned) t.bytes_left (most_bytes bounds) (p.bytes ∙ bytes))
+    where
+      below : (n left most : ℕ) → n + left ≡ most → nat_lt left most ≡ nat_lt 0 n
+      below n left most e = grind (arith, nat_tests)
 
   -- one read that succeeded
   pub Took-read : (a b : R) (s t : ReplySource) (n : ℕ) (chunk : List ℕ) → Tried reads (Ok n) a b → ReadsAtMost {E = Error} (Ok n) chunk

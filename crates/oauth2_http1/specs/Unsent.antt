@@ -12,7 +12,7 @@ use Rattle.http1.specs.Client.{plan_fields}
 use Rattle.oauth2_http1.specs.declared.fault.MessageFault.{MessageFault}
 use Rattle.oauth2_http1.specs.declared.fault.MessageFault.TheVariants as Fault
 use Rattle.oauth2_http1.specs.Origin.{Place, origin_form}
-use Rattle.oauth2_http1.specs.Message.{body_size, sent_fields}
+use Rattle.oauth2_http1.specs.Message.{body_size, sent_fields, kept_fields}
 
 -- an error of the HTTP/1.1 writer (crate `http1`) as a fault
 abbrev pub fault_of_write_error : WriteError → MessageFault
@@ -38,3 +38,8 @@ Unsent Fault.Memory method target fields body = ⊤
 abbrev pub UnsentTo : {Z : Type 0} → Place → Request (Vec ℕ Z) → MessageFault → Type 0
 UnsentTo place r e =
     Unsent e (head_of r).method (origin_form (head_of r).uri) (sent_fields place (head_of r).headers) (body_of r).items
+
+-- why a request after which the connection is used again cannot be written as bytes
+abbrev pub UnsentKept : {Z : Type 0} → Option (List ℕ) → Place → Request (Vec ℕ Z) → MessageFault → Type 0
+UnsentKept agent place r e =
+    Unsent e (head_of r).method (origin_form (head_of r).uri) (kept_fields agent place (head_of r).headers) (body_of r).items
