@@ -1,0 +1,7 @@
+pub mod Idle
+pub mod Method
+pub mod Exchange
+pub mod Client
+pub mod Law
+pub mod Display
+pub mod private

@@ -1,0 +1,3 @@
+-- Definitions cited only by private functions.
+pub mod Position
+pub mod Told

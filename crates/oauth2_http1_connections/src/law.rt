@@ -1,0 +1,63 @@
+//! Laws about a connection that carried several exchanges.
+
+ghost use Rattle.std.specs.Prelude.{ℕ, List, ◌++◌, Result};
+ghost use Rattle.std.specs.Io.KnownBytes.{Appends};
+ghost use Rattle.http1.specs.declared.conn.Limits.{Limits};
+ghost use Rattle.oauth2_http1.specs.Origin.{Place};
+ghost use Rattle.oauth2_http1_connections.specs.Law.{Asked, Carries, AreKnown, ReadsLeave};
+ghost use Rattle.oauth2_http1_connections.specs.Law.{sent_bytes, read_bytes};
+ghost use Rattle.oauth2_http1_connections.specs.Law.{BeginsWithReplies, BeginsWithRequests};
+ghost use Rattle.oauth2_http1_connections.specs.Law.{TakesAll, EachHasHistory, KeepsHistories};
+ghost use Rattle.oauth2_http1_connections.specs.Client.{Calls};
+ghost use Rattle.oauth2_http1_connections.specs.declared.client.KeepAliveClient.{KeepAliveClient};
+ghost use Rattle.oauth2_http1_connections.specs.declared.error.KeepAliveError.{KeepAliveError};
+ghost use Rattle.oauth2_wire.specs.Request.{HttpRequest};
+ghost use Rattle.oauth2_wire.specs.Reply.{HttpResponse};
+
+use oauth2_http1::{Connect, Receive, Transmit};
+
+/// The bytes that were written to a connection are the messages of the requests, one after the
+/// other. A server that takes the heads reads them as these requests, and in no other way.
+pub fn requests_stay_in_order<S: Receive + Transmit>()
+    ensures sent { (place : Place) (all : List Asked) (before after : S)
+        (carried : Carries S.contents S.remaining S.reads S.writes S.flushes
+        place all before after)
+        → ReadsLeave S.contents S.remaining S.reads S.writes S.flushes place
+        → Appends (S.contents before) (S.contents after)
+        (sent_bytes S.contents S.remaining S.reads S.writes S.flushes
+        place all before after carried) }
+    ensures requests { (limits : Limits) (place : Place) (all : List Asked) (before after : S)
+        (carried : Carries S.contents S.remaining S.reads S.writes S.flushes
+        place all before after) (more : List ℕ) → TakesAll limits place all
+        → BeginsWithRequests limits place all
+        (sent_bytes S.contents S.remaining S.reads S.writes S.flushes
+        place all before after carried ++ more) more }
+{}
+
+/// The bytes that were read from a connection are the replies to its requests, in their order: the
+/// n-th reply is the n-th message, whatever follows.
+pub fn replies_stay_in_order<S: Receive + Transmit>()
+    ensures { (place : Place) (all : List Asked) (before after : S)
+        (carried : Carries S.contents S.remaining S.reads S.writes S.flushes
+        place all before after) (more : List ℕ)
+        → AreKnown S.contents S.remaining S.reads S.writes S.flushes
+        place all before after carried
+        → BeginsWithReplies all
+        (read_bytes S.contents S.remaining S.reads S.writes S.flushes
+        place all before after carried ++ more) more }
+{}
+
+/// Each idle connection of a client carried exchanges one after the other since it was opened, all
+/// for its own place; a new client has none, and each call leaves it so. So the reply of a call is
+/// the next message of its connection.
+pub fn each_idle_connection_has_a_history<C: Connect>()
+    ensures { (before : KeepAliveClient C C.Stream) (request : HttpRequest)
+        (result : Result HttpResponse (KeepAliveError C.Error))
+        (after : KeepAliveClient C C.Stream)
+        → EachHasHistory C.opens C.Stream.contents C.Stream.remaining
+        C.Stream.reads C.Stream.writes C.Stream.flushes before
+        → Calls C.opens C.Stream.contents C.Stream.remaining
+        C.Stream.reads C.Stream.writes C.Stream.flushes before request result after
+        → KeepsHistories C.opens C.Stream.contents C.Stream.remaining
+        C.Stream.reads C.Stream.writes C.Stream.flushes before request result after }
+{}

@@ -1,0 +1,13 @@
+//! An HTTP/1.1 client that uses a connection again. Its contract says which connection it takes,
+//! which bytes are written and read, and which connections it holds afterwards.
+
+#![tactic(auto)]
+
+mod client;
+mod error;
+mod idle;
+mod law;
+
+pub use client::{KeepAliveClient, is_idempotent};
+pub use error::KeepAliveError;
+pub use law::{each_idle_connection_has_a_history, replies_stay_in_order, requests_stay_in_order};
