@@ -13,6 +13,7 @@ import tool
 from stand_in import OK
 
 sys.path.insert(0, tool.TOOLS)
+import caches
 import endings
 import token_cache
 
@@ -307,13 +308,15 @@ class Whole(unittest.TestCase):
 
     def test_an_answer_that_is_not_kept_has_its_status(self):
         oauth2, outcome = tool.load('oauth2'), mock.Mock(status=0)
-        cache = mock.Mock(path='/c', **{'write.side_effect': OSError(28, 'no space')})
-        session = mock.Mock(given=mock.Mock(command='token', extra=None, life=1), settings=dict.fromkeys(
+        cache = caches.FileCache('/c', 1)
+        session = mock.Mock(cache=cache, given=mock.Mock(command='token', extra=None, life=1), settings=dict.fromkeys(
             ('client_id', 'server', 'issuer', 'token_url', 'auth', 'username', 'scopes')))
-        entry = {'answer': '{}'}
+        entry, file = {'answer': '{}'}, mock.MagicMock()
+        opened = mock.Mock(path='/c', entry=None, **{'write.side_effect': OSError(28, 'no space')})
+        file.__enter__.return_value = opened
         with mock.patch.object(token_cache, 'entry_of', return_value=entry), mock.patch.object(oauth2, 'write') as write, \
-                mock.patch.object(oauth2, 'tell') as say:
-            self.assertEqual(oauth2.keep(session, cache, outcome), endings.NOT_KEPT)
+                mock.patch.object(cache, 'opened', return_value=file), mock.patch.object(oauth2, 'tell') as say:
+            self.assertEqual(oauth2.keep(session, outcome), endings.NOT_KEPT)
         write.assert_called_once_with(session, '{}', None)
         self.assertIn('/c could not be written (no space)', say.call_args.args[0])
 

@@ -13,6 +13,7 @@ from stand_in import OK
 from test_oauth2_openid import Case as OpenIdCase
 
 sys.path.insert(0, tool.TOOLS)
+import caches
 import profiles
 from endings import Stop
 
@@ -317,14 +318,13 @@ class EachOfBoth(unittest.TestCase):
                 (no, None, 9, ['the refresh token of /f is not revoked: the server is gone', 'the file /f is removed']),
                 (None, full, 125, ['the refresh token of /f is revoked', '/f could not be removed']),
                 (no, full, 9, ['the refresh token of /f is not revoked: the server is gone', '/f could not be removed'])):
-            cache = mock.Mock(path='/f', entry=entry)
+            session, cache = mock.MagicMock(), caches.FileCache('/f', 1)
+            session.cache, opened = cache, mock.MagicMock()
+            opened.__enter__.return_value, opened.__exit__.return_value = mock.Mock(entry=entry), False
             with mock.patch.multiple(oauth2, check_kept=mock.DEFAULT, note=mock.DEFAULT, why_not_ready=lambda _: None,
                                      why_not_revoked=lambda *_: not_revoked, why_not_removed=lambda _: not_removed), \
-                    mock.patch.object(oauth2, 'tell') as tell, mock.patch.object(oauth2.token_cache, 'read'), \
-                    mock.patch.object(oauth2.token_cache, 'Cache') as opened:
-                opened.return_value.__enter__.return_value = cache
-                opened.return_value.__exit__.return_value = False
-                self.assertEqual(oauth2.logout(mock.Mock(), {}), status)
+                    mock.patch.object(oauth2, 'tell') as tell, mock.patch.multiple(cache, read=mock.DEFAULT, opened=lambda: opened):
+                self.assertEqual(oauth2.logout(session, {}), status)
             self.assertEqual([it.args[0] for it in tell.call_args_list], said)
 
 
