@@ -95,6 +95,12 @@ def error_in(outcome):
     return json.loads(found['error']) if 'error' in found else None
 
 
+def is_refusal(outcome):
+    """Whether the server said no to a request, so that it did nothing (RFC 6749, 5.2; RFC 9110, 15.5)."""
+    status = (outcome.reply or {}).get('status', 0)
+    return 400 <= status < 500 or 200 <= status < 300 and outcome.status != 0 and text_of(outcome).startswith(ERROR_RESPONSE)
+
+
 NO_SECRET = ('no secret was sent: OAUTH2_CLIENT_SECRET, --client-secret-file or --ask-secret gives one, and --client-assertion-file an '
              'assertion')
 

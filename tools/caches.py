@@ -1,18 +1,18 @@
 """The caches of tools/oauth2: where a token is kept, and how runs that share it renew it once; for that tool.
 
-Each cache has the same calls. .name is what messages call it, and .kind is the word for that in a status.
+A FileCache is for runs on one machine, and a SharedCache (tools/shared_cache.py) for runs on many. Each has the same calls. .name is what
+messages call it, and .kind the word for that in a status. .mark is the renewal of another run that .read() has seen to be under way.
 
     read()           what is kept now, without waiting for other runs; None where there is nothing
     check()          stops where no token could be put there
     renewed(asking)  what is kept, renewed by asking where that has to be: a Held
     put(entry, fits) puts the token of a new login there; fits stops at the one that is there, where given
-    opened()         a context with what is kept, as .entry, which .remove() drops
+    opened()         a context with what is kept, as .entry; .remove() drops it, and returns what that was if it may be another token
     end(token)       has the next run renew this access token
 """
 from __future__ import annotations
 
-import os
-from typing import Any, Callable, ContextManager, NamedTuple, Optional, Protocol
+from typing import Any, Callable, NamedTuple, Optional, Protocol
 
 import answers
 import token_cache
@@ -22,12 +22,15 @@ Entry = dict[str, Any]
 
 
 class Held(NamedTuple):
-    """What came of a renewal: the token that there is, None where there is none, and whether this run got it."""
+    """What came of a renewal: the token that there is, None where there is none."""
 
     entry: Optional[Entry]
     is_good: bool = False  # it needs no renewal
-    is_new: bool = False
+    is_new: bool = False  # this run got it
     not_kept: Optional[str] = None  # why a new one is not kept
+    stop: Optional[Stop] = None  # why there is no new one, where the server did not say
+    is_over: bool = False  # there will be none without a new login
+    is_harmless: bool = False  # another run gets one now
 
 
 class NotKept(Stop):
@@ -41,6 +44,9 @@ class Asking(Protocol):
     """How a run gets a token for a cache."""
 
     anew: bool  # whatever is kept
+    margin: Optional[int]  # so many seconds a good token is good; None: it is always renewed
+    kept: Optional[Entry]  # what was there before
+    outcome: Any  # what the server said last
 
     def prepare(self) -> None:
         """Looks for all that a request needs, and asks the user for it."""
@@ -54,11 +60,23 @@ class Asking(Protocol):
     def token(self, kept: Optional[Entry]) -> Optional[Entry]:
         """The token that the server gives in the place of this one; None where it gives none."""
 
+    def fault(self) -> str:
+        """Why it gave none."""
+
+    def marks(self) -> None:
+        """From now on others wait for what becomes of this run."""
+
+    def may_ask_again(self) -> bool:
+        """Whether the refresh token is as good as before, since the server said no or was not asked."""
+
+    def in_place_of(self, kept: Entry, is_over: bool) -> Optional[Entry]:
+        """The token that the client itself gets in the place of one that another run did not renew; None where a user has to sign in."""
+
 
 class FileCache:
     """A file, for the runs of one user on one machine: each has it alone while it renews the token."""
 
-    kind = 'file'
+    kind, mark = 'file', None
     removed, it_is_removed = 'the file %s is removed', 'the file is removed'
 
     def __init__(self, path: str, limit: float) -> None:

@@ -7,6 +7,7 @@ import time
 
 import program
 import repository
+import shared_keeper
 import endings
 from endings import BAD_SETTING, FAULT, NO_ANSWER, NO_MEMORY, Stop
 from http_requests import RETRIED, Reply, reply_to
@@ -21,36 +22,50 @@ Event = collections.namedtuple('Event', 'kind value method authorization body us
 Outcome = collections.namedtuple('Outcome', 'status answer reply url asked_at note may_retry user_url', defaults=(None, False, None))
 
 
-def program_path(tool='oauth2'):
-    """The program: the one that OAUTH2_PROGRAM names, else the proved one, else one that is not proved, which a tool says."""
-    path = os.environ.get('OAUTH2_PROGRAM')
+# The programs that this tool runs, and what a line calls each.
+CALLED = {program.NAME: 'program', shared_keeper.NAME: 'keeper'}
+
+
+def program_path(tool='oauth2', name=program.NAME):
+    """The program: the one that OAUTH2_PROGRAM names, or OAUTH2_KEEPER, else the proved one, else one that is not proved, which a tool
+    says."""
+    called = CALLED[name]
+    variable = 'OAUTH2_' + called.upper()
+    path = os.environ.get(variable)
     if path and not os.access(path, os.X_OK):
-        raise Stop('OAUTH2_PROGRAM names %s, which is no program' % path, BAD_SETTING)
+        raise Stop('%s names %s, which is no program' % (variable, path), BAD_SETTING)
+    if not path and program.packed(name):
+        path = program.packed(name)
+        if not program.is_proved_here(name):
+            endings.note('the %s that runs here is not proved' % called, tool)
     if not path and program.packed():
-        path = program.packed()
-        if not program.is_proved_here():
-            endings.note('the program that runs here is not proved', tool)
-    if not path and program.is_proved():
-        path = program.PROGRAM
+        raise Stop('this package has no %s, which --cache redis:// needs' % called)
+    if not path and program.is_proved(name):
+        path = program.path_of(name)
         if not os.access(path, os.X_OK):
             raise Stop('%s can not be run: chmod +x %s' % (path, path))
-    if path:
-        return os.path.abspath(path)
-    noted = []
+    return os.path.abspath(path) if path else unproved_path(tool, name)
+
+
+def unproved_path(tool, name):
+    """The program without proofs, which is compiled where there is none yet."""
+    called, noted = CALLED[name], []
+    prove = ' '.join(['tools/prove', *[name] * (name != program.NAME)])
 
     def note():
         if not repository.has_kit():
-            is_carried = os.path.exists(program.kept_of(program.NAME))
-            why = 'the proved build here does not fit this checkout (docs/TOOL.md)' if is_carried else 'there is no program here'
-            raise Stop('%s, and no kit to compile it: README.md names the kit; or OAUTH2_PROGRAM names a program' % why)
+            is_carried = os.path.exists(program.kept_of(name))
+            why = ('the proved build here does not fit this checkout (docs/TOOL.md)' if is_carried else 'there is no %s here' % called)
+            raise Stop('%s, and no kit to compile it: README.md names the kit; or OAUTH2_%s names a program' % (why, called.upper()))
         noted.append(True)
-        endings.note('the program is compiled now, once for this checkout, in about a minute; it is not proved, tools/prove does that', tool)
+        endings.note('the %s is compiled now, once for this checkout, in about a minute; it is not proved, %s does that' % (called, prove),
+                     tool)
     try:
-        path = program.unproved(note)
+        path = program.unproved(note, name)
     except (OSError, RuntimeError) as error:
-        raise Stop('the program can not be compiled: %s' % error)
+        raise Stop('the %s can not be compiled: %s' % (called, error))
     if not noted:
-        endings.note('the program that runs here is not proved; tools/prove makes one that is', tool)
+        endings.note('the %s that runs here is not proved; %s makes one that is' % (called, prove), tool)
     return path
 
 

@@ -145,6 +145,10 @@ def add_for_requests(it, name):
     if name not in ('whoami', 'git-credential', *WITHOUT_CLIENT):
         it.add_argument('--extra', action='append', type=pair_of, metavar='NAME=VALUE',
                         help='a further parameter%s; may be given again' % EXTRA_GOES.get(name, ''))
+    add_for_replies(it)
+
+
+def add_for_replies(it):
     it.add_argument('--timeout', type=seconds_of, default=30, metavar='SECONDS', help='how long a reply may take (%(default)s)')
 
 
@@ -161,7 +165,7 @@ def add_for_tokens(it):
 
 def add_for_caches(it):
     it.add_argument('--cache', type=file_of, metavar='FILE',
-                    help='keep the token in this file, and use the one that it has while that is good')
+                    help='keep the token in this file, or at redis://HOST[:PORT][/DB], and use the one that is there while it is good')
     add_for_renewals(it)
     it.add_argument('--anew', action='store_true', help='ask for a token whatever --cache has, and keep the new one')
 
@@ -175,7 +179,7 @@ def add_for_renewals(it):
 
 def add_for_kept(it, name):
     """The flags of the commands that are about a token that is kept."""
-    it.add_argument('--cache', type=file_of, metavar='FILE', help='the file that keeps the token (else that of the profile)')
+    it.add_argument('--cache', type=file_of, metavar='FILE', help='the file or the redis://HOST that keeps the token (else that of the profile)')
     if name == 'status':
         it.add_argument('--output', choices=('text', 'json'), default='text', help='lines for people, or one line of JSON (%(default)s)')
     if name in ('whoami', 'git-credential'):
@@ -214,7 +218,7 @@ def add_for_one(it, name):
                         help="how far this clock and the issuer's may differ (%d)" % openid.LEEWAY)
     if name == 'revoke':
         it.add_argument('--kind', choices=('access', 'refresh'), help='what the token is (access)')
-        it.add_argument('--cache', type=file_of, metavar='FILE', help='revoke the token of this file, and remove the file')
+        it.add_argument('--cache', type=file_of, metavar='FILE', help='revoke the token of this file, or of redis://HOST, and remove it there')
     if name == 'device':
         it.add_argument('--max-polls', type=whole_from(1), default=1000, metavar='N', help='how often to ask at most (%(default)s)')
         it.add_argument('--give-up', type=whole_from(0), metavar='SECONDS', help='when to give up (else as the server says)')
@@ -272,7 +276,9 @@ def parser_of(doc):
         more = in_package('%s\n\nExample:\n    %s\n\n%s' % (more, example, MORE))
         it = several.add_parser(name, description=about + '.', epilog=more, **looks)
         add_for_all(it, name)
-        if name != 'status':
+        if name == 'status':
+            add_for_replies(it)
+        else:
             add_for_requests(it, name)
         if name in OF_KEPT:
             add_for_kept(it, name)

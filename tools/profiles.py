@@ -18,6 +18,7 @@ import re
 import stat
 from typing import Any, Optional
 
+import redis_places
 import toml_subset
 from endings import BAD_SETTING, Stop, status_at, tell
 from settings import FILES, TEXTS, is_of_profiles
@@ -29,7 +30,7 @@ KEEPS = (*SIGNS_IN, 'refresh', 'status', 'logout', 'whoami', 'git-credential')
 PATHS = ('client_secret_file', *FILES)
 # What each member of a profile has to be.
 KINDS: dict[str, type] = {**dict.fromkeys((*TEXTS, 'client_secret', *PATHS, 'sign_in'), str),
-                          'scopes': list, 'openid': bool, 'push': bool, 'listen': int}
+                          'cache': str, 'scopes': list, 'openid': bool, 'push': bool, 'listen': int}
 SAID = {str: 'a text', list: 'a list of texts', bool: 'true or false', int: 'a whole number'}
 
 
@@ -98,7 +99,7 @@ def profiles_in(path: str) -> tuple[Optional[str], dict[str, dict[str, Any]]]:
         found = {name_of(it): members_of(it, os.path.dirname(path)) for it in tables}
     except toml_subset.Fault as fault:
         raise Stop('%s, line %d: %s' % (path, fault.line, fault.why), BAD_SETTING)
-    if any('client_secret' in it for it in found.values()) and mode & (stat.S_IRGRP | stat.S_IROTH):
+    if any('client_secret' in it or '@' in it.get('cache', '') for it in found.values()) and mode & (stat.S_IRGRP | stat.S_IROTH):
         tell('%s holds a secret, and others can read it: chmod 600 %s' % (path, path))
     return default, found
 
@@ -152,6 +153,8 @@ def members_of(table: toml_subset.Table, folder: str) -> dict[str, Any]:
         if name == 'listen' and value not in range(65536):
             raise toml_subset.Fault(line, '"listen" is no port: it is 0 to 65535')
         found[name] = value
+        if name == 'cache' and not redis_places.is_place(value):
+            raise toml_subset.Fault(line, '"cache" is no place on Redis: it has to be redis://HOST[:PORT][/DB][?name=NAME]')
         if name in PATHS:
             found[name] = os.path.join(folder, os.path.expanduser(str(value)))
     return found
@@ -159,19 +162,33 @@ def members_of(table: toml_subset.Table, folder: str) -> dict[str, Any]:
 
 def apply(given: argparse.Namespace) -> None:
     """Chooses the profile of a run, and gives it what the profile has in the place of flags."""
-    given.of_profile = chosen(given)
+    profile = given.of_profile = chosen(given)
     given.keeps_for, given.place = None, '--cache %s' % given.cache
-    if not given.of_profile:
+    given.cache_name = profile.name if profile else redis_places.DEFAULT
+    if redis_places.is_place(given.cache):
+        of_redis(given, profile)
+    if not profile:
         return
-    members = given.of_profile.members
+    members = profile.members
     if given.command == 'login':
         given.openid = given.openid or members.get('openid', False)
         given.push = given.push or members.get('push', False)
         if given.listen is None:
             given.listen = members.get('listen')
     if given.command in KEEPS and not given.cache:
-        given.cache, given.keeps_for = given.of_profile.token_file(), given.of_profile
-        given.place = '--profile ' + given.of_profile.name
+        given.cache, given.keeps_for = members.get('cache') or profile.token_file(), profile
+        given.place = '--profile ' + profile.name
+
+
+def of_redis(given: argparse.Namespace, profile: Optional[Profile]) -> None:
+    """Says how --cache on Redis is named again. Warns of a password that is no secret there."""
+    place = redis_places.place_in(given.cache)
+    if place.password:
+        tell('all users of this machine can see its processes with their flags, so with the password in --cache: %s has it instead'
+             % redis_places.VARIABLE)
+    given.place = '--cache ' + place.shown(place.name or given.cache_name)
+    if profile:
+        given.keeps_for, given.place = profile, '--profile %s %s' % (profile.name, given.place)
 
 
 def make_folder(path: str) -> None:

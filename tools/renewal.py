@@ -19,12 +19,24 @@ HAS_TOKEN = (b'access_token', b'refresh_token')  # what an answer has that may n
 
 
 class Renewal:
-    """A run that may exchange a refresh token, as a context; path is that of its cache."""
+    """A run that may exchange a refresh token, as a context; path is that of its cache.
 
-    def __init__(self, path: Optional[str]) -> None:
-        self.path, self.is_kept, self.is_rescued = path, False, False
+    back says how a token that is put aside comes into the cache, where that is no file.
+    """
+
+    def __init__(self, path: Optional[str], back: Optional[str] = None) -> None:
+        self.path, self.back, self.is_kept, self.is_rescued = path, back, False, False
         self.limit: Optional[float] = None
         self.body = b''
+
+    def marks(self) -> None:
+        """The token is marked now, so that no other run renews it."""
+        signals.hold.begin('this run has marked the token as one that it renews, and first tells '
+                           'the other runs what became of it')
+
+    def is_sent(self) -> bool:
+        """Whether a refresh token was sent, or may have been."""
+        return self.limit is not None
 
     def sending(self, limit: float) -> float:
         """A refresh token is sent now: how many seconds there are for the reply."""
@@ -57,7 +69,7 @@ class Renewal:
             return False
         if not self.is_rescued:
             self.is_rescued = True
-            put_aside(self.path, text or self.body, text is not None)
+            put_aside(self.path, text or self.body, text is not None, self.back)
         return True
 
     def __enter__(self) -> 'Renewal':
@@ -72,11 +84,13 @@ class Renewal:
         signals.hold.end()
 
 
-def put_aside(path: Optional[str], text: bytes, is_file: bool) -> None:
+def put_aside(path: Optional[str], text: bytes, is_file: bool, back: Optional[str]) -> None:
     """Writes a text to a file beside the one of this path, or else to standard error."""
     beside = path and file_beside(path, text)
     if beside:
-        then = 'mv %s %s puts it there' % (beside, path) if is_file else 'look into it'
+        then = 'look into it'
+        if is_file:
+            then = back or 'mv %s %s puts it there' % (beside, path)
         tell('the new token is in %s: %s' % (beside, then))
         return
     tell('the new token is kept nowhere else than in the line that follows:')

@@ -33,12 +33,15 @@ class Settings(NamedTuple):
 
 
 class Keeper:
-    """The program while it runs, over a store, as a context. A kind of it says what a refresh is."""
+    """The program while it runs, over a store, as a context. A kind of it says what a refresh is.
 
-    def __init__(self, path: str, store: Store, settings: Settings, own_session: bool = False) -> None:
+    One that is alone gets no signal from the terminal, and says nothing on standard error.
+    """
+
+    def __init__(self, path: str, store: Store, settings: Settings, is_alone: bool = False) -> None:
         self.store = store
         self.run = subprocess.Popen([path], stdin=subprocess.PIPE, stdout=subprocess.PIPE, env={}, text=True, bufsize=1,
-                                    start_new_session=own_session)
+                                    stderr=subprocess.DEVNULL if is_alone else None, start_new_session=is_alone)
         self.say('settings %d %d %d %d %d %d' % settings)
 
     def __enter__(self) -> 'Keeper':

@@ -8,35 +8,39 @@ import token_cache
 from moments import moment
 
 Entry = dict[str, Any]
+Cache = Any  # one of tools/caches.py
 
 
-def can_be_renewed(entry: Entry) -> bool:
+def can_be_renewed(entry: Entry, cache: Cache) -> bool:
     """Whether another token can be had without a user."""
-    return entry['refresh_token'] is not None or entry['command'] == 'token'
+    is_over = cache.mark and cache.is_old(cache.mark)
+    return entry['refresh_token'] is not None and not is_over or entry['command'] == 'token'
 
 
 def has_ended(entry: Entry, now: int) -> bool:
     return not token_cache.is_good(entry, now, 0)
 
 
-def in_json(entry: Entry, profile: Optional[str], path: str, now: int) -> str:
+def in_json(entry: Entry, profile: Optional[str], cache: Cache, now: int) -> str:
     """The status as a line of JSON."""
     ends = moment(entry['expires_at']) if token_cache.has_end(entry) else None
-    found = {'profile': profile, 'file': path, 'command': entry['command'],
+    found = {'profile': profile, cache.kind: cache.name, 'command': entry['command'],
              'client_id': entry['client_id'], 'issuer': entry['issuer'], 'user': entry['user'],
              'username': entry['username'], 'scopes': entry['scopes'],
              'token_url': entry['token_url'], 'obtained_at': moment(entry['obtained_at']),
              'expires_at': ends, 'is_good': not has_ended(entry, now),
-             'can_be_renewed': can_be_renewed(entry)}
+             'can_be_renewed': can_be_renewed(entry, cache)}
+    if cache.mark:
+        found['renewal_begun_at'] = cache.mark.since()
     return json.dumps(found, separators=(',', ':'))
 
 
-def in_lines(entry: Entry, profile: Optional[str], path: str, now: int) -> list[str]:
+def in_lines(entry: Entry, profile: Optional[str], cache: Cache, now: int) -> list[str]:
     """The status as lines for people."""
-    rows = [('profile', profile), ('file', path), ('user', user_of(entry)),
+    rows = [('profile', profile), (cache.kind, cache.name), ('user', user_of(entry)),
             ('client', entry['client_id']), ('issuer', entry['issuer']),
             ('token endpoint', entry['token_url']), ('scopes', ' '.join(entry['scopes'])),
-            ('token', of_token(entry, now)), ('renewal', of_renewal(entry))]
+            ('token', of_token(entry, now)), ('renewal', of_renewal(entry, cache))]
     return ['%s: %s' % (name, value) for name, value in rows if value]
 
 
@@ -59,7 +63,11 @@ def of_token(entry: Entry, now: int) -> str:
     return '%s, until %s' % (token_cache.how_long(entry, now), ends)
 
 
-def of_renewal(entry: Entry) -> str:
+def of_renewal(entry: Entry, cache: Cache) -> str:
+    if cache.mark and cache.is_old(cache.mark):
+        return 'begun by another run at %s and not finished: sign in anew' % cache.mark.since()
+    if cache.mark:
+        return 'by another run, since %s' % cache.mark.since()
     if entry['refresh_token'] is not None:
         return 'by a refresh token, at the next use'
     if entry['command'] == 'token':

@@ -105,18 +105,18 @@ class Proved(unittest.TestCase):
         case = stand_in.Case('run')
         room = case.folder()
         self.addCleanup(case.doCleanups)
-        path = os.path.join(room, 'p')
+        path = os.path.join(room, program.NAME)
         for text, record, is_proved in (b'x', None, False), (b'x', 'sum ' + hashlib.sha256(b'x').hexdigest(), True), (b'y', None, False):
             with open(path, 'wb') as f:
                 f.write(text)
             if record:
                 with open(path + '.proved', 'w') as f:
                     f.write(record)
-            before, program.PACKED = program.PACKED, path
+            before, program.PACKAGE = program.PACKAGE, room
             try:
                 self.assertEqual((program.packed(), program.is_proved_here()), (path, is_proved))
             finally:
-                program.PACKED = before
+                program.PACKAGE = before
         self.assertIsNone(program.packed())
 
 

@@ -1,0 +1,68 @@
+"""The places on Redis that `tools/oauth2 --cache` takes, as redis://[USER:PASSWORD@]HOST[:PORT][/DB][?name=NAME]; for that tool.
+
+rediss:// is the same over TLS. The password may be in OAUTH2_REDIS_PASSWORD instead.
+"""
+from __future__ import annotations
+
+import os
+import re
+import urllib.parse
+from typing import Any, NamedTuple, NoReturn, Optional
+
+from endings import BAD_SETTING, Stop
+
+SCHEMES = ('redis', 'rediss')
+NAME = re.compile('[A-Za-z0-9][A-Za-z0-9_-]{0,99}')
+VARIABLE = 'OAUTH2_REDIS_PASSWORD'
+DEFAULT = 'default'  # the name of a token, where nothing says another one
+
+
+class Place(NamedTuple):
+    """A Redis, and the name of a token there, if the place says one."""
+
+    scheme: str
+    host: str
+    port: int
+    db: int
+    username: Optional[str]
+    password: Optional[str]
+    name: Optional[str]
+
+    def shown(self, name: str) -> str:
+        """The place with this name of a token, without user and password."""
+        host = '[%s]' % self.host if ':' in self.host else self.host
+        return '%s://%s:%d/%d?name=%s' % (self.scheme, host, self.port, self.db, name)
+
+    def settings(self) -> dict[str, Any]:
+        """What the module redis is given."""
+        found: dict[str, Any] = {'host': self.host, 'port': self.port, 'db': self.db, 'username': self.username,
+                                 'password': self.password or os.environ.get(VARIABLE) or None}
+        if self.scheme == 'rediss':
+            found.update(ssl=True, ssl_cert_reqs='required', ssl_check_hostname=True)
+        return found
+
+
+def is_place(text: Optional[str]) -> bool:
+    """Whether a cache is on Redis, and not a file."""
+    return (text or '').partition('://')[0].lower() in SCHEMES and '://' in (text or '')
+
+
+def place_in(text: str, label: str = '--cache') -> Place:
+    """The place that a text names. What is wrong with one is not shown, since it may have a password."""
+    try:
+        url = urllib.parse.urlsplit(text)
+        pairs = urllib.parse.parse_qsl(url.query, keep_blank_values=True, strict_parsing=bool(url.query))
+        port, db = url.port, url.path.strip('/')
+    except ValueError:
+        refuse(label)
+    names = [value for name, value in pairs if name == 'name']
+    if not url.hostname or port == 0 or url.fragment or len(names) != len(pairs) or len(names) > 1 or not re.fullmatch('[0-9]{0,6}', db):
+        refuse(label)
+    if names and not NAME.fullmatch(names[0]):
+        raise Stop('the name of %s begins with a letter or a digit, and has 100 letters, digits, "_" and "-" at most' % label, BAD_SETTING)
+    login = [None if it is None else urllib.parse.unquote(it) for it in (url.username, url.password)]
+    return Place(url.scheme, url.hostname, port or 6379, int(db or 0), login[0] or None, login[1], names[0] if names else None)
+
+
+def refuse(label: str) -> NoReturn:
+    raise Stop('%s is no place on Redis that this tool can use: it has to be redis://HOST[:PORT][/DB][?name=NAME]' % label, BAD_SETTING)
