@@ -1,7 +1,7 @@
 """The caches of tools/oauth2: where a token is kept, and how runs that share it renew it once; for that tool.
 
 A FileCache is for runs on one machine, and a SharedCache (tools/shared_cache.py) for runs on many. Each has the same calls. .name is what
-messages call it, and .kind the word for that in a status. .mark is the renewal of another run that .read() has seen to be under way.
+messages call it, .kind the word for that in a status, and .other what to do where it has something else. .mark is the renewal of another run that .read() has seen to be under way.
 
     read()           what is kept now, without waiting for other runs; None where there is nothing
     check()          stops where no token could be put there
@@ -63,8 +63,8 @@ class Asking(Protocol):
     def fault(self) -> str:
         """Why it gave none."""
 
-    def marks(self) -> None:
-        """From now on others wait for what becomes of this run."""
+    def marks(self, has_marked: bool) -> None:
+        """Whether others wait from now on for what becomes of this run."""
 
     def may_ask_again(self) -> bool:
         """Whether the refresh token is as good as before, since the server said no or was not asked."""
@@ -76,7 +76,7 @@ class Asking(Protocol):
 class FileCache:
     """A file, for the runs of one user on one machine: each has it alone while it renews the token."""
 
-    kind, mark = 'file', None
+    kind, other, mark = 'file', 'name another file by --cache', None
     removed, it_is_removed = 'the file %s is removed', 'the file is removed'
 
     def __init__(self, path: str, limit: float) -> None:

@@ -18,6 +18,7 @@ import flags
 import manual
 import program
 import repository
+import shared_keeper
 import version
 
 NAME = 'lifecrib'
@@ -59,8 +60,16 @@ main()
 '''
 
 
+class Program(NamedTuple):
+    """A program that goes into a package: its name there, its path, and the record of a proved one."""
+
+    name: str
+    path: str
+    proved: Optional[str] = None
+
+
 class Contents(NamedTuple):
-    """The files of the package by their names, those beside them, and the libc that the program needs."""
+    """The files of the package by their names, those beside them, and the libc that the programs need."""
 
     package: dict[str, bytes]
     licenses: dict[str, bytes]
@@ -71,18 +80,25 @@ class Contents(NamedTuple):
     glibc: Optional[tuple[int, int]]
 
 
-def contents(path: str, proved: Optional[str]) -> Contents:
-    """What a package has that is made with the program at a path; proved is the record of a proved one."""
+def contents(programs: list[Program]) -> Contents:
+    """What a package has that is made with these programs."""
     found = {name + '.py': read(os.path.join(TOOLS, name + '.py')) for name in modules('oauth2')}
     found['lifecrib_tool.py'] = read(os.path.join(TOOLS, 'oauth2'))
     found['__init__.py'] = ('"""%s."""\n' % ABOUT.capitalize()).encode()
     found['__main__.py'] = MAIN.encode()
-    found[program.NAME] = read(path)
-    if proved:
-        found[program.NAME + '.proved'] = proved.encode()
+    for it in programs:
+        found[it.name] = read(it.path)
+        if it.proved:
+            found[it.name + '.proved'] = it.proved.encode()
     licenses = {name: read(os.path.join(repository.ROOT, name)) for name in LICENSES}
     page = read(os.path.join(repository.ROOT, 'docs', 'TOOL.md'))
-    return Contents(found, licenses, page, *manuals(), glibc_of(found[program.NAME]))
+    libcs = [libc for libc in (glibc_of(found[it.name]) for it in programs) if libc]
+    return Contents(found, licenses, page, *manuals(), max(libcs, default=None))
+
+
+def is_program(name: str) -> bool:
+    """Whether a file of a package is a program."""
+    return os.path.basename(name) in (program.NAME, shared_keeper.NAME)
 
 
 def read(path: str) -> bytes:
@@ -145,7 +161,7 @@ def wheel(it: Contents, to: str) -> str:
         for name, text in files.items():
             entry = zipfile.ZipInfo(name, TIME)
             entry.compress_type, entry.create_system = zipfile.ZIP_DEFLATED, 3
-            entry.external_attr = (0o100755 if name == '%s/%s' % (NAME, program.NAME) else 0o100644) << 16
+            entry.external_attr = (0o100755 if is_program(name) else 0o100644) << 16
             f.writestr(entry, text)
     return path
 
@@ -153,7 +169,7 @@ def wheel(it: Contents, to: str) -> str:
 def metadata() -> bytes:
     lines = ['Metadata-Version: 2.1', 'Name: ' + NAME, 'Version: ' + version.VERSION, 'Summary: ' + ABOUT,
              'License: MIT OR Apache-2.0', 'Requires-Python: >=%d.%d' % PYTHON,
-             *('License-File: ' + it for it in LICENSES)]
+             *('License-File: ' + it for it in LICENSES), 'Provides-Extra: redis', 'Requires-Dist: redis; extra == "redis"']
     return ('\n'.join(lines) + '\n').encode()
 
 
@@ -189,7 +205,7 @@ def deb(it: Contents, to: str) -> str:
     path = os.path.join(to, '%s_%s_amd64.deb' % (NAME, version.VERSION))
     with tempfile.TemporaryDirectory() as room:
         for name, text in files.items():
-            put(os.path.join(room, name), text, name == 'usr/bin/' + NAME or name.endswith('/' + program.NAME))
+            put(os.path.join(room, name), text, name == 'usr/bin/' + NAME or is_program(name))
         for at, _, _ in os.walk(room):
             os.chmod(at, 0o755)
         words = ['dpkg-deb', '--root-owner-group', '--build', room, path]
@@ -210,7 +226,7 @@ def put(path: str, text: bytes, is_program: bool) -> None:
 def control(it: Contents) -> str:
     needs = ['python3 (>= %d.%d)' % PYTHON, *(['libc6 (>= %d.%d)' % it.glibc, 'libgcc-s1'] if it.glibc else [])]
     lines = ['Package: ' + NAME, 'Version: ' + version.VERSION, 'Architecture: amd64', 'Priority: optional', 'Section: net',
-             'Maintainer: Lifecrib maintainers <maintainers@users.noreply.lifecrib.example>', 'Depends: ' + ', '.join(needs),
+             'Maintainer: Lifecrib maintainers <maintainers@users.noreply.lifecrib.example>', 'Depends: ' + ', '.join(needs), 'Suggests: python3-redis',
              'Description: ' + ABOUT, ' The command lifecrib gets a token from a server of OAuth 2.0, renews it, asks about it',
              ' and revokes it.']
     return '\n'.join(lines) + '\n'

@@ -153,7 +153,7 @@ def members_of(table: toml_subset.Table, folder: str) -> dict[str, Any]:
         if name == 'listen' and value not in range(65536):
             raise toml_subset.Fault(line, '"listen" is no port: it is 0 to 65535')
         found[name] = value
-        if name == 'cache' and not redis_places.is_place(value):
+        if name == 'cache' and not redis_places.is_place(str(value)):
             raise toml_subset.Fault(line, '"cache" is no place on Redis: it has to be redis://HOST[:PORT][/DB][?name=NAME]')
         if name in PATHS:
             found[name] = os.path.join(folder, os.path.expanduser(str(value)))

@@ -29,8 +29,11 @@ class Renewal:
         self.limit: Optional[float] = None
         self.body = b''
 
-    def marks(self) -> None:
-        """The token is marked now, so that no other run renews it."""
+    def marks(self, has_marked: bool) -> None:
+        """Whether the token is marked now, so that no other run renews it."""
+        if not has_marked:
+            signals.hold.end()
+            return
         signals.hold.begin('this run has marked the token as one that it renews, and first tells '
                            'the other runs what became of it')
 

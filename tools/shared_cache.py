@@ -13,6 +13,7 @@ from __future__ import annotations
 import base64
 import binascii
 import contextlib
+import functools
 import os
 import secrets
 import sys
@@ -72,15 +73,15 @@ def token_of(entry: Entry) -> str:
 def entry_of(token: str, name: str) -> Entry:
     """What a token of the keeper is. Stops at one that is none of this tool."""
     text = token.partition(':')[2]
-    with contextlib.suppress(binascii.Error, UnicodeError):
-        entry = token_cache.entry_in(base64.b64decode(text + '=' * (-len(text) % 4), b'-_', True).decode(), name)
+    with contextlib.suppress(binascii.Error, UnicodeError, Stop):
+        entry: Optional[Entry] = token_cache.entry_in(base64.b64decode(text + '=' * (-len(text) % 4), b'-_', True).decode(), name)
         if entry:
             return entry
     stop_at_other(name)
 
 
 def stop_at_other(name: str) -> NoReturn:
-    raise Stop('%s has something that is no token of this tool, so it is left as it is: name another by ?name=' % name, BAD_SETTING)
+    raise Stop('%s has something that is no token of this tool, so it is left as it is: %s' % (name, SharedCache.other), BAD_SETTING)
 
 
 def value_of(version: int, text: str, name: str) -> Value:
@@ -100,11 +101,14 @@ class Renewing(shared_keeper.Keeper):
 
     def __init__(self, path: str, cache: 'SharedCache', settings: shared_keeper.Settings, asking: Optional[Asking] = None) -> None:
         super().__init__(path, cache.store, settings, is_alone=True)
-        self.cache, self.asking = cache, asking
+        self.path, self.cache, self.asking = path, cache, asking
         self.end = time.monotonic() + cache.limit
         self.has_marked = self.is_waiting = self.is_silent = False
         self.new: Optional[str] = None  # the token that this run has got
         self.stop: Optional[Stop] = None  # why it got none, where the server did not say so
+
+    def __enter__(self) -> 'Renewing':
+        return self
 
     def told(self, line: str) -> list[str]:
         """What is told of a call. Stops where the program is another one."""
@@ -114,7 +118,7 @@ class Renewing(shared_keeper.Keeper):
         except OSError as error:
             found, why = [], str(error)
         if not found or found[0] == '?':
-            raise Stop('%s is not the keeper of oauth2_shared_keeper_program, it seems: %s' % (self.run.args, why))
+            raise Stop('%s is not the keeper of oauth2_shared_keeper_program, it seems: %s' % (self.path, why))
         return found
 
     def left(self) -> float:
@@ -122,27 +126,32 @@ class Renewing(shared_keeper.Keeper):
 
     def load(self, name: str) -> Optional[tuple[int, str]]:
         seconds = max(self.left(), 0 if self.is_silent else LAST_LOOK)
-        found = self.cache.store.load(name, seconds) if seconds > 0 else None
+        found: Optional[tuple[int, str]] = self.cache.store.load(name, seconds) if seconds > 0 else None
         self.is_silent = found is None
         if found is None:
             self.pause(PAUSE)
         elif self.asking and not self.has_marked:
-            value = value_of(*found, self.cache.name)
-            if value.entry:
-                self.asking.fits(value.entry)
+            kept = value_of(found[0], found[1], self.cache.name).entry
+            if kept:
+                self.asking.fits(kept)
         return found
 
     def replace(self, name: str, version: int, text: str) -> Optional[bool]:
         if self.asking and text.startswith('mark '):
             self.asking.prepare()
             self.cache.make_folder()
-            self.asking.marks()
-            self.has_marked = True
+            self.marks(True)
         done = self.store.replace(name, version, text)
         self.end = time.monotonic() + self.cache.limit
         if done is None:
             self.pause(PAUSE)
         return done
+
+    def marks(self, has_marked: bool) -> None:
+        """Whether the mark of this run may stand."""
+        if self.asking and has_marked != self.has_marked:
+            self.has_marked = has_marked
+            self.asking.marks(has_marked)
 
     def refreshed(self, token: str) -> Optional[str]:
         assert self.asking
@@ -156,6 +165,7 @@ class Renewing(shared_keeper.Keeper):
         return self.new
 
     def sleep(self, seconds: float) -> None:
+        self.marks(False)  # it looks again only where it has none
         if not self.is_silent and not self.is_waiting:
             self.is_waiting = True
             note('waiting for another run, which renews the token of %s' % self.cache.name)
@@ -171,7 +181,7 @@ class Renewing(shared_keeper.Keeper):
 class SharedCache:
     """A token of this name in a store."""
 
-    kind = 'cache'
+    kind, other = 'cache', 'name another token by ?name='
     removed, it_is_removed = '%s keeps no token any more', 'it is kept no more'
 
     def __init__(self, store: Any, key: str, name: str, limit: float) -> None:
@@ -183,9 +193,11 @@ class SharedCache:
     def value(self) -> Value:
         """What the store has. Stops where it does not say."""
         found = self.store.load(self.key)
+        if isinstance(self.store.fault, ValueError):
+            stop_at_other(self.name)
         if found is None:
             raise Stop('%s can not be read: %s' % (self.name, self.why()), BAD_SETTING if self.store.is_refused() else TRY_AGAIN)
-        value = value_of(*found, self.name)
+        value = value_of(found[0], found[1], self.name)
         self.mark = None if value.renewal is None else Mark(value.renewal, value.version)
         return value
 
@@ -201,6 +213,12 @@ class SharedCache:
 
     def check(self) -> None:
         self.value()
+        assert self.program
+
+    @functools.cached_property
+    def program(self) -> str:
+        """The path of the keeper."""
+        return str(conversation.program_path(name=shared_keeper.NAME))
 
     # Renewals
 
@@ -210,7 +228,7 @@ class SharedCache:
         margins = (FOR_EVER, FOR_EVER) if margin is None else (1000 * margin, 0)
         rounds = 1 if self.mark and self.is_old(self.mark) else int(self.limit / WAIT) + 2
         settings = shared_keeper.Settings(*margins, int(1000 * WAIT), rounds, often, often)
-        return Renewing(conversation.program_path(name=shared_keeper.NAME), self, settings, asking)
+        return Renewing(self.program, self, settings, asking)
 
     def renewed(self, asking: Asking) -> Held:
         if asking.anew:
@@ -252,18 +270,25 @@ class SharedCache:
         return Held(entry, is_new=True, not_kept='%s did not say that it keeps the new token: %s' % (self.name, why))
 
     def if_unanswered(self, asking: Asking, keeper: Renewing, number: str, version: str, token: str) -> Held:
+        """The mark of this run stands. It is taken off where the refresh token is as good as before."""
         mark, entry, stop = Mark(int(number), int(version)), entry_of(token, self.name), keeper.stop
-        if asking.may_ask_again():
-            is_off = keeper.told('answer %s %d %s' % (self.key, mark.version, token))[0] == 'done'
-            if stop:
-                raise stop
-            return Held(entry) if is_off else Held(entry, stop=self.stop_at(mark))
-        why = '%s; so nobody knows whether the refresh token was used, and no run sends it again' % (stop or asking.fault())
-        return Held(entry, stop=Stop(why, SIGN_IN), is_over=True)
+        said = str(stop) if stop else asking.fault()
+        if not asking.may_ask_again():
+            why = '%s; so nobody knows whether the refresh token was used, and no run sends it again' % said
+            return Held(entry, stop=Stop(why, SIGN_IN), is_over=True)
+        told = keeper.told('answer %s %d %s' % (self.key, mark.version, token))[0]
+        if told not in ('done', 'refused'):  # refused: a user has signed in or out meanwhile
+            return Held(entry, stop=Stop('%s; and the mark of this run may stand: %s' % (said, self.not_done(told)), TRY_AGAIN))
+        if stop:
+            raise stop
+        return Held(entry)
 
-    def if_unclear(self, _: Asking, keeper: Renewing, _number: str, version: str, token: str) -> Held:
+    def if_unclear(self, _: Asking, keeper: Renewing, number: str, version: str, token: str) -> Held:
+        """This run sent nothing, so its mark is taken off, where it shows by now. That of another run at this version stays."""
         why = 'it is not known whether %s took the mark of this run (%s), so nothing was sent' % (self.name, self.why())
-        keeper.told('answer %s %s %s' % (self.key, version, token))  # this run sent nothing, so others may
+        with contextlib.suppress(Stop):
+            if self.value().renewal == int(number):
+                keeper.told('answer %s %s %s' % (self.key, version, token))
         return Held(entry_of(token, self.name), stop=Stop(why, TRY_AGAIN))
 
     def if_unfinished(self, asking: Asking, _: Renewing, number: str, version: str, token: str) -> Held:
@@ -307,7 +332,7 @@ class SharedCache:
         return Stop('other runs renew it, and this one had no turn within %g seconds (--timeout)' % self.limit, TRY_AGAIN)
 
     def stop_at_end(self) -> Stop:
-        return Stop('%s has had as many values as it can have: name another by ?name=' % self.name, BAD_SETTING)
+        return Stop('%s has had as many values as it can have: %s' % (self.name, self.other), BAD_SETTING)
 
     # Logins and logouts
 

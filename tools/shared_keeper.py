@@ -40,7 +40,8 @@ class Keeper:
 
     def __init__(self, path: str, store: Store, settings: Settings, is_alone: bool = False) -> None:
         self.store = store
-        self.run = subprocess.Popen([path], stdin=subprocess.PIPE, stdout=subprocess.PIPE, env={}, text=True, bufsize=1,
+        no_variables: dict[str, str] = {}
+        self.run = subprocess.Popen([path], stdin=subprocess.PIPE, stdout=subprocess.PIPE, env=no_variables, text=True, bufsize=1,
                                     stderr=subprocess.DEVNULL if is_alone else None, start_new_session=is_alone)
         self.say('settings %d %d %d %d %d %d' % settings)
 

@@ -78,19 +78,16 @@ class RedisStore:
         self.fault = None
         try:
             return time_limits.in_time(work, self.seconds if seconds is None else seconds)
-        except (self.faults, OSError, UnicodeError) as error:
+        except (self.faults, OSError, ValueError) as error:
             self.fault = error
             return None
 
     def load(self, name: str, seconds: Optional[float] = None) -> Optional[tuple[int, str]]:
+        """The value of a name; .fault is a ValueError where it has something else."""
         def value() -> tuple[int, str]:
             line = self.client.get(self.prefix + name)
             return read_value(line) if line else NOTHING
-        try:
-            return self.done(value, seconds)
-        except ValueError as error:  # it is no value of a store
-            self.fault = error
-            return None
+        return self.done(value, seconds)
 
     def replace(self, name: str, version: int, text: str) -> Optional[bool]:
         keys = [self.prefix + name] + [self.prefix + 'history:' + name] * self.history

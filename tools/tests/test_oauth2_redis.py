@@ -341,7 +341,8 @@ class Others(Case):
             self.assertIn('%s keeps a token ' % SHOWN, self.err)
         for words in ['1', 'text'], ['1', 'rest', '1:e30'], ['1', 'rest', '1:%%'], ['x', 'none'], ['1', 'mark', 'x', before[-1]]:
             self.put(*words)
-            self.assertEqual(self.token()[0], 2 if words[0] == '1' else 9)
+            self.assertEqual(self.token()[0], 2)
+            self.assertIn('has something that is no token of this tool', self.err)
             self.assertEqual(self.value(), words)
 
     def test_a_store_that_says_no_or_nothing(self):

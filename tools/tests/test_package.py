@@ -16,6 +16,7 @@ sys.path.insert(0, tool.TOOLS)
 import packages
 import program
 import repository
+import shared_keeper
 import version
 
 
@@ -50,6 +51,16 @@ class Packages(stand_in.Case):
         self.assertEqual(run.returncode, 0)
         self.assertNotIn('tools/', run.stdout.replace('tools/prove', '').replace('tools/test', ''))
 
+    def keeps_a_token(self, command, said):
+        """A run of what is installed that keeps a token on a stand-in of Redis; standard error says this."""
+        modules, store = self.folder(), self.folder()
+        shutil.copy(os.path.join(tool.TOOLS, 'tests', 'fake_redis.py'), os.path.join(modules, 'redis.py'))
+        words = [command, 'token', '--client-id', 'aaa', '--token-url', self.server.url + '/token', '--cache', 'redis://cache.example']
+        env = dict(self.env, PYTHONPATH=modules, FAKE_REDIS=store)
+        run = subprocess.run(words, env=env, cwd='/', capture_output=True, text=True, timeout=300)
+        self.assertIn(said, run.stderr)
+        return run.returncode
+
     def test_a_wheel(self):
         path = self.package('wheel')
         self.assertEqual(os.path.basename(path), 'lifecrib-%s-py3-none-any.whl' % version.VERSION)
@@ -72,11 +83,22 @@ class Packages(stand_in.Case):
 
     @unittest.skipUnless(importlib.util.find_spec('ensurepip'), 'this Python has no pip for a virtual environment')
     def test_an_installed_wheel(self):
-        self.gets_a_token(self.installed(self.package('wheel')))
+        command = self.installed(self.package('wheel'))
+        self.gets_a_token(command)
+        self.assertEqual(self.keeps_a_token(command, 'this package has no keeper, which --cache redis:// needs'), 125)
 
     @unittest.skipUnless(importlib.util.find_spec('ensurepip') and repository.has_kit(), 'no pip for a virtual environment, or no kit')
     def test_an_installed_wheel_of_the_program(self):
-        self.gets_a_token(self.installed(self.package('wheel', '--unproved')))
+        command = self.installed(self.package('wheel', '--unproved'))
+        self.gets_a_token(command)
+        self.assertEqual(self.keeps_a_token(command, 'the keeper that runs here is not proved'), 0)
+
+    def test_the_keeper_is_packed_too(self):
+        for words, names in ((['--keeper', self.program], {program.NAME, shared_keeper.NAME}), ([], {program.NAME})):
+            with zipfile.ZipFile(self.package('wheel', '--program', self.program, *words)) as f:
+                found = {it.filename for it in f.infolist() if it.external_attr >> 16 & 0o777 == 0o755}
+                self.assertIn('lifecrib/shared_cache.py', f.namelist())
+            self.assertEqual(found, {'lifecrib/' + it for it in names})
 
     @unittest.skipUnless(shutil.which('dpkg-deb'), 'there is no dpkg-deb here')
     def test_a_deb(self):
