@@ -31,7 +31,7 @@ import shared_stores
 import token_cache
 import wire_log
 from caches import Asking, Entry, Held, NotKept
-from endings import BAD_SETTING, SIGN_IN, TRY_AGAIN, Stop, note
+from endings import BAD_SETTING, SIGN_IN, TRY_AGAIN, Stop, note, tell
 from moments import moment
 
 WAIT = 0.25  # seconds between two looks at what another run does
@@ -214,6 +214,10 @@ class SharedCache:
     def check(self) -> None:
         self.value()
         assert self.program
+        others = self.store.other_settings()
+        if others:
+            tell('%s runs with %s: if it dies, it may forget the newest token and bring back an old one (docs/TOOL.md)'
+                 % (self.name, ', '.join(others)))
 
     @functools.cached_property
     def program(self) -> str:
@@ -338,6 +342,7 @@ class SharedCache:
 
     def put(self, entry: Entry, fits: Optional[Callable[[Entry], None]]) -> None:
         token = token_of(entry)
+        self.make_folder()
         with self.keeper() as keeper:
             try:
                 value = self.value()

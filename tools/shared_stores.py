@@ -24,6 +24,8 @@ import time_limits
 
 NOTHING = (0, 'none')
 LAST = 2 ** 64 - 1  # the last version
+# The settings of a Redis on which a store rests.
+RESTS_ON = {'appendonly': 'yes', 'appendfsync': 'always', 'maxmemory-policy': 'noeviction'}
 T = TypeVar('T')
 
 # KEYS: the value and, if there is one, its history; ARGV: the version that has to be stored, what takes its place
@@ -93,6 +95,13 @@ class RedisStore:
         keys = [self.prefix + name] + [self.prefix + 'history:' + name] * self.history
         line = line_of(version, text)
         return self.done(lambda: bool(self.client.eval(REPLACE, len(keys), *keys, str(version), line)), None)
+
+    def other_settings(self) -> list[str]:
+        """The settings of the server that are not those on which a store rests, as far as it tells them."""
+        def told() -> dict[str, str]:
+            return {name: self.client.config_get(name).get(name, RESTS_ON[name]) for name in RESTS_ON}
+        found = self.done(told, None) or {}
+        return ['%s %s' % it for it in found.items() if it[1] != RESTS_ON[it[0]]]
 
     def values(self, name: str) -> list[tuple[int, str]]:
         """All values that a name ever had, if it has a history."""

@@ -81,6 +81,12 @@ class Redis:
     def get(self, name):
         return self.done(lambda: self.value(name))
 
+    def config_get(self, name):
+        """The setting of FAKE_REDIS_CONFIG, which is a JSON object; without one this is not allowed."""
+        if 'FAKE_REDIS_CONFIG' not in os.environ:
+            raise ResponseError('NOPERM no permission')
+        return {it: value for it, value in json.loads(os.environ['FAKE_REDIS_CONFIG']).items() if it == name}
+
     def eval(self, script, number, *words):
         """What the script of tools/shared_stores.py does, without a history."""
         assert number == 1 and "redis.call('SET'" in script

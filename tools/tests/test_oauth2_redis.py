@@ -384,6 +384,14 @@ class Others(Case):
             f.write('[profile.work]\ncache = "file"\n')
         self.assertEqual(self.run_tool('token', '--profile', 'work')[0], 2)
 
+    def test_settings_that_break_what_it_rests_on(self):
+        for config, said in (({'appendonly': 'yes', 'appendfsync': 'everysec'}, '%s runs with appendfsync everysec: if it dies' % SHOWN),
+                             ({'appendonly': 'yes', 'appendfsync': 'always', 'maxmemory-policy': 'noeviction'}, None), (None, None)):
+            env = {} if config is None else {'FAKE_REDIS_CONFIG': json.dumps(config)}
+            words = ['--anew', '--quiet', '--username', 'ann']
+            self.assertEqual(self.token(*words, command='password', OAUTH2_PASSWORD='p', **env)[0], 0)
+            self.assertEqual(self.err.partition(': if it dies')[0], 'tools/oauth2: ' + said.partition(': if')[0] if said else '')
+
     def test_without_the_module(self):
         for path, status, said in ((self.room, 125, 'install python3-redis'),):
             self.assertEqual(self.token(PYTHONPATH=path)[0], status)
@@ -455,6 +463,7 @@ class OnRedis(Case):
         self.assertEqual(self.token(OAUTH2_REDIS_PASSWORD='')[0], 2)
         self.assertNotIn('s3cret', self.err)
         self.sign_in()
+        self.assertNotIn('runs with', self.err)
         self.server.reply = lambda asked: {**self.next_token(asked), 'expires_in': 0}
         self.assertEqual(self.token('--margin', '3600'), (0, 't2'))
         self.server.reply = self.next_token
