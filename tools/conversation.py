@@ -7,7 +7,6 @@ import time
 
 import program
 import repository
-import shared_keeper
 import endings
 from endings import BAD_SETTING, FAULT, NO_ANSWER, NO_MEMORY, Stop
 from http_requests import RETRIED, Reply, reply_to
@@ -23,7 +22,7 @@ Outcome = collections.namedtuple('Outcome', 'status answer reply url asked_at no
 
 
 # The programs that this tool runs, and what a line calls each.
-CALLED = {program.NAME: 'program', shared_keeper.NAME: 'keeper'}
+CALLED = {program.NAME: 'program', program.KEEPER: 'keeper'}
 
 
 def program_path(tool='oauth2', name=program.NAME):

@@ -18,7 +18,6 @@ import flags
 import manual
 import program
 import repository
-import shared_keeper
 import version
 
 NAME = 'lifecrib'
@@ -98,7 +97,7 @@ def contents(programs: list[Program]) -> Contents:
 
 def is_program(name: str) -> bool:
     """Whether a file of a package is a program."""
-    return os.path.basename(name) in (program.NAME, shared_keeper.NAME)
+    return os.path.basename(name) in (program.NAME, program.KEEPER)
 
 
 def read(path: str) -> bytes:

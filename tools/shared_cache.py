@@ -24,6 +24,7 @@ from typing import Any, Callable, NamedTuple, NoReturn, Optional
 import answers
 import conversation
 import profiles
+import program
 import redis_places
 import renewal
 import shared_keeper
@@ -222,7 +223,7 @@ class SharedCache:
     @functools.cached_property
     def program(self) -> str:
         """The path of the keeper."""
-        return str(conversation.program_path(name=shared_keeper.NAME))
+        return str(conversation.program_path(name=program.KEEPER))
 
     # Renewals
 

@@ -8,8 +8,6 @@ import time
 from types import TracebackType
 from typing import NamedTuple, Optional, Protocol
 
-NAME = 'oauth2_shared_keeper_program'
-
 
 class Store(Protocol):
     """Where values are, each with its version: tools/shared_stores.py."""

@@ -322,7 +322,7 @@ class EachOfBoth(unittest.TestCase):
             session.cache, opened = cache, mock.MagicMock()
             opened.__enter__.return_value, opened.__exit__.return_value = mock.Mock(entry=entry), False
             with mock.patch.multiple(oauth2, check_kept=mock.DEFAULT, note=mock.DEFAULT, why_not_ready=lambda _: None,
-                                     why_not_revoked=lambda *_: not_revoked, why_not_removed=lambda _: not_removed), \
+                                     why_not_revoked=lambda *_: not_revoked, why_not_removed=lambda *_: not_removed), \
                     mock.patch.object(oauth2, 'tell') as tell, mock.patch.multiple(cache, read=mock.DEFAULT, opened=lambda: opened):
                 self.assertEqual(oauth2.logout(session, {}), status)
             self.assertEqual([it.args[0] for it in tell.call_args_list], said)

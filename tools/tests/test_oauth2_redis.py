@@ -23,7 +23,6 @@ import pythons
 import redis_places
 import repository
 import shared_cache
-import shared_keeper
 from endings import Stop
 
 PLACE = 'redis://cache.example/3?name=mail'
@@ -32,7 +31,7 @@ SHOWN = 'redis://cache.example:6379/3?name=mail'
 
 def keeper():
     """The path of the keeper, compiled without proofs if there is no proved one."""
-    return program.path_of(shared_keeper.NAME) if program.is_proved(shared_keeper.NAME) else program.unproved(lambda: None, shared_keeper.NAME)
+    return program.path_of(program.KEEPER) if program.is_proved(program.KEEPER) else program.unproved(lambda: None, program.KEEPER)
 
 
 class Case(stand_in.Case):

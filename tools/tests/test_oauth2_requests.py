@@ -73,43 +73,46 @@ class Statuses(stand_in.Case):
 class Program(unittest.TestCase):
     """Which program runs, and what is said of it."""
 
-    def found(self, is_proved, unproved, has_kit=True, **env):
+    def found(self, is_proved, unproved, has_kit=True, name=program.NAME, **env):
         """The program, and what was said."""
-        with mock.patch.object(program, 'is_proved', lambda: is_proved), mock.patch.object(program, 'unproved', unproved), \
+        with mock.patch.object(program, 'is_proved', lambda _: is_proved), mock.patch.object(program, 'unproved', unproved), \
                 mock.patch.object(repository, 'has_kit', lambda: has_kit), mock.patch.object(endings, 'tell') as say, \
                 mock.patch.dict(os.environ, env):
             if not env:
-                os.environ.pop('OAUTH2_PROGRAM', None)
-            return conversation.program_path(), [it.args[0] for it in say.call_args_list]
+                for variable in ('OAUTH2_PROGRAM', 'OAUTH2_KEEPER'):
+                    os.environ.pop(variable, None)
+            return conversation.program_path(name=name), [it.args[0] for it in say.call_args_list]
 
     def test_the_named_one_and_the_proved_one_need_no_word(self):
-        self.assertEqual(self.found(True, None, OAUTH2_PROGRAM=sys.executable), (sys.executable, []))
-        with mock.patch.object(program, 'PROGRAM', sys.executable):
-            self.assertEqual(self.found(True, None), (sys.executable, []))
+        for name, variable in (program.NAME, 'OAUTH2_PROGRAM'), (program.KEEPER, 'OAUTH2_KEEPER'):
+            self.assertEqual(self.found(True, None, name=name, **{variable: sys.executable}), (sys.executable, []))
+            with mock.patch.object(program, 'path_of', {name: sys.executable}.get):
+                self.assertEqual(self.found(True, None, name=name), (sys.executable, []))
 
     def test_one_that_is_not_proved_is_told_once(self):
-        for unproved in (lambda note: note() or '/p'), (lambda note: '/p'):
-            path, said = self.found(False, unproved)
-            self.assertEqual((path, len(said)), ('/p', 1))
-            self.assertIn('not proved', said[0])
-            self.assertIn('tools/prove', said[0])
+        for name, prove in (program.NAME, 'tools/prove '), (program.KEEPER, 'tools/prove oauth2_shared_keeper_program '):
+            for unproved in (lambda note, _: note() or '/p'), (lambda note, _: '/p'):
+                path, said = self.found(False, unproved, name=name)
+                self.assertEqual((path, len(said)), ('/p', 1))
+                self.assertIn('not proved', said[0])
+                self.assertIn(prove, said[0])
 
     def test_a_proved_build_that_was_carried_here(self):
         with tempfile.TemporaryDirectory() as room:
             build = os.path.join(room, 'oauth2_run')
             for path in build, build + '.proved':
                 open(path, 'w').close()
-            with mock.patch.object(program, 'PROGRAM', build), mock.patch.object(program, 'path_of', lambda _: build):
+            with mock.patch.object(program, 'path_of', lambda _: build):
                 with self.assertRaisesRegex(endings.Stop, 'can not be run: chmod'):
                     self.found(True, None)
                 with self.assertRaisesRegex(endings.Stop, 'does not fit this checkout .*, and no kit to compile it'):
-                    self.found(False, lambda note: note(), has_kit=False)
+                    self.found(False, lambda note, _: note(), has_kit=False)
 
     def test_why_there_is_none(self):
-        def broken(_):
+        def broken(*_):
             raise RuntimeError('src/main.rt: no')
         with mock.patch.object(program, 'kept_of', lambda _: '/none/oauth2_run.proved'):
-            for unproved, has_kit, said in ((lambda note: note(), False, 'there is no program here, and no kit to compile it'),
+            for unproved, has_kit, said in ((lambda note, _: note(), False, 'there is no program here, and no kit to compile it'),
                                             (broken, True, 'src/main.rt: no')):
                 with self.assertRaisesRegex(endings.Stop, said):
                     self.found(False, unproved, has_kit)

@@ -16,7 +16,6 @@ sys.path.insert(0, tool.TOOLS)
 import packages
 import program
 import repository
-import shared_keeper
 import version
 
 
@@ -94,7 +93,7 @@ class Packages(stand_in.Case):
         self.assertEqual(self.keeps_a_token(command, 'the keeper that runs here is not proved'), 0)
 
     def test_the_keeper_is_packed_too(self):
-        for words, names in ((['--keeper', self.program], {program.NAME, shared_keeper.NAME}), ([], {program.NAME})):
+        for words, names in ((['--keeper', self.program], {program.NAME, program.KEEPER}), ([], {program.NAME})):
             with zipfile.ZipFile(self.package('wheel', '--program', self.program, *words)) as f:
                 found = {it.filename for it in f.infolist() if it.external_attr >> 16 & 0o777 == 0o755}
                 self.assertIn('lifecrib/shared_cache.py', f.namelist())
