@@ -262,7 +262,8 @@ class SharedCache:
 
     def if_old(self, _: Asking, _keeper: Renewing, number: str, version: str, token: str) -> Held:
         mark = Mark(int(number), int(version))
-        return Held(entry_of(token, self.name), stop=self.stop_at(mark), is_harmless=not self.is_old(mark))
+        is_old = self.is_old(mark)
+        return Held(entry_of(token, self.name), stop=self.stop_at(mark), is_over=is_old, is_harmless=not is_old)
 
     def if_logged_out(self, asking: Asking, _: Renewing) -> Held:
         return self.begun(asking)

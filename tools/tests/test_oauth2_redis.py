@@ -1,12 +1,10 @@
 """Tests of `tools/oauth2 --cache redis://..` over the keeper itself, a stand-in of the program, one of Redis, and a server here; and over
 a real Redis where there is one."""
-import contextlib
 import json
 import os
 import shutil
 import signal
 import socket
-import subprocess
 import sys
 import threading
 import time
@@ -19,8 +17,8 @@ from stand_in import OK
 
 sys.path.insert(0, tool.TOOLS)
 import program
-import pythons
 import redis_places
+import redis_server
 import repository
 import shared_cache
 from endings import Stop
@@ -174,11 +172,13 @@ class Renewals(Case):
         self.assertRegex(self.err, 'the token of redis://.* has ended and is not renewed: another run renews it since 20')
         self.assertEqual(self.token('--timeout', '1', '--username', 'ann', command='password'), (9, ''))
         self.assertIn('--anew signs in anew', self.err)
-        self.put('1', *self.value()[3:])
-        self.put('1', 'rest', shared_cache.token_of({**self.entry(), 'refresh_token': 'r1'}))
+        self.put('1', 'rest', self.value()[-1])
         self.marked(3600)
-        status = self.token()
-        self.assertEqual(status, (5, ''))
+        self.change(expires_at=int(time.time()) + 30)
+        self.assertEqual(self.token(), (0, 't1'))
+        self.assertRegex(self.err, 'but not renewed: .* did not finish, .*; sign in anew by tools/oauth2 password --cache redis://')
+        self.over()
+        self.assertEqual(self.token(), (5, ''))
         self.assertRegex(self.err, 'another run began to renew it at 20.* and did not finish, so nobody knows whether the refresh token was '
                                    r'used\): sign in anew by tools/oauth2 password --cache redis://cache.example:6379/3\?name=mail')
         status, out, _ = self.run_tool('status', '--cache', self.place)
@@ -186,6 +186,7 @@ class Renewals(Case):
         self.assertRegex(out, r'\Acache: redis://cache.example:6379/3\?name=mail\n')
         self.assertRegex(out, 'renewal: begun by another run at 20.* and not finished: sign in anew\n')
         self.assertEqual(self.token(command='refresh')[0], 5)
+        self.change(expires_at=int(time.time()) + 30)
         self.assertEqual(self.sign_in(), 't3')
         self.assertEqual((self.value()[:2], self.entry()['refresh_token']), (['3', 'rest'], 'r3'))
         self.assertEqual(self.token('--margin', '3600'), (0, 't4'))
@@ -431,27 +432,12 @@ class Values(unittest.TestCase):
             self.assertEqual(shared_cache.Mark(renewal, 1).since(), wanted)
 
 
-def free_port():
-    with socket.socket() as s:
-        s.bind(('127.0.0.1', 0))
-        return s.getsockname()[1]
-
-
-@unittest.skipUnless(repository.has_kit() and shutil.which('redis-server') and pythons.that_has('redis'), 'no kit or no Redis here')
+@unittest.skipUnless(repository.has_kit() and redis_server.python(), 'no kit or no Redis here')
 class OnRedis(Case):
     def prepare_store(self):
-        port, folder = free_port(), self.folder()
-        words = ['redis-server', '--port', str(port), '--bind', '127.0.0.1', '--dir', folder, '--appendonly', 'yes', '--appendfsync', 'always',
-                 '--save', '', '--requirepass', 's3cret']
-        run = subprocess.Popen(words, stdout=subprocess.DEVNULL)
-        self.addCleanup(run.wait)
-        self.addCleanup(run.kill)
-        for _ in range(200):
-            with contextlib.suppress(OSError):
-                socket.create_connection(('127.0.0.1', port), timeout=1).close()
-                break
-            time.sleep(0.05)
-        self.place, self.python = 'redis://127.0.0.1:%d?name=mail' % port, pythons.that_has('redis')
+        redis = redis_server.Redis(self.folder(), '--requirepass', 's3cret')
+        self.addCleanup(redis.stop)
+        self.place, self.python = 'redis://127.0.0.1:%d?name=mail' % redis.port, redis_server.python()
         self.env['OAUTH2_REDIS_PASSWORD'] = 's3cret'
 
     def start(self, *words, **env):
