@@ -280,8 +280,12 @@ class SharedCache:
         mark, entry, stop = Mark(int(number), int(version)), entry_of(token, self.name), keeper.stop
         said = str(stop) if stop else asking.fault()
         if not asking.may_ask_again():
+            new = asking.in_place_of(entry, True)
+            if new:
+                return self.kept(new, asking.fits)
+            is_over = entry['command'] != 'token'
             why = '%s; so nobody knows whether the refresh token was used, and no run sends it again' % said
-            return Held(entry, stop=Stop(why, SIGN_IN), is_over=True)
+            return Held(entry, stop=Stop(why, SIGN_IN if is_over else TRY_AGAIN), is_over=is_over)
         told = keeper.told('answer %s %d %s' % (self.key, mark.version, token))[0]
         if told not in ('done', 'refused'):  # refused: a user has signed in or out meanwhile
             return Held(entry, stop=Stop('%s; and the mark of this run may stand: %s' % (said, self.not_done(told)), TRY_AGAIN))

@@ -291,6 +291,10 @@ class Renewals(Case):
         self.assertEqual(self.token(), (0, 't4'))
         self.assertEqual(self.grants(), ['client_credentials'] * 3 + ['refresh_token', 'client_credentials'])
         self.assertEqual(self.token('--anew'), (0, 't5'))
+        self.over()
+        self.server.reply = lambda asked: (503, {}, '') if asked['grant_type'] == 'refresh_token' else self.next_token(asked)
+        self.assertEqual(self.token(), (0, 't6'))
+        self.assertEqual((self.value()[1], self.entry()['refresh_token']), ('rest', 'r6'))
 
 
 @unittest.skipUnless(repository.has_kit(), 'there is no kit here')
