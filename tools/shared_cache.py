@@ -97,6 +97,14 @@ def value_of(version: int, text: str, name: str) -> Value:
     stop_at_other(name)
 
 
+class NotRenewable(Exception):
+    """A token that nothing renews: nothing is marked then."""
+
+    def __init__(self, entry: Entry) -> None:
+        super().__init__()
+        self.entry = entry
+
+
 class Renewing(shared_keeper.Keeper):
     """The keeper of a run: it ends in time, and gets ready before it marks the token."""
 
@@ -139,6 +147,9 @@ class Renewing(shared_keeper.Keeper):
 
     def replace(self, name: str, version: int, text: str) -> Optional[bool]:
         if self.asking and text.startswith('mark '):
+            entry = entry_of(text.split(' ')[-1], self.cache.name)
+            if not (entry['refresh_token'] or entry['command'] == 'token'):
+                raise NotRenewable(entry)
             self.asking.prepare()
             self.cache.make_folder()
             self.marks(True)
@@ -239,7 +250,10 @@ class SharedCache:
         if asking.anew:
             return self.begun(asking)
         with self.keeper(asking) as keeper:
-            told, *words = keeper.told('token ' + self.key)
+            try:
+                told, *words = keeper.told('token ' + self.key)
+            except NotRenewable as found:
+                return Held(found.entry, is_over=True)
             held: Held = getattr(self, 'if_' + told)(asking, keeper, *words)
         return held
 

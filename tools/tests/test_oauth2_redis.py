@@ -154,6 +154,17 @@ class Renewals(Case):
         self.assertEqual(self.token(command='refresh'), (0, 't3'))
         self.assertEqual(self.token(), (0, 't3'))
 
+    def test_one_without_a_refresh_token_is_not_marked(self):
+        self.sign_in()
+        self.change(refresh_token=None, expires_at=int(time.time()) + 30)
+        self.assertEqual(self.token(), (0, 't1'))
+        self.assertIn('but not renewed: it has no refresh token', self.err)
+        self.over()
+        self.assertEqual(self.token(), (5, ''))
+        self.assertIn('(it has no refresh token): sign in anew by tools/oauth2 password --cache redis://', self.err)
+        self.assertEqual(self.value()[:2], ['1', 'rest'])
+        self.assertEqual(self.sign_in(), 't2')
+
     def test_runs_at_once_renew_once(self):
         self.sign_in()
         self.over()

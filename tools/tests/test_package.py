@@ -55,7 +55,7 @@ class Packages(stand_in.Case):
         modules, store = self.folder(), self.folder()
         shutil.copy(os.path.join(tool.TOOLS, 'tests', 'fake_redis.py'), os.path.join(modules, 'redis.py'))
         words = [command, 'token', '--client-id', 'aaa', '--token-url', self.server.url + '/token', '--cache', 'redis://cache.example']
-        env = dict(self.env, PYTHONPATH=modules, FAKE_REDIS=store)
+        env = dict(self.env, PYTHONPATH=modules, FAKE_REDIS=store, XDG_STATE_HOME=store)
         run = subprocess.run(words, env=env, cwd='/', capture_output=True, text=True, timeout=300)
         self.assertIn(said, run.stderr)
         return run.returncode
