@@ -16,6 +16,7 @@ use Rattle.oauth2_script.specs.PasswordParams.{PasswordParams, password_params}
 use Rattle.oauth2_script.specs.RedirectParams.{RedirectParams, redirect_params}
 use Rattle.oauth2_script.specs.RefreshParams.{RefreshParams, refresh_params}
 use Rattle.oauth2_script.specs.RevokeParams.{RevokeParams, revoke_params}
+use Rattle.oauth2_script.specs.SharedKeeperParams.{SharedKeeperParams, shared_keeper_params}
 
 -- a command with its parameters
 pub data Command : Type 0 where
@@ -30,6 +31,7 @@ pub data Command : Type 0 where
   authorize : AuthorizeParams → Command
   redirect : RedirectParams → Command
   keeper : KeeperParams → Command
+  shared_keeper : SharedKeeperParams → Command
   metadata : MetadataParams → Command
   id_token : IdTokenParams → Command
   access_token : AccessTokenParams → Command
@@ -48,7 +50,8 @@ command_of name params =
     else (if bytes_eq name (codes "authorize") then option_map authorize (authorize_params params)
     else (if bytes_eq name (codes "redirect") then option_map redirect (redirect_params params)
     else (if bytes_eq name (codes "keeper") then option_map keeper (keeper_params params)
+    else (if bytes_eq name (codes "shared_keeper") then option_map shared_keeper (shared_keeper_params params)
     else (if bytes_eq name (codes "metadata") then option_map metadata (metadata_params params)
     else (if bytes_eq name (codes "id_token") then option_map id_token (id_token_params params)
     else (if bytes_eq name (codes "access_token") then option_map access_token (access_token_params params)
-    else None)))))))))))))
+    else None))))))))))))))

@@ -22,6 +22,7 @@ pub mod PushParams
 pub mod RedirectParams
 pub mod RefreshParams
 pub mod RevokeParams
+pub mod SharedKeeperParams
 pub mod Command
 pub mod GrantCommand
 pub mod ScriptCommand

@@ -130,6 +130,14 @@ moment d = option_map (λ z. z *ℤ pos 1_000_000_000) (second d)
 abbrev pub duration : Data → Option ℕ
 duration d = option_map (λ n. n * 1_000_000_000) (option_and_then as_u64 (as_number d))
 
+-- a number from 0 to 255
+abbrev pub small_in_range : ℕ → Option ℕ
+small_in_range n = if nat_le n 255 then Some n else None
+
+-- a whole number, 0 to 255
+abbrev pub small_number : Data → Option ℕ
+small_number d = option_and_then as_u64 (as_number d) >>= small_in_range
+
 -- a number that is at least 1
 abbrev pub count_of : ℕ → Option ℕ
 count_of zero = None

@@ -21,6 +21,7 @@ use Rattle.oauth2_script.specs.RevokeParams as revoke_spec
 use Rattle.oauth2_script.specs.AuthorizeParams as authorize_spec
 use Rattle.oauth2_script.specs.RedirectParams as redirect_spec
 use Rattle.oauth2_script.specs.KeeperParams as keeper_spec
+use Rattle.oauth2_script.specs.SharedKeeperParams as shared_keeper_spec
 use Rattle.oauth2_script.specs.MetadataParams as metadata_spec
 use Rattle.oauth2_script.specs.IdTokenParams as id_token_spec
 use Rattle.oauth2_script.specs.AccessTokenParams as access_token_spec
@@ -41,6 +42,7 @@ use Rattle.oauth2_script.specs.declared.redirect_params.ExpectedIssuerParam.{Exp
 use Rattle.oauth2_script.specs.declared.redirect_params.ExpectedIssuerParam.TheVariants as issuer_param
 use Rattle.oauth2_script.specs.declared.redirect_params.RedirectParams.{RedirectParams}
 use Rattle.oauth2_script.specs.declared.keeper_params.KeeperParams.{KeeperParams}
+use Rattle.oauth2_script.specs.declared.shared_keeper_params.SharedKeeperParams.{SharedKeeperParams}
 use Rattle.oauth2_script.specs.declared.metadata_params.MetadataParams.{MetadataParams}
 use Rattle.oauth2_script.specs.declared.access_token_params.AccessTokenParams.{AccessTokenParams}
 use Rattle.oauth2_script.specs.declared.id_token_params.IdTokenParams.{IdTokenParams}
@@ -54,7 +56,7 @@ use Rattle.oauth2_script.specs.declared.push_params.PushParams.{PushParams}
 use Rattle.oauth2_script.specs.declared.client_part.ClientPart.{ClientPart}
 use Rattle.oauth2_script.specs.declared.client_part.ClientEndpoints.{ClientEndpoints}
 use Rattle.oauth2_script.specs.declared.command.Command.{Command}
-use Rattle.oauth2_script.specs.declared.command.Command.TheVariants.{Code, Refresh, Password, ClientCredentials, Introspect, Revoke, DeviceAuthorization, DevicePoll, Authorize, Redirect, Keeper, Metadata, IdToken, AccessToken}
+use Rattle.oauth2_script.specs.declared.command.Command.TheVariants.{Code, Refresh, Password, ClientCredentials, Introspect, Revoke, DeviceAuthorization, DevicePoll, Authorize, Redirect, Keeper, SharedKeeper, Metadata, IdToken, AccessToken}
 use Rattle.oauth2_script.specs.declared.grant_command.GrantCommand.{GrantCommand}
 use Rattle.oauth2_script.specs.declared.grant_command.GrantCommand.TheVariants.{Extension, ExchangeToken, Assertion, Push}
 use Rattle.oauth2_script.specs.declared.script_command.ScriptCommand.{ScriptCommand}
@@ -166,6 +168,10 @@ keeper_view p = record {
   extra_params = map (λ e. (string_bytes e.0, string_bytes e.1)) p.extra_params.items;
   retry_after = option_map as_nanos p.retry_after;
 }
+
+-- the parameters of the command `shared_keeper` as contracts see them
+abbrev pub shared_keeper_view : SharedKeeperParams → shared_keeper_spec.SharedKeeperParams
+shared_keeper_view p = record { refresh_token = p.refresh_token; steps = p.steps.items }
 
 -- the parameters of the command `metadata` as contracts see them
 abbrev pub metadata_view : MetadataParams → metadata_spec.MetadataParams
@@ -289,6 +295,7 @@ command_view (DevicePoll p) = command_spec.device_poll (device_poll_view p)
 command_view (Authorize p) = command_spec.authorize (authorize_view p)
 command_view (Redirect p) = command_spec.redirect (redirect_view p)
 command_view (Keeper p) = command_spec.keeper (keeper_view p)
+command_view (SharedKeeper p) = command_spec.shared_keeper (shared_keeper_view p)
 command_view (Metadata p) = command_spec.metadata (metadata_view p)
 command_view (IdToken p) = command_spec.id_token (id_token_view p)
 command_view (AccessToken p) = command_spec.access_token (access_token_view p)

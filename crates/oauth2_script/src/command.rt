@@ -21,6 +21,7 @@ use crate::redirect_params::RedirectParams;
 use crate::refresh_params::RefreshParams;
 use crate::revoke_params::RevokeParams;
 use crate::script_error::ScriptError;
+use crate::shared_keeper_params::SharedKeeperParams;
 use serde_json::Value;
 use std::alloc::Global;
 
@@ -38,6 +39,7 @@ pub enum Command {
     Authorize(AuthorizeParams),
     Redirect(RedirectParams),
     Keeper(KeeperParams),
+    SharedKeeper(SharedKeeperParams),
     Metadata(MetadataParams),
     IdToken(IdTokenParams),
     AccessToken(AccessTokenParams),
@@ -64,6 +66,9 @@ pub fn command_of(alloc: Global, name: &str, params: &Value) -> Result<Command, 
             alloc, params,
         )?)),
         "keeper" => Ok(Command::Keeper(KeeperParams::from_value(alloc, params)?)),
+        "shared_keeper" => Ok(Command::SharedKeeper(SharedKeeperParams::from_value(
+            alloc, params,
+        )?)),
         "metadata" => Ok(Command::Metadata(MetadataParams::from_value(alloc, params)?)),
         "id_token" => Ok(Command::IdToken(IdTokenParams::from_value(alloc, params)?)),
         "access_token" => Ok(Command::AccessToken(AccessTokenParams::from_value(alloc, params)?)),

@@ -173,6 +173,25 @@ impl Part for Duration {
     }
 }
 
+/// A whole number, 0 to 255.
+impl Part for u8 {
+    ghost Meaning = { ℕ };
+
+    ghost meaning = { λ n. n };
+
+    ghost reading = { spec.small_number };
+
+    ghost allocates = { false };
+
+    fn from_value(_alloc: Global, value: &Value) -> Result<u8, ScriptError> {
+        let number = value.as_u64().ok_or(ScriptError::Bad)?;
+        if number > 255 {
+            return Err(ScriptError::Bad);
+        }
+        Ok(number as u8)
+    }
+}
+
 /// A whole number, 1 to 2^64 - 1.
 impl Part for NonZeroU64 {
     ghost Meaning = { ℕ };

@@ -32,6 +32,7 @@ mod script;
 mod script_command;
 mod script_error;
 mod sent_params;
+mod shared_keeper_params;
 mod texts;
 mod urls;
 
@@ -62,3 +63,4 @@ pub use revoke_params::{RevokeParams, TokenKind};
 pub use script::{Script, script_in};
 pub use script_command::ScriptCommand;
 pub use script_error::ScriptError;
+pub use shared_keeper_params::{Fate, SharedKeeperParams, SharedKeeperStep};
