@@ -10,6 +10,7 @@ import tool
 
 sys.path.insert(0, tool.TOOLS)
 import shared_token_model as model  # noqa: E402, of the folder above
+import shared_token_scripts as scripts  # noqa: E402
 
 TOOL = tool.load('compare-shared-tokens')
 
@@ -37,6 +38,14 @@ BROKEN = [
 ]
 
 
+# Words, and what the command `shared_keeper` has to print of them but for the lines of requests: a renewal is killed, and a lost reply.
+SCRIPTS = [
+    ('l0 d0 l2 l1', ['load 0 rest "r0"', 'replace 0 mark 0 "r0" done', 'killed', 'load 1 mark 0 "r0"', 'in_use 0 "r0"', 'load 1 mark 0 "r0"',
+                     'in_use 0 "r0"']),
+    ('l0 x0 l0 s0', ['load 0 rest "r0"', 'replace 0 mark 0 "r0" lost', 'load 1 mark 0 "r0"', 'stopped', 'over']),
+]
+
+
 def printed(edit):
     """What takes the place of a run of the program: the model, and an edit of what it prints of a run."""
     return lambda _, lines: [edit(model.run(line)).split(' ') for line in lines]
@@ -47,6 +56,18 @@ class SharedTokens(unittest.TestCase):
         for words, items in ROWS:
             self.assertEqual(model.run(words), items)
             self.assertEqual(model.broken_laws(words, items), [])
+
+    def test_rows_of_scripts(self):
+        for words, lines in SCRIPTS:
+            run = scripts.run_of(words.split(), 2)
+            self.assertEqual([line.split(' ', 2)[2] for line in run.output() if line.startswith('keeper ')], lines)
+
+    def test_a_script_that_prints_something_else(self):
+        for said, count in ((['Ok(Fault)'], 1), (None, 1)):
+            comparison = TOOL.Comparison('')
+            with mock.patch.object(TOOL, 'lines_of', lambda _, runs, said=said: [said for _ in runs]):
+                TOOL.compare_scripts(comparison, [(['l0', 'd0'], 2)])
+            self.assertEqual(sum(comparison.differences.values()), count)
 
     def test_a_copy_goes_its_own_way(self):
         fleet = model.Fleet()

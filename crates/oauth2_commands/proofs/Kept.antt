@@ -1,5 +1,5 @@
 -- What the calls of a keeper add to the lines of a run.
-use Rattle.std.proofs.Common.{rules, ◌≡◌, ℕ, ℤ, List, [], ◌∷◌, ◌++◌, true, false, Option, Some, None, Result, Ok, Err, String, Global, string_bytes, inl, inr, refl, ap, sym, subst, ◌∙◌, append_assoc, append-nil, ◌+◌, ◌<◌, length, take, get_or, map, arith}
+use Rattle.std.proofs.Common.{rules, ◌≡◌, ℕ, ℤ, List, [], ◌∷◌, ◌++◌, true, false, Option, Some, None, Result, Ok, Err, String, Global, string_bytes, inl, inr, refl, ap, sym, subst, ◌∙◌, append_assoc, ◌+◌, ◌<◌, length, take, get_or, map, arith}
 use Rattle.std.specs.Prelude.{◌≢◌, IsSomeAnd, IsTrue, Bool, not, ◌&&◌, pos, neg_ℤ, ◌+ℤ◌, int_lt, int_div, option_map, codes, if◌then◌else◌}
 use Rattle.std.specs.Fmt.{signed_decimal}
 use Rattle.jiff_core.specs.Timestamp.{IsTimestampNanos}
@@ -32,9 +32,9 @@ use Rattle.oauth2_script.specs.KeeperParams.{KeeperParams}
 use Rattle.oauth2_script.specs.Replies.{Reply}
 use Rattle.oauth2_request_commands.specs.Client.{WithEndpoint, WithToken, missing}
 use Rattle.oauth2_request_commands.specs.Exchange.{BasicToken, other_text, token_answer}
-use Rattle.oauth2_commands.specs.Keeper.{Standing, is_early, end_at, end_text, waiting, IsCall, IsRenewal, IsSentAt, AreCalls, IsKeeperOutput, kept_after_reply, renewal_output, both, both_outputs, nothing}
+use Rattle.oauth2_commands.specs.Keeper.{Standing, is_early, end_at, end_text, waiting, IsCall, IsRenewal, IsSentAt, AreCalls, IsKeeperOutput, kept_after_reply, renewal_output}
 use Rattle.oauth2_world.specs.Lines.{expected_lines, quotation}
-use Rattle.oauth2_request_commands.specs.Out.{Output, after, success_output, failure_output as shown_fault, no_memory_output, Adds, AddsOutput}
+use Rattle.oauth2_request_commands.specs.Out.{Output, after, both, nothing, both_outputs, success_output, failure_output as shown_fault, no_memory_output, Adds, AddsOutput}
 use Rattle.oauth2_commands.specs.private.Kept.{standing, end_of_wait, patient_standing, wait_after, told_by, AreKept, ShowsCall, ShowsError, WaitsEachTime}
 use Rattle.oauth2_world.specs.Replay.{Replays, ReplaysOrStarves, client_replies}
 use Rattle.oauth2_request_commands.specs.Faults.{fault_output}
@@ -43,8 +43,8 @@ use Rattle.oauth2_world.specs.Replies.{next_reply, later_replies}
 use Rattle.oauth2_world.specs.declared.replay.NoReply.{NoReply}
 use Rattle.oauth2_world.specs.declared.replay.ScriptedClient.{ScriptedClient}
 use Rattle.oauth2_request_commands.specs.declared.status.RunStatus.{RunStatus}
-use Rattle.oauth2_request_commands.specs.declared.status.RunStatus.TheVariants as status
 use Rattle.oauth2_request_commands.proofs.Exchanges.{request_lines-expected}
+use Rattle.oauth2_request_commands.proofs.Joined.{joined-assoc, joined-nothing}
 
 if-true : {A : Type 0} (b : Bool) (x y : A) → b ≡ true → (if b then x else y) ≡ x
 if-true true x y e = refl
@@ -409,22 +409,6 @@ module _ (patient : Patient) (now : ℤ) (before mid : ScriptedClient) (lines : 
   no_token_told kept (patient_error.Waits ends) calls p = wait_told kept ends calls p
 
 -- ---- one call after another
-
-both-assoc : (a b c : RunStatus) → both (both a b) c ≡ both a (both b c)
-both-assoc status.Answered b c = refl
-both-assoc status.Fault b c = refl
-both-assoc status.BadScript b c = refl
-
-both-answered : (a : RunStatus) → both a status.Answered ≡ a
-both-answered status.Answered = refl
-both-answered status.Fault = refl
-both-answered status.BadScript = refl
-
-joined-assoc : (a b c : Output) → both_outputs (both_outputs a b) c ≡ both_outputs a (both_outputs b c)
-joined-assoc a b c = rw (append_assoc a.lines b.lines c.lines, both-assoc a.status b.status c.status) refl
-
-joined-nothing : (a : Output) → both_outputs a nothing ≡ a
-joined-nothing a = rw (append-nil a.lines, both-answered a.status) refl
 
 -- one more call
 pub one_more : (retry_after : Option ℕ) (before middle kept : Standing) (moments : List ℤ) (now : ℤ) (o last : Output) → AreCalls retry_after before moments o middle

@@ -15,7 +15,7 @@ use Rattle.oauth2_keeper.specs.Keeper.{Keeper, Given, is_good, accept, renewal}
 use Rattle.oauth2_request_commands.specs.Client.{WithToken}
 use Rattle.oauth2_request_commands.specs.Exchange.{BasicToken, IsTarget, error_display, other_text, reply_output, token_answer}
 use Rattle.oauth2_world.specs.Lines.{line, expected_lines, quotation}
-use Rattle.oauth2_request_commands.specs.Out.{Output, after, success_output, failure_output, no_memory_output}
+use Rattle.oauth2_request_commands.specs.Out.{Output, after, nothing, both_outputs, success_output, failure_output, no_memory_output}
 use Rattle.oauth2_world.specs.Replies.{next_reply, later_replies}
 use Rattle.oauth2_request_commands.specs.declared.status.RunStatus.{RunStatus}
 use Rattle.oauth2_request_commands.specs.declared.status.RunStatus.TheVariants as status
@@ -115,20 +115,6 @@ module _ (retry_after : Option ℕ) where
       ⊎ ((is_good before.keeper now ≡ false) × (is_early now (end_at now before.waits_until retry_after) ≡ false) × IsRenewal before now o kept)
 
 -- ---- all calls
-
--- the status of two calls: `later` if the first call has an answer, else the status of the first
-abbrev pub both : RunStatus → RunStatus → RunStatus
-both status.Answered later = later
-both status.Fault later = status.Fault
-both status.BadScript later = status.BadScript
-
--- the output of no calls
-abbrev pub nothing : Output
-nothing = record { lines = []; status = status.Answered }
-
--- the output of the first call, and then that of the other calls
-abbrev pub both_outputs : Output → Output → Output
-both_outputs first rest = record { lines = first.lines ++ rest.lines; status = both first.status rest.status }
 
 -- one call at each of these moments, in order
 abbrev pub AreCalls : Option ℕ → Standing → List ℤ → Output → Standing → Type 0

@@ -13,6 +13,7 @@ use Rattle.oauth2_commands.specs.AccessToken.{IsAccessTokenOutput}
 use Rattle.oauth2_commands.specs.IdToken.{IsIdTokenOutput}
 use Rattle.oauth2_request_commands.specs.Introspect.{IsIntrospectOutput}
 use Rattle.oauth2_commands.specs.Keeper.{IsKeeperOutput}
+use Rattle.oauth2_shared_keeper_command.specs.SharedKeeper.{IsSharedKeeperOutput}
 use Rattle.oauth2_commands.specs.Metadata.{IsMetadataOutput}
 use Rattle.oauth2_request_commands.specs.Password.{IsPasswordOutput}
 use Rattle.oauth2_commands.specs.Redirect.{IsRedirectOutput}
@@ -20,7 +21,7 @@ use Rattle.oauth2_request_commands.specs.Refresh.{IsRefreshOutput}
 use Rattle.oauth2_request_commands.specs.Revoke.{IsRevokeOutput}
 use Rattle.oauth2_world.specs.Lines.{line}
 use Rattle.oauth2_request_commands.specs.Out.{Output}
-use Rattle.oauth2_script.specs.Command.{Command, code, refresh, password, client_credentials, introspect, revoke, device_authorization, device_poll, keeper, metadata, id_token, access_token, authorize, redirect}
+use Rattle.oauth2_script.specs.Command.{Command, code, refresh, password, client_credentials, introspect, revoke, device_authorization, device_poll, keeper, shared_keeper, metadata, id_token, access_token, authorize, redirect}
 use Rattle.oauth2_script.specs.Client.{Client}
 use Rattle.oauth2_script.specs.Script.{Script, script_in}
 use Rattle.oauth2_script.specs.ScriptCommand.{ScriptCommand, plain, grant}
@@ -40,6 +41,7 @@ IsCommandOutput client clock replies (revoke p) o = IsRevokeOutput client p repl
 IsCommandOutput client clock replies (device_authorization p) o = IsDeviceAuthorizationOutput client p replies o
 IsCommandOutput client clock replies (device_poll p) o = IsDevicePollOutput client p clock replies o
 IsCommandOutput client clock replies (keeper p) o = IsKeeperOutput client p clock.moments replies o
+IsCommandOutput client clock replies (shared_keeper p) o = IsSharedKeeperOutput client p replies o
 IsCommandOutput client clock replies (metadata p) o = IsMetadataOutput client p replies o
 IsCommandOutput client clock replies (id_token p) o = IsIdTokenOutput client p clock o
 IsCommandOutput client clock replies (access_token p) o = IsAccessTokenOutput p clock o

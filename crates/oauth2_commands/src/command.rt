@@ -17,6 +17,7 @@ use oauth2_request_commands::{
     run_revoke,
 };
 use oauth2_script::Command;
+use oauth2_shared_keeper_command::run_shared_keeper;
 use oauth2_world::ScriptedWorld;
 use std::alloc::{AllocError, Global};
 
@@ -60,6 +61,7 @@ pub fn run_command(
             world.clock.moments(),
             http_client,
         ),
+        Command::SharedKeeper(params) => run_shared_keeper(alloc, client, params, http_client),
         Command::Metadata(params) => run_metadata(alloc, client, params, http_client),
         Command::IdToken(params) => run_id_token(
             alloc,

@@ -29,17 +29,6 @@ type KeptClient = BasicClient<
     EndpointSet,
 >;
 
-// The status of two calls: `later` if the first call has an answer, else the status of the first.
-fn both(first: RunStatus, later: RunStatus) -> RunStatus
-    ensures { result ≡ spec.both first later }
-{
-    match first {
-        RunStatus::Answered => later,
-        RunStatus::Fault => RunStatus::Fault,
-        RunStatus::BadScript => RunStatus::BadScript,
-    }
-}
-
 // Calls the keeper at each of these moments, and shows each result.
 fn show_calls(
     alloc: Global,
@@ -57,7 +46,7 @@ fn show_calls(
     let mut status = RunStatus::Answered;
     for now in readings {
         let later = show_call(alloc, keeper, Timestamp::from_plain(*now), http_client)?;
-        status = both(status, later);
+        status = status.both(later);
     }
     Ok(status)
 }

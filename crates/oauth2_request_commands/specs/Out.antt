@@ -1,5 +1,5 @@
 -- The output of a run: what it writes, and how it ends.
-use Rattle.std.specs.Prelude.{◌≡◌, ℕ, List, ◌++◌, codes}
+use Rattle.std.specs.Prelude.{◌≡◌, ℕ, List, [], ◌++◌, codes}
 use Rattle.oauth2_world.specs.Lines.{answer_line, fault_line}
 use Rattle.oauth2_request_commands.specs.declared.status.RunStatus.{RunStatus}
 use Rattle.oauth2_request_commands.specs.declared.status.RunStatus.TheVariants as status
@@ -24,6 +24,20 @@ no_memory_output = failure_output (codes "Out of memory")
 -- an output with these lines before its own
 abbrev pub after : List ℕ → Output → Output
 after lines o = record { lines = lines ++ o.lines; status = o.status }
+
+-- the status of two parts of a run: `later` if the first has an answer, else the status of the first
+abbrev pub both : RunStatus → RunStatus → RunStatus
+both status.Answered later = later
+both status.Fault later = status.Fault
+both status.BadScript later = status.BadScript
+
+-- the output of a run without parts
+abbrev pub nothing : Output
+nothing = record { lines = []; status = status.Answered }
+
+-- the output of the first part, and then that of the others
+abbrev pub both_outputs : Output → Output → Output
+both_outputs first rest = record { lines = first.lines ++ rest.lines; status = both first.status rest.status }
 
 -- `new` is `old` with the lines of this output added, and `s` is the status of this output
 abbrev pub AddsOutput : List ℕ → List ℕ → RunStatus → Output → Type 0

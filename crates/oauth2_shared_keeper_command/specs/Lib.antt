@@ -1,0 +1,5 @@
+pub mod Renewal
+pub mod Effect
+pub mod Refreshing
+pub mod SharedKeeper
+pub mod private
