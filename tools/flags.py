@@ -165,7 +165,7 @@ def add_for_tokens(it):
 
 def add_for_caches(it):
     it.add_argument('--cache', type=file_of, metavar='FILE',
-                    help='keep the token in this file, or at redis://HOST[:PORT][/DB], and use the one that is there while it is good')
+                    help='keep the token in this file, or at redis://HOST[:PORT][/DB] or file:///FOLDER, and use the one that is there while good')
     add_for_renewals(it)
     it.add_argument('--anew', action='store_true', help='ask for a token whatever --cache has, and keep the new one')
 

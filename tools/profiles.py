@@ -18,7 +18,7 @@ import re
 import stat
 from typing import Any, Optional
 
-import redis_places
+import shared_places
 import toml_subset
 from endings import BAD_SETTING, Stop, status_at, tell
 from settings import FILES, TEXTS, is_of_profiles
@@ -153,8 +153,8 @@ def members_of(table: toml_subset.Table, folder: str) -> dict[str, Any]:
         if name == 'listen' and value not in range(65536):
             raise toml_subset.Fault(line, '"listen" is no port: it is 0 to 65535')
         found[name] = value
-        if name == 'cache' and not redis_places.is_place(str(value)):
-            raise toml_subset.Fault(line, '"cache" is no place on Redis: it has to be redis://HOST[:PORT][/DB][?name=NAME]')
+        if name == 'cache' and not shared_places.is_place(str(value)):
+            raise toml_subset.Fault(line, '"cache" is no shared place: it has to be redis://HOST[:PORT][/DB][?name=NAME] or file:///FOLDER[?name=NAME]')
         if name in PATHS:
             found[name] = os.path.join(folder, os.path.expanduser(str(value)))
     return found
@@ -164,9 +164,9 @@ def apply(given: argparse.Namespace) -> None:
     """Chooses the profile of a run, and gives it what the profile has in the place of flags."""
     profile = given.of_profile = chosen(given)
     given.keeps_for, given.place = None, '--cache %s' % given.cache
-    given.cache_name = profile.name if profile else redis_places.DEFAULT
-    if redis_places.is_place(given.cache):
-        of_redis(given, profile)
+    given.cache_name = profile.name if profile else shared_places.DEFAULT
+    if shared_places.is_place(given.cache):
+        of_place(given, profile)
     if not profile:
         return
     members = profile.members
@@ -180,12 +180,12 @@ def apply(given: argparse.Namespace) -> None:
         given.place = '--profile ' + profile.name
 
 
-def of_redis(given: argparse.Namespace, profile: Optional[Profile]) -> None:
-    """Says how --cache on Redis is named again. Warns of a password that is no secret there."""
-    place = redis_places.place_in(given.cache)
+def of_place(given: argparse.Namespace, profile: Optional[Profile]) -> None:
+    """Says how a shared --cache is named again. Warns of a password that is no secret there."""
+    place = shared_places.place_in(given.cache)
     if place.password:
         tell('all users of this machine can see its processes with their flags, so with the password in --cache: %s has it instead'
-             % redis_places.VARIABLE)
+             % shared_places.VARIABLE)
     given.place = '--cache ' + place.shown(place.name or given.cache_name)
     if profile:
         given.keeps_for, given.place = profile, '--profile %s %s' % (profile.name, given.place)

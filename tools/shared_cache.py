@@ -19,13 +19,13 @@ import secrets
 import sys
 import time
 from types import TracebackType
-from typing import Any, Callable, NamedTuple, NoReturn, Optional
+from typing import Any, Callable, NamedTuple, NoReturn, Optional, Union
 
 import answers
 import conversation
 import profiles
 import program
-import redis_places
+import shared_places
 import renewal
 import shared_keeper
 import shared_stores
@@ -436,7 +436,18 @@ class Opened:
 
 
 
-def on_redis(place: redis_places.Place, key: str, limit: float) -> SharedCache:
+def at(place: Union[shared_places.Place, shared_places.Folder], key: str, limit: float) -> SharedCache:
+    """The cache at a place. Stops where it can't be used."""
+    if isinstance(place, shared_places.Place):
+        return on_redis(place, key, limit)
+    try:
+        store = shared_stores.FileStore(place.path)
+    except OSError as error:
+        raise Stop('--cache %s: %s' % (place.shown(key), error.strerror), BAD_SETTING)
+    return SharedCache(store, key, place.shown(key), limit)
+
+
+def on_redis(place: shared_places.Place, key: str, limit: float) -> SharedCache:
     """The cache at a place on Redis. Stops where the module redis is missing."""
     name, settings = place.shown(key), place.settings()
     wire_log.secrets.add(settings['password'])

@@ -116,13 +116,21 @@ class FileStore:
         self.fault: Optional[Exception] = None
         os.makedirs(folder, mode=0o700, exist_ok=True)
 
+    def is_refused(self) -> bool:
+        """Whether the last call is silent because the system says no."""
+        return isinstance(self.fault, PermissionError)
+
+    def other_settings(self) -> list[str]:
+        """None: a folder has no settings."""
+        return []
+
     def path(self, name: str, ending: str = '') -> str:
         if not name or name.startswith('.') or '/' in name:
             raise ValueError('not the name of a file: %r' % name)
         return os.path.join(self.folder, name + ending)
 
     def load(self, name: str, _seconds: Optional[float] = None) -> Optional[tuple[int, str]]:
-        path = self.path(name)
+        path, self.fault = self.path(name), None
         try:
             with open(path) as f:
                 return read_value(f.read())

@@ -17,7 +17,7 @@ from stand_in import OK
 
 sys.path.insert(0, tool.TOOLS)
 import program
-import redis_places
+import shared_places
 import redis_server
 import repository
 import shared_cache
@@ -413,23 +413,66 @@ class Others(Case):
             self.assertIn(said, self.err)
 
 
+@unittest.skipUnless(repository.has_kit(), 'there is no kit here')
+class InAFolder(Case):
+    """The same over files in a folder."""
+
+    def prepare_store(self):
+        self.store = self.folder()
+        self.place = 'file://%s?name=mail' % self.store
+
+    def value(self, name='mail'):
+        with open(os.path.join(self.store, name), encoding='utf-8') as f:
+            return f.read().split()
+
+    def put(self, *words):
+        with open(os.path.join(self.store, 'mail'), 'w', encoding='utf-8') as f:
+            f.write(' '.join(words))
+
+    def test_it_is_renewed_once(self):
+        self.assertEqual(self.sign_in(), 't1')
+        self.assertEqual(self.value()[:2], ['1', 'rest'])
+        self.assertEqual(os.stat(os.path.join(self.store, 'mail')).st_mode & 0o777, 0o600)
+        self.over()
+        self.assertEqual(self.at_once(), ['t2\n'] * 4)
+        self.assertEqual((self.grants(), self.value()[:2]), (['password', 'refresh_token'], ['3', 'rest']))
+
+    def test_a_killed_run_leaves_a_mark_and_a_login_mends_it(self):
+        self.sign_in()
+        self.change(expires_at=int(time.time()) + 30)
+        self.assertEqual(self.killed()[0], -signal.SIGKILL)
+        self.assertEqual(self.value()[:2], ['2', 'mark'])
+        self.assertEqual(self.token(), (0, 't1'))
+        self.assertIn('another run renews it since', self.err)
+        self.assertEqual(self.sign_in('--anew'), 't3')
+        self.assertEqual(self.token('--margin', '3600'), (0, 't4'))
+        self.assertEqual(self.run_tool('status', '--cache', self.place)[0], 0)
+        with open(os.path.join(self.store, 'mail'), 'w', encoding='utf-8') as f:
+            f.write('1 something else')
+        self.assertEqual(self.token()[0], 2)
+
+
 class Places(unittest.TestCase):
     def test_places(self):
         for text, wanted in (('redis://h', ('redis', 'h', 6379, 0, None, None, None)),
                              ('rediss://u:p%40@h:1/2?name=a-b_1', ('rediss', 'h', 1, 2, 'u', 'p@', 'a-b_1')),
                              ('redis://:p@[::1]/', ('redis', '::1', 6379, 0, None, 'p', None))):
-            self.assertEqual(tuple(redis_places.place_in(text)), wanted)
-        self.assertEqual(redis_places.place_in('redis://:p@[::1]/').shown('x'), 'redis://[::1]:6379/0?name=x')
+            self.assertEqual(tuple(shared_places.place_in(text)), wanted)
+        for text, wanted in (('file:///var/a%20b', ('/var/a b', None, None)), ('file:///a?name=x', ('/a', 'x', None))):
+            self.assertEqual(tuple(shared_places.place_in(text)), wanted)
+            self.assertEqual(shared_places.place_in(text).shown('x').partition('?')[0], text.partition('?')[0])
+        self.assertEqual(shared_places.place_in('redis://:p@[::1]/').shown('x'), 'redis://[::1]:6379/0?name=x')
 
     def test_what_is_none(self):
         for text in ('redis://', 'redis://h:0', 'redis://h:x', 'redis://h/a', 'redis://h?name=a b', 'redis://h?name=', 'redis://h?db=1',
-                     'redis://h?name=a&name=b', 'redis://h#a', 'redis://s3cret', 'redis://:s3cret@'):
+                     'redis://h?name=a&name=b', 'redis://h#a', 'redis://s3cret', 'redis://:s3cret@', 'file://', 'file://host/a',
+                     'file:///a#b', 'file:///a?name=.x', 'file:///a?b=c'):
             if text != 'redis://s3cret':
                 with self.subTest(text), self.assertRaises(Stop) as raised:
-                    redis_places.place_in(text)
+                    shared_places.place_in(text)
                 self.assertNotIn('s3cret', str(raised.exception))
-        self.assertEqual([redis_places.is_place(it) for it in ('redis://h', 'REDISS://h', 'redis:h', 'a/redis://h', '', None)],
-                         [True, True, False, False, False, False])
+        self.assertEqual([shared_places.is_place(it) for it in ('file:///a', 'redis://h', 'REDISS://h', 'redis:h', 'a/redis://h', '', None)],
+                         [True, True, True, False, False, False, False])
 
 
 class Values(unittest.TestCase):

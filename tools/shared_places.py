@@ -1,4 +1,5 @@
-"""The places on Redis that `tools/oauth2 --cache` takes, as redis://[USER:PASSWORD@]HOST[:PORT][/DB][?name=NAME]; for that tool.
+"""The places of shared tokens that `tools/oauth2 --cache` takes: on Redis, as redis://[USER:PASSWORD@]HOST[:PORT][/DB][?name=NAME], or
+in a folder, as file:///FOLDER[?name=NAME]; for that tool.
 
 rediss:// is the same over TLS. The password may be in OAUTH2_REDIS_PASSWORD instead.
 """
@@ -7,11 +8,12 @@ from __future__ import annotations
 import os
 import re
 import urllib.parse
-from typing import Any, NamedTuple, NoReturn, Optional
+from typing import Any, NamedTuple, NoReturn, Optional, Union
 
 from endings import BAD_SETTING, Stop
 
 SCHEMES = ('redis', 'rediss')
+FOLDER = 'file'
 NAME = re.compile('[A-Za-z0-9][A-Za-z0-9_-]{0,99}')
 VARIABLE = 'OAUTH2_REDIS_PASSWORD'
 DEFAULT = 'default'  # the name of a token, where nothing says another one
@@ -42,12 +44,24 @@ class Place(NamedTuple):
         return found
 
 
+class Folder(NamedTuple):
+    """A folder with a file for each token, and the name of a token there, if the place says one."""
+
+    path: str
+    name: Optional[str]
+    password: None = None
+
+    def shown(self, name: str) -> str:
+        """The place with this name of a token."""
+        return 'file://%s?name=%s' % (urllib.parse.quote(self.path), name)
+
+
 def is_place(text: Optional[str]) -> bool:
-    """Whether a cache is on Redis, and not a file."""
-    return (text or '').partition('://')[0].lower() in SCHEMES and '://' in (text or '')
+    """Whether a cache is shared, and not a file."""
+    return (text or '').partition('://')[0].lower() in (*SCHEMES, FOLDER) and '://' in (text or '')
 
 
-def place_in(text: str, label: str = '--cache') -> Place:
+def place_in(text: str, label: str = '--cache') -> Union[Place, Folder]:
     """The place that a text names. What is wrong with one is not shown, since it may have a password."""
     try:
         url = urllib.parse.urlsplit(text)
@@ -56,12 +70,21 @@ def place_in(text: str, label: str = '--cache') -> Place:
     except ValueError:
         refuse(label)
     names = [value for name, value in pairs if name == 'name']
+    if url.scheme == FOLDER:
+        if url.netloc or not url.path.startswith('/') or url.fragment or len(names) != len(pairs) or len(names) > 1:
+            raise Stop('%s is no folder that this tool can use: it has to be file:///FOLDER[?name=NAME]' % label, BAD_SETTING)
+        check_name(names, label)
+        return Folder(urllib.parse.unquote(url.path), names[0] if names else None)
     if not url.hostname or port == 0 or url.fragment or len(names) != len(pairs) or len(names) > 1 or not re.fullmatch('[0-9]{0,6}', db):
         refuse(label)
-    if names and not NAME.fullmatch(names[0]):
-        raise Stop('the name of %s begins with a letter or a digit, and has 100 letters, digits, "_" and "-" at most' % label, BAD_SETTING)
+    check_name(names, label)
     login = [None if it is None else urllib.parse.unquote(it) for it in (url.username, url.password)]
     return Place(url.scheme, url.hostname, port or 6379, int(db or 0), login[0] or None, login[1], names[0] if names else None)
+
+
+def check_name(names: list[str], label: str) -> None:
+    if names and not NAME.fullmatch(names[0]):
+        raise Stop('the name of %s begins with a letter or a digit, and has 100 letters, digits, "_" and "-" at most' % label, BAD_SETTING)
 
 
 def refuse(label: str) -> NoReturn:
