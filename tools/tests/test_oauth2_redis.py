@@ -131,6 +131,20 @@ class Case(stand_in.Case):
         err = run.communicate(timeout=60)[1]
         return run.returncode, err
 
+    def check_that_many_renew_once(self):
+        """Runs that begin at once renew a token that has ended, once."""
+        self.over()
+        self.assertEqual(self.at_once(), ['t2\n'] * 4)
+        self.assertEqual((self.grants(), self.value()[:2]), (['password', 'refresh_token'], ['3', 'rest']))
+
+    def check_that_a_killed_run_leaves_a_mark(self):
+        """What a killed run leaves, and what the next one hands out."""
+        self.change(expires_at=int(time.time()) + 30)
+        self.assertEqual(self.killed()[0], -signal.SIGKILL)
+        self.assertEqual(self.value()[:2], ['2', 'mark'])
+        self.assertEqual(self.token(), (0, 't1'))
+        self.assertRegex(self.err, 'more seconds, but not renewed: another run renews it since 20')
+
 
 @unittest.skipUnless(repository.has_kit(), 'there is no kit here')
 class Renewals(Case):
@@ -167,17 +181,11 @@ class Renewals(Case):
 
     def test_runs_at_once_renew_once(self):
         self.sign_in()
-        self.over()
-        self.assertEqual(self.at_once(), ['t2\n'] * 4)
-        self.assertEqual((self.grants(), self.value()[:2]), (['password', 'refresh_token'], ['3', 'rest']))
+        self.check_that_many_renew_once()
 
     def test_a_killed_run_leaves_a_mark_and_a_login_mends_it(self):
         self.sign_in()
-        self.change(expires_at=int(time.time()) + 30)
-        self.assertEqual(self.killed()[0], -signal.SIGKILL)
-        self.assertEqual(self.value()[:2], ['2', 'mark'])
-        self.assertEqual(self.token(), (0, 't1'))
-        self.assertRegex(self.err, 'more seconds, but not renewed: another run renews it since 20')
+        self.check_that_a_killed_run_leaves_a_mark()
         self.over()
         self.assertEqual(self.token('--timeout', '1'), (9, ''))
         self.assertRegex(self.err, 'the token of redis://.* has ended and is not renewed: another run renews it since 20')
@@ -433,17 +441,11 @@ class InAFolder(Case):
         self.assertEqual(self.sign_in(), 't1')
         self.assertEqual(self.value()[:2], ['1', 'rest'])
         self.assertEqual(os.stat(os.path.join(self.store, 'mail')).st_mode & 0o777, 0o600)
-        self.over()
-        self.assertEqual(self.at_once(), ['t2\n'] * 4)
-        self.assertEqual((self.grants(), self.value()[:2]), (['password', 'refresh_token'], ['3', 'rest']))
+        self.check_that_many_renew_once()
 
     def test_a_killed_run_leaves_a_mark_and_a_login_mends_it(self):
         self.sign_in()
-        self.change(expires_at=int(time.time()) + 30)
-        self.assertEqual(self.killed()[0], -signal.SIGKILL)
-        self.assertEqual(self.value()[:2], ['2', 'mark'])
-        self.assertEqual(self.token(), (0, 't1'))
-        self.assertIn('another run renews it since', self.err)
+        self.check_that_a_killed_run_leaves_a_mark()
         self.assertEqual(self.sign_in('--anew'), 't3')
         self.assertEqual(self.token('--margin', '3600'), (0, 't4'))
         self.assertEqual(self.run_tool('status', '--cache', self.place)[0], 0)
