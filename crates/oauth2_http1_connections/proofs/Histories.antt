@@ -9,7 +9,7 @@ use Rattle.oauth2_http1.specs.declared.error.Http1Error.TheVariants as Error
 use Rattle.oauth2_http1.specs.Origin.{Place}
 use Rattle.oauth2_wire.specs.Request.{HttpRequest}
 use Rattle.oauth2_wire.specs.Reply.{HttpResponse}
-use Rattle.oauth2_http1_connections.specs.Client.{agent_of, Gets, HoldsAfter, Calls}
+use Rattle.oauth2_http1_connections.specs.Client.{agent_of, Gets, HoldsAfter, Answers, Calls}
 use Rattle.oauth2_http1_connections.specs.Exchange.{Exchange}
 use Rattle.oauth2_http1_connections.specs.Idle.{text_of, is_same_place, is_for, find, without}
 use Rattle.oauth2_http1_connections.specs.Law.{Asked, HasHistory, EachHasHistory, KeepsHistories}
@@ -118,3 +118,10 @@ module _ {C S E : Type 0} (opens : C → Place → Result S E → C → Type 0) 
     kept = kept_after before request result after each did;
     used = λ place stream found. found_has History place before.idle.kept.items stream each found;
   }
+
+  -- the connection of a call that got a reply
+  pub answered_has : (before : KeepAliveClient C S) (request : HttpRequest) (response : HttpResponse) (after : KeepAliveClient C S)
+      → EachHasHistory opens contents remaining reads writes flushes before
+      → (did : Answers opens contents remaining reads writes flushes before request response after)
+      → HasHistory opens contents remaining reads writes flushes did.place did.stream
+  answered_has before request response after each did = taken_has did.place before after did.used did.stream each did.gets

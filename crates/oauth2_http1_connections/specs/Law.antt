@@ -1,7 +1,7 @@
 -- What went over one connection that carried several exchanges.
-use Rattle.std.specs.Prelude.{◌≡◌, ℕ, ⊤, true, List, [], ◌∷◌, ◌++◌, Option, Some, IsSome, Result, Ok}
+use Rattle.std.specs.Prelude.{◌≡◌, ℕ, ⊤, true, List, [], ◌∷◌, ◌++◌, Option, Some, IfSome, IsSome, Result, Ok}
 use Rattle.std.specs.declared.io.Error.{Error}
-use Rattle.std.specs.Io.KnownBytes.{Keeps}
+use Rattle.std.specs.Io.KnownBytes.{Appends, Keeps}
 use Rattle.std.specs.List.{AllByRecursion}
 use Rattle.http.specs.Request.{head_of, body_of}
 use Rattle.http1.specs.declared.conn.Limits.{Limits}
@@ -14,6 +14,7 @@ use Rattle.oauth2_http1.specs.Client.{reply_terms}
 use Rattle.oauth2_http1.specs.Message.{Takes, ReadsOnly, head_text, kept_fields, seen_request}
 use Rattle.oauth2_http1.specs.Origin.{Place, origin_form}
 use Rattle.oauth2_http1.specs.Reply.{ReadsReply, IsResponseOf}
+use Rattle.oauth2_http1_connections.specs.Client.{agent_of}
 use Rattle.oauth2_http1_connections.specs.Exchange.{Exchange}
 use Rattle.oauth2_http1_connections.specs.Idle.{text_of, find}
 use Rattle.oauth2_http1_connections.specs.declared.client.KeepAliveClient.{KeepAliveClient}
@@ -26,6 +27,15 @@ pub record Asked : Type 0 where
   pub bounds : Bounds
   pub request : HttpRequest
   pub response : HttpResponse
+
+-- the request and the reply of a call of this client
+abbrev pub asked_of : {C S : Type 0} → KeepAliveClient C S → HttpRequest → HttpResponse → Asked
+asked_of client request response = record {
+  agent = agent_of client;
+  bounds = client.bounds;
+  request = request;
+  response = response;
+}
 
 -- `P` holds of the first bytes of the stream, which end where `rest` begins, and of these bytes
 -- whatever follows them
@@ -107,3 +117,34 @@ module _ {C S E : Type 0} (opens : C → Place → Result S E → C → Type 0) 
   pub record KeepsHistories (before : KeepAliveClient C S) (request : HttpRequest) (result : Result HttpResponse (KeepAliveError E)) (after : KeepAliveClient C S) : Type 0 where
     pub kept : EachHasHistory after
     pub used : (place : Place) (stream : S) → find place before.idle.kept.items ≡ Some stream → HasHistory place stream
+
+  -- the bytes that were written to the connection since it was opened
+  abbrev pub written_since : (place : Place) (now : S) → HasHistory place now → List ℕ
+  written_since place now history = sent_bytes contents remaining reads writes flushes place history.exchanges history.opened now history.carried
+
+  -- the bytes that were read from the connection since it was opened
+  abbrev pub read_since : (place : Place) (now : S) → HasHistory place now → List ℕ
+  read_since place now history = read_bytes contents remaining reads writes flushes place history.exchanges history.opened now history.carried
+
+  -- at each exchange since then it is known which bytes the connection gives
+  abbrev pub IsKnownSince : (place : Place) (now : S) → HasHistory place now → Type 0
+  IsKnownSince place now history = AreKnown contents remaining reads writes flushes place history.exchanges history.opened now history.carried
+
+  -- behind what was written to the connection since it was opened come these bytes, the next
+  -- request; and behind the replies to the earlier requests comes what remains at `sent`
+  pub record Follows (place : Place) (now : S) (history : HasHistory place now) (bytes : List ℕ) (sent : S) : Type 0 where
+    pub written : ReadsLeave contents remaining reads writes flushes place
+        → Appends (contents history.opened) (contents sent) (written_since place now history ++ bytes)
+    pub requests : (limits : Limits) (more : List ℕ) → TakesAll limits place history.exchanges
+        → BeginsWithRequests limits place history.exchanges ((written_since place now history ++ bytes) ++ more) (bytes ++ more)
+    pub replies : IsKnownSince place now history
+        → IfSome (remaining sent) (λ stream. BeginsWithReplies history.exchanges (read_since place now history ++ stream) stream)
+
+  -- with one more exchange, its request and its reply are the next messages: the bytes that were
+  -- written are those of all requests, and the bytes that were given begin with all replies
+  pub record IsNext (place : Place) (now : S) (history : HasHistory place now) (asked : Asked) (bytes : List ℕ) (sent : S) : Type 0 where
+    pub follows : Follows place now history bytes sent
+    pub requests : (limits : Limits) (more : List ℕ) → TakesAll limits place (history.exchanges ++ asked ∷ [])
+        → BeginsWithRequests limits place (history.exchanges ++ asked ∷ []) ((written_since place now history ++ bytes) ++ more) more
+    pub replies : IsKnownSince place now history
+        → IfSome (remaining sent) (λ stream. (rest : List ℕ) × BeginsWithReplies (history.exchanges ++ asked ∷ []) (read_since place now history ++ stream) rest)

@@ -3,5 +3,6 @@ pub mod Method
 pub mod Exchange
 pub mod Client
 pub mod Law
+pub mod KeptFromBytes
 pub mod Display
 pub mod private

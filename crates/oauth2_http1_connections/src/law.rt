@@ -1,20 +1,23 @@
 //! Laws about a connection that carried several exchanges.
 
-ghost use Rattle.std.specs.Prelude.{ℕ, List, ◌++◌, Result};
+ghost use Rattle.std.specs.Prelude.{ℕ, List, ◌++◌, ⊤, Result};
 ghost use Rattle.std.specs.Io.KnownBytes.{Appends};
 ghost use Rattle.http1.specs.declared.conn.Limits.{Limits};
 ghost use Rattle.oauth2_http1.specs.Origin.{Place};
 ghost use Rattle.oauth2_http1_connections.specs.Law.{Asked, Carries, AreKnown, ReadsLeave};
 ghost use Rattle.oauth2_http1_connections.specs.Law.{sent_bytes, read_bytes};
 ghost use Rattle.oauth2_http1_connections.specs.Law.{BeginsWithReplies, BeginsWithRequests};
-ghost use Rattle.oauth2_http1_connections.specs.Law.{TakesAll, EachHasHistory, KeepsHistories};
-ghost use Rattle.oauth2_http1_connections.specs.Client.{Calls};
+ghost use Rattle.oauth2_http1_connections.specs.Law.{TakesAll, HasHistory, EachHasHistory};
+ghost use Rattle.oauth2_http1_connections.specs.Law.{KeepsHistories, IsNext, asked_of};
+ghost use Rattle.oauth2_http1_connections.specs.KeptFromBytes.{EachIsFromKeptBytes};
+ghost use Rattle.oauth2_http1_connections.specs.Client.{Answers, Calls};
 ghost use Rattle.oauth2_http1_connections.specs.declared.client.KeepAliveClient.{KeepAliveClient};
 ghost use Rattle.oauth2_http1_connections.specs.declared.error.KeepAliveError.{KeepAliveError};
 ghost use Rattle.oauth2_wire.specs.Request.{HttpRequest};
 ghost use Rattle.oauth2_wire.specs.Reply.{HttpResponse};
 
 use oauth2_http1::{Connect, Receive, Transmit};
+use oauth2_json::FromJson;
 
 /// The bytes that were written to a connection are the messages of the requests, one after the
 /// other. A server that takes the heads reads them as these requests, and in no other way.
@@ -60,4 +63,37 @@ pub fn each_idle_connection_has_a_history<C: Connect>()
         C.Stream.reads C.Stream.writes C.Stream.flushes before request result after
         → KeepsHistories C.opens C.Stream.contents C.Stream.remaining
         C.Stream.reads C.Stream.writes C.Stream.flushes before request result after }
+{}
+
+/// The reply of a call is the next message of its connection, behind the replies to all earlier
+/// requests since it was opened; so are the bytes of the request. It has such a history.
+pub fn each_reply_is_the_next_message<C: Connect>()
+    ensures next { (before : KeepAliveClient C C.Stream) (request : HttpRequest)
+        (response : HttpResponse) (after : KeepAliveClient C C.Stream)
+        (did : Answers C.opens C.Stream.contents C.Stream.remaining
+        C.Stream.reads C.Stream.writes C.Stream.flushes before request response after)
+        (history : HasHistory C.opens C.Stream.contents C.Stream.remaining
+        C.Stream.reads C.Stream.writes C.Stream.flushes did.place did.stream)
+        → IsNext C.opens C.Stream.contents C.Stream.remaining
+        C.Stream.reads C.Stream.writes C.Stream.flushes did.place did.stream history
+        (asked_of before request response) did.exchange.wrote.bytes did.exchange.sent }
+    ensures history { (before : KeepAliveClient C C.Stream) (request : HttpRequest)
+        (response : HttpResponse) (after : KeepAliveClient C C.Stream)
+        → EachHasHistory C.opens C.Stream.contents C.Stream.remaining
+        C.Stream.reads C.Stream.writes C.Stream.flushes before
+        → (did : Answers C.opens C.Stream.contents C.Stream.remaining
+        C.Stream.reads C.Stream.writes C.Stream.flushes before request response after)
+        → HasHistory C.opens C.Stream.contents C.Stream.remaining
+        C.Stream.reads C.Stream.writes C.Stream.flushes did.place did.stream }
+{}
+
+/// The result of a request that meets its contract over this client says which bytes were written
+/// to which connection, and which message of this connection the result was read from.
+pub fn each_result_is_from_kept_bytes<C: Connect, D: FromJson, T: FromJson>()
+    ensures body { EachIsFromKeptBytes C.opens C.Stream.contents C.Stream.remaining
+        C.Stream.reads C.Stream.writes C.Stream.flushes
+        D.meaning T.meaning }
+    ensures status_only { EachIsFromKeptBytes C.opens C.Stream.contents C.Stream.remaining
+        C.Stream.reads C.Stream.writes C.Stream.flushes
+        (λ (done : ⊤). done) T.meaning }
 {}

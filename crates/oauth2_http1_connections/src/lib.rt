@@ -10,4 +10,7 @@ mod law;
 
 pub use client::{KeepAliveClient, is_idempotent};
 pub use error::KeepAliveError;
-pub use law::{each_idle_connection_has_a_history, replies_stay_in_order, requests_stay_in_order};
+pub use law::{
+    each_idle_connection_has_a_history, each_reply_is_the_next_message,
+    each_result_is_from_kept_bytes, replies_stay_in_order, requests_stay_in_order,
+};
