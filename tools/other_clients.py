@@ -3,6 +3,8 @@
 Go's net/http (go/exchanges.go) and ureq (rust/exchanges.rs) exchange a code for a token over a connection in memory. Each takes a number,
 makes the exchange so often, and prints the last request as it was written and the body of its reply.
 
+Both also ask an introspection endpoint over real connections (go/introspections.go, rust/introspections.rs), for tools/bench-introspections.
+
 Go's golang.org/x/oauth2 (go/operations.go) and Authlib (authlib_operations.py) do operations of oauth2_bench, with its arguments and
 output. Each checks its last request and what it read.
 """
@@ -26,6 +28,10 @@ name = "exchanges"
 path = "exchanges.rs"
 [dependencies]
 ureq = { version = "2", default-features = false }
+'''
+UREQ_INTROSPECTIONS = UREQ.replace('exchanges', 'introspections') + '''base64 = "0.13"
+serde = { version = "1", features = ["derive"] }
+serde_json = "1"
 '''
 
 TOOLS = os.path.join(repository.ROOT, 'tools')
@@ -72,16 +78,25 @@ def authlib():
     return None
 
 
-def ureq():
-    """The Rust crate ureq, which opens a TCP connection that it then does not use."""
-    folder, is_debian = os.path.join(OUT, 'ureq'), os.path.isdir(workspace.DEBIAN)
+def ureq_program(name, manifest):
+    """A program of the folder rust over ureq, and ureq's version."""
+    folder, is_debian = os.path.join(OUT, 'ureq-' + name), os.path.isdir(workspace.DEBIAN)
     if is_debian:
         workspace.put(folder, '.cargo/config.toml', workspace.CONFIG)
-    workspace.put(folder, 'Cargo.toml', UREQ)
-    workspace.put(folder, 'exchanges.rs', workspace.read(workspace.HERE, 'exchanges.rs'))
-    program = workspace.cargo(folder, 'exchanges', is_debian)
-    version = re.search(r'name = "ureq"\nversion = "(.*)"', workspace.read(folder, 'Cargo.lock').decode()).group(1)
+    workspace.put(folder, 'Cargo.toml', manifest)
+    workspace.put(folder, name + '.rs', workspace.read(workspace.HERE, name + '.rs'))
+    program = workspace.cargo(folder, name, is_debian)
+    return program, re.search(r'name = "ureq"\nversion = "(.*)"', workspace.read(folder, 'Cargo.lock').decode()).group(1)
+
+
+def ureq():
+    """The Rust crate ureq, which opens a TCP connection that it then does not use."""
+    program, version = ureq_program('exchanges', UREQ)
     return Client('`ureq` %s' % version, [program])
+
+
+def ureq_introspections():
+    return ureq_program('introspections', UREQ_INTROSPECTIONS)
 
 
 def exchanges():

@@ -1,4 +1,5 @@
-"""The parts of a reply's bytes, for tools/compare-http1, which changes one kind of them and puts the reply together again."""
+"""The parts of a reply's bytes, of which reply_classes changes one kind and puts the reply together again; for tools/compare-http1 and
+tools/compare-connections."""
 import re
 
 BLANK = re.compile(rb'(?:\r?\n)*')
@@ -83,12 +84,13 @@ class Reply:
     """The heads, of which the last is the first that is no interim response, and the body: chunks with their ends, the line of the last
     chunk, and trailers, as far as they can be told apart; and the bytes that follow."""
 
-    def __init__(self, reply):
+    def __init__(self, reply, is_head=False):
         self.heads, self.chunks, self.last, self.trailers = [Head(reply, 0)], [], [b'', b''], None
+        self.is_head = is_head
         while self.head.is_whole and self.head.status in range(100, 200):
             self.heads.append(Head(reply, self.head.behind))
         at = self.head.behind
-        if self.head.is_whole and [it for it in self.head.codings() if it][-1:] == [b'chunked']:
+        if self.head.is_whole and not is_head and [it for it in self.head.codings() if it][-1:] == [b'chunked']:
             at = self.read_chunks(reply, at)
         self.rest = reply[at:]
 
@@ -138,12 +140,13 @@ def has_form(lines, form):
     return all(form.fullmatch(line) and end == b'\r\n' for line, end in lines)
 
 
-def follows_grammar(reply):
-    """Whether a reply begins with what the grammar has: heads, and chunks if it says that it has any, down to the end of the trailers."""
-    parts = Reply(reply)
+def follows_grammar(reply, is_head=False):
+    """Whether a reply begins with what the grammar has: heads, and chunks if it says that it has any, down to the end of the trailers. A
+    reply to HEAD has no body."""
+    parts = Reply(reply, is_head)
     if any(it.before or it.end != b'\r\n' or not has_form(it.lines[:1], START) or not has_form(it.lines[1:], FIELD) for it in parts.heads):
         return False
-    if parts.head.codings()[-1:] != [b'chunked'] or parts.head.status in (204, 304):
+    if is_head or parts.head.codings()[-1:] != [b'chunked'] or parts.head.status in (204, 304):
         return True
     return parts.trailers is not None and parts.trailers.end == b'\r\n' and has_form(parts.trailers.lines, FIELD) and has_form(
         [it[:2] for it in parts.size_lines()], CHUNK)
