@@ -31,6 +31,43 @@ except OSError as error:
 LEAK = {'Authorization': try_connector.basic(try_connector.CLIENT, try_connector.SECRET)}
 
 
+# A resource server in place of the program. Its faults: `opens` a connection for each request, `asks` about each token, `keeps` an answer
+# whatever is said, or `repeats` a request that was not answered on a new connection.
+RESOURCE_SERVER = '''#!%s
+import base64, http.client, json, os, sys, time, urllib.parse
+url, fault = urllib.parse.urlsplit(sys.argv[1]), %r
+basic = base64.b64encode((sys.argv[2] + ':' + os.environ['CLIENT_SECRET']).encode()).decode()
+headers = {'Authorization': 'Basic ' + basic, 'Content-Type': 'application/x-www-form-urlencoded'}
+connection, kept = http.client.HTTPConnection(url.netloc, timeout=5), {}
+def asked(token):
+    if fault == 'opens':
+        connection.close()
+    for _ in range(2):
+        is_used = connection.sock or fault == 'repeats'
+        try:
+            connection.request('POST', url.path, urllib.parse.urlencode({'token': token}), headers)
+            return json.load(connection.getresponse())
+        except (OSError, http.client.HTTPException):
+            connection.close()
+        if not is_used:
+            break
+    return {'error': 'no reply'}
+for line in sys.stdin:
+    verb, _, name = line.strip().rpartition(' ')
+    if verb:
+        if fault != 'keeps':
+            kept.pop(name, None)
+        continue
+    found = kept.get(name)
+    if not found or fault == 'asks' or fault != 'keeps' and found.get('exp', 1 << 40) <= time.time():
+        found = asked(name)
+        kept.pop(name, None)
+        if found.get('active'):
+            kept[name] = found
+    print(found.get('error') or ('active' if found['active'] else 'inactive'), flush=True)
+'''
+
+
 class Repositories(unittest.TestCase):
     def test_each(self):
         for name, made in try_connector.PROGRAMS.items():
@@ -56,14 +93,19 @@ class Repositories(unittest.TestCase):
 
 
 class Rows(unittest.TestCase):
-    def tries(self, leak):
+    def program(self, text):
+        """The path of a program with this text, in a folder of its own."""
         room = tempfile.TemporaryDirectory()
         self.addCleanup(room.cleanup)
-        path = os.path.join(room.name, 'token')
+        path = os.path.join(room.name, 'program')
         with open(path, 'w') as f:
-            f.write(STAND_IN % (sys.executable, leak))
+            f.write(text)
         os.chmod(path, stat.S_IRWXU)
-        return try_connector.Tries({'token': path}, room.name)
+        return path
+
+    def tries(self, leak):
+        path = self.program(STAND_IN % (sys.executable, leak))
+        return try_connector.Tries({'token': path}, os.path.dirname(path))
 
     def test_a_client(self):
         tries = self.tries({})
@@ -75,6 +117,17 @@ class Rows(unittest.TestCase):
         tries = self.tries(LEAK)
         self.assertEqual(tries.ipv4(), '')
         self.assertEqual(tries.proxy(), 'the proxy got the fields authorization')
+
+    ASKING = ('many_tokens', 'asked_again', 'forgotten', 'expired', 'not_active', 'closed_between', 'taken_and_closed', 'closed_each')
+
+    def test_a_resource_server(self):
+        for fault, failed in ('', ()), ('opens', ('many_tokens', 'taken_and_closed')), ('asks', ('asked_again', 'forgotten')), \
+                ('keeps', ('forgotten', 'expired')), ('repeats', ('closed_each',)):
+            path = self.program(RESOURCE_SERVER % (sys.executable, fault))
+            tries = try_connector.Tries({'resource_server': path}, os.path.dirname(path))
+            for row in failed or self.ASKING:
+                with self.subTest(row, fault=fault):
+                    self.assertEqual(bool(getattr(tries, row)()), row in failed)
 
     def test_runs(self):
         def run(status=0, out='', said='', seconds=0.0):
