@@ -51,9 +51,17 @@ def is_empty_claim(it):
     return it.theirs is None and it.ours in rules and it.claims.get(rules[it.ours]) == ''
 
 
+def expects(issuer, text, tenant):
+    """Whether an issuer of a script, which is a text, a list of texts or one for each tenant, is this text."""
+    if isinstance(issuer, dict):
+        return '%s%s%s' % (issuer['before'], tenant, issuer['after']) == text
+    return text in issuer if isinstance(issuer, list) else issuer == text
+
+
 def is_empty_but_expected(it):
     """The issuer or the client is an empty text, and so is the claim, which Authlib takes for none."""
-    empty = {'iss': it.claims.get('iss') == '' == it.params['issuer'], 'aud': it.claims.get('aud') == '' == it.client}
+    empty = {'iss': it.claims.get('iss') == '' and expects(it.params['issuer'], '', it.claims.get('tid')),
+             'aud': it.claims.get('aud') == '' == it.client}
     return it.ours is None and any(is_it and it.theirs in refused_for(claim) for claim, is_it in empty.items())
 
 
@@ -63,11 +71,20 @@ def is_last_second(it):
     return abs(fractions.Fraction(it.claims['exp']) + it.params.get('leeway', 0) - it.now) < fractions.Fraction(1, 10 ** 9)
 
 
+def is_login_of_no_time(it):
+    """The time of the login is none that a `Timestamp` can say, so it counts as not said. Authlib takes it for a number."""
+    time = it.claims.get('auth_time')
+    is_time = isinstance(time, (int, float)) and not isinstance(time, bool) and EARLIEST <= time <= LATEST
+    return said('the token does not say when the user logged in')(it) and time is not None and not is_time
+
+
 def is_unknown_hash(it):
     """The algorithm is none of RFC 7518, 3.1: the hash can't be checked here, and Authlib cuts a digest's name from the algorithm's."""
     return it.ours is None and it.theirs in refused_for('at_hash') and it.header['alg'] not in KNOWN
 
 
+# The first and the last second since 1970 that a `Timestamp` can say.
+EARLIEST, LATEST = -377705023201, 253402207200
 KNOWN = {kind + size for kind in ('HS', 'RS', 'ES', 'PS') for size in ('256', '384', '512')}
 CLASSES = [
     Class('algorithm', '3.1.3.7, 6 to 8', "the algorithm is a matter of Authlib's signature check, not of its claims checks",
@@ -88,6 +105,8 @@ CLASSES = [
     Class('login too old', '3.1.3.7, 13', 'Authlib compares auth_time with nothing', said('the user logged in too long ago')),
     Class('max_age 0', '2, auth_time', 'Authlib takes a maximum age of 0 for none',
           lambda it: said('the token does not say when the user logged in')(it) and it.params['max_age'] == 0),
+    Class('login of no time', '2, auth_time', 'Authlib takes true for a time, and one before the year -9999 or past the year 9999',
+          is_login_of_no_time),
     Class('auth_time 0', '2, auth_time', 'Authlib takes a login at the second 0 of 1970 for none',
           lambda it: it.ours is None and it.theirs in refused_for('auth_time') and it.claims.get('auth_time') == 0),
     Class('empty expectation', '3.1.3.7, 2 to 5, 11; 3.1.3.8', 'Authlib takes an empty text that is expected for none',
