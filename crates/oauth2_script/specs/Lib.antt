@@ -1,6 +1,8 @@
 pub mod Part
+pub mod Json
 pub mod Sent
 pub mod Gives
+pub mod Form
 pub mod Adapter
 pub mod Client
 pub mod Replies

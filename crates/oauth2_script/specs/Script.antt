@@ -1,10 +1,10 @@
 -- A script, and how it is read from the bytes of the input.
 use Rattle.std.specs.Prelude.{ℕ, ℤ, ◌&&◌, List, Option, Some, None, is_some, option_map, if◌then◌else◌, codes}
-use Rattle.std.specs.Str.{is_utf8}
 use Rattle.serde_json.specs.Data.{Data, object, no_members}
 use Rattle.serde_json.specs.Find.{get, as_str, as_object}
-use Rattle.serde_json.specs.Read.{read}
-use Rattle.oauth2_script.specs.Part.{◌>>=◌, needed_part, list_part, moment}
+use Rattle.oauth2_script.specs.Json.{json_in}
+use Rattle.oauth2_script.specs.Part.{◌>>=◌, needed_part, present_part, list_part, moment}
+use Rattle.oauth2_script.specs.Form.{form_part}
 use Rattle.oauth2_script.specs.Client.{Client, client}
 use Rattle.oauth2_script.specs.Replies.{Reply, reply}
 use Rattle.oauth2_script.specs.ScriptCommand.{ScriptCommand, script_command_of}
@@ -30,6 +30,7 @@ once_authenticated assertion c = if is_some assertion && is_some c.secret then N
 -- reads a script from a JSON value; `None` if any part of it is bad
 unfoldable pub script_of : Data → Option Script
 script_of d = do
+  form ← present_part form_part (codes "result") d
   name ← needed_part as_str (codes "command") d
   replies ← list_part reply (codes "replies") d
   readings ← list_part moment (codes "readings") d
@@ -41,4 +42,4 @@ script_of d = do
 
 -- the script that the bytes of an input are; `None` for a bad script
 unfoldable pub script_in : List ℕ → Option Script
-script_in input = if is_utf8 input then (read input >>= script_of) else None
+script_in input = json_in input >>= script_of

@@ -1,13 +1,18 @@
 //! The replies of a script.
 
+ghost use Rattle.std.specs.Prelude.{◌≡◌, option_map, IfOk};
+ghost use Rattle.serde_json.specs.View.{view};
+ghost use Rattle.oauth2_script.specs.Gives.{Gives};
 ghost use Rattle.oauth2_script.specs.Replies as spec;
 
 use crate::part::{Part, needed, optional};
 use crate::script_error::ScriptError;
+use base64::DecodeAllocError;
+use base64::engine::general_purpose::STANDARD;
 use http::StatusCode;
 use http_header::HeaderValue;
 use serde_json::Value;
-use std::alloc::Global;
+use std::alloc::{AllocError, Global};
 
 /// An HTTP reply of the server.
 #[derive(Drop)]
@@ -24,6 +29,42 @@ pub enum Reply {
     Failed,
 }
 
+// The bytes of a text in Base64; `None` for any other text.
+#[tactic(auto, unfolding(crate::specs::Replies::base64_of))]
+fn base64_of(alloc: Global, text: &str) -> Result<Option<Vec<u8>>, AllocError>
+    ensures { IfOk result (λ found. option_map (λ v. v.items) found ≡ spec.base64_of text.now) }
+{
+    match STANDARD.decode(alloc, text.as_bytes()) {
+        Ok(bytes) => Ok(Some(bytes)),
+        Err(DecodeAllocError::DecodeError(_)) => Ok(None),
+        Err(DecodeAllocError::OutOfMemory) => Err(AllocError),
+    }
+}
+
+fn base64_bytes(alloc: Global, value: &Value) -> Result<Vec<u8>, ScriptError>
+    ensures { Gives (λ v. v.items) result (spec.base64_bytes (view value.now)) }
+{
+    let text = value.as_str().ok_or(ScriptError::Bad)?;
+    match base64_of(alloc, text)? {
+        Some(bytes) => Ok(bytes),
+        None => Err(ScriptError::Bad),
+    }
+}
+
+#[tactic(auto, unfolding(crate::specs::Replies::body_of))]
+fn body_of(alloc: Global, value: &Value) -> Result<Vec<u8>, ScriptError>
+    ensures { Gives (λ v. v.items) result (spec.body_of (view value.now)) }
+{
+    match (value.get("body"), value.get("body_base64")) {
+        (Some(text), None) => Ok(String::from_value(alloc, text)?.into_bytes()),
+        (None, Some(encoded)) => {
+            let bytes = base64_bytes(alloc, encoded)?;
+            Ok(bytes)
+        }
+        _ => Err(ScriptError::Bad),
+    }
+}
+
 impl Part for HttpReply {
     ghost use Rattle.oauth2_script.specs.Views.{http_reply_view};
 
@@ -37,11 +78,11 @@ impl Part for HttpReply {
     fn from_value(alloc: Global, value: &Value) -> Result<HttpReply, ScriptError> {
         let status = needed(alloc, value, "status")?;
         let content_type = optional(alloc, value, "content_type")?;
-        let body: String = needed(alloc, value, "body")?;
+        let body = body_of(alloc, value)?;
         Ok(HttpReply {
             status,
             content_type,
-            body: body.into_bytes(),
+            body,
         })
     }
 }

@@ -8,7 +8,9 @@ ghost use Rattle.oauth2_script.specs.Gives.{Gives};
 ghost use Rattle.oauth2_script.specs.Views.{client_view, script_view};
 
 use crate::client_part::ClientPart;
-use crate::part::{listed, needed};
+use crate::form::ResultForm;
+use crate::json::json_in;
+use crate::part::{listed, needed, optional};
 use crate::reply::Reply;
 use crate::script_command::{ScriptCommand, script_command_of};
 use crate::script_error::ScriptError;
@@ -64,6 +66,7 @@ fn once_authenticated(
 fn script_of(alloc: Global, value: &Value) -> Result<Script, ScriptError>
     ensures { Gives script_view result (spec.script_of (view value.now)) }
 {
+    let _form: Option<ResultForm> = optional(alloc, value, "result")?;
     let name: String = needed(alloc, value, "command")?;
     let replies: Vec<Reply> = listed(alloc, value, "replies")?;
     let readings = listed(alloc, value, "readings")?;
@@ -85,14 +88,7 @@ fn script_of(alloc: Global, value: &Value) -> Result<Script, ScriptError>
 pub fn script_in(alloc: Global, input: &[u8]) -> Result<Script, ScriptError>
     ensures { Gives script_view result (spec.script_in input.now) }
 {
-    match Value::from_slice(alloc, input) {
-        Ok(value) => script_of(alloc, &value),
-        Err(e) => {
-            if e.is_memory() {
-                Err(ScriptError::Memory)
-            } else {
-                Err(ScriptError::Bad)
-            }
-        }
-    }
+    let value = json_in(alloc, input)?;
+    let script = script_of(alloc, &value)?;
+    Ok(script)
 }
