@@ -1,8 +1,8 @@
 -- The parameters of the command `access_token`.
-use Rattle.std.specs.Prelude.{ℕ, List, Option, Some, unwrap_or, codes}
+use Rattle.std.specs.Prelude.{ℕ, List, Option, Ok, unwrap_or, codes}
 use Rattle.serde_json.specs.Data.{Data}
-use Rattle.serde_json.specs.Find.{as_str}
-use Rattle.oauth2_script.specs.Part.{◌>>=◌, needed_part, present_part, any_value, duration}
+use Rattle.oauth2_script.specs.Reading.{Reading, ◌>>=◌}
+use Rattle.oauth2_script.specs.Part.{needed_part, present_part, any_value, duration, text}
 
 -- the parameters of the check of a JWT access token at a resource server (RFC 9068, 4); the leeway
 -- in nanoseconds
@@ -21,15 +21,15 @@ pub record AccessTokenParams : Type 0 where
   pub leeway : ℕ
 
 -- reads `params`; `leeway` is 0 if absent
-unfoldable pub access_token_params : Data → Option AccessTokenParams
+unfoldable pub access_token_params : Data → Reading AccessTokenParams
 access_token_params d = do
-  access_token ← needed_part as_str (codes "access_token") d
-  issuer ← needed_part as_str (codes "issuer") d
-  audience ← needed_part as_str (codes "audience") d
+  access_token ← needed_part text (codes "access_token") d
+  issuer ← needed_part text (codes "issuer") d
+  audience ← needed_part text (codes "audience") d
   keys ← needed_part any_value (codes "keys") d
-  algorithm ← present_part as_str (codes "algorithm") d
+  algorithm ← present_part text (codes "algorithm") d
   leeway ← present_part duration (codes "leeway") d
-  Some (record {
+  Ok (record {
     access_token = access_token;
     issuer = issuer;
     audience = audience;

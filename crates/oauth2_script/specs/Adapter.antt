@@ -2,10 +2,10 @@
 use Rattle.std.specs.Prelude.{ℕ, List, Option, Some, None, if◌then◌else◌, codes}
 use Rattle.std.specs.Str.{bytes_eq}
 use Rattle.serde_json.specs.Data.{Data}
-use Rattle.serde_json.specs.Find.{as_str}
 use Rattle.oauth2_script.specs.declared.adapter.Adapter.{Adapter}
 use Rattle.oauth2_script.specs.declared.adapter.Adapter.TheVariants.{CommasInScopes, ErrorsAtStatus200, FormBodies, NumbersAsTexts, OtherMediaTypes}
-use Rattle.oauth2_script.specs.Part.{◌>>=◌}
+use Rattle.oauth2_script.specs.Reading.{Reading}
+use Rattle.oauth2_script.specs.Part.{word}
 
 -- the adapter of this name; `None` for other texts
 unfoldable pub adapter_of : List ℕ → Option Adapter
@@ -17,5 +17,5 @@ adapter_of text =
     else (if bytes_eq text (codes "other_media_types") then Some OtherMediaTypes else None))))
 
 -- an entry of the member `adapters`: the name of an adapter
-abbrev pub adapter : Data → Option Adapter
-adapter d = as_str d >>= adapter_of
+abbrev pub adapter : Data → Reading Adapter
+adapter d = word adapter_of d

@@ -1,9 +1,9 @@
 -- The parameters of the command `assertion`.
-use Rattle.std.specs.Prelude.{ℕ, List, Option, Some, None, if◌then◌else◌, codes}
+use Rattle.std.specs.Prelude.{ℕ, List, Option, Some, None, Ok, if◌then◌else◌, codes}
 use Rattle.std.specs.Str.{bytes_eq}
 use Rattle.serde_json.specs.Data.{Data}
-use Rattle.serde_json.specs.Find.{as_str}
-use Rattle.oauth2_script.specs.Part.{◌>>=◌, needed_part, list_part}
+use Rattle.oauth2_script.specs.Reading.{Reading, ◌>>=◌}
+use Rattle.oauth2_script.specs.Part.{list_part, needed_part, text, word}
 use Rattle.oauth2_script.specs.Sent.{sent_params}
 use Rattle.oauth2_script.specs.declared.assertion_params.AssertionKind.{AssertionKind}
 use Rattle.oauth2_script.specs.declared.assertion_params.AssertionKind.TheVariants.{Jwt, Saml2}
@@ -24,14 +24,14 @@ assertion_kind_of text =
     else (if bytes_eq text (codes "saml2") then Some Saml2 else None)
 
 -- the value of the member `kind`: the text `jwt` or `saml2`
-abbrev pub assertion_kind : Data → Option AssertionKind
-assertion_kind d = as_str d >>= assertion_kind_of
+abbrev pub assertion_kind : Data → Reading AssertionKind
+assertion_kind d = word assertion_kind_of d
 
 -- reads `params`; `kind` and `assertion` have to be present
-unfoldable pub assertion_params : Data → Option AssertionParams
+unfoldable pub assertion_params : Data → Reading AssertionParams
 assertion_params d = do
   kind ← needed_part assertion_kind (codes "kind") d
-  assertion ← needed_part as_str (codes "assertion") d
-  scopes ← list_part as_str (codes "scopes") d
+  assertion ← needed_part text (codes "assertion") d
+  scopes ← list_part text (codes "scopes") d
   extra_params ← sent_params d
-  Some (record { kind = kind; assertion = assertion; scopes = scopes; extra_params = extra_params })
+  Ok (record { kind = kind; assertion = assertion; scopes = scopes; extra_params = extra_params })

@@ -1,10 +1,10 @@
 -- The parameters of the command `authorize`.
-use Rattle.std.specs.Prelude.{ℕ, List, Option, Some, codes}
+use Rattle.std.specs.Prelude.{ℕ, List, Option, Ok, codes}
 use Rattle.serde_json.specs.Data.{Data}
-use Rattle.serde_json.specs.Find.{as_str}
 use Rattle.oauth2_types.specs.Pkce.{Challenge}
 use Rattle.oauth2_urls.specs.Addressed.{Addressed}
-use Rattle.oauth2_script.specs.Part.{◌>>=◌, address, list_part, needed_part, present_part, challenge_part}
+use Rattle.oauth2_script.specs.Reading.{Reading, ◌>>=◌}
+use Rattle.oauth2_script.specs.Part.{list_part, needed_part, present_part, address, challenge_part, text}
 use Rattle.oauth2_script.specs.Sent.{resources_and_extra}
 
 -- the parameters of an authorization URL (RFC 6749, 4.1.1; RFC 7636, 4.3); the nonce is that of
@@ -19,16 +19,16 @@ pub record AuthorizeParams : Type 0 where
   pub extra_params : List (List ℕ × List ℕ)
 
 -- reads `params`; the member `verifier` becomes its S256 challenge (RFC 7636, 4.2)
-unfoldable pub authorize_params : Data → Option AuthorizeParams
+unfoldable pub authorize_params : Data → Reading AuthorizeParams
 authorize_params d = do
-  state ← needed_part as_str (codes "state") d
-  scopes ← list_part as_str (codes "scopes") d
+  state ← needed_part text (codes "state") d
+  scopes ← list_part text (codes "scopes") d
   extra_params ← resources_and_extra d
   challenge ← present_part challenge_part (codes "verifier") d
   redirect ← present_part address (codes "redirect") d
-  response_type ← present_part as_str (codes "response_type") d
-  nonce ← present_part as_str (codes "nonce") d
-  Some (record {
+  response_type ← present_part text (codes "response_type") d
+  nonce ← present_part text (codes "nonce") d
+  Ok (record {
     state = state;
     challenge = challenge;
     redirect = redirect;

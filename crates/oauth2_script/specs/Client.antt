@@ -1,8 +1,7 @@
 -- The client of a script.
-use Rattle.std.specs.Prelude.{ℕ, List, Option, Some, None, unwrap_or, if◌then◌else◌, codes}
+use Rattle.std.specs.Prelude.{ℕ, List, Option, Some, None, Ok, unwrap_or, if◌then◌else◌, codes}
 use Rattle.std.specs.Str.{bytes_eq}
 use Rattle.serde_json.specs.Data.{Data}
-use Rattle.serde_json.specs.Find.{as_str}
 use Rattle.url.specs.Parts.{Parts}
 use Rattle.oauth2_urls.specs.Addressed.{Addressed}
 use Rattle.oauth2_wire.specs.declared.request.AuthType.{AuthType}
@@ -11,7 +10,8 @@ use Rattle.oauth2_wire.specs.declared.content_type.ReplyRule.{ReplyRule}
 use Rattle.oauth2_wire.specs.declared.content_type.ReplyRule.TheVariants.{Prefix, MediaType}
 use Rattle.oauth2_script.specs.Adapter.{adapter}
 use Rattle.oauth2_script.specs.declared.adapter.Adapter.{Adapter}
-use Rattle.oauth2_script.specs.Part.{◌>>=◌, needed_part, present_part, list_part, address, url_part}
+use Rattle.oauth2_script.specs.Reading.{Reading, ◌>>=◌}
+use Rattle.oauth2_script.specs.Part.{list_part, needed_part, present_part, address, an_object, text, url_part, word}
 
 -- the endpoints of the client that the script sets: members `auth_url`, `token_url` and so on;
 -- `push_url` is the pushed authorization request endpoint (RFC 9126, 2)
@@ -40,8 +40,8 @@ auth_type_of text =
     else (if bytes_eq text (codes "body") then Some RequestBody else None)
 
 -- the value of the member `auth`: the text `basic` or `body`
-abbrev pub auth_type_part : Data → Option AuthType
-auth_type_part d = as_str d >>= auth_type_of
+abbrev pub auth_type_part : Data → Reading AuthType
+auth_type_part d = word auth_type_of d
 
 -- which Content-Type a success may have: `prefix` or `media_type`; `None` for other texts
 unfoldable pub reply_rule_of : List ℕ → Option ReplyRule
@@ -50,11 +50,11 @@ reply_rule_of text =
     else (if bytes_eq text (codes "media_type") then Some MediaType else None)
 
 -- the value of the member `reply_rule`: the text `prefix` or `media_type`
-abbrev pub reply_rule_part : Data → Option ReplyRule
-reply_rule_part d = as_str d >>= reply_rule_of
+abbrev pub reply_rule_part : Data → Reading ReplyRule
+reply_rule_part d = word reply_rule_of d
 
 -- reads the endpoints from the object `client`: each may be absent, or has to be a URL
-unfoldable pub endpoints : Data → Option ClientEndpoints
+unfoldable pub endpoints : Data → Reading ClientEndpoints
 endpoints d = do
   auth ← present_part address (codes "auth_url") d
   token ← present_part address (codes "token_url") d
@@ -62,20 +62,21 @@ endpoints d = do
   introspection ← present_part address (codes "introspection_url") d
   revocation ← present_part address (codes "revocation_url") d
   push ← present_part url_part (codes "push_url") d
-  Some (record { auth = auth; token = token; device = device; introspection = introspection; revocation = revocation; push = push })
+  Ok (record { auth = auth; token = token; device = device; introspection = introspection; revocation = revocation; push = push })
 
 -- reads the object `client`; `auth` is `basic`, `reply_rule` is `prefix` and `adapters` are none if
 -- absent
-unfoldable pub client : Data → Option Client
+unfoldable pub client : Data → Reading Client
 client d = do
-  id ← needed_part as_str (codes "id") d
-  secret ← present_part as_str (codes "secret") d
+  d ← an_object d
+  id ← needed_part text (codes "id") d
+  secret ← present_part text (codes "secret") d
   auth_type ← present_part auth_type_part (codes "auth") d
   reply_rule ← present_part reply_rule_part (codes "reply_rule") d
   redirect ← present_part address (codes "redirect") d
   endpoints ← endpoints d
   adapters ← list_part adapter (codes "adapters") d
-  Some (record {
+  Ok (record {
     id = id;
     secret = secret;
     auth_type = unwrap_or auth_type BasicAuth;

@@ -1,7 +1,10 @@
 -- The commands of a script, and their names.
-use Rattle.std.specs.Prelude.{ℕ, List, Option, None, option_map, if◌then◌else◌, codes}
+use Rattle.std.specs.Prelude.{ℕ, List, if◌then◌else◌, codes}
 use Rattle.std.specs.Str.{bytes_eq}
 use Rattle.serde_json.specs.Data.{Data}
+use Rattle.oauth2_script.specs.Reading.{Reading, map_read, bad_member}
+use Rattle.oauth2_script.specs.Part.{of_params}
+use Rattle.oauth2_script.specs.declared.script_cause.ScriptCause.TheVariants.{UnknownWord}
 use Rattle.oauth2_script.specs.AccessTokenParams.{AccessTokenParams, access_token_params}
 use Rattle.oauth2_script.specs.AuthorizeParams.{AuthorizeParams, authorize_params}
 use Rattle.oauth2_script.specs.ClientCredentialsParams.{ClientCredentialsParams, client_credentials_params}
@@ -36,22 +39,22 @@ pub data Command : Type 0 where
   id_token : IdTokenParams → Command
   access_token : AccessTokenParams → Command
 
--- the command of this name, with its parameters read from `params`; `None` for other names
-unfoldable pub command_of : List ℕ → Data → Option Command
+-- the command of this name, with its parameters read from `params`
+unfoldable pub command_of : List ℕ → Data → Reading Command
 command_of name params =
-    if bytes_eq name (codes "code") then option_map code (code_params params)
-    else (if bytes_eq name (codes "refresh") then option_map refresh (refresh_params params)
-    else (if bytes_eq name (codes "password") then option_map password (password_params params)
-    else (if bytes_eq name (codes "client_credentials") then option_map client_credentials (client_credentials_params params)
-    else (if bytes_eq name (codes "introspect") then option_map introspect (introspect_params params)
-    else (if bytes_eq name (codes "revoke") then option_map revoke (revoke_params params)
-    else (if bytes_eq name (codes "device_authorization") then option_map device_authorization (device_authorization_params params)
-    else (if bytes_eq name (codes "device_poll") then option_map device_poll (device_poll_params params)
-    else (if bytes_eq name (codes "authorize") then option_map authorize (authorize_params params)
-    else (if bytes_eq name (codes "redirect") then option_map redirect (redirect_params params)
-    else (if bytes_eq name (codes "keeper") then option_map keeper (keeper_params params)
-    else (if bytes_eq name (codes "shared_keeper") then option_map shared_keeper (shared_keeper_params params)
-    else (if bytes_eq name (codes "metadata") then option_map metadata (metadata_params params)
-    else (if bytes_eq name (codes "id_token") then option_map id_token (id_token_params params)
-    else (if bytes_eq name (codes "access_token") then option_map access_token (access_token_params params)
-    else None))))))))))))))
+    if bytes_eq name (codes "code") then map_read code (of_params code_params params)
+    else (if bytes_eq name (codes "refresh") then map_read refresh (of_params refresh_params params)
+    else (if bytes_eq name (codes "password") then map_read password (of_params password_params params)
+    else (if bytes_eq name (codes "client_credentials") then map_read client_credentials (of_params client_credentials_params params)
+    else (if bytes_eq name (codes "introspect") then map_read introspect (of_params introspect_params params)
+    else (if bytes_eq name (codes "revoke") then map_read revoke (of_params revoke_params params)
+    else (if bytes_eq name (codes "device_authorization") then map_read device_authorization (of_params device_authorization_params params)
+    else (if bytes_eq name (codes "device_poll") then map_read device_poll (of_params device_poll_params params)
+    else (if bytes_eq name (codes "authorize") then map_read authorize (of_params authorize_params params)
+    else (if bytes_eq name (codes "redirect") then map_read redirect (of_params redirect_params params)
+    else (if bytes_eq name (codes "keeper") then map_read keeper (of_params keeper_params params)
+    else (if bytes_eq name (codes "shared_keeper") then map_read shared_keeper (of_params shared_keeper_params params)
+    else (if bytes_eq name (codes "metadata") then map_read metadata (of_params metadata_params params)
+    else (if bytes_eq name (codes "id_token") then map_read id_token (of_params id_token_params params)
+    else (if bytes_eq name (codes "access_token") then map_read access_token (of_params access_token_params params)
+    else bad_member (codes "command") UnknownWord))))))))))))))

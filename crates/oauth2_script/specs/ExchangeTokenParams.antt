@@ -1,8 +1,9 @@
 -- The parameters of the command `exchange_token`.
-use Rattle.std.specs.Prelude.{ℕ, List, Option, Some, None, codes}
+use Rattle.std.specs.Prelude.{ℕ, List, Option, Some, None, Ok, codes}
 use Rattle.serde_json.specs.Data.{Data}
-use Rattle.serde_json.specs.Find.{as_str}
-use Rattle.oauth2_script.specs.Part.{◌>>=◌, needed_part, present_part, list_part, uri}
+use Rattle.oauth2_script.specs.Reading.{Reading, ◌>>=◌, bad_member}
+use Rattle.oauth2_script.specs.Part.{list_part, needed_part, present_part, text, uri}
+use Rattle.oauth2_script.specs.declared.script_cause.ScriptCause.TheVariants.{Missing}
 use Rattle.oauth2_script.specs.Sent.{asserted_extra}
 
 -- a token and the identifier of its type, a URI (RFC 8693, 3)
@@ -22,37 +23,37 @@ pub record ExchangeTokenParams : Type 0 where
   pub extra_params : List (List ℕ × List ℕ)
 
 -- the members `subject_token` and `subject_token_type`
-unfoldable pub subject_of : Data → Option TypedToken
+unfoldable pub subject_of : Data → Reading TypedToken
 subject_of d = do
-  token ← needed_part as_str (codes "subject_token") d
+  token ← needed_part text (codes "subject_token") d
   token_type ← needed_part uri (codes "subject_token_type") d
-  Some (record { token = token; token_type = token_type })
+  Ok (record { token = token; token_type = token_type })
 
 -- the type is required with the token, and must not be sent without it (RFC 8693, 2.1)
-abbrev pub both_or_neither : Option (List ℕ) → Option (List ℕ) → Option (Option TypedToken)
-both_or_neither None None = Some None
-both_or_neither (Some token) (Some token_type) = Some (Some (record { token = token; token_type = token_type }))
-both_or_neither (Some token) None = None
-both_or_neither None (Some token_type) = None
+abbrev pub both_or_neither : Option (List ℕ) → Option (List ℕ) → Reading (Option TypedToken)
+both_or_neither None None = Ok None
+both_or_neither (Some token) (Some token_type) = Ok (Some (record { token = token; token_type = token_type }))
+both_or_neither (Some token) None = bad_member (codes "actor_token_type") Missing
+both_or_neither None (Some token_type) = bad_member (codes "actor_token") Missing
 
 -- the members `actor_token` and `actor_token_type`
-unfoldable pub actor_of : Data → Option (Option TypedToken)
+unfoldable pub actor_of : Data → Reading (Option TypedToken)
 actor_of d = do
-  token ← present_part as_str (codes "actor_token") d
+  token ← present_part text (codes "actor_token") d
   token_type ← present_part uri (codes "actor_token_type") d
   both_or_neither token token_type
 
 -- reads `params`; the subject's token and its type have to be present
-unfoldable pub exchange_token_params : Data → Option ExchangeTokenParams
+unfoldable pub exchange_token_params : Data → Reading ExchangeTokenParams
 exchange_token_params d = do
   subject ← subject_of d
   actor ← actor_of d
   requested_token_type ← present_part uri (codes "requested_token_type") d
   resources ← list_part uri (codes "resource") d
-  audiences ← list_part as_str (codes "audience") d
-  scopes ← list_part as_str (codes "scopes") d
+  audiences ← list_part text (codes "audience") d
+  scopes ← list_part text (codes "scopes") d
   extra_params ← asserted_extra d
-  Some (record {
+  Ok (record {
     subject = subject;
     actor = actor;
     requested_token_type = requested_token_type;

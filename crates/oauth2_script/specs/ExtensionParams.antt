@@ -1,8 +1,8 @@
 -- The parameters of the command `extension`.
-use Rattle.std.specs.Prelude.{ℕ, List, Option, Some, codes}
+use Rattle.std.specs.Prelude.{ℕ, List, Ok, codes}
 use Rattle.serde_json.specs.Data.{Data}
-use Rattle.serde_json.specs.Find.{as_str}
-use Rattle.oauth2_script.specs.Part.{◌>>=◌, needed_part, list_part, uri}
+use Rattle.oauth2_script.specs.Reading.{Reading, ◌>>=◌}
+use Rattle.oauth2_script.specs.Part.{list_part, needed_part, text, uri}
 use Rattle.oauth2_script.specs.Sent.{sent_params}
 
 -- the grant type, which is a URI, the scopes and the further parameters of a request (RFC 6749, 4.5)
@@ -12,9 +12,9 @@ pub record ExtensionParams : Type 0 where
   pub extra_params : List (List ℕ × List ℕ)
 
 -- reads `params`; `grant_type` has to be present
-unfoldable pub extension_params : Data → Option ExtensionParams
+unfoldable pub extension_params : Data → Reading ExtensionParams
 extension_params d = do
   grant_type ← needed_part uri (codes "grant_type") d
-  scopes ← list_part as_str (codes "scopes") d
+  scopes ← list_part text (codes "scopes") d
   extra_params ← sent_params d
-  Some (record { grant_type = grant_type; scopes = scopes; extra_params = extra_params })
+  Ok (record { grant_type = grant_type; scopes = scopes; extra_params = extra_params })

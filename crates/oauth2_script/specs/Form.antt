@@ -1,10 +1,10 @@
 -- The form in which the result of a run is written.
-use Rattle.std.specs.Prelude.{ℕ, List, Option, Some, None, unwrap_or, if◌then◌else◌, codes}
+use Rattle.std.specs.Prelude.{ℕ, List, Option, Some, None, Ok, Err, if◌then◌else◌, codes}
 use Rattle.std.specs.Str.{bytes_eq}
 use Rattle.serde_json.specs.Data.{Data}
-use Rattle.serde_json.specs.Find.{as_str}
 use Rattle.oauth2_script.specs.Json.{json_in}
-use Rattle.oauth2_script.specs.Part.{◌>>=◌, needed_part}
+use Rattle.oauth2_script.specs.Reading.{Reading, ◌>>=◌}
+use Rattle.oauth2_script.specs.Part.{needed_part, word}
 use Rattle.oauth2_script.specs.declared.form.ResultForm.{ResultForm}
 use Rattle.oauth2_script.specs.declared.form.ResultForm.TheVariants.{Lines, Json}
 
@@ -15,13 +15,18 @@ form_of text =
     else (if bytes_eq text (codes "json") then Some Json else None)
 
 -- the value of the member `result`: the text `lines` or `json`
-abbrev pub form_part : Data → Option ResultForm
-form_part d = as_str d >>= form_of
+abbrev pub form_part : Data → Reading ResultForm
+form_part d = word form_of d
 
--- the form that an input names; `None` if it is no JSON object, or has no such member
-unfoldable pub named_form : List ℕ → Option ResultForm
+-- the form that an input names by its member `result`
+unfoldable pub named_form : List ℕ → Reading ResultForm
 named_form input = json_in input >>= needed_part form_part (codes "result")
+
+-- a form that was read; else lines
+abbrev pub or_lines : Reading ResultForm → ResultForm
+or_lines (Ok form) = form
+or_lines (Err e) = Lines
 
 -- the form in which the result of an input is written; lines if it names none
 unfoldable pub form_in : List ℕ → ResultForm
-form_in input = unwrap_or (named_form input) Lines
+form_in input = or_lines (named_form input)

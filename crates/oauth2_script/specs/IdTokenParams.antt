@@ -1,8 +1,9 @@
 -- The parameters of the command `id_token`.
-use Rattle.std.specs.Prelude.{ℕ, List, Option, Some, None, option_map, unwrap_or, codes}
+use Rattle.std.specs.Prelude.{ℕ, List, Option, Ok, unwrap_or, codes}
 use Rattle.serde_json.specs.Data.{Data, null, boolean, number, string, array, object}
-use Rattle.serde_json.specs.Find.{as_str}
-use Rattle.oauth2_script.specs.Part.{◌>>=◌, needed_part, present_part, list_part, each_item, any_value, duration}
+use Rattle.oauth2_script.specs.Reading.{Reading, ◌>>=◌, map_read, bad}
+use Rattle.oauth2_script.specs.Part.{list_part, needed_part, present_part, any_value, duration, each_item, text}
+use Rattle.oauth2_script.specs.declared.script_cause.ScriptCause.TheVariants.{WrongType}
 
 -- the issuers that are expected: one; any of a list; or a text that goes before the name of the
 -- tenant (claim `tid`) and a text that goes after it
@@ -12,19 +13,19 @@ pub data IssuerPart : Type 0 where
   per_tenant : List ℕ → List ℕ → IssuerPart
 
 -- reads an object with the texts `before` and `after`
-unfoldable pub tenants : Data → Option IssuerPart
+unfoldable pub tenants : Data → Reading IssuerPart
 tenants d = do
-  before ← needed_part as_str (codes "before") d
-  after ← needed_part as_str (codes "after") d
-  Some (per_tenant before after)
+  before ← needed_part text (codes "before") d
+  after ← needed_part text (codes "after") d
+  Ok (per_tenant before after)
 
 -- the value of the member `issuer`: a text, a list of texts, or an object with two texts
-abbrev pub issuer_part : Data → Option IssuerPart
-issuer_part null = None
-issuer_part (boolean b) = None
-issuer_part (number n) = None
-issuer_part (string s) = Some (is s)
-issuer_part (array ds) = option_map one_of (each_item as_str ds)
+abbrev pub issuer_part : Data → Reading IssuerPart
+issuer_part null = bad WrongType
+issuer_part (boolean b) = bad WrongType
+issuer_part (number n) = bad WrongType
+issuer_part (string s) = Ok (is s)
+issuer_part (array ds) = map_read one_of (each_item text 0 ds)
 issuer_part (object ms) = tenants (object ms)
 
 -- the parameters of the check of an ID token (OpenID Connect Core 1.0, 3.1.3.7); lengths of time in
@@ -52,19 +53,19 @@ pub record IdTokenParams : Type 0 where
   pub authorized_parties : List (List ℕ)
 
 -- reads `params`; `leeway` is 0 if absent
-unfoldable pub id_token_params : Data → Option IdTokenParams
+unfoldable pub id_token_params : Data → Reading IdTokenParams
 id_token_params d = do
-  id_token ← needed_part as_str (codes "id_token") d
-  access_token ← needed_part as_str (codes "access_token") d
+  id_token ← needed_part text (codes "id_token") d
+  access_token ← needed_part text (codes "access_token") d
   issuer ← needed_part issuer_part (codes "issuer") d
-  algorithm ← present_part as_str (codes "algorithm") d
+  algorithm ← present_part text (codes "algorithm") d
   keys ← present_part any_value (codes "keys") d
-  nonce ← present_part as_str (codes "nonce") d
+  nonce ← present_part text (codes "nonce") d
   leeway ← present_part duration (codes "leeway") d
   max_age ← present_part duration (codes "max_age") d
-  other_audiences ← list_part as_str (codes "other_audiences") d
-  authorized_parties ← list_part as_str (codes "authorized_parties") d
-  Some (record {
+  other_audiences ← list_part text (codes "other_audiences") d
+  authorized_parties ← list_part text (codes "authorized_parties") d
+  Ok (record {
     id_token = id_token;
     access_token = access_token;
     issuer = issuer;

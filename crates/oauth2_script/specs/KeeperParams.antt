@@ -1,8 +1,8 @@
 -- The parameters of the command `keeper`.
-use Rattle.std.specs.Prelude.{ℕ, List, Option, Some, codes}
+use Rattle.std.specs.Prelude.{ℕ, List, Option, Ok, codes}
 use Rattle.serde_json.specs.Data.{Data}
-use Rattle.serde_json.specs.Find.{as_str}
-use Rattle.oauth2_script.specs.Part.{◌>>=◌, needed_part, present_part, list_part, duration}
+use Rattle.oauth2_script.specs.Reading.{Reading, ◌>>=◌}
+use Rattle.oauth2_script.specs.Part.{list_part, needed_part, present_part, duration, text}
 use Rattle.oauth2_script.specs.Sent.{sent_params}
 
 -- the parameters of a new keeper; lengths of time in nanoseconds
@@ -21,12 +21,12 @@ pub record KeeperParams : Type 0 where
   pub retry_after : Option ℕ
 
 -- reads `params`; `margin` and `life` have to be present
-unfoldable pub keeper_params : Data → Option KeeperParams
+unfoldable pub keeper_params : Data → Reading KeeperParams
 keeper_params d = do
   margin ← needed_part duration (codes "margin") d
   life ← needed_part duration (codes "life") d
-  refresh ← present_part as_str (codes "refresh") d
-  scopes ← list_part as_str (codes "scopes") d
+  refresh ← present_part text (codes "refresh") d
+  scopes ← list_part text (codes "scopes") d
   extra_params ← sent_params d
   retry_after ← present_part duration (codes "retry_after") d
-  Some (record { margin = margin; life = life; refresh = refresh; scopes = scopes; extra_params = extra_params; retry_after = retry_after })
+  Ok (record { margin = margin; life = life; refresh = refresh; scopes = scopes; extra_params = extra_params; retry_after = retry_after })

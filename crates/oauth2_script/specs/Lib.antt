@@ -1,5 +1,7 @@
-pub mod Part
+pub mod Reading
+pub mod Fault
 pub mod Json
+pub mod Part
 pub mod Sent
 pub mod Gives
 pub mod Form

@@ -1,9 +1,9 @@
 -- The parameters of the command `metadata`.
-use Rattle.std.specs.Prelude.{ℕ, List, Option, Some, None, unwrap_or, if◌then◌else◌, codes}
+use Rattle.std.specs.Prelude.{ℕ, List, Option, Some, None, Ok, unwrap_or, if◌then◌else◌, codes}
 use Rattle.std.specs.Str.{bytes_eq}
 use Rattle.serde_json.specs.Data.{Data}
-use Rattle.serde_json.specs.Find.{as_str}
-use Rattle.oauth2_script.specs.Part.{◌>>=◌, needed_part, present_part}
+use Rattle.oauth2_script.specs.Reading.{Reading, ◌>>=◌}
+use Rattle.oauth2_script.specs.Part.{needed_part, present_part, text, word}
 use Rattle.oauth2_script.specs.declared.metadata_params.WellKnown.{WellKnown}
 use Rattle.oauth2_script.specs.declared.metadata_params.WellKnown.TheVariants.{OauthAuthorizationServer, OpenidConfiguration}
 
@@ -21,13 +21,13 @@ well_known_of text =
     else (if bytes_eq text (codes "openid-configuration") then Some OpenidConfiguration else None)
 
 -- the value of the member `well_known`: one of these two names, as a text
-abbrev pub well_known : Data → Option WellKnown
-well_known d = as_str d >>= well_known_of
+abbrev pub well_known : Data → Reading WellKnown
+well_known d = word well_known_of d
 
 -- reads `params`; `well_known` is `oauth-authorization-server` if absent
-unfoldable pub metadata_params : Data → Option MetadataParams
+unfoldable pub metadata_params : Data → Reading MetadataParams
 metadata_params d = do
-  issuer ← needed_part as_str (codes "issuer") d
+  issuer ← needed_part text (codes "issuer") d
   well_known ← present_part well_known (codes "well_known") d
-  expected_issuer ← present_part as_str (codes "expected_issuer") d
-  Some (record { issuer = issuer; well_known = unwrap_or well_known OauthAuthorizationServer; expected_issuer = expected_issuer })
+  expected_issuer ← present_part text (codes "expected_issuer") d
+  Ok (record { issuer = issuer; well_known = unwrap_or well_known OauthAuthorizationServer; expected_issuer = expected_issuer })

@@ -1,8 +1,8 @@
 -- The parameters of the command `push`.
-use Rattle.std.specs.Prelude.{ℕ, List, [], Option, Some}
+use Rattle.std.specs.Prelude.{ℕ, [], List, Ok}
 use Rattle.serde_json.specs.Data.{Data}
 use Rattle.oauth2_script.specs.AuthorizeParams.{AuthorizeParams, authorize_params}
-use Rattle.oauth2_script.specs.Part.{◌>>=◌}
+use Rattle.oauth2_script.specs.Reading.{Reading, ◌>>=◌}
 use Rattle.oauth2_script.specs.Sent.{asserted}
 
 -- what is pushed: the parameters of an authorization request (RFC 9126, 2.1); and the two pairs of
@@ -12,8 +12,8 @@ pub record PushParams : Type 0 where
   pub asserted : List (List ℕ × List ℕ)
 
 -- reads `params`: the members of `authorize`, and `client_assertion`
-unfoldable pub push_params : Data → Option PushParams
+unfoldable pub push_params : Data → Reading PushParams
 push_params d = do
   authorize ← authorize_params d
   pairs ← asserted d []
-  Some (record { authorize = authorize; asserted = pairs })
+  Ok (record { authorize = authorize; asserted = pairs })

@@ -1,8 +1,8 @@
 -- The parameters of the command `refresh`.
-use Rattle.std.specs.Prelude.{ℕ, List, Option, Some, codes}
+use Rattle.std.specs.Prelude.{ℕ, List, Ok, codes}
 use Rattle.serde_json.specs.Data.{Data}
-use Rattle.serde_json.specs.Find.{as_str}
-use Rattle.oauth2_script.specs.Part.{◌>>=◌, needed_part, list_part}
+use Rattle.oauth2_script.specs.Reading.{Reading, ◌>>=◌}
+use Rattle.oauth2_script.specs.Part.{list_part, needed_part, text}
 use Rattle.oauth2_script.specs.Sent.{sent_params}
 
 -- the refresh token, the scopes and the further parameters of a request (RFC 6749, 6)
@@ -12,9 +12,9 @@ pub record RefreshParams : Type 0 where
   pub extra_params : List (List ℕ × List ℕ)
 
 -- reads `params`; `refresh_token` has to be present
-unfoldable pub refresh_params : Data → Option RefreshParams
+unfoldable pub refresh_params : Data → Reading RefreshParams
 refresh_params d = do
-  refresh_token ← needed_part as_str (codes "refresh_token") d
-  scopes ← list_part as_str (codes "scopes") d
+  refresh_token ← needed_part text (codes "refresh_token") d
+  scopes ← list_part text (codes "scopes") d
   extra_params ← sent_params d
-  Some (record { refresh_token = refresh_token; scopes = scopes; extra_params = extra_params })
+  Ok (record { refresh_token = refresh_token; scopes = scopes; extra_params = extra_params })

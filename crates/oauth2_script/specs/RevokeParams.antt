@@ -1,9 +1,9 @@
 -- The parameters of the command `revoke`.
-use Rattle.std.specs.Prelude.{ℕ, List, Option, Some, None, unwrap_or, if◌then◌else◌, codes}
+use Rattle.std.specs.Prelude.{ℕ, List, Option, Some, None, Ok, unwrap_or, if◌then◌else◌, codes}
 use Rattle.std.specs.Str.{bytes_eq}
 use Rattle.serde_json.specs.Data.{Data}
-use Rattle.serde_json.specs.Find.{as_str}
-use Rattle.oauth2_script.specs.Part.{◌>>=◌, needed_part, present_part}
+use Rattle.oauth2_script.specs.Reading.{Reading, ◌>>=◌}
+use Rattle.oauth2_script.specs.Part.{needed_part, present_part, text, word}
 use Rattle.oauth2_script.specs.Sent.{asserted_extra}
 use Rattle.oauth2_script.specs.declared.revoke_params.TokenKind.{TokenKind}
 use Rattle.oauth2_script.specs.declared.revoke_params.TokenKind.TheVariants.{Access, Refresh}
@@ -21,13 +21,13 @@ kind_of text =
     else (if bytes_eq text (codes "refresh") then Some Refresh else None)
 
 -- the value of the member `kind`: the text `access` or `refresh`
-abbrev pub kind : Data → Option TokenKind
-kind d = as_str d >>= kind_of
+abbrev pub kind : Data → Reading TokenKind
+kind d = word kind_of d
 
 -- reads `params`; `kind` is `access` if absent
-unfoldable pub revoke_params : Data → Option RevokeParams
+unfoldable pub revoke_params : Data → Reading RevokeParams
 revoke_params d = do
-  token ← needed_part as_str (codes "token") d
+  token ← needed_part text (codes "token") d
   kind ← present_part kind (codes "kind") d
   extra_params ← asserted_extra d
-  Some (record { token = token; kind = unwrap_or kind Access; extra_params = extra_params })
+  Ok (record { token = token; kind = unwrap_or kind Access; extra_params = extra_params })

@@ -1,11 +1,11 @@
 -- The pairs that a request sends after those of its command.
-use Rattle.std.specs.Prelude.{ℕ, List, [], ◌++◌, map, Option, Some, None, codes}
+use Rattle.std.specs.Prelude.{ℕ, ◌++◌, [], List, map, Option, Some, None, Ok, codes}
 use Rattle.serde_json.specs.Data.{Data}
-use Rattle.serde_json.specs.Find.{as_str}
 use Rattle.oauth2_form.specs.Pairs.{Pair}
 use Rattle.oauth2_client_assertions.specs.Assertions.{assertion_pairs}
 use Rattle.oauth2_client_assertions.specs.declared.assertion_type.AssertionType.TheVariants.{JwtBearer}
-use Rattle.oauth2_script.specs.Part.{◌>>=◌, present_part, list_part, pair_part, uri}
+use Rattle.oauth2_script.specs.Reading.{Reading, ◌>>=◌}
+use Rattle.oauth2_script.specs.Part.{list_part, present_part, pair_part, text, uri}
 
 -- one pair for each resource that a token is for (RFC 8707, 2)
 abbrev pub resource_pairs : List (List ℕ) → List Pair
@@ -18,22 +18,22 @@ client_assertion_pairs None = []
 client_assertion_pairs (Some jwt) = assertion_pairs JwtBearer jwt
 
 -- these pairs, and then those of the member `client_assertion`
-unfoldable pub asserted : Data → List Pair → Option (List Pair)
+unfoldable pub asserted : Data → List Pair → Reading (List Pair)
 asserted d pairs = do
-  jwt ← present_part as_str (codes "client_assertion") d
-  Some (pairs ++ client_assertion_pairs jwt)
+  jwt ← present_part text (codes "client_assertion") d
+  Ok (pairs ++ client_assertion_pairs jwt)
 
 -- the members `resource` and `extra` of a request for an authorization
-unfoldable pub resources_and_extra : Data → Option (List Pair)
+unfoldable pub resources_and_extra : Data → Reading (List Pair)
 resources_and_extra d = do
   resources ← list_part uri (codes "resource") d
   extra ← list_part pair_part (codes "extra") d
-  Some (resource_pairs resources ++ extra)
+  Ok (resource_pairs resources ++ extra)
 
 -- the members `extra` and `client_assertion` of a request that is for no resource
-unfoldable pub asserted_extra : Data → Option (List Pair)
+unfoldable pub asserted_extra : Data → Reading (List Pair)
 asserted_extra d = list_part pair_part (codes "extra") d >>= asserted d
 
 -- the members `resource`, `extra` and `client_assertion` of a request for a token
-unfoldable pub sent_params : Data → Option (List Pair)
+unfoldable pub sent_params : Data → Reading (List Pair)
 sent_params d = resources_and_extra d >>= asserted d

@@ -1,9 +1,9 @@
 -- The parameters of the command `shared_keeper`.
-use Rattle.std.specs.Prelude.{ℕ, List, Option, Some, None, unwrap_or, if◌then◌else◌, codes}
+use Rattle.std.specs.Prelude.{ℕ, List, Option, Some, None, Ok, unwrap_or, if◌then◌else◌, codes}
 use Rattle.std.specs.Str.{bytes_eq}
 use Rattle.serde_json.specs.Data.{Data}
-use Rattle.serde_json.specs.Find.{as_str}
-use Rattle.oauth2_script.specs.Part.{◌>>=◌, needed_part, present_part, list_part, small_number}
+use Rattle.oauth2_script.specs.Reading.{Reading, ◌>>=◌}
+use Rattle.oauth2_script.specs.Part.{list_part, needed_part, present_part, an_object, small_number, text, word}
 use Rattle.oauth2_script.specs.declared.shared_keeper_params.Fate.{Fate}
 use Rattle.oauth2_script.specs.declared.shared_keeper_params.Fate.TheVariants as fates
 use Rattle.oauth2_script.specs.declared.shared_keeper_params.SharedKeeperStep.{SharedKeeperStep}
@@ -24,19 +24,20 @@ fate_of text =
     else None))))
 
 -- the value of the member `fate`
-abbrev pub fate : Data → Option Fate
-fate d = as_str d >>= fate_of
+abbrev pub fate : Data → Reading Fate
+fate d = word fate_of d
 
 -- reads one of the `steps`; `fate` is `done` if absent
-unfoldable pub shared_keeper_step : Data → Option SharedKeeperStep
+unfoldable pub shared_keeper_step : Data → Reading SharedKeeperStep
 shared_keeper_step d = do
+  d ← an_object d
   keeper ← needed_part small_number (codes "keeper") d
   fate ← present_part fate (codes "fate") d
-  Some (record { keeper = keeper; fate = unwrap_or fate fates.Done })
+  Ok (record { keeper = keeper; fate = unwrap_or fate fates.Done })
 
 -- reads `params`; `refresh_token` has to be present
-unfoldable pub shared_keeper_params : Data → Option SharedKeeperParams
+unfoldable pub shared_keeper_params : Data → Reading SharedKeeperParams
 shared_keeper_params d = do
-  refresh_token ← needed_part as_str (codes "refresh_token") d
+  refresh_token ← needed_part text (codes "refresh_token") d
   steps ← list_part shared_keeper_step (codes "steps") d
-  Some (record { refresh_token = refresh_token; steps = steps })
+  Ok (record { refresh_token = refresh_token; steps = steps })

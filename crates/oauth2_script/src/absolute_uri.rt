@@ -5,7 +5,8 @@ ghost use Rattle.oauth2_resource_indicators.specs.AbsoluteUri.{is_absolute_uri};
 ghost use Rattle.oauth2_script.specs.Part as spec;
 
 use crate::part::Part;
-use crate::script_error::ScriptError;
+use crate::part_error::{PartError, bad};
+use crate::script_cause::ScriptCause;
 use oauth2_resource_indicators::is_absolute_uri;
 use serde_json::Value;
 use std::alloc::Global;
@@ -47,10 +48,10 @@ impl Part for AbsoluteUri {
 
     ghost reading = { spec.uri };
 
-    fn from_value(alloc: Global, value: &Value) -> Result<AbsoluteUri, ScriptError> {
+    fn from_value(alloc: Global, value: &Value) -> Result<AbsoluteUri, PartError> {
         let text = String::from_value(alloc, value)?;
         if !is_absolute_uri(text.as_str()) {
-            return Err(ScriptError::Bad);
+            return Err(bad(ScriptCause::BadUrl));
         }
         Ok(AbsoluteUri { text })
     }

@@ -3,7 +3,7 @@
 ghost use Rattle.oauth2_script.specs.AccessTokenParams as spec;
 
 use crate::part::{Part, needed, optional};
-use crate::script_error::ScriptError;
+use crate::part_error::PartError;
 use serde_json::Value;
 use std::alloc::Global;
 use std::time::Duration;
@@ -35,7 +35,7 @@ impl Part for AccessTokenParams {
     ghost reading = { spec.access_token_params };
 
     #[tactic(auto, unfolding(crate::specs::AccessTokenParams::access_token_params))]
-    fn from_value(alloc: Global, value: &Value) -> Result<AccessTokenParams, ScriptError> {
+    fn from_value(alloc: Global, value: &Value) -> Result<AccessTokenParams, PartError> {
         let access_token = needed(alloc, value, "access_token")?;
         let issuer = needed(alloc, value, "issuer")?;
         let audience = needed(alloc, value, "audience")?;

@@ -3,7 +3,8 @@
 ghost use Rattle.oauth2_script.specs.Adapter as spec;
 
 use crate::part::Part;
-use crate::script_error::ScriptError;
+use crate::part_error::{PartError, bad};
+use crate::script_cause::ScriptCause;
 use serde_json::Value;
 use std::alloc::Global;
 
@@ -35,14 +36,15 @@ impl Part for Adapter {
     ghost allocates = { false };
 
     #[tactic(auto, unfolding(crate::specs::Adapter::adapter_of))]
-    fn from_value(_alloc: Global, value: &Value) -> Result<Adapter, ScriptError> {
+    fn from_value(_alloc: Global, value: &Value) -> Result<Adapter, PartError> {
         match value.as_str() {
             Some("commas_in_scopes") => Ok(Adapter::CommasInScopes),
             Some("errors_at_status_200") => Ok(Adapter::ErrorsAtStatus200),
             Some("form_bodies") => Ok(Adapter::FormBodies),
             Some("numbers_as_texts") => Ok(Adapter::NumbersAsTexts),
             Some("other_media_types") => Ok(Adapter::OtherMediaTypes),
-            _ => Err(ScriptError::Bad),
+            Some(_) => Err(bad(ScriptCause::UnknownWord)),
+            None => Err(bad(ScriptCause::WrongType)),
         }
     }
 }

@@ -3,7 +3,8 @@
 ghost use Rattle.oauth2_script.specs.AssertionParams as spec;
 
 use crate::part::{Part, listed, needed};
-use crate::script_error::ScriptError;
+use crate::part_error::{PartError, bad};
+use crate::script_cause::ScriptCause;
 use crate::sent_params::sent_params;
 use oauth2_types::Scope;
 use serde_json::Value;
@@ -41,11 +42,12 @@ impl Part for AssertionKind {
     ghost allocates = { false };
 
     #[tactic(auto, unfolding(crate::specs::AssertionParams::assertion_kind_of))]
-    fn from_value(_alloc: Global, value: &Value) -> Result<AssertionKind, ScriptError> {
+    fn from_value(_alloc: Global, value: &Value) -> Result<AssertionKind, PartError> {
         match value.as_str() {
             Some("jwt") => Ok(AssertionKind::Jwt),
             Some("saml2") => Ok(AssertionKind::Saml2),
-            _ => Err(ScriptError::Bad),
+            Some(_) => Err(bad(ScriptCause::UnknownWord)),
+            None => Err(bad(ScriptCause::WrongType)),
         }
     }
 }
@@ -60,7 +62,7 @@ impl Part for AssertionParams {
     ghost reading = { spec.assertion_params };
 
     #[tactic(auto, unfolding(crate::specs::AssertionParams::assertion_params))]
-    fn from_value(alloc: Global, value: &Value) -> Result<AssertionParams, ScriptError> {
+    fn from_value(alloc: Global, value: &Value) -> Result<AssertionParams, PartError> {
         let kind = needed(alloc, value, "kind")?;
         let assertion = needed(alloc, value, "assertion")?;
         let scopes = listed(alloc, value, "scopes")?;

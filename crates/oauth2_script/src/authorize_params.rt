@@ -3,7 +3,7 @@
 ghost use Rattle.oauth2_script.specs.AuthorizeParams as spec;
 
 use crate::part::{Part, listed, needed, optional};
-use crate::script_error::ScriptError;
+use crate::part_error::PartError;
 use crate::sent_params::resources_and_extra;
 use oauth2_types::{CsrfToken, PkceCodeChallenge, ResponseType, Scope};
 use oauth2_urls::RedirectUrl;
@@ -33,7 +33,7 @@ impl Part for AuthorizeParams {
     ghost reading = { spec.authorize_params };
 
     #[tactic(auto, unfolding(crate::specs::AuthorizeParams::authorize_params))]
-    fn from_value(alloc: Global, value: &Value) -> Result<AuthorizeParams, ScriptError> {
+    fn from_value(alloc: Global, value: &Value) -> Result<AuthorizeParams, PartError> {
         let state = needed(alloc, value, "state")?;
         let scopes = listed(alloc, value, "scopes")?;
         let extra_params = resources_and_extra(alloc, value)?;

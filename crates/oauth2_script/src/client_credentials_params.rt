@@ -3,7 +3,7 @@
 ghost use Rattle.oauth2_script.specs.ClientCredentialsParams as spec;
 
 use crate::part::{Part, listed};
-use crate::script_error::ScriptError;
+use crate::part_error::PartError;
 use crate::sent_params::sent_params;
 use oauth2_types::Scope;
 use serde_json::Value;
@@ -26,7 +26,7 @@ impl Part for ClientCredentialsParams {
     ghost reading = { spec.client_credentials_params };
 
     #[tactic(auto, unfolding(crate::specs::ClientCredentialsParams::client_credentials_params))]
-    fn from_value(alloc: Global, value: &Value) -> Result<ClientCredentialsParams, ScriptError> {
+    fn from_value(alloc: Global, value: &Value) -> Result<ClientCredentialsParams, PartError> {
         let scopes = listed(alloc, value, "scopes")?;
         let extra_params = sent_params(alloc, value)?;
         Ok(ClientCredentialsParams {

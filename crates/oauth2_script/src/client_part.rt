@@ -3,8 +3,9 @@
 ghost use Rattle.oauth2_script.specs.Client as spec;
 
 use crate::adapter::Adapter;
-use crate::part::{Part, listed, needed, optional};
-use crate::script_error::ScriptError;
+use crate::part::{Part, an_object, listed, needed, optional};
+use crate::part_error::{PartError, bad};
+use crate::script_cause::ScriptCause;
 use oauth2_types::{ClientId, ClientSecret};
 use oauth2_urls::{
     AuthUrl, DeviceAuthorizationUrl, IntrospectionUrl, RedirectUrl, RevocationUrl, TokenUrl,
@@ -52,11 +53,12 @@ impl Part for AuthType {
     ghost allocates = { false };
 
     #[tactic(auto, unfolding(crate::specs::Client::auth_type_of))]
-    fn from_value(_alloc: Global, value: &Value) -> Result<AuthType, ScriptError> {
+    fn from_value(_alloc: Global, value: &Value) -> Result<AuthType, PartError> {
         match value.as_str() {
             Some("basic") => Ok(AuthType::BasicAuth),
             Some("body") => Ok(AuthType::RequestBody),
-            _ => Err(ScriptError::Bad),
+            Some(_) => Err(bad(ScriptCause::UnknownWord)),
+            None => Err(bad(ScriptCause::WrongType)),
         }
     }
 }
@@ -74,11 +76,12 @@ impl Part for ReplyRule {
     ghost allocates = { false };
 
     #[tactic(auto, unfolding(crate::specs::Client::reply_rule_of))]
-    fn from_value(_alloc: Global, value: &Value) -> Result<ReplyRule, ScriptError> {
+    fn from_value(_alloc: Global, value: &Value) -> Result<ReplyRule, PartError> {
         match value.as_str() {
             Some("prefix") => Ok(ReplyRule::Prefix),
             Some("media_type") => Ok(ReplyRule::MediaType),
-            _ => Err(ScriptError::Bad),
+            Some(_) => Err(bad(ScriptCause::UnknownWord)),
+            None => Err(bad(ScriptCause::WrongType)),
         }
     }
 }
@@ -93,7 +96,7 @@ impl Part for ClientEndpoints {
     ghost reading = { spec.endpoints };
 
     #[tactic(auto, using(crate::proofs::Parts::kept), unfolding(crate::specs::Client::endpoints))]
-    fn from_value(alloc: Global, value: &Value) -> Result<ClientEndpoints, ScriptError> {
+    fn from_value(alloc: Global, value: &Value) -> Result<ClientEndpoints, PartError> {
         let auth = optional(alloc, value, "auth_url")?;
         let token = optional(alloc, value, "token_url")?;
         let device = optional(alloc, value, "device_url")?;
@@ -121,7 +124,8 @@ impl Part for ClientPart {
     ghost reading = { spec.client };
 
     #[tactic(auto, unfolding(crate::specs::Client::client))]
-    fn from_value(alloc: Global, value: &Value) -> Result<ClientPart, ScriptError> {
+    fn from_value(alloc: Global, value: &Value) -> Result<ClientPart, PartError> {
+        an_object(value)?;
         let id = needed(alloc, value, "id")?;
         let secret = optional(alloc, value, "secret")?;
         let auth_type = optional(alloc, value, "auth")?;

@@ -3,7 +3,7 @@
 ghost use Rattle.oauth2_script.specs.CodeParams as spec;
 
 use crate::part::{Part, needed, optional};
-use crate::script_error::ScriptError;
+use crate::part_error::PartError;
 use crate::sent_params::sent_params;
 use oauth2_types::{AuthorizationCode, PkceCodeVerifier};
 use oauth2_urls::RedirectUrl;
@@ -29,7 +29,7 @@ impl Part for CodeParams {
     ghost reading = { spec.code_params };
 
     #[tactic(auto, unfolding(crate::specs::CodeParams::code_params))]
-    fn from_value(alloc: Global, value: &Value) -> Result<CodeParams, ScriptError> {
+    fn from_value(alloc: Global, value: &Value) -> Result<CodeParams, PartError> {
         let code = needed(alloc, value, "code")?;
         let verifier = optional(alloc, value, "verifier")?;
         let redirect = optional(alloc, value, "redirect")?;

@@ -15,12 +15,13 @@ use crate::id_token_params::IdTokenParams;
 use crate::introspect_params::IntrospectParams;
 use crate::keeper_params::KeeperParams;
 use crate::metadata_params::MetadataParams;
-use crate::part::Part;
+use crate::part::of_params;
+use crate::part_error::{PartError, bad_member};
 use crate::password_params::PasswordParams;
 use crate::redirect_params::RedirectParams;
 use crate::refresh_params::RefreshParams;
 use crate::revoke_params::RevokeParams;
-use crate::script_error::ScriptError;
+use crate::script_cause::ScriptCause;
 use crate::shared_keeper_params::SharedKeeperParams;
 use serde_json::Value;
 use std::alloc::Global;
@@ -45,33 +46,27 @@ pub enum Command {
     AccessToken(AccessTokenParams),
 }
 
-/// Reads the command of this name from the object `params`; another name is `Bad`.
+/// Reads the command of this name from the object `params`; another name is an `UnknownWord`.
 #[tactic(auto, unfolding(crate::specs::Command::command_of))]
-pub fn command_of(alloc: Global, name: &str, params: &Value) -> Result<Command, ScriptError>
+pub fn command_of(alloc: Global, name: &str, params: &Value) -> Result<Command, PartError>
     ensures { Gives command_view result (spec.command_of name.now (view params.now)) }
 {
     match name {
-        "code" => Ok(Command::Code(CodeParams::from_value(alloc, params)?)),
-        "refresh" => Ok(Command::Refresh(RefreshParams::from_value(alloc, params)?)),
-        "password" => Ok(Command::Password(PasswordParams::from_value(alloc, params)?)),
-        "introspect" => Ok(Command::Introspect(IntrospectParams::from_value(alloc, params)?)),
-        "revoke" => Ok(Command::Revoke(RevokeParams::from_value(alloc, params)?)),
-        "device_authorization" => Ok(Command::DeviceAuthorization(
-            DeviceAuthorizationParams::from_value(alloc, params)?,
-        )),
-        "device_poll" => Ok(Command::DevicePoll(DevicePollParams::from_value(alloc, params)?)),
-        "authorize" => Ok(Command::Authorize(AuthorizeParams::from_value(alloc, params)?)),
-        "redirect" => Ok(Command::Redirect(RedirectParams::from_value(alloc, params)?)),
-        "client_credentials" => Ok(Command::ClientCredentials(ClientCredentialsParams::from_value(
-            alloc, params,
-        )?)),
-        "keeper" => Ok(Command::Keeper(KeeperParams::from_value(alloc, params)?)),
-        "shared_keeper" => Ok(Command::SharedKeeper(SharedKeeperParams::from_value(
-            alloc, params,
-        )?)),
-        "metadata" => Ok(Command::Metadata(MetadataParams::from_value(alloc, params)?)),
-        "id_token" => Ok(Command::IdToken(IdTokenParams::from_value(alloc, params)?)),
-        "access_token" => Ok(Command::AccessToken(AccessTokenParams::from_value(alloc, params)?)),
-        _ => Err(ScriptError::Bad),
+        "code" => Ok(Command::Code(of_params(alloc, params)?)),
+        "refresh" => Ok(Command::Refresh(of_params(alloc, params)?)),
+        "password" => Ok(Command::Password(of_params(alloc, params)?)),
+        "introspect" => Ok(Command::Introspect(of_params(alloc, params)?)),
+        "revoke" => Ok(Command::Revoke(of_params(alloc, params)?)),
+        "device_authorization" => Ok(Command::DeviceAuthorization(of_params(alloc, params)?)),
+        "device_poll" => Ok(Command::DevicePoll(of_params(alloc, params)?)),
+        "authorize" => Ok(Command::Authorize(of_params(alloc, params)?)),
+        "redirect" => Ok(Command::Redirect(of_params(alloc, params)?)),
+        "client_credentials" => Ok(Command::ClientCredentials(of_params(alloc, params)?)),
+        "keeper" => Ok(Command::Keeper(of_params(alloc, params)?)),
+        "shared_keeper" => Ok(Command::SharedKeeper(of_params(alloc, params)?)),
+        "metadata" => Ok(Command::Metadata(of_params(alloc, params)?)),
+        "id_token" => Ok(Command::IdToken(of_params(alloc, params)?)),
+        "access_token" => Ok(Command::AccessToken(of_params(alloc, params)?)),
+        _ => Err(PartError::Bad(bad_member("command", ScriptCause::UnknownWord))),
     }
 }

@@ -5,7 +5,7 @@
 ghost use Rattle.oauth2_script.specs.DeviceAuthorizationParams as spec;
 
 use crate::part::{Part, listed};
-use crate::script_error::ScriptError;
+use crate::part_error::PartError;
 use crate::sent_params::sent_params;
 use oauth2_types::Scope;
 use serde_json::Value;
@@ -27,7 +27,7 @@ impl Part for DeviceAuthorizationParams {
 
     ghost reading = { spec.device_authorization_params };
 
-    fn from_value(alloc: Global, value: &Value) -> Result<DeviceAuthorizationParams, ScriptError> {
+    fn from_value(alloc: Global, value: &Value) -> Result<DeviceAuthorizationParams, PartError> {
         let scopes = listed(alloc, value, "scopes")?;
         let extra_params = sent_params(alloc, value)?;
         Ok(DeviceAuthorizationParams {

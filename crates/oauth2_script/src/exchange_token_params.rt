@@ -8,7 +8,8 @@ ghost use Rattle.oauth2_script.specs.Views.{typed_token_view};
 
 use crate::absolute_uri::AbsoluteUri;
 use crate::part::{Part, listed, needed, optional};
-use crate::script_error::ScriptError;
+use crate::part_error::{PartError, bad_member};
+use crate::script_cause::ScriptCause;
 use crate::sent_params::asserted_extra;
 use oauth2_types::Scope;
 use serde_json::Value;
@@ -45,7 +46,7 @@ impl Part for ExchangeTokenParams {
     ghost reading = { spec.exchange_token_params };
 
     #[tactic(auto, unfolding(crate::specs::ExchangeTokenParams::exchange_token_params))]
-    fn from_value(alloc: Global, value: &Value) -> Result<ExchangeTokenParams, ScriptError> {
+    fn from_value(alloc: Global, value: &Value) -> Result<ExchangeTokenParams, PartError> {
         let subject = subject_of(alloc, value)?;
         let actor = actor_of(alloc, value)?;
         let requested_token_type = optional(alloc, value, "requested_token_type")?;
@@ -66,7 +67,7 @@ impl Part for ExchangeTokenParams {
 }
 
 #[tactic(auto, unfolding(crate::specs::ExchangeTokenParams::subject_of))]
-fn subject_of(alloc: Global, value: &Value) -> Result<TypedTokenParam, ScriptError>
+fn subject_of(alloc: Global, value: &Value) -> Result<TypedTokenParam, PartError>
     ensures { Gives typed_token_view result (spec.subject_of (view value.now)) }
 {
     let token = needed(alloc, value, "subject_token")?;
@@ -75,26 +76,30 @@ fn subject_of(alloc: Global, value: &Value) -> Result<TypedTokenParam, ScriptErr
 }
 
 #[tactic(auto, unfolding(crate::specs::ExchangeTokenParams::actor_of))]
-fn actor_of(alloc: Global, value: &Value) -> Result<Option<TypedTokenParam>, ScriptError>
+fn actor_of(alloc: Global, value: &Value) -> Result<Option<TypedTokenParam>, PartError>
     ensures { Gives (option_map typed_token_view) result (spec.actor_of (view value.now)) }
 {
     let token = optional(alloc, value, "actor_token")?;
     let token_type = optional(alloc, value, "actor_token_type")?;
-    both_or_neither(token, token_type)
+    let actor = both_or_neither(token, token_type)?;
+    Ok(actor)
 }
 
-// The token with its type; `Bad` if only one of them is given.
+// The token with its type; a fault if only one of them is given.
 fn both_or_neither(
     token: Option<String>,
     token_type: Option<AbsoluteUri>,
-) -> Result<Option<TypedTokenParam>, ScriptError>
+) -> Result<Option<TypedTokenParam>, PartError>
     ensures { Gives (option_map typed_token_view) result
         (spec.both_or_neither (option_map string_bytes token) token_type) }
 {
     match (token, token_type) {
         (Some(token), Some(token_type)) => Ok(Some(TypedTokenParam { token, token_type })),
         (None, None) => Ok(None),
-        (Some(_), None) => Err(ScriptError::Bad),
-        (None, Some(_)) => Err(ScriptError::Bad),
+        (Some(_), None) => Err(PartError::Bad(bad_member(
+            "actor_token_type",
+            ScriptCause::Missing,
+        ))),
+        (None, Some(_)) => Err(PartError::Bad(bad_member("actor_token", ScriptCause::Missing))),
     }
 }

@@ -4,7 +4,7 @@ ghost use Rattle.oauth2_script.specs.ExtensionParams as spec;
 
 use crate::absolute_uri::AbsoluteUri;
 use crate::part::{Part, listed, needed};
-use crate::script_error::ScriptError;
+use crate::part_error::PartError;
 use crate::sent_params::sent_params;
 use oauth2_types::Scope;
 use serde_json::Value;
@@ -28,7 +28,7 @@ impl Part for ExtensionParams {
     ghost reading = { spec.extension_params };
 
     #[tactic(auto, unfolding(crate::specs::ExtensionParams::extension_params))]
-    fn from_value(alloc: Global, value: &Value) -> Result<ExtensionParams, ScriptError> {
+    fn from_value(alloc: Global, value: &Value) -> Result<ExtensionParams, PartError> {
         let grant_type = needed(alloc, value, "grant_type")?;
         let scopes = listed(alloc, value, "scopes")?;
         let extra_params = sent_params(alloc, value)?;

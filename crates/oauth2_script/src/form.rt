@@ -6,7 +6,8 @@ ghost use Rattle.oauth2_script.specs.Gives.{Gives};
 
 use crate::json::json_in;
 use crate::part::{Part, needed};
-use crate::script_error::ScriptError;
+use crate::part_error::{PartError, bad};
+use crate::script_cause::ScriptCause;
 use serde_json::Value;
 use std::alloc::{AllocError, Global};
 
@@ -32,17 +33,18 @@ impl Part for ResultForm {
     ghost allocates = { false };
 
     #[tactic(auto, unfolding(crate::specs::Form::form_of))]
-    fn from_value(_alloc: Global, value: &Value) -> Result<ResultForm, ScriptError> {
+    fn from_value(_alloc: Global, value: &Value) -> Result<ResultForm, PartError> {
         match value.as_str() {
             Some("lines") => Ok(ResultForm::Lines),
             Some("json") => Ok(ResultForm::Json),
-            _ => Err(ScriptError::Bad),
+            Some(_) => Err(bad(ScriptCause::UnknownWord)),
+            None => Err(bad(ScriptCause::WrongType)),
         }
     }
 }
 
 #[tactic(auto, unfolding(crate::specs::Form::named_form))]
-fn named_form(alloc: Global, input: &[u8]) -> Result<ResultForm, ScriptError>
+fn named_form(alloc: Global, input: &[u8]) -> Result<ResultForm, PartError>
     ensures { Gives (λ form. form) result (spec.named_form input.now) }
 {
     let value = json_in(alloc, input)?;
@@ -57,7 +59,7 @@ pub fn result_form_in(alloc: Global, input: &[u8]) -> Result<ResultForm, AllocEr
 {
     match named_form(alloc, input) {
         Ok(form) => Ok(form),
-        Err(ScriptError::Bad) => Ok(ResultForm::Lines),
-        Err(ScriptError::Memory) => Err(AllocError),
+        Err(PartError::Bad(_)) => Ok(ResultForm::Lines),
+        Err(PartError::Memory) => Err(AllocError),
     }
 }

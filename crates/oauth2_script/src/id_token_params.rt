@@ -6,7 +6,8 @@ ghost use Rattle.oauth2_script.specs.IdTokenParams as spec;
 ghost use Rattle.oauth2_script.specs.Views.{issuer_view};
 
 use crate::part::{Part, each, listed, needed, optional};
-use crate::script_error::ScriptError;
+use crate::part_error::{PartError, bad};
+use crate::script_cause::ScriptCause;
 use oauth2_types::AccessToken;
 use serde_json::Value;
 use std::alloc::Global;
@@ -47,7 +48,7 @@ pub struct IdTokenParams {
 }
 
 #[tactic(auto, unfolding(crate::specs::IdTokenParams::tenants))]
-fn per_tenant(alloc: Global, value: &Value) -> Result<IssuerParam, ScriptError>
+fn per_tenant(alloc: Global, value: &Value) -> Result<IssuerParam, PartError>
     ensures { Gives issuer_view result (spec.tenants (view value.now)) }
 {
     let before = needed(alloc, value, "before")?;
@@ -62,12 +63,12 @@ impl Part for IssuerParam {
 
     ghost reading = { spec.issuer_part };
 
-    fn from_value(alloc: Global, value: &Value) -> Result<IssuerParam, ScriptError> {
+    fn from_value(alloc: Global, value: &Value) -> Result<IssuerParam, PartError> {
         match value {
             Value::String(text) => Ok(IssuerParam::Is(String::from_str(alloc, text.as_str())?)),
             Value::Array(items) => Ok(IssuerParam::OneOf(each(alloc, items.as_slice())?)),
             Value::Object(_) => per_tenant(alloc, value),
-            _ => Err(ScriptError::Bad),
+            _ => Err(bad(ScriptCause::WrongType)),
         }
     }
 }
@@ -82,7 +83,7 @@ impl Part for IdTokenParams {
     ghost reading = { spec.id_token_params };
 
     #[tactic(auto, unfolding(crate::specs::IdTokenParams::id_token_params))]
-    fn from_value(alloc: Global, value: &Value) -> Result<IdTokenParams, ScriptError> {
+    fn from_value(alloc: Global, value: &Value) -> Result<IdTokenParams, PartError> {
         let id_token = needed(alloc, value, "id_token")?;
         let access_token = needed(alloc, value, "access_token")?;
         let issuer = needed(alloc, value, "issuer")?;

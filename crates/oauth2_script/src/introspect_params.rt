@@ -3,7 +3,7 @@
 ghost use Rattle.oauth2_script.specs.IntrospectParams as spec;
 
 use crate::part::{Part, needed, optional};
-use crate::script_error::ScriptError;
+use crate::part_error::PartError;
 use crate::sent_params::asserted_extra;
 use oauth2_types::AccessToken;
 use serde_json::Value;
@@ -28,7 +28,7 @@ impl Part for IntrospectParams {
     ghost reading = { spec.introspect_params };
 
     #[tactic(auto, unfolding(crate::specs::IntrospectParams::introspect_params))]
-    fn from_value(alloc: Global, value: &Value) -> Result<IntrospectParams, ScriptError> {
+    fn from_value(alloc: Global, value: &Value) -> Result<IntrospectParams, PartError> {
         let token = needed(alloc, value, "token")?;
         let hint = optional(alloc, value, "hint")?;
         let extra_params = asserted_extra(alloc, value)?;

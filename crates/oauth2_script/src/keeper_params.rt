@@ -3,7 +3,7 @@
 ghost use Rattle.oauth2_script.specs.KeeperParams as spec;
 
 use crate::part::{Part, listed, needed, optional};
-use crate::script_error::ScriptError;
+use crate::part_error::PartError;
 use crate::sent_params::sent_params;
 use oauth2_types::{RefreshToken, Scope};
 use serde_json::Value;
@@ -35,7 +35,7 @@ impl Part for KeeperParams {
     ghost reading = { spec.keeper_params };
 
     #[tactic(auto, unfolding(crate::specs::KeeperParams::keeper_params))]
-    fn from_value(alloc: Global, value: &Value) -> Result<KeeperParams, ScriptError> {
+    fn from_value(alloc: Global, value: &Value) -> Result<KeeperParams, PartError> {
         let margin = needed(alloc, value, "margin")?;
         let life = needed(alloc, value, "life")?;
         let refresh = optional(alloc, value, "refresh")?;

@@ -1,16 +1,19 @@
 //! How the values of scripts are read that are neither texts nor URLs.
 
-ghost use Rattle.std.specs.Prelude.{◌≡◌, ℕ, ℤ, pos, ◌*ℤ◌, List, string_bytes, option_map};
+ghost use Rattle.std.specs.Prelude.{◌≡◌, ℕ, ℤ, pos, ◌*ℤ◌, List, string_bytes};
 ghost use Rattle.std.specs.Prelude.{IfErr, false};
 ghost use Rattle.std.specs.Duration.{as_nanos};
 ghost use Rattle.std.specs.Int.NonZero.{non_zero_u64_get};
-ghost use Rattle.serde_json.specs.View.{items_view};
+ghost use Rattle.serde_json.specs.View.{view, items_view};
 ghost use Rattle.oauth2_types.specs.Pkce.{Challenge};
 ghost use Rattle.oauth2_script.specs.Part as spec;
-ghost use Rattle.oauth2_script.specs.Gives.{Gives};
+ghost use Rattle.oauth2_script.specs.Gives.{Gives, IsBad};
+ghost use Rattle.oauth2_script.specs.Reading.{map_read};
 
-use crate::part::Part;
-use crate::script_error::ScriptError;
+use crate::part::{Part, read_inside};
+use crate::part_error::{PartError, bad};
+use crate::path::Step;
+use crate::script_cause::ScriptCause;
 use http::StatusCode;
 use http_header::HeaderValue;
 use jiff_core::Timestamp;
@@ -20,15 +23,23 @@ use std::alloc::Global;
 use std::num::NonZeroU64;
 use std::time::Duration;
 
-fn two_texts(alloc: Global, values: &[Value]) -> Result<(String, String), ScriptError>
+fn two_texts(alloc: Global, values: &[Value]) -> Result<(String, String), PartError>
     ensures { Gives (λ p. (string_bytes p.0, string_bytes p.1)) result
         (spec.pair_of (items_view values.now)) }
 {
     if values.len() != 2 {
-        return Err(ScriptError::Bad);
+        return Err(bad(ScriptCause::WrongType));
     }
-    let name = String::from_value(alloc, &values[0])?;
-    let value = String::from_value(alloc, &values[1])?;
+    let pair = pair_from(alloc, &values[0], &values[1])?;
+    Ok(pair)
+}
+
+fn pair_from(alloc: Global, name: &Value, value: &Value) -> Result<(String, String), PartError>
+    ensures { Gives (λ p. (string_bytes p.0, string_bytes p.1)) result
+        (spec.pair_from (view name.now) (view value.now)) }
+{
+    let name = read_inside(alloc, Step::Item(0), name)?;
+    let value = read_inside(alloc, Step::Item(1), value)?;
     Ok((name, value))
 }
 
@@ -40,8 +51,8 @@ impl Part for (String, String) {
 
     ghost reading = { spec.pair_part };
 
-    fn from_value(alloc: Global, value: &Value) -> Result<(String, String), ScriptError> {
-        let list = value.as_array().ok_or(ScriptError::Bad)?;
+    fn from_value(alloc: Global, value: &Value) -> Result<(String, String), PartError> {
+        let list = value.as_array().ok_or(bad(ScriptCause::WrongType))?;
         two_texts(alloc, list.as_slice())
     }
 }
@@ -54,12 +65,12 @@ impl Part for PkceCodeVerifier {
 
     ghost reading = { spec.verifier };
 
-    fn from_value(alloc: Global, value: &Value) -> Result<PkceCodeVerifier, ScriptError> {
+    fn from_value(alloc: Global, value: &Value) -> Result<PkceCodeVerifier, PartError> {
         let verifier = PkceCodeVerifier::new(String::from_value(alloc, value)?);
         if verifier.has_valid_length() {
             Ok(verifier)
         } else {
-            Err(ScriptError::Bad)
+            Err(bad(ScriptCause::BadText))
         }
     }
 }
@@ -72,7 +83,7 @@ impl Part for PkceCodeChallenge {
 
     ghost reading = { spec.challenge_part };
 
-    fn from_value(alloc: Global, value: &Value) -> Result<PkceCodeChallenge, ScriptError> {
+    fn from_value(alloc: Global, value: &Value) -> Result<PkceCodeChallenge, PartError> {
         let verifier = PkceCodeVerifier::from_value(alloc, value)?;
         Ok(PkceCodeChallenge::from_code_verifier_sha256(alloc, &verifier)?)
     }
@@ -86,8 +97,8 @@ impl Part for HeaderValue {
 
     ghost reading = { spec.field };
 
-    fn from_value(alloc: Global, value: &Value) -> Result<HeaderValue, ScriptError> {
-        let text = value.as_str().ok_or(ScriptError::Bad)?;
+    fn from_value(alloc: Global, value: &Value) -> Result<HeaderValue, PartError> {
+        let text = value.as_str().ok_or(bad(ScriptCause::WrongType))?;
         Ok(HeaderValue::from_bytes(alloc, text.as_bytes())?)
     }
 }
@@ -103,7 +114,7 @@ impl Part for Value {
 
     ghost reading = { spec.any_value };
 
-    fn from_value(_alloc: Global, value: &Value) -> Result<Value, ScriptError> {
+    fn from_value(_alloc: Global, value: &Value) -> Result<Value, PartError> {
         Ok(value.clone()?)
     }
 }
@@ -118,26 +129,26 @@ impl Part for StatusCode {
 
     ghost allocates = { false };
 
-    fn from_value(_alloc: Global, value: &Value) -> Result<StatusCode, ScriptError> {
-        let code = value.as_u64().ok_or(ScriptError::Bad)?;
+    fn from_value(_alloc: Global, value: &Value) -> Result<StatusCode, PartError> {
+        let code = value.as_u64().ok_or(bad(ScriptCause::WrongType))?;
         if code < 100 || 999 < code {
-            return Err(ScriptError::Bad);
+            return Err(bad(ScriptCause::OutOfRange));
         }
         match StatusCode::from_u16(code as u16) {
             Ok(status) => Ok(status),
-            Err(_) => Err(ScriptError::Bad),
+            Err(_) => Err(bad(ScriptCause::OutOfRange)),
         }
     }
 }
 
-fn moment_at(second: i64) -> Result<Timestamp, ScriptError>
+fn moment_at(second: i64) -> Result<Timestamp, PartError>
     ensures read { Gives (λ t. t.nanosecond) result
-        (option_map (λ z. z *ℤ pos 1_000_000_000) (spec.second_in_range second)) }
-    ensures fed { IfErr result (λ e. e ≡ ScriptError.Bad) }
+        (map_read (λ z. z *ℤ pos 1_000_000_000) (spec.second_in_range second)) }
+    ensures fed { IfErr result IsBad }
 {
     match Timestamp::from_nanosecond(second as i128 * 1_000_000_000) {
         Ok(moment) => Ok(moment),
-        Err(_) => Err(ScriptError::Bad),
+        Err(_) => Err(bad(ScriptCause::OutOfRange)),
     }
 }
 
@@ -151,8 +162,8 @@ impl Part for Timestamp {
 
     ghost allocates = { false };
 
-    fn from_value(_alloc: Global, value: &Value) -> Result<Timestamp, ScriptError> {
-        let second = value.as_i64().ok_or(ScriptError::Bad)?;
+    fn from_value(_alloc: Global, value: &Value) -> Result<Timestamp, PartError> {
+        let second = value.as_i64().ok_or(bad(ScriptCause::WrongType))?;
         moment_at(second)
     }
 }
@@ -167,8 +178,8 @@ impl Part for Duration {
 
     ghost allocates = { false };
 
-    fn from_value(_alloc: Global, value: &Value) -> Result<Duration, ScriptError> {
-        let seconds = value.as_u64().ok_or(ScriptError::Bad)?;
+    fn from_value(_alloc: Global, value: &Value) -> Result<Duration, PartError> {
+        let seconds = value.as_u64().ok_or(bad(ScriptCause::WrongType))?;
         Ok(Duration::from_secs(seconds))
     }
 }
@@ -183,10 +194,10 @@ impl Part for u8 {
 
     ghost allocates = { false };
 
-    fn from_value(_alloc: Global, value: &Value) -> Result<u8, ScriptError> {
-        let number = value.as_u64().ok_or(ScriptError::Bad)?;
+    fn from_value(_alloc: Global, value: &Value) -> Result<u8, PartError> {
+        let number = value.as_u64().ok_or(bad(ScriptCause::WrongType))?;
         if number > 255 {
-            return Err(ScriptError::Bad);
+            return Err(bad(ScriptCause::OutOfRange));
         }
         Ok(number as u8)
     }
@@ -202,8 +213,8 @@ impl Part for NonZeroU64 {
 
     ghost allocates = { false };
 
-    fn from_value(_alloc: Global, value: &Value) -> Result<NonZeroU64, ScriptError> {
-        let number = value.as_u64().ok_or(ScriptError::Bad)?;
-        NonZeroU64::new(number).ok_or(ScriptError::Bad)
+    fn from_value(_alloc: Global, value: &Value) -> Result<NonZeroU64, PartError> {
+        let number = value.as_u64().ok_or(bad(ScriptCause::WrongType))?;
+        NonZeroU64::new(number).ok_or(bad(ScriptCause::OutOfRange))
     }
 }

@@ -3,7 +3,8 @@
 ghost use Rattle.oauth2_script.specs.MetadataParams as spec;
 
 use crate::part::{Part, needed, optional};
-use crate::script_error::ScriptError;
+use crate::part_error::{PartError, bad};
+use crate::script_cause::ScriptCause;
 use serde_json::Value;
 use std::alloc::Global;
 
@@ -37,11 +38,12 @@ impl Part for WellKnown {
     ghost allocates = { false };
 
     #[tactic(auto, unfolding(crate::specs::MetadataParams::well_known_of))]
-    fn from_value(_alloc: Global, value: &Value) -> Result<WellKnown, ScriptError> {
+    fn from_value(_alloc: Global, value: &Value) -> Result<WellKnown, PartError> {
         match value.as_str() {
             Some("oauth-authorization-server") => Ok(WellKnown::OauthAuthorizationServer),
             Some("openid-configuration") => Ok(WellKnown::OpenidConfiguration),
-            _ => Err(ScriptError::Bad),
+            Some(_) => Err(bad(ScriptCause::UnknownWord)),
+            None => Err(bad(ScriptCause::WrongType)),
         }
     }
 }
@@ -56,7 +58,7 @@ impl Part for MetadataParams {
     ghost reading = { spec.metadata_params };
 
     #[tactic(auto, unfolding(crate::specs::MetadataParams::metadata_params))]
-    fn from_value(alloc: Global, value: &Value) -> Result<MetadataParams, ScriptError> {
+    fn from_value(alloc: Global, value: &Value) -> Result<MetadataParams, PartError> {
         let issuer = needed(alloc, value, "issuer")?;
         let well_known = optional(alloc, value, "well_known")?;
         let expected_issuer = optional(alloc, value, "expected_issuer")?;

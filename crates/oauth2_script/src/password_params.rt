@@ -3,7 +3,7 @@
 ghost use Rattle.oauth2_script.specs.PasswordParams as spec;
 
 use crate::part::{Part, listed, needed};
-use crate::script_error::ScriptError;
+use crate::part_error::PartError;
 use crate::sent_params::sent_params;
 use oauth2_types::{ResourceOwnerPassword, ResourceOwnerUsername, Scope};
 use serde_json::Value;
@@ -28,7 +28,7 @@ impl Part for PasswordParams {
     ghost reading = { spec.password_params };
 
     #[tactic(auto, unfolding(crate::specs::PasswordParams::password_params))]
-    fn from_value(alloc: Global, value: &Value) -> Result<PasswordParams, ScriptError> {
+    fn from_value(alloc: Global, value: &Value) -> Result<PasswordParams, PartError> {
         let username = needed(alloc, value, "username")?;
         let password = needed(alloc, value, "password")?;
         let scopes = listed(alloc, value, "scopes")?;

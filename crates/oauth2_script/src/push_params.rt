@@ -4,7 +4,7 @@ ghost use Rattle.oauth2_script.specs.PushParams as spec;
 
 use crate::authorize_params::AuthorizeParams;
 use crate::part::Part;
-use crate::script_error::ScriptError;
+use crate::part_error::PartError;
 use crate::sent_params::asserted;
 use serde_json::Value;
 use std::alloc::Global;
@@ -28,7 +28,7 @@ impl Part for PushParams {
     ghost reading = { spec.push_params };
 
     #[tactic(auto, unfolding(crate::specs::PushParams::push_params))]
-    fn from_value(alloc: Global, value: &Value) -> Result<PushParams, ScriptError> {
+    fn from_value(alloc: Global, value: &Value) -> Result<PushParams, PartError> {
         let authorize = AuthorizeParams::from_value(alloc, value)?;
         let asserted = asserted(alloc, value, Vec::new(alloc))?;
         Ok(PushParams {

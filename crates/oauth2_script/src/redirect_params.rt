@@ -6,7 +6,8 @@ ghost use Rattle.oauth2_script.specs.RedirectParams as spec;
 ghost use Rattle.oauth2_script.specs.Views.{expected_issuer_view};
 
 use crate::part::{Part, needed, optional};
-use crate::script_error::ScriptError;
+use crate::part_error::{PartError, bad_member};
+use crate::script_cause::ScriptCause;
 use oauth2_types::CsrfToken;
 use oauth2_urls::RedirectUrl;
 use serde_json::Value;
@@ -42,7 +43,7 @@ impl Part for RedirectParams {
     ghost reading = { spec.redirect_params };
 
     #[tactic(auto, unfolding(crate::specs::RedirectParams::redirect_params))]
-    fn from_value(alloc: Global, value: &Value) -> Result<RedirectParams, ScriptError> {
+    fn from_value(alloc: Global, value: &Value) -> Result<RedirectParams, PartError> {
         let state = needed(alloc, value, "state")?;
         let redirect = needed(alloc, value, "redirect")?;
         let issuer = optional(alloc, value, "issuer")?;
@@ -55,11 +56,11 @@ impl Part for RedirectParams {
     }
 }
 
-// The expected issuer of the two members; `Bad` if both are given.
+// The expected issuer of the two members; a fault if both are given.
 fn issuer_of(
     required: Option<String>,
     compared: Option<String>,
-) -> Result<ExpectedIssuerParam, ScriptError>
+) -> Result<ExpectedIssuerParam, PartError>
     ensures { Gives expected_issuer_view result (spec.issuer_of (option_map string_bytes required)
         (option_map string_bytes compared)) }
 {
@@ -67,6 +68,9 @@ fn issuer_of(
         (Some(issuer), None) => Ok(ExpectedIssuerParam::Required(issuer)),
         (None, Some(issuer)) => Ok(ExpectedIssuerParam::Compared(issuer)),
         (None, None) => Ok(ExpectedIssuerParam::Unknown),
-        (Some(_), Some(_)) => Err(ScriptError::Bad),
+        (Some(_), Some(_)) => Err(PartError::Bad(bad_member(
+            "issuer_compared",
+            ScriptCause::Excluded,
+        ))),
     }
 }

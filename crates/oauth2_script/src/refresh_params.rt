@@ -3,7 +3,7 @@
 ghost use Rattle.oauth2_script.specs.RefreshParams as spec;
 
 use crate::part::{Part, listed, needed};
-use crate::script_error::ScriptError;
+use crate::part_error::PartError;
 use crate::sent_params::sent_params;
 use oauth2_types::{RefreshToken, Scope};
 use serde_json::Value;
@@ -27,7 +27,7 @@ impl Part for RefreshParams {
     ghost reading = { spec.refresh_params };
 
     #[tactic(auto, unfolding(crate::specs::RefreshParams::refresh_params))]
-    fn from_value(alloc: Global, value: &Value) -> Result<RefreshParams, ScriptError> {
+    fn from_value(alloc: Global, value: &Value) -> Result<RefreshParams, PartError> {
         let refresh_token = needed(alloc, value, "refresh_token")?;
         let scopes = listed(alloc, value, "scopes")?;
         let extra_params = sent_params(alloc, value)?;

@@ -5,8 +5,10 @@ ghost use Rattle.serde_json.specs.View.{view};
 ghost use Rattle.oauth2_script.specs.Gives.{Gives};
 ghost use Rattle.oauth2_script.specs.Replies as spec;
 
-use crate::part::{Part, needed, optional};
-use crate::script_error::ScriptError;
+use crate::part::{Part, an_object, needed, optional, read_inside};
+use crate::part_error::{PartError, bad, bad_member};
+use crate::path::Step;
+use crate::script_cause::ScriptCause;
 use base64::DecodeAllocError;
 use base64::engine::general_purpose::STANDARD;
 use http::StatusCode;
@@ -41,27 +43,45 @@ fn base64_of(alloc: Global, text: &str) -> Result<Option<Vec<u8>>, AllocError>
     }
 }
 
-fn base64_bytes(alloc: Global, value: &Value) -> Result<Vec<u8>, ScriptError>
-    ensures { Gives (λ v. v.items) result (spec.base64_bytes (view value.now)) }
-{
-    let text = value.as_str().ok_or(ScriptError::Bad)?;
-    match base64_of(alloc, text)? {
-        Some(bytes) => Ok(bytes),
-        None => Err(ScriptError::Bad),
+// A body that a script has in Base64.
+#[derive(Drop)]
+struct Base64Body {
+    bytes: Vec<u8>,
+}
+
+impl Part for Base64Body {
+    ghost use Rattle.std.specs.Prelude.{ℕ, List};
+
+    ghost Meaning = { List ℕ };
+
+    ghost meaning = { λ body. body.bytes.items };
+
+    ghost reading = { spec.base64_bytes };
+
+    fn from_value(alloc: Global, value: &Value) -> Result<Base64Body, PartError> {
+        let text = value.as_str().ok_or(bad(ScriptCause::WrongType))?;
+        match base64_of(alloc, text)? {
+            Some(bytes) => Ok(Base64Body { bytes }),
+            None => Err(bad(ScriptCause::BadText)),
+        }
     }
 }
 
 #[tactic(auto, unfolding(crate::specs::Replies::body_of))]
-fn body_of(alloc: Global, value: &Value) -> Result<Vec<u8>, ScriptError>
+fn body_of(alloc: Global, value: &Value) -> Result<Vec<u8>, PartError>
     ensures { Gives (λ v. v.items) result (spec.body_of (view value.now)) }
 {
     match (value.get("body"), value.get("body_base64")) {
-        (Some(text), None) => Ok(String::from_value(alloc, text)?.into_bytes()),
-        (None, Some(encoded)) => {
-            let bytes = base64_bytes(alloc, encoded)?;
-            Ok(bytes)
+        (Some(text), None) => {
+            let text: String = read_inside(alloc, Step::Member("body"), text)?;
+            Ok(text.into_bytes())
         }
-        _ => Err(ScriptError::Bad),
+        (None, Some(encoded)) => {
+            let body: Base64Body = read_inside(alloc, Step::Member("body_base64"), encoded)?;
+            Ok(body.bytes)
+        }
+        (Some(_), Some(_)) => Err(PartError::Bad(bad_member("body_base64", ScriptCause::Excluded))),
+        (None, None) => Err(PartError::Bad(bad_member("body", ScriptCause::Missing))),
     }
 }
 
@@ -75,8 +95,11 @@ impl Part for HttpReply {
     ghost reading = { spec.http_reply };
 
     #[tactic(auto, unfolding(crate::specs::Replies::http_reply))]
-    fn from_value(alloc: Global, value: &Value) -> Result<HttpReply, ScriptError> {
-        let status = needed(alloc, value, "status")?;
+    fn from_value(alloc: Global, value: &Value) -> Result<HttpReply, PartError> {
+        let status: StatusCode = match needed(alloc, value, "status") {
+            Ok(status) => status,
+            Err(e) => return Err(e),
+        };
         let content_type = optional(alloc, value, "content_type")?;
         let body = body_of(alloc, value)?;
         Ok(HttpReply {
@@ -96,11 +119,12 @@ impl Part for Reply {
 
     ghost reading = { spec.reply };
 
-    fn from_value(alloc: Global, value: &Value) -> Result<Reply, ScriptError> {
+    fn from_value(alloc: Global, value: &Value) -> Result<Reply, PartError> {
+        an_object(value)?;
         match value.get("fail") {
             None => Ok(Reply::Replied(HttpReply::from_value(alloc, value)?)),
             Some(Value::Bool(true)) => Ok(Reply::Failed),
-            Some(_) => Err(ScriptError::Bad),
+            Some(_) => Err(PartError::Bad(bad_member("fail", ScriptCause::WrongType))),
         }
     }
 }

@@ -3,7 +3,8 @@
 ghost use Rattle.oauth2_script.specs.RevokeParams as spec;
 
 use crate::part::{Part, needed, optional};
-use crate::script_error::ScriptError;
+use crate::part_error::{PartError, bad};
+use crate::script_cause::ScriptCause;
 use crate::sent_params::asserted_extra;
 use serde_json::Value;
 use std::alloc::Global;
@@ -36,11 +37,12 @@ impl Part for TokenKind {
     ghost allocates = { false };
 
     #[tactic(auto, unfolding(crate::specs::RevokeParams::kind_of))]
-    fn from_value(_alloc: Global, value: &Value) -> Result<TokenKind, ScriptError> {
+    fn from_value(_alloc: Global, value: &Value) -> Result<TokenKind, PartError> {
         match value.as_str() {
             Some("access") => Ok(TokenKind::Access),
             Some("refresh") => Ok(TokenKind::Refresh),
-            _ => Err(ScriptError::Bad),
+            Some(_) => Err(bad(ScriptCause::UnknownWord)),
+            None => Err(bad(ScriptCause::WrongType)),
         }
     }
 }
@@ -55,7 +57,7 @@ impl Part for RevokeParams {
     ghost reading = { spec.revoke_params };
 
     #[tactic(auto, unfolding(crate::specs::RevokeParams::revoke_params))]
-    fn from_value(alloc: Global, value: &Value) -> Result<RevokeParams, ScriptError> {
+    fn from_value(alloc: Global, value: &Value) -> Result<RevokeParams, PartError> {
         let token = needed(alloc, value, "token")?;
         let kind = optional(alloc, value, "kind")?;
         let extra_params = asserted_extra(alloc, value)?;

@@ -4,16 +4,19 @@ ghost use Rattle.std.specs.Prelude.{◌≡◌, option_map, IfErr};
 ghost use Rattle.serde_json.specs.View.{view};
 ghost use Rattle.serde_json.specs.Data.{object, no_members};
 ghost use Rattle.oauth2_script.specs.Script as spec;
-ghost use Rattle.oauth2_script.specs.Gives.{Gives};
+ghost use Rattle.oauth2_script.specs.Gives.{Gives, GivesScript, IsBad, fault_view};
 ghost use Rattle.oauth2_script.specs.Views.{client_view, script_view};
 
 use crate::client_part::ClientPart;
 use crate::form::ResultForm;
 use crate::json::json_in;
-use crate::part::{listed, needed, optional};
+use crate::part::{an_object, listed, needed, optional};
+use crate::part_error::{PartError, PartFault, bad_member};
+use crate::path::{Path, Step, path_text};
 use crate::reply::Reply;
+use crate::script_cause::ScriptCause;
 use crate::script_command::{ScriptCommand, script_command_of};
-use crate::script_error::ScriptError;
+use crate::script_error::{ScriptError, ScriptFault};
 use jiff_core::Timestamp;
 use serde_json::{Map, Value};
 use std::alloc::Global;
@@ -29,11 +32,11 @@ pub struct Script {
     pub readings: Vec<Timestamp>,
 }
 
-fn params_of<'v>(params: Option<&'v Value>, empty: &'v Value) -> Result<&'v Value, ScriptError>
+fn params_of<'v>(params: Option<&'v Value>, empty: &'v Value) -> Result<&'v Value, PartError>
     requires { view empty.now ≡ object no_members }
     ensures read { Gives (λ v. view v.now) result
         (spec.object_or_empty (option_map (λ v. view v.now) params.entry)) }
-    ensures fed { IfErr result (λ e. e ≡ ScriptError.Bad) }
+    ensures fed { IfErr result IsBad }
 {
     match params {
         None => Ok(empty),
@@ -41,31 +44,48 @@ fn params_of<'v>(params: Option<&'v Value>, empty: &'v Value) -> Result<&'v Valu
             if value.is_object() {
                 Ok(value)
             } else {
-                Err(ScriptError::Bad)
+                Err(PartError::Bad(bad_member("params", ScriptCause::NotObject)))
             }
         }
     }
 }
 
-// The client; `Bad` if it has a secret and an assertion.
+// The fault of an assertion that the secret excludes.
+fn twice_authenticated() -> PartFault
+    ensures { fault_view result ≡ spec.twice_authenticated }
+{
+    let path = Path {
+        first: Step::Member("params"),
+        second: Step::Member("client_assertion"),
+        third: Step::End,
+        fourth: Step::End,
+    };
+    PartFault {
+        path,
+        why: ScriptCause::Excluded,
+    }
+}
+
+// The client; a fault if it has a secret and an assertion.
 fn once_authenticated(
     assertion: Option<&Value>,
     client: ClientPart,
-) -> Result<ClientPart, ScriptError>
+) -> Result<ClientPart, PartError>
     ensures read { Gives client_view result (spec.once_authenticated
         (option_map (λ v. view v.now) assertion.entry) (client_view client)) }
-    ensures fed { IfErr result (λ e. e ≡ ScriptError.Bad) }
+    ensures fed { IfErr result IsBad }
 {
     if assertion.is_some() && client.secret.is_some() {
-        return Err(ScriptError::Bad);
+        return Err(PartError::Bad(twice_authenticated()));
     }
     Ok(client)
 }
 
 #[tactic(auto, unfolding(crate::specs::Script::script_of))]
-fn script_of(alloc: Global, value: &Value) -> Result<Script, ScriptError>
+fn script_of(alloc: Global, value: &Value) -> Result<Script, PartError>
     ensures { Gives script_view result (spec.script_of (view value.now)) }
 {
+    an_object(value)?;
     let _form: Option<ResultForm> = optional(alloc, value, "result")?;
     let name: String = needed(alloc, value, "command")?;
     let replies: Vec<Reply> = listed(alloc, value, "replies")?;
@@ -83,12 +103,29 @@ fn script_of(alloc: Global, value: &Value) -> Result<Script, ScriptError>
     })
 }
 
-/// Reads the whole input as a script; `Bad` if any part of it is bad.
-#[tactic(auto, unfolding(crate::specs::Script::script_in))]
-pub fn script_in(alloc: Global, input: &[u8]) -> Result<Script, ScriptError>
-    ensures { Gives script_view result (spec.script_in input.now) }
+#[tactic(auto, unfolding(crate::specs::Script::read_script))]
+fn read_script(alloc: Global, input: &[u8]) -> Result<Script, PartError>
+    ensures { Gives script_view result (spec.read_script input.now) }
 {
     let value = json_in(alloc, input)?;
     let script = script_of(alloc, &value)?;
     Ok(script)
+}
+
+/// Reads the whole input as a script; if it is bad, tells the first member that is, and why.
+#[tactic(auto, unfolding(crate::specs::Script::script_in))]
+pub fn script_in(alloc: Global, input: &[u8]) -> Result<Script, ScriptError>
+    ensures { GivesScript script_view result (spec.script_in input.now) }
+{
+    match read_script(alloc, input) {
+        Ok(script) => Ok(script),
+        Err(PartError::Memory) => Err(ScriptError::Memory),
+        Err(PartError::Bad(fault)) => {
+            let member = path_text(alloc, fault.path)?;
+            Err(ScriptError::Bad(ScriptFault {
+                member,
+                why: fault.why,
+            }))
+        }
+    }
 }

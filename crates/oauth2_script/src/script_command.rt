@@ -5,14 +5,10 @@ ghost use Rattle.oauth2_script.specs.ScriptCommand as spec;
 ghost use Rattle.oauth2_script.specs.Gives.{Gives};
 ghost use Rattle.oauth2_script.specs.Views.{script_command_view};
 
-use crate::assertion_params::AssertionParams;
 use crate::command::{Command, command_of};
-use crate::exchange_token_params::ExchangeTokenParams;
-use crate::extension_params::ExtensionParams;
 use crate::grant_command::GrantCommand;
-use crate::part::Part;
-use crate::push_params::PushParams;
-use crate::script_error::ScriptError;
+use crate::part::of_params;
+use crate::part_error::PartError;
 use serde_json::Value;
 use std::alloc::Global;
 
@@ -23,29 +19,23 @@ pub enum ScriptCommand {
     Grant(GrantCommand),
 }
 
-/// Reads the command of this name from the object `params`; another name is `Bad`.
+/// Reads the command of this name from the object `params`.
 #[tactic(auto, unfolding(crate::specs::ScriptCommand::script_command_of))]
 pub fn script_command_of(
     alloc: Global,
     name: &str,
     params: &Value,
-) -> Result<ScriptCommand, ScriptError>
+) -> Result<ScriptCommand, PartError>
     ensures { Gives script_command_view result
         (spec.script_command_of name.now (view params.now)) }
 {
     match name {
-        "extension" => Ok(ScriptCommand::Grant(GrantCommand::Extension(ExtensionParams::from_value(
+        "extension" => Ok(ScriptCommand::Grant(GrantCommand::Extension(of_params(alloc, params)?))),
+        "exchange_token" => Ok(ScriptCommand::Grant(GrantCommand::ExchangeToken(of_params(
             alloc, params,
         )?))),
-        "exchange_token" => Ok(ScriptCommand::Grant(GrantCommand::ExchangeToken(
-            ExchangeTokenParams::from_value(alloc, params)?,
-        ))),
-        "assertion" => Ok(ScriptCommand::Grant(GrantCommand::Assertion(AssertionParams::from_value(
-            alloc, params,
-        )?))),
-        "push" => Ok(ScriptCommand::Grant(GrantCommand::Push(PushParams::from_value(
-            alloc, params,
-        )?))),
+        "assertion" => Ok(ScriptCommand::Grant(GrantCommand::Assertion(of_params(alloc, params)?))),
+        "push" => Ok(ScriptCommand::Grant(GrantCommand::Push(of_params(alloc, params)?))),
         _ => Ok(ScriptCommand::Plain(command_of(alloc, name, params)?)),
     }
 }

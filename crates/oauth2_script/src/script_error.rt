@@ -1,19 +1,24 @@
 //! The errors of reading a script.
 
-ghost use Rattle.std.specs.Prelude.{◌≡◌, ◌⊎◌};
-ghost use Rattle.http_header.specs.declared.value.HeaderValueError.TheVariants as header;
-ghost use Rattle.url.specs.Parser.{IsOutOfRoom};
-ghost use Rattle.oauth2_script.specs.declared.script_error.ScriptError.TheVariants.{Bad, Memory};
+ghost use Rattle.std.specs.Prelude.{◌≡◌};
+ghost use Rattle.oauth2_script.specs.declared.script_error.ScriptError.TheVariants.{Memory};
 
-use http_header::HeaderValueError;
-use std::alloc::{AllocError, AllocFailed};
-use url::ParseError;
+use crate::script_cause::ScriptCause;
+use std::alloc::AllocError;
+
+/// The first member of a script that is bad, and why.
+#[derive(Debug, PartialEq, Eq, Drop)]
+pub struct ScriptFault {
+    /// The path of the member, as `replies[2].status`; empty for the whole input.
+    pub member: String,
+    pub why: ScriptCause,
+}
 
 /// Why no script was read.
-#[derive(Clone, Copy, Debug, PartialEq, Eq)]
+#[derive(Debug, PartialEq, Eq, Drop)]
 pub enum ScriptError {
     /// The bytes are not a script.
-    Bad,
+    Bad(ScriptFault),
     /// Memory ran out, or a URL is 4 GB or longer.
     Memory,
 }
@@ -23,39 +28,5 @@ impl From<AllocError> for ScriptError {
 
     fn from(_e: AllocError) -> ScriptError {
         ScriptError::Memory
-    }
-}
-
-impl<T: Drop> From<AllocFailed<T>> for ScriptError {
-    ghost from_gives = { λ _ e. e ≡ Memory };
-
-    fn from(_e: AllocFailed<T>) -> ScriptError {
-        ScriptError::Memory
-    }
-}
-
-impl From<ParseError> for ScriptError {
-    // `Overflow` is a URL of 4 GB or more. It may be a URL by the standard, so it is not `Bad`.
-    ghost from_gives = { λ given e. (IsOutOfRoom given × (e ≡ Memory))
-        ⊎ ((IsOutOfRoom given → ⊥) × (e ≡ Bad)) };
-
-    fn from(e: ParseError) -> ScriptError {
-        match e {
-            ParseError::OutOfMemory => ScriptError::Memory,
-            ParseError::Overflow => ScriptError::Memory,
-            _ => ScriptError::Bad,
-        }
-    }
-}
-
-impl From<HeaderValueError> for ScriptError {
-    ghost from_gives = { λ given e. ((given ≡ header.OutOfMemory) × (e ≡ Memory))
-        ⊎ ((given ≡ header.Invalid) × (e ≡ Bad)) };
-
-    fn from(e: HeaderValueError) -> ScriptError {
-        match e {
-            HeaderValueError::Invalid => ScriptError::Bad,
-            HeaderValueError::OutOfMemory => ScriptError::Memory,
-        }
     }
 }

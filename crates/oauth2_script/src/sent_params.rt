@@ -7,17 +7,14 @@ ghost use Rattle.oauth2_script.specs.Sent as spec;
 
 use crate::absolute_uri::AbsoluteUri;
 use crate::part::{listed, optional};
-use crate::script_error::ScriptError;
+use crate::part_error::PartError;
 use oauth2_client_assertions::AssertionType;
 use serde_json::Value;
 use std::alloc::{AllocError, Global};
 
 /// Reads `resource`, `extra` and `client_assertion`, of a request for a token.
 #[tactic(auto, unfolding(crate::specs::Sent::sent_params))]
-pub(crate) fn sent_params(
-    alloc: Global,
-    value: &Value,
-) -> Result<Vec<(String, String)>, ScriptError>
+pub(crate) fn sent_params(alloc: Global, value: &Value) -> Result<Vec<(String, String)>, PartError>
     ensures { Gives (λ v. map (λ p. (string_bytes p.0, string_bytes p.1)) v.items) result
         (spec.sent_params (view value.now)) }
 {
@@ -30,7 +27,7 @@ pub(crate) fn sent_params(
 pub(crate) fn asserted_extra(
     alloc: Global,
     value: &Value,
-) -> Result<Vec<(String, String)>, ScriptError>
+) -> Result<Vec<(String, String)>, PartError>
     ensures { Gives (λ v. map (λ p. (string_bytes p.0, string_bytes p.1)) v.items) result
         (spec.asserted_extra (view value.now)) }
 {
@@ -43,7 +40,7 @@ pub(crate) fn asserted_extra(
 pub(crate) fn resources_and_extra(
     alloc: Global,
     value: &Value,
-) -> Result<Vec<(String, String)>, ScriptError>
+) -> Result<Vec<(String, String)>, PartError>
     ensures { Gives (λ v. map (λ p. (string_bytes p.0, string_bytes p.1)) v.items) result
         (spec.resources_and_extra (view value.now)) }
 {
@@ -60,7 +57,7 @@ pub(crate) fn asserted(
     alloc: Global,
     value: &Value,
     pairs: Vec<(String, String)>,
-) -> Result<Vec<(String, String)>, ScriptError>
+) -> Result<Vec<(String, String)>, PartError>
     ensures { Gives (λ v. map (λ p. (string_bytes p.0, string_bytes p.1)) v.items) result
         (spec.asserted (view value.now)
         (map (λ p. (string_bytes p.0, string_bytes p.1)) pairs.items)) }

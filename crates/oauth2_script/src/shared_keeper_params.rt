@@ -2,8 +2,9 @@
 
 ghost use Rattle.oauth2_script.specs.SharedKeeperParams as spec;
 
-use crate::part::{Part, listed, needed, optional};
-use crate::script_error::ScriptError;
+use crate::part::{Part, an_object, listed, needed, optional};
+use crate::part_error::{PartError, bad};
+use crate::script_cause::ScriptCause;
 use oauth2_types::RefreshToken;
 use serde_json::Value;
 use std::alloc::Global;
@@ -51,14 +52,15 @@ impl Part for Fate {
     ghost allocates = { false };
 
     #[tactic(auto, unfolding(crate::specs::SharedKeeperParams::fate_of))]
-    fn from_value(_alloc: Global, value: &Value) -> Result<Fate, ScriptError> {
+    fn from_value(_alloc: Global, value: &Value) -> Result<Fate, PartError> {
         match value.as_str() {
             Some("done") => Ok(Fate::Done),
             Some("reply_lost") => Ok(Fate::ReplyLost),
             Some("request_lost") => Ok(Fate::RequestLost),
             Some("stopped") => Ok(Fate::Stopped),
             Some("killed") => Ok(Fate::Killed),
-            _ => Err(ScriptError::Bad),
+            Some(_) => Err(bad(ScriptCause::UnknownWord)),
+            None => Err(bad(ScriptCause::WrongType)),
         }
     }
 }
@@ -78,7 +80,8 @@ impl Part for SharedKeeperStep {
     ghost allocates = { false };
 
     #[tactic(auto, unfolding(crate::specs::SharedKeeperParams::shared_keeper_step))]
-    fn from_value(alloc: Global, value: &Value) -> Result<SharedKeeperStep, ScriptError> {
+    fn from_value(alloc: Global, value: &Value) -> Result<SharedKeeperStep, PartError> {
+        an_object(value)?;
         let keeper = needed(alloc, value, "keeper")?;
         let fate = optional(alloc, value, "fate")?;
         Ok(SharedKeeperStep {
@@ -98,7 +101,7 @@ impl Part for SharedKeeperParams {
     ghost reading = { spec.shared_keeper_params };
 
     #[tactic(auto, unfolding(crate::specs::SharedKeeperParams::shared_keeper_params))]
-    fn from_value(alloc: Global, value: &Value) -> Result<SharedKeeperParams, ScriptError> {
+    fn from_value(alloc: Global, value: &Value) -> Result<SharedKeeperParams, PartError> {
         let refresh_token = needed(alloc, value, "refresh_token")?;
         let steps = listed(alloc, value, "steps")?;
         Ok(SharedKeeperParams {

@@ -1,10 +1,11 @@
 //! How texts are read, and the types of `oauth2_types` that accept any text.
 
 ghost use Rattle.std.specs.Prelude.{ℕ, List, string_bytes};
-ghost use Rattle.serde_json.specs.Find.{as_str};
+ghost use Rattle.oauth2_script.specs.Part.{text};
 
 use crate::part::Part;
-use crate::script_error::ScriptError;
+use crate::part_error::{PartError, bad};
+use crate::script_cause::ScriptCause;
 use oauth2_types::{
     AccessToken, AuthorizationCode, ClientId, ClientSecret, CsrfToken, RefreshToken,
     ResourceOwnerPassword, ResourceOwnerUsername, ResponseType, Scope,
@@ -17,10 +18,10 @@ impl Part for String {
 
     ghost meaning = { string_bytes };
 
-    ghost reading = { as_str };
+    ghost reading = { text };
 
-    fn from_value(alloc: Global, value: &Value) -> Result<String, ScriptError> {
-        let text = value.as_str().ok_or(ScriptError::Bad)?;
+    fn from_value(alloc: Global, value: &Value) -> Result<String, PartError> {
+        let text = value.as_str().ok_or(bad(ScriptCause::WrongType))?;
         Ok(String::from_str(alloc, text)?)
     }
 }
@@ -30,9 +31,9 @@ impl Part for AccessToken {
 
     ghost meaning = { λ text. text };
 
-    ghost reading = { as_str };
+    ghost reading = { text };
 
-    fn from_value(alloc: Global, value: &Value) -> Result<AccessToken, ScriptError> {
+    fn from_value(alloc: Global, value: &Value) -> Result<AccessToken, PartError> {
         Ok(AccessToken::new(String::from_value(alloc, value)?))
     }
 }
@@ -42,9 +43,9 @@ impl Part for AuthorizationCode {
 
     ghost meaning = { λ text. text };
 
-    ghost reading = { as_str };
+    ghost reading = { text };
 
-    fn from_value(alloc: Global, value: &Value) -> Result<AuthorizationCode, ScriptError> {
+    fn from_value(alloc: Global, value: &Value) -> Result<AuthorizationCode, PartError> {
         Ok(AuthorizationCode::new(String::from_value(alloc, value)?))
     }
 }
@@ -54,9 +55,9 @@ impl Part for ClientId {
 
     ghost meaning = { λ text. text };
 
-    ghost reading = { as_str };
+    ghost reading = { text };
 
-    fn from_value(alloc: Global, value: &Value) -> Result<ClientId, ScriptError> {
+    fn from_value(alloc: Global, value: &Value) -> Result<ClientId, PartError> {
         Ok(ClientId::new(String::from_value(alloc, value)?))
     }
 }
@@ -66,9 +67,9 @@ impl Part for ClientSecret {
 
     ghost meaning = { λ text. text };
 
-    ghost reading = { as_str };
+    ghost reading = { text };
 
-    fn from_value(alloc: Global, value: &Value) -> Result<ClientSecret, ScriptError> {
+    fn from_value(alloc: Global, value: &Value) -> Result<ClientSecret, PartError> {
         Ok(ClientSecret::new(String::from_value(alloc, value)?))
     }
 }
@@ -78,9 +79,9 @@ impl Part for CsrfToken {
 
     ghost meaning = { λ text. text };
 
-    ghost reading = { as_str };
+    ghost reading = { text };
 
-    fn from_value(alloc: Global, value: &Value) -> Result<CsrfToken, ScriptError> {
+    fn from_value(alloc: Global, value: &Value) -> Result<CsrfToken, PartError> {
         Ok(CsrfToken::new(String::from_value(alloc, value)?))
     }
 }
@@ -90,9 +91,9 @@ impl Part for RefreshToken {
 
     ghost meaning = { λ text. text };
 
-    ghost reading = { as_str };
+    ghost reading = { text };
 
-    fn from_value(alloc: Global, value: &Value) -> Result<RefreshToken, ScriptError> {
+    fn from_value(alloc: Global, value: &Value) -> Result<RefreshToken, PartError> {
         Ok(RefreshToken::new(String::from_value(alloc, value)?))
     }
 }
@@ -102,9 +103,9 @@ impl Part for ResourceOwnerPassword {
 
     ghost meaning = { λ text. text };
 
-    ghost reading = { as_str };
+    ghost reading = { text };
 
-    fn from_value(alloc: Global, value: &Value) -> Result<ResourceOwnerPassword, ScriptError> {
+    fn from_value(alloc: Global, value: &Value) -> Result<ResourceOwnerPassword, PartError> {
         Ok(ResourceOwnerPassword::new(String::from_value(alloc, value)?))
     }
 }
@@ -114,9 +115,9 @@ impl Part for ResourceOwnerUsername {
 
     ghost meaning = { λ text. text };
 
-    ghost reading = { as_str };
+    ghost reading = { text };
 
-    fn from_value(alloc: Global, value: &Value) -> Result<ResourceOwnerUsername, ScriptError> {
+    fn from_value(alloc: Global, value: &Value) -> Result<ResourceOwnerUsername, PartError> {
         Ok(ResourceOwnerUsername::new(String::from_value(alloc, value)?))
     }
 }
@@ -126,9 +127,9 @@ impl Part for ResponseType {
 
     ghost meaning = { λ text. text };
 
-    ghost reading = { as_str };
+    ghost reading = { text };
 
-    fn from_value(alloc: Global, value: &Value) -> Result<ResponseType, ScriptError> {
+    fn from_value(alloc: Global, value: &Value) -> Result<ResponseType, PartError> {
         Ok(ResponseType::new(String::from_value(alloc, value)?))
     }
 }
@@ -138,9 +139,9 @@ impl Part for Scope {
 
     ghost meaning = { λ text. text };
 
-    ghost reading = { as_str };
+    ghost reading = { text };
 
-    fn from_value(alloc: Global, value: &Value) -> Result<Scope, ScriptError> {
+    fn from_value(alloc: Global, value: &Value) -> Result<Scope, PartError> {
         Ok(Scope::new(String::from_value(alloc, value)?))
     }
 }

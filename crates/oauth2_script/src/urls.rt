@@ -3,7 +3,8 @@
 ghost use Rattle.oauth2_script.specs.Part as spec;
 
 use crate::part::Part;
-use crate::script_error::ScriptError;
+use crate::part_error::{PartError, bad};
+use crate::script_cause::ScriptCause;
 use oauth2_urls::{
     AuthUrl, DeviceAuthorizationUrl, IntrospectionUrl, RedirectUrl, RevocationUrl, TokenUrl,
 };
@@ -20,7 +21,7 @@ impl Part for AuthUrl {
 
     ghost reading = { spec.address };
 
-    fn from_value(alloc: Global, value: &Value) -> Result<AuthUrl, ScriptError> {
+    fn from_value(alloc: Global, value: &Value) -> Result<AuthUrl, PartError> {
         let text = String::from_value(alloc, value)?;
         Ok(AuthUrl::new(alloc, text)?)
     }
@@ -35,7 +36,7 @@ impl Part for DeviceAuthorizationUrl {
 
     ghost reading = { spec.address };
 
-    fn from_value(alloc: Global, value: &Value) -> Result<DeviceAuthorizationUrl, ScriptError> {
+    fn from_value(alloc: Global, value: &Value) -> Result<DeviceAuthorizationUrl, PartError> {
         let text = String::from_value(alloc, value)?;
         Ok(DeviceAuthorizationUrl::new(alloc, text)?)
     }
@@ -50,7 +51,7 @@ impl Part for IntrospectionUrl {
 
     ghost reading = { spec.address };
 
-    fn from_value(alloc: Global, value: &Value) -> Result<IntrospectionUrl, ScriptError> {
+    fn from_value(alloc: Global, value: &Value) -> Result<IntrospectionUrl, PartError> {
         let text = String::from_value(alloc, value)?;
         Ok(IntrospectionUrl::new(alloc, text)?)
     }
@@ -65,7 +66,7 @@ impl Part for RedirectUrl {
 
     ghost reading = { spec.address };
 
-    fn from_value(alloc: Global, value: &Value) -> Result<RedirectUrl, ScriptError> {
+    fn from_value(alloc: Global, value: &Value) -> Result<RedirectUrl, PartError> {
         let text = String::from_value(alloc, value)?;
         Ok(RedirectUrl::new(alloc, text)?)
     }
@@ -80,7 +81,7 @@ impl Part for RevocationUrl {
 
     ghost reading = { spec.address };
 
-    fn from_value(alloc: Global, value: &Value) -> Result<RevocationUrl, ScriptError> {
+    fn from_value(alloc: Global, value: &Value) -> Result<RevocationUrl, PartError> {
         let text = String::from_value(alloc, value)?;
         Ok(RevocationUrl::new(alloc, text)?)
     }
@@ -95,7 +96,7 @@ impl Part for TokenUrl {
 
     ghost reading = { spec.address };
 
-    fn from_value(alloc: Global, value: &Value) -> Result<TokenUrl, ScriptError> {
+    fn from_value(alloc: Global, value: &Value) -> Result<TokenUrl, PartError> {
         let text = String::from_value(alloc, value)?;
         Ok(TokenUrl::new(alloc, text)?)
     }
@@ -110,8 +111,8 @@ impl Part for Url {
 
     ghost reading = { spec.url_part };
 
-    fn from_value(alloc: Global, value: &Value) -> Result<Url, ScriptError> {
-        let text = value.as_str().ok_or(ScriptError::Bad)?;
+    fn from_value(alloc: Global, value: &Value) -> Result<Url, PartError> {
+        let text = value.as_str().ok_or(bad(ScriptCause::WrongType))?;
         Ok(Url::parse(alloc, text)?)
     }
 }

@@ -2,14 +2,14 @@ use Rattle.std.proofs.lemmas.Iterator.Adapters.{option_map_id}
 use Rattle.std.proofs.lemmas.List.{map-id}
 use Rattle.serde_json.specs.View.{view}
 use Rattle.oauth2_script.specs.AuthorizeParams.{authorize_params}
-use Rattle.oauth2_script.specs.Gives.{TellsScriptError}
+use Rattle.oauth2_script.specs.Gives.{TellsPartError}
 use Rattle.oauth2_script.proofs.Refusals.{Refuses-then, Gives-refused}
 use Rattle.oauth2_script.proofs.authorize_params.AuthorizeParamsPart.from_value.Goals as goal
 
 pub returns-in_err-response_type-clause-read : goal.returns-in_err-response_type-clause-read
 unfolding authorize_params
 returns-in_err-response_type-clause-read c =
-    let refused : TellsScriptError c.in_err-response_type.field-0.0 (authorize_params (view c.args.value.now)) =
+    let refused : TellsPartError c.in_err-response_type.field-0.0 (authorize_params (view c.args.value.now)) =
     rw (c.in_ok-state.ensures.read, c.in_ok-scopes.ensures, c.in_ok-extra_params.ensures, c.in_ok-challenge.ensures.read, c.in_ok-redirect.ensures.read)
     (Refuses-then c.in_err-response_type.field-0.0 _ _ c.in_err-response_type.ensures.read) in
     Gives-refused _ c.from_residual-in_err-response_type.result c.in_err-response_type.field-0.0 _ c.from_residual-in_err-response_type.ensures.1 refused
@@ -17,7 +17,7 @@ returns-in_err-response_type-clause-read c =
 pub returns-in_err-nonce-clause-read : goal.returns-in_err-nonce-clause-read
 unfolding authorize_params
 returns-in_err-nonce-clause-read c =
-    let refused : TellsScriptError c.in_err-nonce.field-0.0 (authorize_params (view c.args.value.now)) =
+    let refused : TellsPartError c.in_err-nonce.field-0.0 (authorize_params (view c.args.value.now)) =
     rw (c.in_ok-state.ensures.read, c.in_ok-scopes.ensures, c.in_ok-extra_params.ensures, c.in_ok-challenge.ensures.read, c.in_ok-redirect.ensures.read, c.in_ok-response_type.ensures.read)
     (Refuses-then c.in_err-nonce.field-0.0 _ _ c.in_err-nonce.ensures.read) in
     Gives-refused _ c.from_residual-in_err-nonce.result c.in_err-nonce.field-0.0 _ c.from_residual-in_err-nonce.ensures.1 refused
