@@ -1,7 +1,6 @@
 -- What a call of the library gives.
 use Rattle.std.specs.Prelude.{◌≡◌, ℕ, ℤ, pos, ◌≤◌, ◌<◌, ◌++◌, ◌⊎◌, List, length, drop}
-use Rattle.oauth2_commands.specs.Run.{IsOutputOf}
-use Rattle.oauth2_request_commands.specs.Out.{Output}
+use Rattle.oauth2_commands.specs.Run.{IsResultOf}
 use Rattle.oauth2_request_commands.specs.declared.status.RunStatus.{RunStatus}
 use Rattle.oauth2_request_commands.specs.declared.status.RunStatus.TheVariants.{Answered, Fault, BadScript}
 
@@ -11,17 +10,18 @@ status_code Answered = 0
 status_code Fault = 1
 status_code BadScript = 2
 
--- a room begins with the lines and is else as it was; if they do not fit, all of it is as it was
+-- a room begins with the text and is else as it was; if it does not fit, all of it is as it was
 abbrev pub IsPut : List ℕ → List ℕ → List ℕ → Type 0
-IsPut lines old new =
-    (length lines ≤ length old → new ≡ lines ++ drop (length lines) old) × (length old < length lines → new ≡ old)
+IsPut text old new =
+    (length text ≤ length old → new ≡ text ++ drop (length text) old) × (length old < length text → new ≡ old)
 
--- the script has an output with this status and so many bytes, and its lines are in the room
+-- the script has a result with this status, whose text has so many bytes and is in the room
 abbrev pub IsRun : List ℕ → List ℕ → List ℕ → ℕ → ℤ → Type 0
 IsRun script old new count status =
-    (o : Output) × IsOutputOf script o × (status ≡ pos (status_code o.status)) × (count ≡ length o.lines) × IsPut o.lines old new
+    (text : List ℕ) × (s : RunStatus) × IsResultOf script text s
+    × (status ≡ pos (status_code s)) × (count ≡ length text) × IsPut text old new
 
--- memory ran out outside a call of the client: there are no lines, and the room is as it was
+-- memory ran out outside a call of the client: there is no text, and the room is as it was
 abbrev pub IsUnfed : List ℕ → List ℕ → ℕ → ℤ → Type 0
 IsUnfed old new count status = (status ≡ pos 3) × (count ≡ 0) × (new ≡ old)
 

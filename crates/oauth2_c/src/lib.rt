@@ -5,16 +5,16 @@
 
 ghost use Rattle.oauth2_c.specs.Call.{IsCall};
 
-mod lines;
+mod run;
 
-use lines::{NO_MEMORY, lines_of, put, status_code};
+use run::{NO_MEMORY, put, result_of, status_code};
 use std::alloc::Global;
 
-/// Runs a script, and puts the lines of its run at the beginning of `output`, if they fit there.
+/// Runs a script, and puts the text of its result at the beginning of `output`, if it fits there.
 ///
 /// The script is JSON in UTF-8, of which docs/SCRIPT.md tells. The result is the exit status of the
 /// program of that page: 0 for an answer, 1 for a fault, 2 for a bad script, 3 if memory ran out.
-/// `length` becomes the number of bytes that the lines have, also if they do not fit.
+/// `length` becomes the number of bytes that the text has, also if it does not fit.
 #[unsafe(no_mangle)]
 pub extern "C" fn lifecrib_run(
     alloc: Global,
@@ -24,9 +24,9 @@ pub extern "C" fn lifecrib_run(
 ) -> i32
     ensures { IsCall script.now output.old output.new length.new result }
 {
-    match lines_of(alloc, script) {
-        Ok((lines, status)) => {
-            *length = put(lines.as_slice(), output);
+    match result_of(alloc, script) {
+        Ok((text, status)) => {
+            *length = put(text.as_slice(), output);
             status_code(status)
         }
         Err(_) => {

@@ -1,9 +1,7 @@
 -- The command `metadata`, from its request.
-use Rattle.std.proofs.Common.{◌≡◌, ℕ, List, Bool, true, false, Option, Some, None, Result, Ok, Err, inl, inr, refl, append-nil}
+use Rattle.std.proofs.Common.{◌≡◌, ℕ, List, Bool, true, false, Option, Some, None, Result, Ok, Err, inl, inr, refl}
 use Rattle.std.specs.Prelude.{bytes_eq, unwrap_or, IsOkAnd}
 use Rattle.std.proofs.lemmas.Slice.Eq.{bytes_eq-Decides}
-use Rattle.form_urlencoded.specs.Form.{raw_pairs, split}
-use Rattle.http_uri.specs.Uri.{uri_text}
 use Rattle.serde_json.specs.Data.{object, no_members}
 use Rattle.serde_json.specs.Written.{has_float}
 use Rattle.oauth2.specs.Settings.{Settings}
@@ -12,7 +10,7 @@ use Rattle.oauth2_metadata.specs.EndpointFault.{endpoint_fault}
 use Rattle.oauth2_metadata.specs.Issuer.{issuer_error_text}
 use Rattle.oauth2_metadata.specs.Metadata.{metadata_writing, metadata_names, metadata_rows}
 use Rattle.oauth2_metadata.specs.Reply.{found_seen}
-use Rattle.oauth2_metadata.specs.Request.{MetadataQuery, IsAsked, IsChecked, IsGetOf, IsJudged}
+use Rattle.oauth2_metadata.specs.Request.{MetadataQuery, IsAsked, IsChecked, IsJudged}
 use Rattle.oauth2_metadata.specs.declared.endpoint_fault.EndpointFault.{EndpointFault}
 use Rattle.oauth2_metadata.specs.declared.metadata_error.MetadataError.{MetadataError}
 use Rattle.oauth2_metadata.specs.declared.metadata_error.MetadataError.TheVariants as errors
@@ -20,12 +18,11 @@ use Rattle.oauth2_metadata.specs.declared.reply.OtherReply.{OtherReply}
 use Rattle.oauth2_world.specs.declared.replay.NoReply.{NoReply}
 use Rattle.oauth2_metadata.specs.declared.issuer.IssuerError.{IssuerError}
 use Rattle.oauth2_metadata.specs.declared.issuer.IssuerError.TheVariants.{NotUrl}
-use Rattle.oauth2_wire.specs.Request.{RequestView, authorization_of}
-use Rattle.oauth2_world.specs.Lines.{basic_line}
-use Rattle.oauth2_world.specs.RequestLines.{view_lines, request_lines}
+use Rattle.oauth2_world.specs.Events.{Event}
+use Rattle.oauth2_world.specs.declared.event.FaultKind.TheVariants.{BadIssuer}
 use Rattle.oauth2_script.specs.MetadataParams.{MetadataParams}
 use Rattle.oauth2_script.specs.Replies.{Reply}
-use Rattle.oauth2_commands.specs.Metadata.{IsDiscovered, IsMetadataOutput, document_output, expected_issuer, get_lines, metadata_data, metadata_output, place}
+use Rattle.oauth2_commands.specs.Metadata.{IsDiscovered, IsMetadataOutput, document_output, expected_issuer, metadata_data, metadata_output, place}
 use Rattle.oauth2_commands.specs.private.Discovery.{HasRoom, MetadataSeen, discovery_output, metadata_meaning}
 use Rattle.oauth2_commands.proofs.NoFloats.{metadata_data-no_float}
 use Rattle.oauth2_request_commands.specs.Out.{Output, failure_output, Adds, AddsOutput}
@@ -33,15 +30,6 @@ use Rattle.oauth2_request_commands.specs.Faults.{end_output}
 use Rattle.oauth2_request_commands.specs.private.Results.{ErrorResponse, ShownFault, error_seen}
 use Rattle.oauth2_request_commands.specs.declared.status.RunStatus.{RunStatus}
 use Rattle.oauth2_request_commands.proofs.Results.{free_of}
-
--- ---- the lines of a GET
-
-pub request_lines-get : (text : List ℕ) (v : RequestView) → IsGetOf text v → request_lines v ≡ get_lines (uri_text v.target)
-unfolding request_lines raw_pairs split
-request_lines-get text v is =
-    let a : authorization_of v ≡ None = rw is.headers refl in
-    let r : view_lines v ≡ basic_line None = rw (is.body, a) (append-nil (basic_line None)) in
-    rw (r, is.method, is.body, a) refl
 
 -- ---- metadata as JSON
 
@@ -82,19 +70,19 @@ judged_shown issuer (Err fault) result h = rw h refl
 judged_shown issuer (Ok (Err reply)) result h = rw h refl
 judged_shown issuer (Ok (Ok m)) result h = document_shown issuer m (endpoint_fault m.endpoints) result h
 
-module _ (client : Settings) (p : MetadataParams) (replies : List Reply) (old new : List ℕ) (s : RunStatus) where
+module _ (client : Settings) (p : MetadataParams) (replies : List Reply) (old new : List Event) (s : RunStatus) where
   abbrev IsOutput : Output → Type 0
   IsOutput o = IsMetadataOutput client p replies o
 
   -- a text that is no issuer
   pub issuer_refused : (error : IssuerError) → IsAsked (place p.well_known) p.issuer (Err error) → HasRoom error
-      → AddsOutput old new s (failure_output (issuer_error_text error)) → Adds old new s IsOutput
+      → AddsOutput old new s (failure_output BadIssuer (issuer_error_text error)) → Adds old new s IsOutput
   issuer_refused error (inl (inl is)) room printed = absurd (room.0 is)
   issuer_refused error (inl (inr (is, cause, parsed, other))) room printed =
-      let told : AddsOutput old new s (failure_output (issuer_error_text NotUrl)) = rw is at printed in
-      (failure_output (issuer_error_text NotUrl), rw parsed refl, told.0, told.1)
+      let told : AddsOutput old new s (failure_output BadIssuer (issuer_error_text NotUrl)) = rw is at printed in
+      (failure_output BadIssuer (issuer_error_text NotUrl), rw parsed refl, told.0, told.1)
   issuer_refused error (inr (url, parsed, inl refused)) room printed =
-      (failure_output (issuer_error_text error), rw (parsed, refused) refl, printed.0, printed.1)
+      (failure_output BadIssuer (issuer_error_text error), rw (parsed, refused) refl, printed.0, printed.1)
   issuer_refused error (inr (url, parsed, inr (accepted, inl (is, long)))) room printed = absurd (room.1 is)
   issuer_refused error (inr (url, parsed, inr (accepted, inr (is, short)))) room printed = absurd (room.0 is)
 

@@ -1,12 +1,11 @@
--- What the calls of a keeper add to the lines of a run.
+-- What the calls of a keeper add to the events of a run.
 use Rattle.std.proofs.Common.{rules, ◌≡◌, ℕ, ℤ, List, [], ◌∷◌, ◌++◌, true, false, Option, Some, None, Result, Ok, Err, String, Global, string_bytes, inl, inr, refl, ap, sym, subst, ◌∙◌, append_assoc, ◌+◌, ◌<◌, length, take, get_or, map, arith}
-use Rattle.std.specs.Prelude.{◌≢◌, IsSomeAnd, IsTrue, Bool, not, ◌&&◌, pos, neg_ℤ, ◌+ℤ◌, int_lt, int_div, option_map, codes, if◌then◌else◌}
-use Rattle.std.specs.Fmt.{signed_decimal}
+use Rattle.std.specs.Prelude.{◌≢◌, IsSomeAnd, IsTrue, Bool, not, ◌&&◌, pos, neg_ℤ, ◌+ℤ◌, int_lt, int_div, option_map, if◌then◌else◌}
 use Rattle.jiff_core.specs.Timestamp.{IsTimestampNanos}
 use Rattle.jiff.proofs.SpanFacts.{signed_arith}
 use Rattle.oauth2_times.specs.Instants.{is_instant}
 use Rattle.oauth2_times.proofs.Seconds.{within}
-use Rattle.http_uri.specs.Uri.{SpellsNone, uri_text}
+use Rattle.http_uri.specs.Uri.{SpellsNone}
 use Rattle.std.proofs.lemmas.List.{map_more}
 use Rattle.jiff.specs.Types.{Timestamp}
 use Rattle.url.specs.Parts.{serialize}
@@ -18,7 +17,7 @@ use Rattle.oauth2_replies.specs.Token.{token_reading}
 use Rattle.oauth2_urls.specs.Addressed.{Addressed}
 use Rattle.oauth2_wire.specs.declared.content_type.ReplyRule.{ReplyRule}
 use Rattle.oauth2_wire.specs.Once.{AsksOnce, not_http_text}
-use Rattle.oauth2_wire.specs.Reply.{HttpResponse, reply_of, ShowsAnswer}
+use Rattle.oauth2_wire.specs.Reply.{HttpResponse, ReplyView, reply_of, ShowsAnswer}
 use Rattle.oauth2_wire.specs.Request.{HttpRequest, RequestView, IsRequestOf, view_of}
 use Rattle.oauth2_wire.specs.declared.error.RequestTokenError.TheVariants.{ServerResponse, Request, Parse, Other, Memory}
 use Rattle.oauth2_wire.specs.declared.request.RequestFault.TheVariants as fault
@@ -31,10 +30,11 @@ use Rattle.oauth2.specs.Settings.{Settings}
 use Rattle.oauth2_script.specs.KeeperParams.{KeeperParams}
 use Rattle.oauth2_script.specs.Replies.{Reply}
 use Rattle.oauth2_request_commands.specs.Client.{WithEndpoint, WithToken, missing}
-use Rattle.oauth2_request_commands.specs.Exchange.{BasicToken, other_text, token_answer}
-use Rattle.oauth2_commands.specs.Keeper.{Standing, is_early, end_at, end_text, waiting, IsCall, IsRenewal, IsSentAt, AreCalls, IsKeeperOutput, kept_after_reply, renewal_output}
-use Rattle.oauth2_world.specs.Lines.{expected_lines, quotation}
-use Rattle.oauth2_request_commands.specs.Out.{Output, after, both, nothing, both_outputs, success_output, failure_output as shown_fault, no_memory_output, Adds, AddsOutput}
+use Rattle.oauth2_request_commands.specs.Exchange.{BasicToken, token_answer}
+use Rattle.oauth2_commands.specs.Keeper.{Standing, is_early, end_at, end_second, waiting, IsCall, IsRenewal, IsAnswered, AreCalls, IsKeeperOutput, kept_after_reply, renewal_output, replied}
+use Rattle.oauth2_world.specs.Events.{Event, exchanged}
+use Rattle.oauth2_world.specs.Quotation.{quotation}
+use Rattle.oauth2_request_commands.specs.Out.{Output, after_exchange, both, nothing, both_outputs, success_output, no_memory_output, unsent_output, Adds, AddsOutput}
 use Rattle.oauth2_commands.specs.private.Kept.{standing, end_of_wait, patient_standing, wait_after, told_by, AreKept, ShowsCall, ShowsError, WaitsEachTime}
 use Rattle.oauth2_world.specs.Replay.{Replays, ReplaysOrStarves, client_replies}
 use Rattle.oauth2_request_commands.specs.Faults.{fault_output}
@@ -43,7 +43,6 @@ use Rattle.oauth2_world.specs.Replies.{next_reply, later_replies}
 use Rattle.oauth2_world.specs.declared.replay.NoReply.{NoReply}
 use Rattle.oauth2_world.specs.declared.replay.ScriptedClient.{ScriptedClient}
 use Rattle.oauth2_request_commands.specs.declared.status.RunStatus.{RunStatus}
-use Rattle.oauth2_request_commands.proofs.Exchanges.{request_lines-expected}
 use Rattle.oauth2_request_commands.proofs.Joined.{joined-assoc, joined-nothing}
 
 if-true : {A : Type 0} (b : Bool) (x y : A) → b ≡ true → (if b then x else y) ≡ x
@@ -58,186 +57,216 @@ if-false false x y e = refl
 abbrev pub wait_from : Option ℕ → ℤ → Option ℤ
 wait_from retry_after now = option_map (λ wait. now +ℤ pos wait) retry_after
 
-module _ (retry_after : Option ℕ) (keeper kept : Keeper) (until later : Option ℤ) (now : ℤ) (before mid : ScriptedClient) (lines : List ℕ) (s : RunStatus) where
-  -- what is told of one call
-  abbrev Told : Type 0
-  Told = (before.is_starved ≡ false) × ((o : Output) × IsCall retry_after (standing keeper until before) now o (standing kept later mid) × AddsOutput (string_bytes before.lines) lines s o)
-
-  -- the kept token is shown
-  pub shown : IsTrue (is_good keeper now) → mid ≡ before → kept ≡ keeper → later ≡ until → mid.is_starved ≡ false
-      → IsSomeAnd kept.token (λ token. AddsOutput (string_bytes mid.lines) lines s (success_output (quotation token.access_token))) → Told
-  shown good same is waits fed prints = go kept.token refl
-    where
-      go : (t : Option AcceptedToken) → kept.token ≡ t → Told
-      go None e = let none : IsSomeAnd None (λ (token : AcceptedToken). AddsOutput (string_bytes mid.lines) lines s (success_output (quotation token.access_token))) = rw e at prints in absurd none
-      go (Some token) e =
-          let p : AddsOutput (string_bytes mid.lines) lines s (success_output (quotation token.access_token)) = rw e at prints in
-          let there : keeper.token ≡ Some token = ap (λ (k : Keeper). k.token) (sym is) ∙ e in
-          let all : lines ≡ string_bytes before.lines ++ (success_output (quotation token.access_token)).lines =
-          p.0 ∙ ap (λ (c : ScriptedClient). string_bytes c.lines ++ (success_output (quotation token.access_token)).lines) same in
-          (ap (λ (c : ScriptedClient). c.is_starved) (sym same) ∙ fed, (success_output (quotation token.access_token), inl (good, rw there refl, rw (is, waits, same) refl), (all, p.1)))
-
-  module _ (stale : is_good keeper now ≡ false) where
-    -- it waits
-    pub waited : (end : ℤ) → later ≡ Some end → is_early now (end_at now until retry_after) ≡ true → mid ≡ before → kept ≡ keeper → later ≡ end_at now until retry_after
-        → mid.is_starved ≡ false → AddsOutput (string_bytes mid.lines) lines s (waiting end) → Told
-    waited end is_later early same is waits fed p =
-        let all : lines ≡ string_bytes before.lines ++ (waiting end).lines = p.0 ∙ ap (λ (c : ScriptedClient). string_bytes c.lines ++ (waiting end).lines) same in
-        (ap (λ (c : ScriptedClient). c.is_starved) (sym same) ∙ fed, (waiting end, inr (inl (stale, early, rw is_later refl, rw (is, waits, same) refl)), (all, p.1)))
-
-    module _ (free : is_early now (end_at now until retry_after) ≡ false) (endpoint : Addressed) (there : keeper.client.token_url ≡ Some endpoint) (fed : mid.is_starved ≡ false) where
-      -- no request is made
-      unsent : (o : Output) → mid ≡ before → kept ≡ keeper → later ≡ until → IsRenewal retry_after (standing keeper until before) now o (standing keeper until before)
-          → AddsOutput (string_bytes mid.lines) lines s o → Told
-      unsent o same is waits renewed p =
-          let all : lines ≡ string_bytes before.lines ++ o.lines = p.0 ∙ ap (λ (c : ScriptedClient). string_bytes c.lines ++ o.lines) same in
-          (ap (λ (c : ScriptedClient). c.is_starved) (sym same) ∙ fed, (o, inr (inr (stale, free, rw (is, waits, same) renewed)), (all, p.1)))
-
-      pub starved_before : mid ≡ before → kept ≡ keeper → later ≡ until → AddsOutput (string_bytes mid.lines) lines s no_memory_output → Told
-      starved_before same is waits p = unsent no_memory_output same is waits (inl (refl, refl)) p
-
-      pub no_target : SpellsNone (serialize endpoint.url) → mid ≡ before → kept ≡ keeper → later ≡ until
-          → AddsOutput (string_bytes mid.lines) lines s (shown_fault (other_text not_http_text)) → Told
-      no_target none same is waits p = unsent (shown_fault (other_text not_http_text)) same is waits (inr (endpoint, there, (None, none, (refl, refl)))) p
-
-      module _ (request : HttpRequest) (is : IsRequestOf (renewal keeper) (serialize endpoint.url) (view_of request)) (answer : Result HttpResponse NoReply) (replays : Replays before request answer mid) where
-        abbrev target : List ℕ
-        target = uri_text (view_of request).target
-
-        -- the lines of the request to that target
-        abbrev request_lines : List ℕ
-        request_lines = expected_lines (renewal keeper) target
-
-        -- a request is made, and this is shown behind it
-        sent_with : (end : Output) (k : Keeper) (u : Option ℤ) → kept ≡ k → later ≡ u
-            → IsSentAt retry_after (standing keeper until before) now (Some target) (after request_lines end) (record { keeper = k; waits_until = u; replies = later_replies (client_replies before) })
-            → AddsOutput (string_bytes mid.lines) lines s end → Told
-        sent_with end k u same waits at p =
-            let sends : string_bytes mid.lines ≡ string_bytes before.lines ++ request_lines =
-            replays.prints ∙ ap (λ (t : List ℕ). string_bytes before.lines ++ t) (request_lines-expected (renewal keeper) (serialize endpoint.url) (view_of request) is) in
-            let all : lines ≡ string_bytes before.lines ++ (request_lines ++ end.lines) =
-            p.0 ∙ ap (λ (t : List ℕ). t ++ end.lines) sends ∙ append_assoc (string_bytes before.lines) request_lines end.lines in
-            let stands : standing kept later mid ≡ record { keeper = k; waits_until = u; replies = later_replies (client_replies before) } = rw (same, waits, replays.goes_on) refl in
-            let kept_at : IsSentAt retry_after (standing keeper until before) now (Some target) (after request_lines end) (standing kept later mid) =
-            subst (λ (w : Standing). IsSentAt retry_after (standing keeper until before) now (Some target) (after request_lines end) w) (sym stands) at in (
-              sym replays.is_fed ∙ fed,
-              (after request_lines end, inr (inr (stale, free, inr (endpoint, there, (Some target, ((view_of request).target, is.target, refl), kept_at)))), (all, p.1)),
-            )
-
-        -- the reply is shown, and what it gives is kept
-        pub replied_to : (end : Output) → renewal_output keeper.client.reply_rule (client_replies before) ≡ end
-            → (k : Keeper) (u : Option ℤ) → record (kept_after_reply retry_after (standing keeper until before) now (next_reply (client_replies before))) { replies = later_replies (client_replies before) }
-            ≡ record { keeper = k; waits_until = u; replies = later_replies (client_replies before) }
-            → kept ≡ k → later ≡ u → AddsOutput (string_bytes mid.lines) lines s end → Told
-        replied_to end shows k u gives same waits p = sent_with end k u same waits (inl (ap (after request_lines) (sym shows), sym gives)) p
-
-        -- memory ran out behind the request
-        pub starved_behind : kept ≡ keeper → later ≡ wait_from retry_after now → AddsOutput (string_bytes mid.lines) lines s no_memory_output → Told
-        starved_behind same waits p = sent_with no_memory_output keeper (wait_from retry_after now) same waits (inr (refl, refl)) p
-
--- ---- one call
-
 -- what a keeper asks of the client
 abbrev pub AsksForRenewal : ReplyRule → (List ℕ → RequestView → Type 0) → List ℕ → ScriptedClient → Result TokenSeen ShownFault → ScriptedClient → Type 0
 AsksForRenewal rule = AsksOnce token_meaning (parts_of error_code) ReplaysOrStarves (token_answer rule)
 
-module _ (retry_after : Option ℕ) (keeper kept : Keeper) (until later : Option ℤ) (now : ℤ) (before mid : ScriptedClient) (lines : List ℕ) (s : RunStatus) (fed : mid.is_starved ≡ false) where
-  abbrev IsTold : Type 0
-  IsTold = Told retry_after keeper kept until later now before mid lines s
+-- ---- one call
 
-  -- the wait after a fault
-  abbrev IsWaitAfter : ShownFault → Type 0
-  IsWaitAfter error = later ≡ wait_after retry_after until now false (Err error)
+module _ (retry_after : Option ℕ) (keeper kept : Keeper) (until later : Option ℤ) (now : ℤ)
+    (before mid : ScriptedClient) (new : List Event) (s : RunStatus) (fed : mid.is_starved ≡ false) where
+  -- the state before the call
+  abbrev was : Standing
+  was = standing keeper until before
 
-  begins : (error : ShownFault) → counts error ≡ true → IsWaitAfter error → later ≡ wait_from retry_after now
-  begins error is waits = waits ∙ if-true (counts error) (wait_from retry_after now) until is
+  -- this output is shown behind the events of the client
+  abbrev Shows : Output → Type 0
+  Shows o = AddsOutput mid.events new s o
 
-  goes_on : (error : ShownFault) → counts error ≡ false → IsWaitAfter error → later ≡ until
-  goes_on error is waits = waits ∙ if-false (counts error) (wait_from retry_after now) until is
+  abbrev ShowsToken : AcceptedToken → Type 0
+  ShowsToken token = Shows (success_output (quotation token.access_token))
 
-  module _ (stale : is_good keeper now ≡ false) (free : is_early now (end_at now until retry_after) ≡ false) (endpoint : Addressed) (there : keeper.client.token_url ≡ Some endpoint) where
-    -- what is asked of the client here
-    abbrev AsksHere : Result TokenSeen ShownFault → Type 0
-    AsksHere result = AsksForRenewal keeper.client.reply_rule (IsRequestOf (renewal keeper)) (serialize endpoint.url) before result mid
+  -- the call gives this output
+  abbrev Gives : Output → Type 0
+  Gives o = IsCall retry_after was now o (standing kept later mid)
 
-    -- the request's reply is accepted
-    accepted_told : (reply : TokenSeen) → AsksHere (Ok reply) → kept ≡ accept keeper now (told_by reply) → later ≡ None
-        → AddsOutput (string_bytes mid.lines) lines s (success_output (quotation reply.access_token)) → IsTold
-    accepted_told reply (Ok request, is, target, (answer, inl out, answers)) same waits p = cc
-    accepted_told reply (Ok request, is, target, (Ok response, inr replays, answers)) same waits p =
-        let next : next_reply (client_replies before) ≡ Some (reply_of response) = sym replays.answers in
-        replied_to retry_after keeper kept until later now before mid lines s stale free endpoint there fed request is (Ok response) replays (success_output (quotation reply.access_token))
-        (rw (next, answers) refl) (accept keeper now (told_by reply)) None (rw (next, answers) refl) same waits p
-    accepted_told reply (Ok request, is, target, (Err error, inr replays, answers)) same waits p = cc
-    accepted_told reply (Err kind, is, target, unsent) same waits p = absurd unsent
+  -- what is told of the call
+  abbrev Told : Type 0
+  Told = (before.is_starved ≡ false) × ((o : Output) × Gives o × AddsOutput before.events new s o)
 
-    -- what is told of a reply that is no token
-    refused_by : (request : HttpRequest) → IsRequestOf (renewal keeper) (serialize endpoint.url) (view_of request) → (response : HttpResponse) → Replays before request (Ok response) mid
-        → (error : ShownFault) → ShowsAnswer {D = TokenSeen} token_meaning (parts_of error_code) (token_answer keeper.client.reply_rule (reply_of response)) (Err error) → kept ≡ keeper
-        → later ≡ wait_from retry_after now → AddsOutput (string_bytes mid.lines) lines s (fault_output error_seen error) → IsTold
-    refused_by request is response replays (ServerResponse e) shows same waits p =
-        let next : next_reply (client_replies before) ≡ Some (reply_of response) = sym replays.answers in
-        replied_to retry_after keeper kept until later now before mid lines s stale free endpoint there fed request is (Ok response) replays (fault_output error_seen (ServerResponse e))
-        (rw (next, shows) refl) keeper (wait_from retry_after now) (rw (next, shows) refl) same waits p
-    refused_by request is response replays (Request e) shows same waits p = absurd shows
-    refused_by request is response replays (Parse f body) shows same waits p =
-        let next : next_reply (client_replies before) ≡ Some (reply_of response) = sym replays.answers in
-        replied_to retry_after keeper kept until later now before mid lines s stale free endpoint there fed request is (Ok response) replays (fault_output error_seen (Parse f body))
-        (rw (next, shows) refl) keeper (wait_from retry_after now) (rw (next, shows) refl) same waits p
-    refused_by request is response replays (Other given) shows same waits p =
-        let next : next_reply (client_replies before) ≡ Some (reply_of response) = sym replays.answers in
-        replied_to retry_after keeper kept until later now before mid lines s stale free endpoint there fed request is (Ok response) replays (fault_output error_seen (Other given))
-        (rw (next, shows) refl) keeper (wait_from retry_after now) (rw (next, shows) refl) same waits p
-    refused_by request is response replays (Memory sent) shows same waits p =
-        starved_behind retry_after keeper kept until later now before mid lines s stale free endpoint there fed request is (Ok response) replays same waits p
+  -- nothing is sent
+  quiet_told : (o : Output) → mid ≡ before → Gives o → Shows o → Told
+  quiet_told o same gives p =
+      let all : new ≡ before.events ++ o.events =
+      p.0 ∙ ap (λ (c : ScriptedClient). c.events ++ o.events) same in
+      (ap (λ (c : ScriptedClient). c.is_starved) (sym same) ∙ fed, (o, gives, (all, p.1)))
 
-    not_http_told : (given : String Global) → string_bytes given ≡ not_http_text → SpellsNone (serialize endpoint.url) → mid ≡ before → kept ≡ keeper → later ≡ until
-        → AddsOutput (string_bytes mid.lines) lines s (fault_output error_seen (Other given)) → IsTold
-    not_http_told given said none stays same waits p =
-        no_target retry_after keeper kept until later now before mid lines s stale free endpoint there fed none stays same waits (rw said at p)
+  token_shown : (token : AcceptedToken) → kept.token ≡ Some token → IsTrue (is_good keeper now)
+      → mid ≡ before → kept ≡ keeper → later ≡ until → ShowsToken token → Told
+  unfolding IsCall
+  token_shown token e good same is waits p =
+      let there : keeper.token ≡ Some token = ap (λ (k : Keeper). k.token) (sym is) ∙ e in
+      quiet_told (success_output (quotation token.access_token)) same
+      (inl (good, rw there refl, rw (is, waits, same) refl)) p
 
-    -- the request failed
-    failed_told : (error : ShownFault) → AsksHere (Err error) → kept ≡ keeper → IsWaitAfter error
-        → AddsOutput (string_bytes mid.lines) lines s (fault_output error_seen error) → IsTold
-    failed_told error (Ok request, is, target, (answer, inl out, answers)) same waits p = cc
-    failed_told error (Ok request, is, target, (Ok response, inr replays, answers)) same waits p =
-        let is_counted : counts error ≡ true =
-        shown_counts (parts_of error_code) (token_answer keeper.client.reply_rule (reply_of response))
-        (of_reply BasicToken (ErrorParts ErrorCode) keeper.client.reply_rule (token_reading any_object token_code_reading) (error_reading error_code_reading) (reply_of response)) error answers in
-        refused_by request is response replays error answers same (begins error is_counted waits) p
-    failed_told error (Ok request, is, target, (Err e, inr replays, answers)) same waits p =
-        let next : next_reply (client_replies before) ≡ None = sym replays.answers in
-        let h : error ≡ Request e = cc in
-        let q : AddsOutput (string_bytes mid.lines) lines s (fault_output error_seen (Request e)) = rw h at p in
-        let later_waits : later ≡ wait_from retry_after now = rw h at waits in
-        replied_to retry_after keeper kept until later now before mid lines s stale free endpoint there fed request is (Err e) replays (fault_output error_seen (Request e))
-        (rw next refl) keeper (wait_from retry_after now) (rw next refl) same later_waits q
-    failed_told (Memory sent) (Err kind, is, target, (unsent, stays)) same waits p =
-        starved_before retry_after keeper kept until later now before mid lines s stale free endpoint there fed stays same (goes_on (Memory sent) unsent waits) p
-    failed_told (Other given) (Err fault.NotHttp, is, target, (said, stays)) same waits p =
-        not_http_told given said (target refl) stays same (goes_on (Other given) (not_http_counts ErrorResponse NoReply given said) waits) p
-    failed_told (Other given) (Err fault.Memory, is, target, unsent) same waits p = absurd unsent
-    failed_told (ServerResponse e) (Err kind, is, target, unsent) same waits p = absurd unsent
-    failed_told (Request e) (Err kind, is, target, unsent) same waits p = absurd unsent
-    failed_told (Parse f body) (Err kind, is, target, unsent) same waits p = absurd unsent
+  -- the kept token is shown
+  shown : IsTrue (is_good keeper now) → mid ≡ before → kept ≡ keeper → later ≡ until
+      → IsSomeAnd kept.token ShowsToken → Told
+  shown good same is waits p = go kept.token refl
+    where
+      go : (t : Option AcceptedToken) → kept.token ≡ t → Told
+      go None e = let none : IsSomeAnd None ShowsToken = rw e at p in absurd none
+      go (Some token) e = token_shown token e good same is waits (rw e at p)
 
-    -- memory ran out while the reply was copied
-    copy_refused_told : (reply : TokenSeen) → AsksHere (Ok reply) → kept ≡ keeper → later ≡ wait_from retry_after now
-        → AddsOutput (string_bytes mid.lines) lines s no_memory_output → IsTold
-    copy_refused_told reply (Ok request, is, target, (answer, inl out, answers)) same waits p = cc
-    copy_refused_told reply (Ok request, is, target, (answer, inr replays, answers)) same waits p =
-        starved_behind retry_after keeper kept until later now before mid lines s stale free endpoint there fed request is answer replays same waits p
-    copy_refused_told reply (Err kind, is, target, unsent) same waits p = absurd unsent
+  module _ (stale : is_good keeper now ≡ false) where
+    -- it waits
+    pub waited : (end : ℤ) → later ≡ Some end → is_early now (end_at now until retry_after) ≡ true
+        → mid ≡ before → kept ≡ keeper → later ≡ end_at now until retry_after → Shows (waiting end) → Told
+    unfolding IsCall
+    waited end is_later early same is waits p =
+        quiet_told (waiting end) same
+        (inr (inl (stale, early, rw is_later refl, rw (is, waits, same) refl))) p
+
+    module _ (free : is_early now (end_at now until retry_after) ≡ false) (endpoint : Addressed)
+        (there : keeper.client.token_url ≡ Some endpoint) where
+      -- no request is made
+      unsent : (o : Output) → mid ≡ before → kept ≡ keeper → later ≡ until
+          → IsRenewal retry_after was now o was → Shows o → Told
+      unfolding IsCall
+      unsent o same is waits renewed p =
+          quiet_told o same (inr (inr (stale, free, rw (is, waits, same) renewed))) p
+
+      starved_before : mid ≡ before → kept ≡ keeper → later ≡ until → Shows no_memory_output → Told
+      starved_before same is waits p = unsent no_memory_output same is waits (inl (refl, refl)) p
+
+      no_target : SpellsNone (serialize endpoint.url) → mid ≡ before → kept ≡ keeper → later ≡ until
+          → Shows unsent_output → Told
+      no_target none same is waits p =
+          unsent unsent_output same is waits (inr (endpoint, there, inl (none, refl, refl))) p
+
+      -- the state behind a request: this keeper, this end of a wait, and the later replies
+      abbrev leaves : Keeper → Option ℤ → Standing
+      leaves k u = record { keeper = k; waits_until = u; replies = later_replies (client_replies before) }
+
+      -- the next reply
+      abbrev next : Option ReplyView
+      next = next_reply (client_replies before)
+
+      module _ (request : HttpRequest) (is : IsRequestOf (renewal keeper) (serialize endpoint.url) (view_of request))
+          (answer : Result HttpResponse NoReply) (replays : Replays before request answer mid) where
+        -- a request is made, and this is shown behind it
+        sent_with : (end : Output) (k : Keeper) (u : Option ℤ) → kept ≡ k → later ≡ u
+            → IsAnswered retry_after was now end (leaves k u) → Shows end → Told
+        unfolding IsCall
+        sent_with end k u same waits answered p =
+            let event = exchanged (view_of request) next in
+            let o = after_exchange (view_of request) (client_replies before) end in
+            let all : new ≡ before.events ++ o.events =
+            p.0 ∙ ap (λ (t : List Event). t ++ end.events) replays.shows ∙ append_assoc before.events (event ∷ []) end.events in
+            let stands : standing kept later mid ≡ leaves k u = rw (same, waits, replays.goes_on) refl in
+            let here : IsAnswered retry_after was now end (standing kept later mid) =
+            subst (λ (w : Standing). IsAnswered retry_after was now end w) (sym stands) answered in (
+              sym replays.is_fed ∙ fed,
+              (o, inr (inr (stale, free, inr (endpoint, there, inr (view_of request, is, (end, here, refl))))), (all, p.1)),
+            )
+
+        -- the reply is shown, and what it gives is kept
+        replied_to : (end : Output) → renewal_output keeper.client.reply_rule next ≡ end
+            → (k : Keeper) (u : Option ℤ) → replied (kept_after_reply retry_after was now next) ≡ leaves k u
+            → kept ≡ k → later ≡ u → Shows end → Told
+        replied_to end shows k u gives same waits p =
+            sent_with end k u same waits (inl (sym shows, sym gives)) p
+
+        -- memory ran out behind the request
+        starved_behind : kept ≡ keeper → later ≡ wait_from retry_after now → Shows no_memory_output → Told
+        starved_behind same waits p =
+            sent_with no_memory_output keeper (wait_from retry_after now) same waits (inr (refl, refl)) p
+
+      -- what is asked of the client here
+      abbrev AsksHere : Result TokenSeen ShownFault → Type 0
+      AsksHere result =
+          AsksForRenewal keeper.client.reply_rule (IsRequestOf (renewal keeper)) (serialize endpoint.url) before result mid
+
+      -- the request's reply is accepted
+      accepted_told : (reply : TokenSeen) → AsksHere (Ok reply) → kept ≡ accept keeper now (told_by reply)
+          → later ≡ None → Shows (success_output (quotation reply.access_token)) → Told
+      accepted_told reply (Ok request, is, target, (answer, inl out, answers)) same waits p = cc
+      accepted_told reply (Ok request, is, target, (Ok response, inr replays, answers)) same waits p =
+          let there : next ≡ Some (reply_of response) = sym replays.answers in
+          replied_to request is (Ok response) replays (success_output (quotation reply.access_token))
+          (rw (there, answers) refl) (accept keeper now (told_by reply)) None (rw (there, answers) refl) same waits p
+      accepted_told reply (Ok request, is, target, (Err error, inr replays, answers)) same waits p = cc
+      accepted_told reply (Err kind, is, target, unsent) same waits p = absurd unsent
+
+      -- what is told of a reply that is no token
+      refused_by : (request : HttpRequest) → IsRequestOf (renewal keeper) (serialize endpoint.url) (view_of request)
+          → (response : HttpResponse) → Replays before request (Ok response) mid → (error : ShownFault)
+          → ShowsAnswer {D = TokenSeen} token_meaning (parts_of error_code) (token_answer keeper.client.reply_rule (reply_of response)) (Err error)
+          → kept ≡ keeper → later ≡ wait_from retry_after now → Shows (fault_output error_seen error) → Told
+      refused_by request is response replays (ServerResponse e) shows same waits p =
+          let there : next ≡ Some (reply_of response) = sym replays.answers in
+          replied_to request is (Ok response) replays (fault_output error_seen (ServerResponse e))
+          (rw (there, shows) refl) keeper (wait_from retry_after now) (rw (there, shows) refl) same waits p
+      refused_by request is response replays (Request e) shows same waits p = absurd shows
+      refused_by request is response replays (Parse f body) shows same waits p =
+          let there : next ≡ Some (reply_of response) = sym replays.answers in
+          replied_to request is (Ok response) replays (fault_output error_seen (Parse f body))
+          (rw (there, shows) refl) keeper (wait_from retry_after now) (rw (there, shows) refl) same waits p
+      refused_by request is response replays (Other given) shows same waits p =
+          let there : next ≡ Some (reply_of response) = sym replays.answers in
+          replied_to request is (Ok response) replays (fault_output error_seen (Other given))
+          (rw (there, shows) refl) keeper (wait_from retry_after now) (rw (there, shows) refl) same waits p
+      refused_by request is response replays (Memory sent) shows same waits p =
+          starved_behind request is (Ok response) replays same waits p
+
+      not_http_told : (given : String Global) → string_bytes given ≡ not_http_text → SpellsNone (serialize endpoint.url)
+          → mid ≡ before → kept ≡ keeper → later ≡ until → Shows (fault_output error_seen (Other given)) → Told
+      not_http_told given said none stays same waits p = no_target none stays same waits (rw said at p)
+
+      -- the wait after a fault
+      abbrev IsWaitAfter : ShownFault → Type 0
+      IsWaitAfter error = later ≡ wait_after retry_after until now false (Err error)
+
+      begins : (error : ShownFault) → counts error ≡ true → IsWaitAfter error → later ≡ wait_from retry_after now
+      begins error is waits = waits ∙ if-true (counts error) (wait_from retry_after now) until is
+
+      goes_on : (error : ShownFault) → counts error ≡ false → IsWaitAfter error → later ≡ until
+      goes_on error is waits = waits ∙ if-false (counts error) (wait_from retry_after now) until is
+
+      -- the request failed
+      failed_told : (error : ShownFault) → AsksHere (Err error) → kept ≡ keeper → IsWaitAfter error
+          → Shows (fault_output error_seen error) → Told
+      failed_told error (Ok request, is, target, (answer, inl out, answers)) same waits p = cc
+      failed_told error (Ok request, is, target, (Ok response, inr replays, answers)) same waits p =
+          let is_counted : counts error ≡ true =
+          shown_counts (parts_of error_code) (token_answer keeper.client.reply_rule (reply_of response))
+          (of_reply BasicToken (ErrorParts ErrorCode) keeper.client.reply_rule (token_reading any_object token_code_reading) (error_reading error_code_reading) (reply_of response)) error answers in
+          refused_by request is response replays error answers same (begins error is_counted waits) p
+      failed_told error (Ok request, is, target, (Err e, inr replays, answers)) same waits p =
+          let there : next ≡ None = sym replays.answers in
+          let h : error ≡ Request e = cc in
+          let q : Shows (fault_output error_seen (Request e)) = rw h at p in
+          let later_waits : later ≡ wait_from retry_after now = rw h at waits in
+          replied_to request is (Err e) replays (fault_output error_seen (Request e))
+          (rw there refl) keeper (wait_from retry_after now) (rw there refl) same later_waits q
+      failed_told (Memory sent) (Err kind, is, target, (unsent, stays)) same waits p =
+          starved_before stays same (goes_on (Memory sent) unsent waits) p
+      failed_told (Other given) (Err fault.NotHttp, is, target, (said, stays)) same waits p =
+          not_http_told given said (target refl) stays same (goes_on (Other given) (not_http_counts ErrorResponse NoReply given said) waits) p
+      failed_told (Other given) (Err fault.Memory, is, target, unsent) same waits p = absurd unsent
+      failed_told (ServerResponse e) (Err kind, is, target, unsent) same waits p = absurd unsent
+      failed_told (Request e) (Err kind, is, target, unsent) same waits p = absurd unsent
+      failed_told (Parse f body) (Err kind, is, target, unsent) same waits p = absurd unsent
+
+      -- memory ran out while the reply was copied
+      copy_refused_told : (reply : TokenSeen) → AsksHere (Ok reply) → kept ≡ keeper
+          → later ≡ wait_from retry_after now → Shows no_memory_output → Told
+      copy_refused_told reply (Ok request, is, target, (answer, inl out, answers)) same waits p = cc
+      copy_refused_told reply (Ok request, is, target, (answer, inr replays, answers)) same waits p =
+          starved_behind request is answer replays same waits p
+      copy_refused_told reply (Err kind, is, target, unsent) same waits p = absurd unsent
 
   -- a call that nothing holds back
-  pub call_told : (result : Result Unit ShownFault) → KeeperCalls AsksForRenewal told_by keeper now before result mid kept → later ≡ wait_after retry_after until now (is_good keeper now) result
-      → (is_good keeper now ≡ false → is_early now (end_at now until retry_after) ≡ false) → ShowsCall (string_bytes mid.lines) lines s kept result → IsTold
+  pub call_told : (result : Result Unit ShownFault) → KeeperCalls AsksForRenewal told_by keeper now before result mid kept
+      → later ≡ wait_after retry_after until now (is_good keeper now) result
+      → (is_good keeper now ≡ false → is_early now (end_at now until retry_after) ≡ false)
+      → ShowsCall mid.events new s kept result → Told
   call_told (Ok done) (quiet, (good, same, stays), is) waits free p =
-      shown retry_after keeper kept until later now before mid lines s good stays is (waits ∙ if-true (is_good keeper now) until None good) fed p
+      shown good stays is (waits ∙ if-true (is_good keeper now) until None good) p
   call_told (Err error) (quiet, (good, same, stays), is) waits free p = cc
   call_told (Ok done) (accepted given, (stale, same, (reply, told, (endpoint, there, asked))), is) waits free p =
       let e : kept ≡ accept keeper now (told_by reply) = is ∙ ap (accept keeper now) told in
-      let q : AddsOutput (string_bytes mid.lines) lines s (success_output (quotation reply.access_token)) = rw e at p in
+      let q : Shows (success_output (quotation reply.access_token)) = rw e at p in
       accepted_told stale (free stale) endpoint there reply asked e (waits ∙ if-false (is_good keeper now) until None stale) q
   call_told (Err error) (accepted given, (stale, same, rest), is) waits free p = cc
   call_told (Ok done) (failed, (stale, (error, same, fails)), is) waits free p = cc
@@ -246,7 +275,7 @@ module _ (retry_after : Option ℕ) (keeper kept : Keeper) (until later : Option
       failed_told stale (free stale) endpoint there error (rw h asked) is waits p
   call_told (Err error) (failed, (stale, (e, same, inr (memory, (reply, (endpoint, there, asked))))), is) waits free p =
       let h : error ≡ Memory true = cc in
-      let q : AddsOutput (string_bytes mid.lines) lines s no_memory_output = rw h at p in
+      let q : Shows no_memory_output = rw h at p in
       let later_waits : later ≡ wait_from retry_after now = rw h at waits in
       copy_refused_told stale (free stale) endpoint there reply asked is later_waits q
 
@@ -291,11 +320,11 @@ inside n h =
     (omega (arith, signed_arith, low), omega (arith, signed_arith, high))
 
 -- the end of a wait, as it is shown
-pub ends_at : (end : ℤ) → IsTimestampNanos end → end_text end ≡ signed_decimal (int_div end (pos 1_000_000_000))
-ends_at end h = if-true (is_instant end) (signed_decimal (int_div end (pos 1_000_000_000))) (codes "null") (within end h)
+pub ends_at : (end : ℤ) → IsTimestampNanos end → end_second end ≡ Some (int_div end (pos 1_000_000_000))
+ends_at end h = if-true (is_instant end) (Some (int_div end (pos 1_000_000_000))) None (within end h)
 
-pub never_ends : (end : ℤ) → (IsTimestampNanos end → ⊥) → end_text end ≡ codes "null"
-never_ends end out = if-false (is_instant end) (signed_decimal (int_div end (pos 1_000_000_000))) (codes "null") (no (is_instant end) (λ e. out (inside end e)))
+pub never_ends : (end : ℤ) → (IsTimestampNanos end → ⊥) → end_second end ≡ None
+never_ends end out = if-false (is_instant end) (Some (int_div end (pos 1_000_000_000))) None (no (is_instant end) (λ e. out (inside end e)))
 
 -- the wait after a call, counted from its end or from its beginning
 shifted : (wait : ℕ) (now moment : ℤ) → (if int_lt (now +ℤ pos wait) (moment +ℤ pos wait) then now +ℤ pos wait else moment +ℤ pos wait) ≡ waits_from now moment +ℤ pos wait
@@ -347,7 +376,7 @@ still_waits patient kept now before mid (Err (patient_error.Request error)) (fre
     subst (λ (p : Patient). WaitsEachTime p wait) (sym (is ∙ waits_again patient now error waits.1)) waits
 still_waits patient kept now before mid (Err (patient_error.Waits until)) (held, is_until, same, is) wait waits = subst (λ (p : Patient). WaitsEachTime p wait) (sym is) waits
 
-module _ (patient : Patient) (now : ℤ) (before mid : ScriptedClient) (lines : List ℕ) (s : RunStatus) (fed : mid.is_starved ≡ false) (retry_after : Option ℕ) (waits : WaitsEachTime patient retry_after) where
+module _ (patient : Patient) (now : ℤ) (before mid : ScriptedClient) (new : List Event) (s : RunStatus) (fed : mid.is_starved ≡ false) (retry_after : Option ℕ) (waits : WaitsEachTime patient retry_after) where
   abbrev until : Option ℤ
   until = end_of_wait patient.wait patient.failed_at
 
@@ -355,7 +384,7 @@ module _ (patient : Patient) (now : ℤ) (before mid : ScriptedClient) (lines : 
   abbrev IsPatientToldOf : Option ℕ → Patient → Type 0
   IsPatientToldOf retry_after kept =
       (before.is_starved ≡ false)
-      × ((o : Output) × IsCall retry_after (patient_standing patient before) now o (patient_standing kept mid) × AddsOutput (string_bytes before.lines) lines s o)
+      × ((o : Output) × IsCall retry_after (patient_standing patient before) now o (patient_standing kept mid) × AddsOutput before.events new s o)
 
   -- the same, for the wait that it has
   abbrev IsPatientTold : Patient → Type 0
@@ -368,43 +397,43 @@ module _ (patient : Patient) (now : ℤ) (before mid : ScriptedClient) (lines : 
   free_if free stale = early_is patient.wait now patient.failed_at ∙ free_to_ask (is_good patient.keeper now) (is_waiting_for patient.wait now patient.failed_at) free stale
 
   pub got_told : (kept : Patient) → PatientCalls AsksForRenewal told_by asks_none patient now before (Ok tt) mid kept
-      → IsSomeAnd kept.keeper.token (λ token. AddsOutput (string_bytes mid.lines) lines s (success_output (quotation token.access_token))) → IsPatientTold kept
+      → IsSomeAnd kept.keeper.token (λ token. AddsOutput mid.events new s (success_output (quotation token.access_token))) → IsPatientTold kept
   got_told kept (inl (free, calls, is)) p =
       let told =
-      call_told (Some patient.wait) patient.keeper kept.keeper until (end_of_wait patient.wait (called patient now kept.keeper).failed_at) now before mid lines s fed (Ok tt) calls
+      call_told (Some patient.wait) patient.keeper kept.keeper until (end_of_wait patient.wait (called patient now kept.keeper).failed_at) now before mid new s fed (Ok tt) calls
       (end_of_if patient.wait (is_good patient.keeper now) patient.failed_at None) (free_if free) p in
       subst IsPatientTold (sym is) (for_this (called patient now kept.keeper) told)
   got_told kept (inr (held, same, is)) p = absurd (none-lasts (is_held_back patient now) patient.until_end _ waits.2 held)
 
   fault_told : (kept : Patient) (error : ShownFault) → PatientCalls AsksForRenewal told_by asks_none patient now before (Err (patient_error.Request error)) mid kept
-      → AddsOutput (string_bytes mid.lines) lines s (fault_output error_seen error) → IsPatientTold kept
+      → AddsOutput mid.events new s (fault_output error_seen error) → IsPatientTold kept
   fault_told kept error (free, calls, is) p =
       let later : Patient = record patient { failed_at = if counts error then Some now else patient.failed_at } in
       let told =
-      call_told (Some patient.wait) patient.keeper patient.keeper until (end_of_wait patient.wait later.failed_at) now before mid lines s fed (Err error) calls
+      call_told (Some patient.wait) patient.keeper patient.keeper until (end_of_wait patient.wait later.failed_at) now before mid new s fed (Err error) calls
       (end_of_if patient.wait (counts error) (Some now) patient.failed_at) (free_if free) p in
       subst IsPatientTold (sym (is ∙ waits_again patient now error waits.1)) (for_this later told)
 
   waited_told : (failed_at : Option ℤ) → (held_back patient now).failed_at ≡ failed_at → IsTrue (is_held_back patient now) → (ends : Option Timestamp)
       → IsSomeAnd failed_at (λ moment. IsUntil (moment +ℤ pos patient.wait) ends) → mid ≡ before
-      → ((end : ℤ) → IsUntil end ends → AddsOutput (string_bytes mid.lines) lines s (waiting end)) → IsPatientTold (held_back patient now)
+      → ((end : ℤ) → IsUntil end ends → AddsOutput mid.events new s (waiting end)) → IsPatientTold (held_back patient now)
   waited_told None e held ends is same p = absurd is
   waited_told (Some moment) e held ends is same p =
       let parts = both-true (not (is_good patient.keeper now)) (is_waiting_for patient.wait now patient.failed_at) held in
       for_this (held_back patient now)
-      (waited (Some patient.wait) patient.keeper patient.keeper until (end_of_wait patient.wait (held_back patient now).failed_at) now before mid lines s
+      (waited (Some patient.wait) patient.keeper patient.keeper until (end_of_wait patient.wait (held_back patient now).failed_at) now before mid new s fed
       (not-true (is_good patient.keeper now) parts.0) (moment +ℤ pos patient.wait)
-      (ap (end_of_wait patient.wait) e) (early_is patient.wait now patient.failed_at ∙ parts.1) same refl (sym (end_is patient.wait now patient.failed_at)) fed (p (moment +ℤ pos patient.wait) is))
+      (ap (end_of_wait patient.wait) e) (early_is patient.wait now patient.failed_at ∙ parts.1) same refl (sym (end_is patient.wait now patient.failed_at)) (p (moment +ℤ pos patient.wait) is))
 
   wait_told : (kept : Patient) (ends : Option Timestamp) → PatientCalls AsksForRenewal told_by asks_none patient now before (Err (patient_error.Waits ends)) mid kept
-      → ((end : ℤ) → IsUntil end ends → AddsOutput (string_bytes mid.lines) lines s (waiting end)) → IsPatientTold kept
+      → ((end : ℤ) → IsUntil end ends → AddsOutput mid.events new s (waiting end)) → IsPatientTold kept
   wait_told kept ends (held, is_until, same, is) p =
       let until_here = subst (λ (k : Patient). IsSomeAnd k.failed_at (λ from. IsUntil (from +ℤ pos k.wait) ends)) is is_until in
       subst IsPatientTold (sym is)
       (waited_told (held_back patient now).failed_at refl (both-true (is_held_back patient now) (not (lasts patient now)) held).0 ends until_here same p)
 
   pub no_token_told : (kept : Patient) (error : PatientError NoReply ErrorResponse) → PatientCalls AsksForRenewal told_by asks_none patient now before (Err error) mid kept
-      → ShowsError (string_bytes mid.lines) lines s error → IsPatientTold kept
+      → ShowsError mid.events new s error → IsPatientTold kept
   no_token_told kept (patient_error.Request error) calls p = fault_told kept error calls p
   no_token_told kept (patient_error.Waits ends) calls p = wait_told kept ends calls p
 
@@ -419,14 +448,14 @@ one_more retry_after before middle kept (m ∷ moments) now o last (first, next,
     (first, next, both_outputs rest last, call', one_more retry_after next middle kept moments now rest last calls call, rw is (joined-assoc first rest last))
 
 -- the token that was got is the kept one
-pub kept_shown : (kept : Option AcceptedToken) (text old new : List ℕ) (s : RunStatus) → option_map (λ token. token.access_token) kept ≡ Some text → AddsOutput old new s (success_output (quotation text))
+pub kept_shown : (kept : Option AcceptedToken) (text : List ℕ) (old new : List Event) (s : RunStatus) → option_map (λ token. token.access_token) kept ≡ Some text → AddsOutput old new s (success_output (quotation text))
     → IsSomeAnd kept (λ token. AddsOutput old new s (success_output (quotation token.access_token)))
 kept_shown None text old new s is p = cc
 kept_shown (Some token) text old new s is p = let e : token.access_token ≡ text = cc in rw e p
 
 -- one more of a list of moments
 pub calls_more : (retry_after : Option ℕ) (before middle kept : Standing) (readings : List Timestamp) (i : ℕ) (item : Timestamp) → i < length readings → item ≡ get_or readings i item
-    → (old mid new : List ℕ) (s later : RunStatus)
+    → (old mid new : List Event) (s later : RunStatus)
     → ((o : Output) × AreCalls retry_after before (map (λ t. t.nanosecond) (take i readings)) o middle × AddsOutput old mid s o)
     → ((o : Output) × IsCall retry_after middle item.nanosecond o kept × AddsOutput mid new later o)
     → (o : Output) × AreCalls retry_after before (map (λ t. t.nanosecond) (take (i + 1) readings)) o kept × AddsOutput old new (both s later) o
@@ -436,21 +465,21 @@ calls_more retry_after before middle kept readings i item lt is old mid new s la
     let o = both_outputs so_far.0 call.0 in
     let calls : AreCalls retry_after before (map (λ (t : Timestamp). t.nanosecond) (take i readings) ++ item.nanosecond ∷ []) o kept =
     one_more retry_after before middle kept (map (λ (t : Timestamp). t.nanosecond) (take i readings)) item.nanosecond so_far.0 call.0 so_far.1 call.1 in
-    let lines : new ≡ old ++ (so_far.0.lines ++ call.0.lines) = call.2.0 ∙ ap (λ (t : List ℕ). t ++ call.0.lines) so_far.2.0 ∙ append_assoc old so_far.0.lines call.0.lines in
+    let all : new ≡ old ++ (so_far.0.events ++ call.0.events) = call.2.0 ∙ ap (λ (t : List Event). t ++ call.0.events) so_far.2.0 ∙ append_assoc old so_far.0.events call.0.events in
     let ended : both s later ≡ both so_far.0.status call.0.status = rw (so_far.2.1, call.2.1) refl in
-    (o, subst (λ (ms : List ℤ). AreCalls retry_after before ms o kept) (sym more) calls, (lines, ended))
+    (o, subst (λ (ms : List ℤ). AreCalls retry_after before ms o kept) (sym more) calls, (all, ended))
 
 -- ---- the command
 
 -- the calls of the keeper of a copy that has the client's own token endpoint
 pub keeper_told : (client made : Settings) (url : Addressed) → client.token_url ≡ Some url → made ≡ record client { token_url = Some url }
-    → (p : KeeperParams) (moments : List ℤ) (replies : List Reply) (old new : List ℕ) (s : RunStatus) → Adds old new s (AreKept made p moments replies) → Adds old new s (IsKeeperOutput client p moments replies)
+    → (p : KeeperParams) (moments : List ℤ) (replies : List Reply) (old new : List Event) (s : RunStatus) → Adds old new s (AreKept made p moments replies) → Adds old new s (IsKeeperOutput client p moments replies)
 keeper_told client made url there is p moments replies old new s adds =
     let same : made ≡ client = is ∙ ap (λ (o : Option Addressed). record client { token_url = o }) (sym there) in
     let own : Adds old new s (AreKept client p moments replies) = subst (λ (c : Settings). Adds old new s (AreKept c p moments replies)) same adds in
     subst (λ (o : Option Addressed). Adds old new s (WithToken (λ url o. AreKept client p moments replies o) o)) (sym there) own
 
 -- there is no endpoint of this name
-pub unset_told : (name : List ℕ) (IsOut : Addressed → Output → Type 0) (url : Option Addressed) → url ≡ None → (old new : List ℕ) (s : RunStatus) → AddsOutput old new s (missing name) → Adds old new s (WithEndpoint name IsOut url)
+pub unset_told : (name : List ℕ) (IsOut : Addressed → Output → Type 0) (url : Option Addressed) → url ≡ None → (old new : List Event) (s : RunStatus) → AddsOutput old new s (missing name) → Adds old new s (WithEndpoint name IsOut url)
 unset_told name IsOut url none old new s printed =
     subst (λ (u : Option Addressed). Adds old new s (WithEndpoint name IsOut u)) (sym none) (missing name, refl, printed.0, printed.1)

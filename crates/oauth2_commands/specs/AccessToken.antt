@@ -1,6 +1,6 @@
 -- The command `access_token`: a JWT access token is read, and checked as a resource server does
 -- (RFC 9068, 4).
-use Rattle.std.specs.Prelude.{◌≡◌, ◌⊎◌, ℤ, List, Option, Some, None, Ok, Err, codes}
+use Rattle.std.specs.Prelude.{◌≡◌, ◌⊎◌, ℤ, List, Option, Some, None, Ok, Err}
 use Rattle.oauth2_json.specs.ErrorTexts.{parse_fault_text}
 use Rattle.oauth2_json.specs.Reading.{Reading}
 use Rattle.oauth2_keys.specs.KeySet.{set_reading}
@@ -12,6 +12,7 @@ use Rattle.oauth2_jwt_access_tokens.specs.Introspected.{introspected}
 use Rattle.oauth2_jwt_access_tokens.specs.Rules.{Expectation, AccessTokenHolds, IsFirstFault}
 use Rattle.oauth2_jwt_access_tokens.specs.declared.fault.AccessTokenFault.{AccessTokenFault}
 use Rattle.oauth2_world.specs.Clock.{Clock, reading_of}
+use Rattle.oauth2_world.specs.declared.event.FaultKind.TheVariants.{BadAccessToken, BadKeys}
 use Rattle.oauth2_request_commands.specs.Introspect.{introspection_json}
 use Rattle.oauth2_request_commands.specs.Out.{Output, success_output, failure_output}
 use Rattle.oauth2_script.specs.AccessTokenParams.{AccessTokenParams}
@@ -27,12 +28,12 @@ access_token_expectation p algorithm =
 abbrev pub IsJudgedOutput : Expectation → List ListedKey → ℤ → AccessToken → Output → Type 0
 IsJudgedOutput expected keys now token o =
     (AccessTokenHolds expected keys now token × (o ≡ success_output (introspection_json (introspected token tt))))
-    ⊎ ((fault : AccessTokenFault) × IsFirstFault expected keys now token fault × (o ≡ failure_output (access_token_fault_text fault)))
+    ⊎ ((fault : AccessTokenFault) × IsFirstFault expected keys now token fault × (o ≡ failure_output BadAccessToken (access_token_fault_text fault)))
 
 -- the output of a token for a resource server that has these keys: why they are no key set, or
 -- what is found of the token
 abbrev pub IsKeyedOutput : Expectation → Reading (List ListedKey) → ℤ → AccessToken → Output → Type 0
-IsKeyedOutput expected (Err fault) now token o = o ≡ failure_output (parse_fault_text fault)
+IsKeyedOutput expected (Err fault) now token o = o ≡ failure_output BadKeys (parse_fault_text fault)
 IsKeyedOutput expected (Ok keys) now token o = IsJudgedOutput expected keys now token o
 
 -- the output of a token by the algorithm of a script: that none of its signatures is checked, or

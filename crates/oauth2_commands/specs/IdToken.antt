@@ -25,6 +25,7 @@ use Rattle.oauth2_openid.specs.declared.access_token_hash.AccessTokenHash.{Acces
 use Rattle.oauth2_openid.specs.declared.access_token_hash.AccessTokenHash.TheVariants.{Absent, Matches, NotChecked}
 use Rattle.oauth2_openid.specs.declared.claims_error.ClaimsError.{ClaimsError}
 use Rattle.oauth2_world.specs.Clock.{Clock, reading_of}
+use Rattle.oauth2_world.specs.declared.event.FaultKind.TheVariants.{BadClaims, BadKeys, BadSignature, BadToken, UncheckedSignature}
 use Rattle.oauth2_request_commands.specs.Out.{Output, success_output, failure_output}
 use Rattle.oauth2_script.specs.IdTokenParams.{IdTokenParams, IssuerPart}
 use Rattle.oauth2_script.specs.IdTokenParams as part
@@ -85,16 +86,17 @@ signature_algorithm (Some name) = algorithm_named name
 
 -- the output for an algorithm whose signatures are not checked
 abbrev pub unchecked_output : Output
-unchecked_output = failure_output (codes "no signature of the registered algorithm is checked")
+unchecked_output =
+    failure_output UncheckedSignature (codes "no signature of the registered algorithm is checked")
 
 -- the output of a token whose claims are good, by the keys of the issuer: `good` if the signature
 -- is good, else why it is not (OpenID Connect Core 1.0, 3.1.3.7, 6)
 abbrev pub IsVerifiedOutput : Reading (List ListedKey) → Option SignatureAlgorithm → DecodedToken → Output → Output → Type 0
-IsVerifiedOutput (Err fault) algorithm token good o = o ≡ failure_output (parse_fault_text fault)
+IsVerifiedOutput (Err fault) algorithm token good o = o ≡ failure_output BadKeys (parse_fault_text fault)
 IsVerifiedOutput (Ok keys) None token good o = o ≡ unchecked_output
 IsVerifiedOutput (Ok keys) (Some algorithm) token good o =
     (IsVerified keys algorithm token × (o ≡ good))
-    ⊎ ((error : SignatureError) × IsRefusal keys algorithm token error × (o ≡ failure_output (signature_error_text error)))
+    ⊎ ((error : SignatureError) × IsRefusal keys algorithm token error × (o ≡ failure_output BadSignature (signature_error_text error)))
 
 -- the same for keys that a script may leave out: then no signature is checked
 abbrev pub IsSignedOutput : Option Data → Option SignatureAlgorithm → DecodedToken → Output → Output → Type 0
@@ -106,12 +108,12 @@ IsSignedOutput (Some keys) algorithm token good o = IsVerifiedOutput (set_readin
 abbrev pub IsCheckedOutput : Option Data → Option SignatureAlgorithm → DecodedToken → Result AccessTokenHash ClaimsError → Output → Type 0
 IsCheckedOutput keys algorithm token (Ok hash) o =
     IsSignedOutput keys algorithm token (success_output (checked_json hash token.claims.own)) o
-IsCheckedOutput keys algorithm token (Err broken) o = o ≡ failure_output (claims_error_text broken)
+IsCheckedOutput keys algorithm token (Err broken) o = o ≡ failure_output BadClaims (claims_error_text broken)
 
 -- the output of a text: that of its token, or why the text is not a token
 abbrev pub IsReadOutput : {T : Type 0} → (T → Output → Type 0) → TokenReading T → Output → Type 0
 IsReadOutput IsShown (Ok token) o = IsShown token o
-IsReadOutput IsShown (Err fault) o = o ≡ failure_output (token_fault_text fault)
+IsReadOutput IsShown (Err fault) o = o ≡ failure_output BadToken (token_fault_text fault)
 
 -- the output of `id_token`; the clock is read once for the moment of the checks
 abbrev pub IsIdTokenOutput : Settings → IdTokenParams → Clock → Output → Type 0

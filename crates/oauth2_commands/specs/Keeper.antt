@@ -1,6 +1,6 @@
 -- The command `keeper`: a keeper of the client's token, called once at each reading.
-use Rattle.std.specs.Prelude.{◌≡◌, ◌⊎◌, ℕ, ℤ, pos, ◌+ℤ◌, int_lt, int_div, ◌*◌, ◌++◌, Bool, false, IsTrue, IsSomeAnd, List, [], ◌∷◌, Option, Some, None, option_map, codes, if◌then◌else◌}
-use Rattle.std.specs.Fmt.{signed_decimal}
+use Rattle.std.specs.Prelude.{◌≡◌, ◌⊎◌, ℕ, ℤ, pos, ◌+ℤ◌, int_lt, int_div, ◌*◌, Bool, false, IsTrue, IsSomeAnd, List, [], ◌∷◌, Option, Some, None, option_map, if◌then◌else◌}
+use Rattle.http_uri.specs.Uri.{SpellsNone}
 use Rattle.url.specs.Parts.{serialize}
 use Rattle.oauth2_codes.specs.ErrorCodes.{ErrorCode, error_code_text}
 use Rattle.oauth2_codes.specs.ErrorResponse.{ErrorParts}
@@ -8,16 +8,16 @@ use Rattle.oauth2_form.specs.Params.{with_scopes}
 use Rattle.oauth2_times.specs.Instants.{is_instant}
 use Rattle.oauth2_urls.specs.Addressed.{Addressed}
 use Rattle.oauth2_wire.specs.declared.content_type.ReplyRule.{ReplyRule}
-use Rattle.oauth2_wire.specs.Once.{not_http_text}
-use Rattle.oauth2_wire.specs.Reply.{Answer, accepted, refused, unread, other, ReplyView}
+use Rattle.oauth2_wire.specs.Reply.{Answer, accepted, ReplyView}
+use Rattle.oauth2_wire.specs.Request.{RequestView, IsRequestOf}
 use Rattle.oauth2.specs.Settings.{Settings}
 use Rattle.oauth2_keeper.specs.Keeper.{Keeper, Given, is_good, accept, renewal}
 use Rattle.oauth2_request_commands.specs.Client.{WithToken}
-use Rattle.oauth2_request_commands.specs.Exchange.{BasicToken, IsTarget, error_display, other_text, reply_output, token_answer}
-use Rattle.oauth2_world.specs.Lines.{line, expected_lines, quotation}
-use Rattle.oauth2_request_commands.specs.Out.{Output, after, nothing, both_outputs, success_output, failure_output, no_memory_output}
+use Rattle.oauth2_request_commands.specs.Exchange.{BasicToken, error_members, reply_output, token_answer}
+use Rattle.oauth2_request_commands.specs.Out.{Output, nothing, both_outputs, success_output, no_memory_output, unsent_output, after_exchange}
+use Rattle.oauth2_world.specs.Events.{waits}
+use Rattle.oauth2_world.specs.Quotation.{quotation}
 use Rattle.oauth2_world.specs.Replies.{next_reply, later_replies}
-use Rattle.oauth2_request_commands.specs.declared.status.RunStatus.{RunStatus}
 use Rattle.oauth2_request_commands.specs.declared.status.RunStatus.TheVariants as status
 use Rattle.oauth2_script.specs.KeeperParams.{KeeperParams}
 use Rattle.oauth2_script.specs.Replies.{Reply}
@@ -51,24 +51,24 @@ end_at now None retry_after = None
 end_at now (Some until) None = Some until
 end_at now (Some until) (Some wait) = Some (if int_lt (now +ℤ pos wait) until then now +ℤ pos wait else until)
 
--- the end of a wait in whole seconds since 1970, or `null` if it is outside the range of `jiff`
-abbrev pub end_text : ℤ → List ℕ
-end_text until = if is_instant until then signed_decimal (int_div until (pos 1_000_000_000)) else codes "null"
-
--- the line `answer waits T`
-unfoldable pub wait_line : List ℕ → List ℕ
-wait_line end = line (codes "answer waits " ++ end)
+-- the end of a wait in whole seconds since 1970, or none if it is outside the range of `jiff`
+abbrev pub end_second : ℤ → Option ℤ
+end_second until = if is_instant until then Some (int_div until (pos 1_000_000_000)) else None
 
 -- the output of a call that waits until this moment, in nanoseconds since 1970
 abbrev pub waiting : ℤ → Output
-waiting until = record { lines = wait_line (end_text until); status = status.Fault }
+waiting until = record { events = waits (end_second until) ∷ []; status = status.Fault }
 
 -- ---- a request
 
--- the last line of a request: its token as a JSON string, or its fault
-abbrev pub renewal_output : ReplyRule → List Reply → Output
-renewal_output rule replies =
-    reply_output (λ token. success_output (quotation token.access_token)) (error_display error_code_text) (token_answer rule) (next_reply replies)
+-- what is shown of the reply to a request: its token as a JSON string, or its fault
+abbrev pub renewal_output : ReplyRule → Option ReplyView → Output
+renewal_output rule =
+    reply_output (λ token. success_output (quotation token.access_token)) (error_members error_code_text) (token_answer rule)
+
+-- the state after a call of the client, which used up the next reply
+abbrev pub replied : Standing → Standing
+replied kept = record kept { replies = later_replies kept.replies }
 
 -- `retry_after` is how long the keeper waits after a request that failed, in nanoseconds
 module _ (retry_after : Option ℕ) where
@@ -78,40 +78,45 @@ module _ (retry_after : Option ℕ) where
 
   -- the state after a reply: a token is kept and ends the wait; any other reply is a failure
   abbrev pub kept_by : Standing → ℤ → Answer BasicToken (ErrorParts ErrorCode) → Standing
-  kept_by before now (accepted token) = record before { keeper = accept before.keeper now (given_in token); waits_until = None }
-  kept_by before now (refused error) = after_failure before now
-  kept_by before now (unread fault body) = after_failure before now
-  kept_by before now (other text) = after_failure before now
+  kept_by before now (accepted token) =
+      record before { keeper = accept before.keeper now (given_in token); waits_until = None }
+  kept_by before now answer = after_failure before now
 
   -- the state after a call of the client: a call that failed is a failure too
   abbrev pub kept_after_reply : Standing → ℤ → Option ReplyView → Standing
   kept_after_reply before now None = after_failure before now
-  kept_after_reply before now (Some reply) = kept_by before now (token_answer before.keeper.client.reply_rule reply)
+  kept_after_reply before now (Some reply) =
+      kept_by before now (token_answer before.keeper.client.reply_rule reply)
 
-  -- one request to this target: its lines, and then what the reply says, or that memory ran out, so
-  -- that nothing of the reply is kept; `None`: the URL has no HTTP target, and no request is made
-  abbrev pub IsSentAt : Standing → ℤ → Option (List ℕ) → Output → Standing → Type 0
-  IsSentAt before now None o kept = (o ≡ failure_output (other_text not_http_text)) × (kept ≡ before)
-  IsSentAt before now (Some target) o kept =
-      ((o ≡ after (expected_lines (renewal before.keeper) target) (renewal_output before.keeper.client.reply_rule before.replies))
-      × (kept ≡ record (kept_after_reply before now (next_reply before.replies)) { replies = later_replies before.replies }))
-      ⊎ ((o ≡ after (expected_lines (renewal before.keeper) target) no_memory_output)
-      × (kept ≡ record (after_failure before now) { replies = later_replies before.replies }))
+  -- what is shown behind a request that was sent, and the state then: what its reply says, or that
+  -- memory ran out, so that nothing of the reply is kept
+  abbrev pub IsAnswered : Standing → ℤ → Output → Standing → Type 0
+  IsAnswered before now end kept =
+      ((end ≡ renewal_output before.keeper.client.reply_rule (next_reply before.replies))
+      × (kept ≡ replied (kept_after_reply before now (next_reply before.replies))))
+      ⊎ ((end ≡ no_memory_output) × (kept ≡ replied (after_failure before now)))
+
+  -- one request to this endpoint, or none: its URL may have no HTTP target
+  abbrev pub IsSentAt : Standing → ℤ → Addressed → Output → Standing → Type 0
+  IsSentAt before now endpoint o kept =
+      (SpellsNone (serialize endpoint.url) × (o ≡ unsent_output) × (kept ≡ before))
+      ⊎ ((request : RequestView) × IsRequestOf (renewal before.keeper) (serialize endpoint.url) request
+      × ((end : Output) × IsAnswered before now end kept × (o ≡ after_exchange request before.replies end)))
 
   -- the keeper asks for another token, unless memory runs out before the request is made
   abbrev pub IsRenewal : Standing → ℤ → Output → Standing → Type 0
   IsRenewal before now o kept =
       ((o ≡ no_memory_output) × (kept ≡ before))
-      ⊎ ((endpoint : Addressed) × (before.keeper.client.token_url ≡ Some endpoint)
-      × ((target : Option (List ℕ)) × IsTarget (serialize endpoint.url) target × IsSentAt before now target o kept))
+      ⊎ ((endpoint : Addressed) × (before.keeper.client.token_url ≡ Some endpoint) × IsSentAt before now endpoint o kept)
 
   -- one call: the keeper shows its token if it is still good, or waits, or asks for another token
-  abbrev pub IsCall : Standing → ℤ → Output → Standing → Type 0
+  unfoldable pub IsCall : Standing → ℤ → Output → Standing → Type 0
   IsCall before now o kept =
       (IsTrue (is_good before.keeper now)
       × IsSomeAnd before.keeper.token (λ token. o ≡ success_output (quotation token.access_token)) × (kept ≡ before))
       ⊎ ((is_good before.keeper now ≡ false) × IsTrue (is_early now (end_at now before.waits_until retry_after))
-      × IsSomeAnd kept.waits_until (λ until. o ≡ waiting until) × (kept ≡ record before { waits_until = end_at now before.waits_until retry_after }))
+      × IsSomeAnd kept.waits_until (λ until. o ≡ waiting until)
+      × (kept ≡ record before { waits_until = end_at now before.waits_until retry_after }))
       ⊎ ((is_good before.keeper now ≡ false) × (is_early now (end_at now before.waits_until retry_after) ≡ false) × IsRenewal before now o kept)
 
 -- ---- all calls

@@ -1,25 +1,43 @@
 -- The command `redirect`: what the URL says that the user was sent back to (RFC 6749, 4.1.2 and
 -- 4.1.2.1; RFC 9207, 2.4).
 use Rattle.std.specs.Prelude.{◌≡◌, ℕ, List, Result, Ok, Err, codes}
-use Rattle.oauth2_codes.specs.AuthorizationCodes.{authorization_error_code_text}
+use Rattle.oauth2_codes.specs.AuthorizationCodes.{AuthorizationErrorCode, authorization_error_code_text}
+use Rattle.oauth2_codes.specs.ErrorResponse.{ErrorParts}
 use Rattle.oauth2_form.specs.Query.{query_form}
 use Rattle.oauth2_redirect.specs.Redirect.{IssuerExpectation, required, compared, unknown, RedirectErrorView, other_state, other_issuer, refused, no_code, answer}
-use Rattle.oauth2_world.specs.Lines.{quotation}
-use Rattle.oauth2_request_commands.specs.Exchange.{error_display}
-use Rattle.oauth2_request_commands.specs.Out.{Output, success_output, failure_output}
+use Rattle.oauth2_world.specs.Events.{Details, Fault, none}
+use Rattle.oauth2_world.specs.Events as details
+use Rattle.oauth2_world.specs.Quotation.{quotation}
+use Rattle.oauth2_world.specs.declared.event.FaultKind.TheVariants.{RefusedRedirect}
+use Rattle.oauth2_request_commands.specs.Exchange.{error_members}
+use Rattle.oauth2_request_commands.specs.Out.{Output, success_output, fault_shown, members_text}
 use Rattle.oauth2_script.specs.RedirectParams as script
+
+-- the members of an error of the authorization server (RFC 6749, 4.1.2.1)
+abbrev pub redirect_error_members : ErrorParts AuthorizationErrorCode → ErrorParts (List ℕ)
+redirect_error_members error = error_members authorization_error_code_text error
 
 -- why there is no code; an error of the server is shown with its description and its URI
 abbrev pub refusal_text : RedirectErrorView → List ℕ
 refusal_text other_state = codes "redirect has another state"
 refusal_text other_issuer = codes "redirect has another issuer"
-refusal_text (refused error) = error_display authorization_error_code_text error
+refusal_text (refused error) = members_text (redirect_error_members error)
 refusal_text no_code = codes "redirect has no code"
+
+-- what is known beside that text: the members of an error of the server
+abbrev pub refusal_details : RedirectErrorView → Details
+refusal_details (refused error) = details.refused (redirect_error_members error)
+refusal_details why = none
+
+-- the fault of a redirect that has no code
+abbrev pub refusal : RedirectErrorView → Fault
+refusal why =
+    record { kind = RefusedRedirect; text = refusal_text why; details = refusal_details why }
 
 -- the output for the result of a redirect: the code as a JSON string, or why there is none
 abbrev pub shown_answer : Result (List ℕ) RedirectErrorView → Output
 shown_answer (Ok code) = success_output (quotation code)
-shown_answer (Err why) = failure_output (refusal_text why)
+shown_answer (Err why) = fault_shown (refusal why)
 
 -- the issuer that a script expects, as the library takes it (RFC 9207, 2.4)
 abbrev pub rule_of : script.Issuer → IssuerExpectation

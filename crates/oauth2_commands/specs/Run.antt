@@ -1,5 +1,5 @@
 -- The output of a run over an input: what it writes, and how it ends.
-use Rattle.std.specs.Prelude.{◌≡◌, ℕ, List, Option, Some, None, codes}
+use Rattle.std.specs.Prelude.{◌≡◌, ℕ, List, [], ◌∷◌, Result, Ok, Err}
 use Rattle.oauth2.specs.Settings.{Settings}
 use Rattle.oauth2_request_commands.specs.Authorize.{IsAuthorizeOutput}
 use Rattle.oauth2_request_commands.specs.ClientCredentials.{IsClientCredentialsOutput}
@@ -19,14 +19,17 @@ use Rattle.oauth2_request_commands.specs.Password.{IsPasswordOutput}
 use Rattle.oauth2_commands.specs.Redirect.{IsRedirectOutput}
 use Rattle.oauth2_request_commands.specs.Refresh.{IsRefreshOutput}
 use Rattle.oauth2_request_commands.specs.Revoke.{IsRevokeOutput}
-use Rattle.oauth2_world.specs.Lines.{line}
+use Rattle.oauth2_world.specs.Events.{Event, bad_script}
 use Rattle.oauth2_request_commands.specs.Out.{Output}
 use Rattle.oauth2_script.specs.Command.{Command, code, refresh, password, client_credentials, introspect, revoke, device_authorization, device_poll, keeper, shared_keeper, metadata, id_token, access_token, authorize, redirect}
 use Rattle.oauth2_script.specs.Client.{Client}
+use Rattle.oauth2_script.specs.Fault.{Fault}
+use Rattle.oauth2_script.specs.Form.{form_in}
 use Rattle.oauth2_script.specs.Script.{Script, script_in}
 use Rattle.oauth2_script.specs.ScriptCommand.{ScriptCommand, plain, grant}
 use Rattle.oauth2_request_commands.specs.Client.{settings_of}
 use Rattle.oauth2_script.specs.Replies.{Reply}
+use Rattle.oauth2_results.specs.Result.{text_in}
 use Rattle.oauth2_request_commands.specs.declared.status.RunStatus.{RunStatus}
 use Rattle.oauth2_request_commands.specs.declared.status.RunStatus.TheVariants as status
 
@@ -53,19 +56,19 @@ abbrev pub IsRunOutput : Client → Clock → List Reply → ScriptCommand → O
 IsRunOutput client clock replies (plain command) o = IsCommandOutput (settings_of client) clock replies command o
 IsRunOutput client clock replies (grant command) o = IsGrantOutput client replies command o
 
--- the output for an input that is not a script
-abbrev pub bad_script : Output
-bad_script = record { lines = line (codes "bad script"); status = status.BadScript }
+-- the output for an input that is not a script, by its first bad member
+abbrev pub bad_output : Fault → Output
+bad_output fault = record { events = bad_script fault ∷ []; status = status.BadScript }
 
--- the output of a script; `None` is a bad script
-abbrev pub IsScriptOutput : Option Script → Output → Type 0
-IsScriptOutput None o = o ≡ bad_script
-IsScriptOutput (Some s) o =
+-- the output of a script, or for what is wrong with the input
+abbrev pub IsScriptOutput : Result Script Fault → Output → Type 0
+IsScriptOutput (Err fault) o = o ≡ bad_output fault
+IsScriptOutput (Ok s) o =
     IsRunOutput s.client (new_clock s.readings) (adapted_replies s.client.adapters s.replies) s.command o
 
--- `written` is the lines of an output that `IsOutput` allows, and `s` is its status
-abbrev pub Shows : List ℕ → RunStatus → (Output → Type 0) → Type 0
-Shows written s IsOutput = (o : Output) × IsOutput o × (written ≡ o.lines) × (s ≡ o.status)
+-- these are the events and the status of an output that `IsOutput` allows
+abbrev pub Shows : List Event → RunStatus → (Output → Type 0) → Type 0
+Shows events s IsOutput = (o : Output) × IsOutput o × (events ≡ o.events) × (s ≡ o.status)
 
 -- the output of a run over this input. The input determines it, with two exceptions: the target of
 -- a request, which is one that the text of its URL has; and where memory runs out inside a call of
@@ -73,3 +76,9 @@ Shows written s IsOutput = (o : Output) × IsOutput o × (written ≡ o.lines) �
 -- `no_memory_output`
 unfoldable pub IsOutputOf : List ℕ → Output → Type 0
 IsOutputOf input o = IsScriptOutput (script_in input) o
+
+-- `written` is the text of an output of this input, in the form that the input asks for, and `s` is
+-- its status
+abbrev pub IsResultOf : List ℕ → List ℕ → RunStatus → Type 0
+IsResultOf input written s =
+    (o : Output) × IsOutputOf input o × (written ≡ text_in (form_in input) o.events) × (s ≡ o.status)

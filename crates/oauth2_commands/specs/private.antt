@@ -3,3 +3,4 @@ pub mod ClaimRows
 pub mod Discovery
 pub mod Kept
 pub mod ReadErrors
+pub mod Redirects

@@ -19,16 +19,16 @@ use oauth2_jwt_access_tokens::{ExpectedAccessToken, JwtAccessToken, VerifiedAcce
 use oauth2_keys::{JsonWebKeySet, SignatureAlgorithm};
 use oauth2_request_commands::{RunStatus, show_answer, show_error_text};
 use oauth2_script::AccessTokenParams;
-use oauth2_world::ScriptedClock;
+use oauth2_world::{Events, FaultKind, ScriptedClock};
 use std::alloc::{AllocError, Global};
 
-// Adds the line of a verified token: what an introspection tells of it.
+// Adds the event of a verified token: what an introspection tells of it.
 fn show_introspection(
     alloc: Global,
-    lines: &mut String,
+    events: &mut Events,
     token: &VerifiedAccessToken,
 ) -> Result<RunStatus, AllocError>
-    ensures { IfOk result (λ status. AddsOutput (string_bytes lines.old) (string_bytes lines.new)
+    ensures { IfOk result (λ status. AddsOutput events.old events.new
         status (success_output (introspection_json (introspected (verified_token_of token.now)
         tt)))) }
 {
@@ -36,38 +36,38 @@ fn show_introspection(
         alloc,
         EmptyExtraTokenFields {},
     )?;
-    show_answer(alloc, lines, &response)
+    show_answer(alloc, events, &response)
 }
 
-// Adds the line of a token that is checked at this moment, by these keys.
+// Adds the event of a token that is checked at this moment, by these keys.
 fn show_judged(
     alloc: Global,
     expected: &ExpectedAccessToken,
     keys: &JsonWebKeySet,
     token: JwtAccessToken,
     now: Timestamp,
-    lines: &mut String,
+    events: &mut Events,
 ) -> Result<RunStatus, AllocError>
-    ensures { IfOk result (λ status. Adds (string_bytes lines.old) (string_bytes lines.new) status
+    ensures { IfOk result (λ status. Adds events.old events.new status
         (spec.IsJudgedOutput expected.now keys.now now.nanosecond (access_token_of token))) }
 {
     match token.verified(expected, keys, now) {
-        Ok(verified) => show_introspection(alloc, lines, &verified),
-        Err(refused) => show_error_text(alloc, lines, &refused),
+        Ok(verified) => show_introspection(alloc, events, &verified),
+        Err(refused) => show_error_text(alloc, events, FaultKind::BadAccessToken, &refused),
     }
 }
 
-// Adds the line of a token that is signed with this algorithm, by the keys of a script.
+// Adds the event of a token that is signed with this algorithm, by the keys of a script.
 fn show_by_algorithm(
     alloc: Global,
     params: AccessTokenParams,
     algorithm: SignatureAlgorithm,
     token: JwtAccessToken,
     now: Timestamp,
-    lines: &mut String,
+    events: &mut Events,
 ) -> Result<RunStatus, AllocError>
     ensures { let p = access_token_view params in
-        IfOk result (λ status. Adds (string_bytes lines.old) (string_bytes lines.new) status
+        IfOk result (λ status. Adds events.old events.new status
         (spec.IsKeyedOutput (spec.access_token_expectation p algorithm) (set_reading p.keys)
         now.nanosecond (access_token_of token))) }
 {
@@ -78,27 +78,27 @@ fn show_by_algorithm(
         leeway: params.leeway,
     };
     match JsonWebKeySet::from_json(alloc, params.keys) {
-        Ok(keys) => show_judged(alloc, &expected, &keys, token, now, lines),
-        Err(error) => show_keys_error(alloc, lines, &error),
+        Ok(keys) => show_judged(alloc, &expected, &keys, token, now, events),
+        Err(error) => show_keys_error(alloc, events, &error),
     }
 }
 
-// Adds the line of a token by the algorithm and the keys of a script.
+// Adds the event of a token by the algorithm and the keys of a script.
 fn show_token(
     alloc: Global,
     params: AccessTokenParams,
     token: JwtAccessToken,
     now: Timestamp,
-    lines: &mut String,
+    events: &mut Events,
 ) -> Result<RunStatus, AllocError>
     ensures { let p = access_token_view params in
-        IfOk result (λ status. Adds (string_bytes lines.old) (string_bytes lines.new) status
+        IfOk result (λ status. Adds events.old events.new status
         (spec.IsTokenOutput p now.nanosecond (signature_algorithm p.algorithm)
         (access_token_of token))) }
 {
     match signature_algorithm(&params.algorithm) {
-        Some(algorithm) => show_by_algorithm(alloc, params, algorithm, token, now, lines),
-        None => show_unchecked(alloc, lines),
+        Some(algorithm) => show_by_algorithm(alloc, params, algorithm, token, now, events),
+        None => show_unchecked(alloc, events),
     }
 }
 
@@ -108,13 +108,13 @@ pub fn run_access_token(
     alloc: Global,
     params: AccessTokenParams,
     clock: &mut ScriptedClock,
-    lines: &mut String,
+    events: &mut Events,
 ) -> Result<RunStatus, AllocError>
-    ensures { IfOk result (λ status. Adds (string_bytes lines.old) (string_bytes lines.new) status
+    ensures { IfOk result (λ status. Adds events.old events.new status
         (spec.IsAccessTokenOutput (access_token_view params) clock.old)) }
 {
     match JwtAccessToken::from_text(alloc, params.access_token.as_str()) {
-        Ok(token) => show_token(alloc, params, token, clock.read(), lines),
-        Err(error) => show_read_error(alloc, lines, &error),
+        Ok(token) => show_token(alloc, params, token, clock.read(), events),
+        Err(error) => show_read_error(alloc, events, &error),
     }
 }

@@ -21,7 +21,7 @@ use oauth2_shared_keeper_command::run_shared_keeper;
 use oauth2_world::ScriptedWorld;
 use std::alloc::{AllocError, Global};
 
-/// Runs a command, and adds its lines to those of the client in `world`.
+/// Runs a command, and adds its events to those of the client in `world`.
 pub fn run_command(
     alloc: Global,
     client: &ScriptClient,
@@ -29,8 +29,8 @@ pub fn run_command(
     world: &mut ScriptedWorld,
 ) -> Result<RunStatus, AllocError>
     ensures { IfOk result (λ status. world.new.http_client.is_starved ≡ false
-        → Adds (string_bytes world.old.http_client.lines)
-        (string_bytes world.new.http_client.lines) status
+        → Adds world.old.http_client.events
+        world.new.http_client.events status
         (IsCommandOutput client.now world.old.clock (client_replies world.old.http_client)
         (command_view command))) }
 {
@@ -68,15 +68,15 @@ pub fn run_command(
             client,
             params,
             &mut world.clock,
-            &mut http_client.lines,
+            &mut http_client.events,
         ),
         Command::AccessToken(params) => run_access_token(
             alloc,
             params,
             &mut world.clock,
-            &mut http_client.lines,
+            &mut http_client.events,
         ),
-        Command::Authorize(params) => run_authorize(alloc, client, params, &mut http_client.lines),
-        Command::Redirect(params) => run_redirect(alloc, params, &mut http_client.lines),
+        Command::Authorize(params) => run_authorize(alloc, client, params, &mut http_client.events),
+        Command::Redirect(params) => run_redirect(alloc, params, &mut http_client.events),
     }
 }

@@ -21,6 +21,7 @@ ghost use Rattle.oauth2_openid.specs.Issuers.{named_issuers};
 ghost use Rattle.oauth2_openid.specs.Seen.{token_of};
 ghost use Rattle.oauth2_openid.specs.TokenRules.{token_checked};
 ghost use Rattle.oauth2_script.specs.Views.{id_token_view, issuer_view};
+ghost use Rattle.oauth2_world.specs.declared.event.FaultKind.TheVariants.{BadKeys, BadToken};
 
 use crate::id_token_json::CheckedToken;
 use jiff::Timestamp;
@@ -29,9 +30,9 @@ use oauth2_keys::{JsonWebKeySet, SignatureAlgorithm};
 use oauth2_openid::{
     AccessTokenHash, ClaimsError, Expected, IdToken, IdTokenReadError, IssuerRule, Nonce,
 };
-use oauth2_request_commands::{RunStatus, ScriptClient, show_answer, show_error_text};
+use oauth2_request_commands::{RunStatus, ScriptClient, add_fault, show_answer, show_error_text};
 use oauth2_script::{IdTokenParams, IssuerParam};
-use oauth2_world::{ScriptedClock, print_fault};
+use oauth2_world::{Events, Fault as FaultEvent, FaultDetails, FaultKind, ScriptedClock};
 use serde_json::Value;
 use std::alloc::{AllocError, Global};
 
@@ -90,106 +91,107 @@ pub(crate) fn signature_algorithm(registered: &Option<String>) -> Option<Signatu
     }
 }
 
-// Adds the line of a token that passes all checks.
+// Adds the event of a token that passes all checks.
 fn show_claims(
     alloc: Global,
-    lines: &mut String,
+    events: &mut Events,
     token: &IdToken,
     hash: AccessTokenHash,
 ) -> Result<RunStatus, AllocError>
-    ensures { IfOk result (λ status. AddsOutput (string_bytes lines.old) (string_bytes lines.new)
+    ensures { IfOk result (λ status. AddsOutput events.old events.new
         status (success_output (spec.checked_json hash (token_of token.now).claims.own))) }
 {
     let claims = token.claims();
-    show_answer(alloc, lines, &CheckedToken { hash, claims })
+    show_answer(alloc, events, &CheckedToken { hash, claims })
 }
 
-// Adds the line for an algorithm whose signatures are not checked.
-pub(crate) fn show_unchecked(alloc: Global, lines: &mut String) -> Result<RunStatus, AllocError>
-    ensures { IfOk result (λ status. AddsOutput (string_bytes lines.old) (string_bytes lines.new)
+// Adds the event for an algorithm whose signatures are not checked.
+pub(crate) fn show_unchecked(alloc: Global, events: &mut Events) -> Result<RunStatus, AllocError>
+    ensures { IfOk result (λ status. AddsOutput events.old events.new
         status spec.unchecked_output) }
 {
-    print_fault(
-        alloc,
-        lines,
-        "no signature of the registered algorithm is checked",
-    )?;
-    Ok(RunStatus::Fault)
+    let fault = FaultEvent {
+        kind: FaultKind::UncheckedSignature,
+        text: String::from_str(alloc, "no signature of the registered algorithm is checked")?,
+        details: FaultDetails::None,
+    };
+    let status = add_fault(events, fault)?;
+    Ok(status)
 }
 
-// Adds the line of a token whose claims are good, after the check of its signature.
+// Adds the event of a token whose claims are good, after the check of its signature.
 fn show_verified(
     alloc: Global,
-    lines: &mut String,
+    events: &mut Events,
     keys: &JsonWebKeySet,
     algorithm: Option<SignatureAlgorithm>,
     token: &IdToken,
     hash: AccessTokenHash,
 ) -> Result<RunStatus, AllocError>
-    ensures { IfOk result (λ status. Adds (string_bytes lines.old) (string_bytes lines.new) status
+    ensures { IfOk result (λ status. Adds events.old events.new status
         (spec.IsVerifiedOutput (Ok keys.now) algorithm (token_of token.now)
         (success_output (spec.checked_json hash (token_of token.now).claims.own)))) }
 {
     match algorithm {
         Some(algorithm) => match keys.verify(token, algorithm) {
-            Ok(()) => show_claims(alloc, lines, token, hash),
-            Err(error) => show_error_text(alloc, lines, &error),
+            Ok(()) => show_claims(alloc, events, token, hash),
+            Err(error) => show_error_text(alloc, events, FaultKind::BadSignature, &error),
         },
-        None => show_unchecked(alloc, lines),
+        None => show_unchecked(alloc, events),
     }
 }
 
-// Adds the line why a value is not a key set.
+// Adds the event why a value is not a key set.
 pub(crate) fn show_keys_error(
     alloc: Global,
-    lines: &mut String,
+    events: &mut Events,
     error: &ReadError,
 ) -> Result<RunStatus, AllocError>
     ensures { IfOk result (λ status.
         (read : Reading (List ListedKey)) → ErrsAs error.now read
         → (fault : Fault) × (read ≡ Err fault)
-        × AddsOutput (string_bytes lines.old) (string_bytes lines.new) status
-        (failure_output (parse_fault_text fault))) }
+        × AddsOutput events.old events.new status
+        (failure_output BadKeys (parse_fault_text fault))) }
 {
     if let ReadError::Memory = error {
         return Err(AllocError);
     }
-    show_error_text(alloc, lines, error)
+    show_error_text(alloc, events, FaultKind::BadKeys, error)
 }
 
-// Adds the line of a token whose claims are good; with keys, after the check of its signature.
+// Adds the event of a token whose claims are good; with keys, after the check of its signature.
 fn show_signed(
     alloc: Global,
-    lines: &mut String,
+    events: &mut Events,
     keys: Option<Value>,
     algorithm: Option<SignatureAlgorithm>,
     token: &IdToken,
     hash: AccessTokenHash,
 ) -> Result<RunStatus, AllocError>
-    ensures { IfOk result (λ status. Adds (string_bytes lines.old) (string_bytes lines.new) status
+    ensures { IfOk result (λ status. Adds events.old events.new status
         (spec.IsSignedOutput (option_map view keys) algorithm (token_of token.now)
         (success_output (spec.checked_json hash (token_of token.now).claims.own)))) }
 {
     match keys {
         Some(keys) => match JsonWebKeySet::from_json(alloc, keys) {
-            Ok(keys) => show_verified(alloc, lines, &keys, algorithm, token, hash),
-            Err(error) => show_keys_error(alloc, lines, &error),
+            Ok(keys) => show_verified(alloc, events, &keys, algorithm, token, hash),
+            Err(error) => show_keys_error(alloc, events, &error),
         },
-        None => show_claims(alloc, lines, token, hash),
+        None => show_claims(alloc, events, token, hash),
     }
 }
 
-// Adds the line of a token: its claims, or the first check that fails.
+// Adds the event of a token: its claims, or the first check that fails.
 fn show_checked(
     alloc: Global,
     client: &ScriptClient,
     params: IdTokenParams,
     token: &IdToken,
     now: Timestamp,
-    lines: &mut String,
+    events: &mut Events,
 ) -> Result<RunStatus, AllocError>
     ensures { let p = id_token_view params in
-        IfOk result (λ status. Adds (string_bytes lines.old) (string_bytes lines.new) status
+        IfOk result (λ status. Adds events.old events.new status
         (spec.IsCheckedOutput p.keys (spec.signature_algorithm p.algorithm) (token_of token.now)
         (token_checked (spec.params_expectation client.now p) p.access_token now.nanosecond
         (token_of token.now)))) }
@@ -198,25 +200,25 @@ fn show_checked(
     let algorithm = signature_algorithm(&params.algorithm);
     let keys = params.keys.take();
     match check(alloc, client, params, token, now)? {
-        Ok(hash) => show_signed(alloc, lines, keys, algorithm, token, hash),
-        Err(broken) => show_error_text(alloc, lines, &broken),
+        Ok(hash) => show_signed(alloc, events, keys, algorithm, token, hash),
+        Err(broken) => show_error_text(alloc, events, FaultKind::BadClaims, &broken),
     }
 }
 
-// Adds the line why a text is not a token.
+// Adds the event why a text is not a token.
 pub(crate) fn show_read_error(
     alloc: Global,
-    lines: &mut String,
+    events: &mut Events,
     error: &IdTokenReadError,
 ) -> Result<RunStatus, AllocError>
     ensures { IfOk result (λ status. IsSomeAnd (token_fault_in error.now) (λ fault.
-        AddsOutput (string_bytes lines.old) (string_bytes lines.new) status
-        (failure_output (spec.token_fault_text fault)))) }
+        AddsOutput events.old events.new status
+        (failure_output BadToken (spec.token_fault_text fault)))) }
 {
     if let IdTokenReadError::Memory = error {
         return Err(AllocError);
     }
-    show_error_text(alloc, lines, error)
+    show_error_text(alloc, events, FaultKind::BadToken, error)
 }
 
 /// Shows the claims of an ID token, or the first check that it fails, or why the text is not an ID
@@ -226,13 +228,13 @@ pub fn run_id_token(
     client: &ScriptClient,
     params: IdTokenParams,
     clock: &mut ScriptedClock,
-    lines: &mut String,
+    events: &mut Events,
 ) -> Result<RunStatus, AllocError>
-    ensures { IfOk result (λ status. Adds (string_bytes lines.old) (string_bytes lines.new) status
+    ensures { IfOk result (λ status. Adds events.old events.new status
         (spec.IsIdTokenOutput client.now (id_token_view params) clock.old)) }
 {
     match IdToken::from_text(alloc, params.id_token.as_str()) {
-        Ok(token) => show_checked(alloc, client, params, &token, clock.read(), lines),
-        Err(error) => show_read_error(alloc, lines, &error),
+        Ok(token) => show_checked(alloc, client, params, &token, clock.read(), events),
+        Err(error) => show_read_error(alloc, events, &error),
     }
 }

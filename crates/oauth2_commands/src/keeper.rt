@@ -1,9 +1,8 @@
 //! The command `keeper`: a keeper of the client's token, called once at each reading.
 
-ghost use Rattle.std.specs.Prelude.{◌≡◌, ◌++◌, ℕ, Option, Some, false, string_bytes, codes};
+ghost use Rattle.std.specs.Prelude.{◌≡◌, ◌++◌, ℕ, Option, Some, false};
 ghost use Rattle.std.specs.Prelude.{IfOk, map};
 ghost use Rattle.oauth2_commands.specs.Keeper as spec;
-ghost use Rattle.oauth2_request_commands.specs.Client.{missing};
 ghost use Rattle.oauth2_request_commands.specs.Out.{Output, Adds, AddsOutput};
 ghost use Rattle.oauth2_commands.specs.private.Kept.{standing_of, WaitsFor, AreKept};
 ghost use Rattle.oauth2_wire.specs.ServerView.{pair_texts};
@@ -13,9 +12,9 @@ ghost use Rattle.oauth2_script.specs.Views.{keeper_view};
 use crate::script_keeper::{PlainKeeper, ScriptKeeper, show_call};
 use jiff::Timestamp;
 use oauth2::basic::BasicClient;
-use oauth2::{ConfigurationError, EndpointMaybeSet, EndpointSet, ParamText, TokenUrl, TryClone};
+use oauth2::{EndpointMaybeSet, EndpointSet, ParamText, TokenUrl, TryClone};
 use oauth2_keeper::{RenewalTimes, TokenKeeper};
-use oauth2_request_commands::{RunStatus, ScriptClient, show_configuration_error};
+use oauth2_request_commands::{RunStatus, ScriptClient, show_missing};
 use oauth2_script::KeeperParams;
 use oauth2_world::ScriptedClient;
 use std::alloc::{AllocError, Global};
@@ -40,7 +39,7 @@ fn show_calls(
         → http_client.new.is_starved ≡ false
         → (o : Output) × spec.AreCalls wait (standing_of keeper.old http_client.old)
         (map (λ t. t.nanosecond) readings.now) o (standing_of keeper.new http_client.new)
-        × AddsOutput (string_bytes http_client.old.lines) (string_bytes http_client.new.lines)
+        × AddsOutput http_client.old.events http_client.new.events
         status o) }
 {
     let mut status = RunStatus::Answered;
@@ -92,7 +91,7 @@ fn show_new_keeper(
     http_client: &mut ScriptedClient,
 ) -> Result<RunStatus, AllocError>
     ensures { IfOk result (λ status. http_client.new.is_starved ≡ false
-        → Adds (string_bytes http_client.old.lines) (string_bytes http_client.new.lines) status
+        → Adds http_client.old.events http_client.new.events status
         (AreKept client.now (keeper_view params) (map (λ t. t.nanosecond) readings.now)
         (client_replies http_client.old))) }
 {
@@ -115,15 +114,6 @@ fn show_new_keeper(
     show_calls(alloc, &mut keeper, readings, http_client)
 }
 
-// Adds the line that the client has no token endpoint.
-fn show_no_endpoint(alloc: Global, lines: &mut String) -> Result<RunStatus, AllocError>
-    ensures { IfOk result (λ status. AddsOutput (string_bytes lines.old) (string_bytes lines.new)
-        status (missing (codes "token"))) }
-{
-    let error = ConfigurationError::MissingUrl("token");
-    show_configuration_error(alloc, lines, &error)
-}
-
 /// Calls a keeper at each reading, and shows each request and each result.
 pub fn run_keeper(
     alloc: Global,
@@ -133,7 +123,7 @@ pub fn run_keeper(
     http_client: &mut ScriptedClient,
 ) -> Result<RunStatus, AllocError>
     ensures { IfOk result (λ status. http_client.new.is_starved ≡ false
-        → Adds (string_bytes http_client.old.lines) (string_bytes http_client.new.lines) status
+        → Adds http_client.old.events http_client.new.events status
         (spec.IsKeeperOutput client.now (keeper_view params) (map (λ t. t.nanosecond) readings.now)
         (client_replies http_client.old))) }
 {
@@ -144,7 +134,7 @@ pub fn run_keeper(
         }
         None => {
             drop(params);
-            show_no_endpoint(alloc, &mut http_client.lines)
+            show_missing(alloc, &mut http_client.events, "token")
         }
     }
 }

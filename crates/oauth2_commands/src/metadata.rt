@@ -9,13 +9,14 @@ ghost use Rattle.oauth2_commands.specs.private.Discovery.{HasRoom};
 ghost use Rattle.oauth2_metadata.specs.Issuer.{issuer_error_text};
 ghost use Rattle.oauth2_metadata.specs.Request.{IsAsked};
 ghost use Rattle.oauth2_script.specs.Views.{metadata_view};
+ghost use Rattle.oauth2_world.specs.declared.event.FaultKind.TheVariants.{BadIssuer};
 ghost use Rattle.oauth2_world.specs.Replay.{client_replies};
 
 use oauth2::EmptyExtraTokenFields;
 use oauth2_metadata::{IssuerError, MetadataError, MetadataRequest, ServerMetadata};
 use oauth2_request_commands::{RunStatus, ScriptClient, show_answer, show_error_text, show_fault};
 use oauth2_script::{MetadataParams, WellKnown};
-use oauth2_world::{NoReply, ScriptedClient};
+use oauth2_world::{Events, FaultKind, NoReply, ScriptedClient};
 use std::alloc::{AllocError, Global};
 
 type Metadata = ServerMetadata<EmptyExtraTokenFields>;
@@ -46,50 +47,53 @@ fn with_expected_issuer(request: MetadataRequest, issuer: Option<String>) -> Met
     }
 }
 
-// Adds the line why a text is not an issuer. A URL that is too long counts as out of memory.
+// Adds the event why a text is not an issuer. A URL that is too long counts as out of memory.
 fn show_issuer_error(
     alloc: Global,
-    lines: &mut String,
+    events: &mut Events,
     error: IssuerError,
 ) -> Result<RunStatus, AllocError>
     ensures { IfOk result (λ status. HasRoom error
-        × AddsOutput (string_bytes lines.old) (string_bytes lines.new) status
-        (failure_output (issuer_error_text error))) }
+        × AddsOutput events.old events.new status
+        (failure_output BadIssuer (issuer_error_text error))) }
 {
     match error {
         IssuerError::Memory | IssuerError::TooLong => Err(AllocError),
-        error => show_error_text(alloc, lines, &error),
+        error => show_error_text(alloc, events, FaultKind::BadIssuer, &error),
     }
 }
 
-// Adds the line why there is no metadata.
+// Adds the event why there is no metadata.
 fn show_metadata_error(
     alloc: Global,
-    lines: &mut String,
+    events: &mut Events,
     error: &MetadataError<NoReply>,
 ) -> Result<RunStatus, AllocError>
-    ensures { IfOk result (λ status. AddsOutput (string_bytes lines.old) (string_bytes lines.new)
+    ensures { IfOk result (λ status. AddsOutput events.old events.new
         status (metadata_error_output error.now)) }
 {
     match error {
-        MetadataError::Reply(fault) => show_fault(alloc, lines, fault),
-        MetadataError::Status(_) => show_error_text(alloc, lines, error),
-        MetadataError::Endpoint(_) => show_error_text(alloc, lines, error),
-        MetadataError::OtherIssuer(_) => show_error_text(alloc, lines, error),
+        MetadataError::Reply(fault) => show_fault(alloc, events, fault),
+        MetadataError::Status(_) => show_error_text(alloc, events, FaultKind::OtherStatus, error),
+        MetadataError::Endpoint(_) => show_error_text(alloc, events, FaultKind::BadMetadata, error),
+        MetadataError::OtherIssuer(_) => {
+            let kind = FaultKind::OtherIssuer;
+            show_error_text(alloc, events, kind, error)
+        }
     }
 }
 
 fn show_metadata(
     alloc: Global,
-    lines: &mut String,
+    events: &mut Events,
     end: &Result<Metadata, MetadataError<NoReply>>,
 ) -> Result<RunStatus, AllocError>
-    ensures { IfOk result (λ status. AddsOutput (string_bytes lines.old) (string_bytes lines.new)
+    ensures { IfOk result (λ status. AddsOutput events.old events.new
         status (discovery_output end.now)) }
 {
     match end {
-        Ok(metadata) => show_answer(alloc, lines, metadata),
-        Err(error) => show_metadata_error(alloc, lines, error),
+        Ok(metadata) => show_answer(alloc, events, metadata),
+        Err(error) => show_metadata_error(alloc, events, error),
     }
 }
 
@@ -100,12 +104,12 @@ fn ask(
     http_client: &mut ScriptedClient,
 ) -> Result<RunStatus, AllocError>
     ensures { IfOk result (λ status. http_client.new.is_starved ≡ false
-        → Adds (string_bytes http_client.old.lines) (string_bytes http_client.new.lines) status
+        → Adds http_client.old.events http_client.new.events status
         (spec.IsDiscovered request.reply_rule request.issuer request.url
         (client_replies http_client.old))) }
 {
     let end = request.request(alloc, http_client);
-    show_metadata(alloc, &mut http_client.lines, &end)
+    show_metadata(alloc, &mut http_client.events, &end)
 }
 
 /// Gets an issuer's metadata, and shows the request and its result (RFC 8414, section 3).
@@ -116,7 +120,7 @@ pub fn run_metadata(
     http_client: &mut ScriptedClient,
 ) -> Result<RunStatus, AllocError>
     ensures { IfOk result (λ status. http_client.new.is_starved ≡ false
-        → Adds (string_bytes http_client.old.lines) (string_bytes http_client.new.lines) status
+        → Adds http_client.old.events http_client.new.events status
         (spec.IsMetadataOutput client.now (metadata_view params)
         (client_replies http_client.old))) }
 {
@@ -129,6 +133,6 @@ pub fn run_metadata(
             );
             ask(alloc, request, http_client)
         }
-        Err(error) => show_issuer_error(alloc, &mut http_client.lines, error),
+        Err(error) => show_issuer_error(alloc, &mut http_client.events, error),
     }
 }

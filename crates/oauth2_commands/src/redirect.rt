@@ -1,8 +1,9 @@
 //! The command `redirect`: reads the code from the URL that the user was sent back to.
 
-ghost use Rattle.std.specs.Prelude.{◌≡◌, ℕ, List, Result, string_bytes, IfOk};
+ghost use Rattle.std.specs.Prelude.{◌≡◌, ℕ, List, Result, IfOk};
 ghost use Rattle.oauth2_request_commands.specs.Out.{success_output, Adds, AddsOutput};
 ghost use Rattle.oauth2_commands.specs.Redirect as spec;
+ghost use Rattle.oauth2_commands.specs.private.Redirects.{details_in};
 ghost use Rattle.oauth2_redirect.specs.Redirect.{
   RedirectErrorView,
   Tells,
@@ -10,13 +11,14 @@ ghost use Rattle.oauth2_redirect.specs.Redirect.{
   issuer_expectation,
 };
 ghost use Rattle.oauth2_script.specs.Views.{expected_issuer_view, redirect_view};
-ghost use Rattle.oauth2_world.specs.Lines.{quotation};
+ghost use Rattle.oauth2_world.specs.Events.{details_of};
+ghost use Rattle.oauth2_world.specs.Quotation.{quotation};
 
 use oauth2::AuthorizationCode;
 use oauth2_redirect::{ExpectedIssuer, RedirectError, read_redirect};
-use oauth2_request_commands::{RunStatus, show_error_text};
+use oauth2_request_commands::{RunStatus, add_answer, add_fault, members_shown};
 use oauth2_script::{ExpectedIssuerParam, RedirectParams};
-use oauth2_world::{print_answer, quoted};
+use oauth2_world::{Events, Fault, FaultDetails, FaultKind, quoted};
 use std::alloc::{AllocError, Global};
 
 fn read(alloc: Global, params: &RedirectParams) -> Result<AuthorizationCode, RedirectError>
@@ -39,45 +41,67 @@ fn expected_issuer(issuer: &ExpectedIssuerParam) -> ExpectedIssuer<'_>
 
 fn show_code(
     alloc: Global,
-    lines: &mut String,
+    events: &mut Events,
     code: &AuthorizationCode,
 ) -> Result<RunStatus, AllocError>
-    ensures { IfOk result (λ status. AddsOutput (string_bytes lines.old) (string_bytes lines.new)
+    ensures { IfOk result (λ status. AddsOutput events.old events.new
         status (success_output (quotation code.now))) }
 {
     let json = quoted(alloc, code.secret().as_str())?;
-    print_answer(lines, json.as_str())?;
-    Ok(RunStatus::Answered)
+    let status = add_answer(events, json)?;
+    Ok(status)
 }
 
-// Adds the line why there is no code.
+// What is known of an error beside its text: the members of an error of the server.
+fn details_in(alloc: Global, error: &RedirectError) -> Result<FaultDetails, AllocError>
+    ensures { IfOk result (λ details. details_of details ≡ details_in error.now) }
+{
+    match error {
+        RedirectError::Refused(error) => {
+            let members = members_shown(alloc, error)?;
+            Ok(FaultDetails::Refused(members))
+        }
+        RedirectError::OtherState => Ok(FaultDetails::None),
+        RedirectError::OtherIssuer => Ok(FaultDetails::None),
+        RedirectError::NoCode => Ok(FaultDetails::None),
+        RedirectError::Memory => Ok(FaultDetails::None),
+    }
+}
+
+// Adds the event why there is no code.
 fn show_refusal(
     alloc: Global,
-    lines: &mut String,
+    events: &mut Events,
     error: &RedirectError,
 ) -> Result<RunStatus, AllocError>
     ensures { IfOk result (λ status. (told : Result (List ℕ) RedirectErrorView)
         → ShowsRedirectError error.now told
-        → AddsOutput (string_bytes lines.old) (string_bytes lines.new) status
+        → AddsOutput events.old events.new status
         (spec.shown_answer told)) }
 {
     if let RedirectError::Memory = error {
         return Err(AllocError);
     }
-    show_error_text(alloc, lines, error)
+    let fault = Fault {
+        kind: FaultKind::RefusedRedirect,
+        text: error.to_string(alloc)?,
+        details: details_in(alloc, error)?,
+    };
+    let status = add_fault(events, fault)?;
+    Ok(status)
 }
 
 /// Shows the code of a redirect, or why it has none (RFC 6749, section 4.1.2).
 pub fn run_redirect(
     alloc: Global,
     params: RedirectParams,
-    lines: &mut String,
+    events: &mut Events,
 ) -> Result<RunStatus, AllocError>
-    ensures { IfOk result (λ status. Adds (string_bytes lines.old) (string_bytes lines.new) status
+    ensures { IfOk result (λ status. Adds events.old events.new status
         (spec.IsRedirectOutput (redirect_view params))) }
 {
     match read(alloc, &params) {
-        Ok(code) => show_code(alloc, lines, &code),
-        Err(error) => show_refusal(alloc, lines, &error),
+        Ok(code) => show_code(alloc, events, &code),
+        Err(error) => show_refusal(alloc, events, &error),
     }
 }

@@ -1,6 +1,6 @@
 //! A whole run: reads the input, runs the script, and writes the output.
 
-ghost use Rattle.std.specs.Prelude.{◌≡◌, List, ℕ, Some, false, map, string_bytes, IfOk, IfSome};
+ghost use Rattle.std.specs.Prelude.{◌≡◌, List, ℕ, Ok, false, map, string_bytes, IfOk, IfSome};
 ghost use Rattle.std.specs.Io.KnownBytes.{Appends};
 ghost use Rattle.oauth2_request_commands.specs.Client.{settings_of};
 ghost use Rattle.oauth2_request_commands.specs.Out.{Adds};
@@ -8,6 +8,7 @@ ghost use Rattle.oauth2_commands.specs.Input.{Calls};
 ghost use Rattle.oauth2_commands.specs.Run.{
   IsCommandOutput,
   IsOutputOf,
+  IsResultOf,
   IsRunOutput,
   IsScriptOutput,
   Shows,
@@ -27,8 +28,11 @@ use crate::input::{ScriptReader, read_input};
 use crate::status::RunFault;
 use oauth2_grant_commands::run_grant;
 use oauth2_request_commands::{RunStatus, client_of};
-use oauth2_script::{ClientPart, Command, Reply, Script, ScriptCommand, ScriptError, script_in};
-use oauth2_world::{ScriptedClient, ScriptedClock, ScriptedWorld, adapt_replies};
+use oauth2_results::text_of;
+use oauth2_script::{
+    ClientPart, Command, Reply, Script, ScriptCommand, ScriptError, result_form_in, script_in,
+};
+use oauth2_world::{Event, Events, ScriptedClient, ScriptedClock, ScriptedWorld, adapt_replies};
 use std::alloc::{AllocError, Global};
 use std::collections::VecDeque;
 use std::io::Write;
@@ -41,8 +45,8 @@ fn run_plain(
     world: &mut ScriptedWorld,
 ) -> Result<RunStatus, AllocError>
     ensures { IfOk result (λ status. world.new.http_client.is_starved ≡ false
-        → Adds (string_bytes world.old.http_client.lines)
-        (string_bytes world.new.http_client.lines) status
+        → Adds world.old.http_client.events
+        world.new.http_client.events status
         (IsCommandOutput (settings_of (client_view client)) world.old.clock
         (client_replies world.old.http_client) (command_view command))) }
 {
@@ -57,8 +61,8 @@ fn run_by(
     world: &mut ScriptedWorld,
 ) -> Result<RunStatus, AllocError>
     ensures { IfOk result (λ status. world.new.http_client.is_starved ≡ false
-        → Adds (string_bytes world.old.http_client.lines)
-        (string_bytes world.new.http_client.lines) status
+        → Adds world.old.http_client.events
+        world.new.http_client.events status
         (IsRunOutput (client_view client) world.old.clock
         (client_replies world.old.http_client) (script_command_view command))) }
 {
@@ -80,10 +84,9 @@ fn adapt_for(
     adapt_replies(alloc, client.adapters.as_slice(), replies)
 }
 
-// Runs a script; returns its lines and its status.
-fn run_lines(alloc: Global, script: Script) -> Result<(String, RunStatus), AllocError>
-    ensures { IfOk result (λ r. Shows (string_bytes r.0) r.1
-        (IsScriptOutput (Some (script_view script)))) }
+// Runs a script; returns its events and its status.
+fn events_of(alloc: Global, script: Script) -> Result<(Events, RunStatus), AllocError>
+    ensures { IfOk result (λ r. Shows r.0 r.1 (IsScriptOutput (Ok (script_view script)))) }
 {
     let Script {
         client,
@@ -96,7 +99,7 @@ fn run_lines(alloc: Global, script: Script) -> Result<(String, RunStatus), Alloc
         http_client: ScriptedClient {
             alloc,
             replies: VecDeque::from(replies),
-            lines: String::new(alloc),
+            events: Events::new(alloc),
             is_starved: false,
         },
         clock: ScriptedClock::new(readings),
@@ -106,25 +109,38 @@ fn run_lines(alloc: Global, script: Script) -> Result<(String, RunStatus), Alloc
     if http_client.is_starved {
         return Err(AllocError);
     }
-    Ok((http_client.lines, status))
+    Ok((http_client.events, status))
 }
 
-// Runs the script in this input; returns its lines and its status.
+// Runs the script in this input; returns its events and its status.
 #[tactic(auto, unfolding(crate::specs::Run::IsOutputOf))]
-fn output_of(alloc: Global, input: &[u8]) -> Result<(String, RunStatus), AllocError>
-    ensures { IfOk result (λ r. Shows (string_bytes r.0) r.1 (IsOutputOf input.now)) }
+fn run_input(alloc: Global, input: &[u8]) -> Result<(Events, RunStatus), AllocError>
+    ensures { IfOk result (λ r. Shows r.0 r.1 (IsOutputOf input.now)) }
 {
     match script_in(alloc, input) {
-        Ok(script) => run_lines(alloc, script),
-        Err(ScriptError::Bad) => {
-            let lines = String::from_str(alloc, "bad script\n")?;
-            Ok((lines, RunStatus::BadScript))
+        Ok(script) => events_of(alloc, script),
+        Err(ScriptError::Bad(fault)) => {
+            let mut events = Events::new(alloc);
+            events.push(Event::BadScript(fault))?;
+            Ok((events, RunStatus::BadScript))
         }
         Err(ScriptError::Memory) => Err(AllocError),
     }
 }
 
-/// Reads a script to its end, runs its command, and writes the lines of the run.
+// Runs the script in this input; returns the text of its result, in the form that the input asks
+// for, and its status.
+fn output_of(alloc: Global, input: &[u8]) -> Result<(String, RunStatus), AllocError>
+    ensures { IfOk result (λ r. IsResultOf input.now (string_bytes r.0) r.1) }
+{
+    let (events, status) = run_input(alloc, input)?;
+    let form = result_form_in(alloc, input)?;
+    let text = text_of(alloc, form, &events)?;
+    Ok((text, status))
+}
+
+/// Reads a script to its end, runs its command, and writes the result of the run, as lines or as
+/// JSON.
 ///
 /// The reader is called at most 1,048,576 times, and not again after its end or a failure. If the
 /// input has not ended by then, `Read` is returned.
@@ -133,10 +149,10 @@ pub fn run_script<R: ScriptReader, W: Write>(
     reader: &mut R,
     writer: &mut W,
 ) -> Result<RunStatus, RunFault>
-    // The output is one that `IsOutputOf` allows for the input.
+    // What is written is the text of an output that `IsOutputOf` allows for the input.
     ensures shown { IfOk result (λ status. IfSome (R.remaining reader.old) (λ input.
         (written : List ℕ) × Appends (W.contents writer.old) (W.contents writer.new) written
-        × Shows written status (IsOutputOf input))) }
+        × IsResultOf input written status)) }
     // The reader is not called again after its end or a failure. `Read` is returned after a failed
     // read, or if the last allowed read is not the end.
     ensures calls { Calls R.reads result reader.old reader.new }
@@ -146,8 +162,8 @@ pub fn run_script<R: ScriptReader, W: Write>(
     ensures unfed { result ≡ Err RunFault.Memory → writer.new ≡ writer.old }
 {
     let input = read_input(alloc, reader)?;
-    let (lines, status) = output_of(alloc, input.as_slice())?;
-    if writer.write_all(lines.as_bytes()).is_err() {
+    let (text, status) = output_of(alloc, input.as_slice())?;
+    if writer.write_all(text.as_bytes()).is_err() {
         return Err(RunFault::Write);
     }
     if writer.flush().is_err() {

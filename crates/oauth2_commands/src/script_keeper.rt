@@ -1,13 +1,12 @@
 //! The keeper of the command `keeper`, and what one call of it shows.
 
-ghost use Rattle.std.specs.Prelude.{◌≡◌, ℕ, ℤ, Option, Some, None, false, option_map};
-ghost use Rattle.std.specs.Prelude.{◌++◌, string_bytes, IfOk, OnOk};
+ghost use Rattle.std.specs.Prelude.{◌≡◌, ℕ, ℤ, Option, Some, None, false, option_map, IfOk};
 ghost use Rattle.std.specs.Duration.{as_nanos};
 ghost use Rattle.oauth2_keeper.specs.Patience.{IsUntil, Patient};
-ghost use Rattle.oauth2_commands.specs.Keeper.{IsCall, end_text, wait_line, waiting};
+ghost use Rattle.oauth2_commands.specs.Keeper.{IsCall, end_second, waiting};
 ghost use Rattle.oauth2_request_commands.specs.Out.{Output, success_output, AddsOutput};
 ghost use Rattle.oauth2_commands.specs.private.Kept as spec;
-ghost use Rattle.oauth2_world.specs.Lines.{quotation};
+ghost use Rattle.oauth2_world.specs.Quotation.{quotation};
 ghost use Rattle.oauth2_world.specs.declared.replay.ScriptedClient.{ScriptedClient};
 
 use jiff::Timestamp;
@@ -17,8 +16,8 @@ use oauth2::basic::{
 };
 use oauth2::{AccessToken, EndpointMaybeSet, StandardRevocableToken};
 use oauth2_keeper::{BasicTokenKeeper, PatientError, PatientKeeper};
-use oauth2_request_commands::{RunStatus, show_fault};
-use oauth2_world::{NoReply, ScriptedClient, print_answer, quoted};
+use oauth2_request_commands::{RunStatus, add_answer, show_fault};
+use oauth2_world::{Event, Events, NoReply, ScriptedClient, quoted};
 use std::alloc::{AllocError, Global};
 use std::time::Duration;
 
@@ -68,61 +67,48 @@ impl<'a> ScriptKeeper<'a> {
 
 fn show_kept(
     alloc: Global,
-    lines: &mut String,
+    events: &mut Events,
     token: &AccessToken,
 ) -> Result<RunStatus, AllocError>
-    ensures { IfOk result (λ status. AddsOutput (string_bytes lines.old) (string_bytes lines.new)
+    ensures { IfOk result (λ status. AddsOutput events.old events.new
         status (success_output (quotation token.now))) }
 {
     let json = quoted(alloc, token.secret().as_str())?;
-    print_answer(lines, json.as_str())?;
-    Ok(RunStatus::Answered)
+    let status = add_answer(events, json)?;
+    Ok(status)
 }
 
-// The second of the end of a wait as text; `null` if the end is past the last `Timestamp`.
-fn end_text(alloc: Global, until: Option<Timestamp>) -> Result<String, AllocError>
-    ensures { IfOk result (λ text. (end : ℤ) → IsUntil end until
-        → string_bytes text ≡ end_text end) }
+// The second of the end of a wait; none if the end is past the last `Timestamp`.
+fn end_second(until: Option<Timestamp>) -> Option<i64>
+    ensures { (end : ℤ) → IsUntil end until → result ≡ end_second end }
 {
     match until {
-        Some(until) => until.as_second().to_string(alloc),
-        None => String::from_str(alloc, "null"),
+        Some(until) => Some(until.as_second()),
+        None => None,
     }
 }
 
-#[tactic(auto, unfolding(crate::specs::Keeper::wait_line))]
-fn print_wait(lines: &mut String, end: &str) -> Result<(), AllocError>
-    ensures { OnOk result (string_bytes lines.new ≡ string_bytes lines.old ++ wait_line end.now) }
-{
-    writeln!(lines, "answer waits {end}")
-}
-
-// Adds the line that no request is made before `until`. The status is `Fault`.
-fn show_wait(
-    alloc: Global,
-    lines: &mut String,
-    until: Option<Timestamp>,
-) -> Result<RunStatus, AllocError>
+// Adds the event that no request is made before `until`. The status is `Fault`.
+fn show_wait(events: &mut Events, until: Option<Timestamp>) -> Result<RunStatus, AllocError>
     ensures { IfOk result (λ status. (end : ℤ) → IsUntil end until
-        → AddsOutput (string_bytes lines.old) (string_bytes lines.new) status (waiting end)) }
+        → AddsOutput events.old events.new status (waiting end)) }
 {
-    let end = end_text(alloc, until)?;
-    print_wait(lines, end.as_str())?;
+    events.push(Event::Wait(end_second(until)))?;
     Ok(RunStatus::Fault)
 }
 
-// Adds the line why a keeper has no good token.
+// Adds the event why a keeper has no good token.
 fn show_error(
     alloc: Global,
-    lines: &mut String,
+    events: &mut Events,
     error: &PatientError<NoReply, BasicErrorResponse>,
 ) -> Result<RunStatus, AllocError>
     ensures { IfOk result (λ status.
-        spec.ShowsError (string_bytes lines.old) (string_bytes lines.new) status error.now) }
+        spec.ShowsError events.old events.new status error.now) }
 {
     match error {
-        PatientError::Request(fault) => show_fault(alloc, lines, fault),
-        PatientError::Waits(until) => show_wait(alloc, lines, *until),
+        PatientError::Request(fault) => show_fault(alloc, events, fault),
+        PatientError::Waits(until) => show_wait(events, *until),
     }
 }
 
@@ -137,12 +123,12 @@ fn show_plain_call(
         → (http_client.old.is_starved ≡ false)
         × ((o : Output) × IsCall None (spec.standing keeper.old None http_client.old)
         now.nanosecond o (spec.standing keeper.new None http_client.new)
-        × AddsOutput (string_bytes http_client.old.lines) (string_bytes http_client.new.lines)
+        × AddsOutput http_client.old.events http_client.new.events
         status o)) }
 {
     match keeper.keep_good(alloc, now, http_client) {
-        Ok(()) => show_kept(alloc, &mut http_client.lines, keeper.get().unwrap()),
-        Err(fault) => show_fault(alloc, &mut http_client.lines, &fault),
+        Ok(()) => show_kept(alloc, &mut http_client.events, keeper.get().unwrap()),
+        Err(fault) => show_fault(alloc, &mut http_client.events, &fault),
     }
 }
 
@@ -159,15 +145,15 @@ fn show_waiting_call(
         → http_client.new.is_starved ≡ false → (http_client.old.is_starved ≡ false)
         × ((o : Output) × IsCall wait (spec.patient_standing keeper.old http_client.old)
         now.nanosecond o (spec.patient_standing keeper.new http_client.new)
-        × AddsOutput (string_bytes http_client.old.lines) (string_bytes http_client.new.lines)
+        × AddsOutput http_client.old.events http_client.new.events
         status o)) }
 {
     match keeper.keep_good(alloc, now, http_client) {
         Ok(()) => {
             let token = keeper.keeper().get().unwrap();
-            show_kept(alloc, &mut http_client.lines, token)
+            show_kept(alloc, &mut http_client.events, token)
         }
-        Err(error) => show_error(alloc, &mut http_client.lines, &error),
+        Err(error) => show_error(alloc, &mut http_client.events, &error),
     }
 }
 
@@ -184,7 +170,7 @@ pub fn show_call(
         → http_client.new.is_starved ≡ false → (http_client.old.is_starved ≡ false)
         × ((o : Output) × IsCall wait (spec.standing_of keeper.old http_client.old)
         now.nanosecond o (spec.standing_of keeper.new http_client.new)
-        × AddsOutput (string_bytes http_client.old.lines) (string_bytes http_client.new.lines)
+        × AddsOutput http_client.old.events http_client.new.events
         status o)) }
 {
     match keeper {

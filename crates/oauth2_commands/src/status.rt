@@ -10,7 +10,7 @@ use std::alloc::AllocError;
 pub enum RunFault {
     /// The reader failed, or did not end within 1,048,576 calls. Nothing was written.
     Read,
-    /// The writer failed. Some of the lines may have been written.
+    /// The writer failed. Some of the result may have been written.
     Write,
     /// Memory ran out outside a call of the client. Nothing was written.
     Memory,

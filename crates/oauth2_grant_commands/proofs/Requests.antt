@@ -10,10 +10,12 @@ use Rattle.oauth2_grants.specs.declared.grant_fault.GrantFault.TheVariants.{Memo
 use Rattle.oauth2_request_commands.specs.Client.{WithEndpoint, missing}
 use Rattle.oauth2_request_commands.specs.Out.{Output, AddsOutput, Adds, failure_output}
 use Rattle.oauth2_request_commands.specs.declared.status.RunStatus.{RunStatus}
+use Rattle.oauth2_world.specs.Events.{Event}
+use Rattle.oauth2_world.specs.declared.event.FaultKind.TheVariants.{TakenParameter}
 use Rattle.oauth2_grant_commands.specs.TokenGrant.{WithExtra, has_taken_name}
 
 module _ (IsOutput : ExtensionRequest → Output → Type 0) (r : ExtensionRequest) (extra : List Pair)
-    (old new : List ℕ) (s : RunStatus) where
+    (old new : List Event) (s : RunStatus) where
   -- the request that was made has these parameters
   pub asked_told : (made : ExtensionRequest) → (has_taken_name extra ≡ false) × (made ≡ with_params r extra)
       → Adds old new s (IsOutput made) → Adds old new s (WithExtra IsOutput r extra)
@@ -23,15 +25,15 @@ module _ (IsOutput : ExtensionRequest → Output → Type 0) (r : ExtensionReque
 
   -- no request was made
   pub refused_told : (e : GrantFault) → (e ≡ Memory) ⊎ ((e ≡ NameIsTaken) × IsTrue (has_taken_name extra))
-      → (e ≢ Memory) × AddsOutput old new s (failure_output (grant_fault_text e))
+      → (e ≢ Memory) × AddsOutput old new s (failure_output TakenParameter (grant_fault_text e))
       → Adds old new s (WithExtra IsOutput r extra)
   refused_told e (inl memory) (other, told) = absurd (other memory)
   refused_told e (inr (taken, is)) (other, told) =
-      let shown : AddsOutput old new s (failure_output (grant_fault_text NameIsTaken)) = rw taken at told in
-      (failure_output (grant_fault_text NameIsTaken), rw is refl, shown.0, shown.1)
+      let shown : AddsOutput old new s (failure_output TakenParameter (grant_fault_text NameIsTaken)) = rw taken at told in
+      (failure_output TakenParameter (grant_fault_text NameIsTaken), rw is refl, shown.0, shown.1)
 
 -- what is shown for the endpoint that the client has, or that it has none
-module _ (name : List ℕ) (IsOut : Addressed → Output → Type 0) (url : Option Addressed) (old new : List ℕ) (s : RunStatus) where
+module _ (name : List ℕ) (IsOut : Addressed → Output → Type 0) (url : Option Addressed) (old new : List Event) (s : RunStatus) where
   pub there_told : (u : Addressed) → url ≡ Some u → Adds old new s (IsOut u) → Adds old new s (WithEndpoint name IsOut url)
   there_told u is adds = let shown : WithEndpoint name IsOut (Some u) adds.0 = adds.1 in (adds.0, rw is shown, adds.2, adds.3)
 

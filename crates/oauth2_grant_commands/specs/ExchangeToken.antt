@@ -14,7 +14,7 @@ use Rattle.oauth2_grants.specs.ExchangeFields.{exchange_fields, exchange_fields_
 use Rattle.oauth2_grants.specs.Extension.{ExtensionRequest, extension_configuration, new_extension_request, with_params}
 use Rattle.oauth2_grants.specs.TokenExchange as exchange
 use Rattle.oauth2_request_commands.specs.Client.{WithToken}
-use Rattle.oauth2_request_commands.specs.Exchange.{IsPostShown, error_display}
+use Rattle.oauth2_request_commands.specs.Exchange.{IsPostShown, error_members}
 use Rattle.oauth2_request_commands.specs.Out.{Output}
 use Rattle.oauth2_grant_commands.specs.TokenGrant.{WithExtra, scoped, token_client}
 use Rattle.oauth2_script.specs.Client.{Client}
@@ -58,10 +58,10 @@ abbrev pub exchange_answer : ReplyRule → ReplyView → Answer ExchangeAnswer (
 exchange_answer rule =
     answer_of rule (token_reading exchange_fields_reading token_code_reading) (error_reading exchange_error_code_reading)
 
--- the output of a request: its lines, and the response or the fault
+-- the output of a request: the request, and the response or the fault
 abbrev pub IsExchangeAsked : List Reply → ExtensionRequest → Output → Type 0
 IsExchangeAsked replies r o =
-    IsPostShown exchange_json (error_display exchange_error_code_text) (exchange_answer r.base.reply_rule)
+    IsPostShown exchange_json (error_members exchange_error_code_text) (exchange_answer r.base.reply_rule)
     (extension_configuration r) r.token_url replies o
 
 -- the output of `exchange_token`: that of its request, or that no token endpoint is set

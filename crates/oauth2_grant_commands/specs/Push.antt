@@ -1,5 +1,5 @@
 -- The command `push`: the parameters of an authorization request are sent to the server (RFC 9126).
-use Rattle.std.specs.Prelude.{◌≡◌, ℕ, List, ◌++◌, MatchOption, Some, codes}
+use Rattle.std.specs.Prelude.{◌≡◌, ℕ, List, [], ◌∷◌, ◌++◌, MatchOption, Some, codes}
 use Rattle.serde_json.specs.Data.{object, no_members}
 use Rattle.serde_json.specs.Written.{compact_text}
 use Rattle.url.specs.Parts.{Parts, serialize}
@@ -11,16 +11,18 @@ use Rattle.oauth2_form.specs.Pairs.{Pair}
 use Rattle.oauth2_json.specs.Puts.{put_all}
 use Rattle.oauth2_requests.specs.Authorization.{query_pairs}
 use Rattle.oauth2_wire.specs.Reply.{Answer, ReplyView}
+use Rattle.oauth2_wire.specs.Request.{IsRequestOf}
 use Rattle.oauth2_wire.specs.declared.content_type.ReplyRule.{ReplyRule}
 use Rattle.oauth2_pushed_requests.specs.FaultText.{push_fault_text}
 use Rattle.oauth2_pushed_requests.specs.Parameters.{push_fault}
 use Rattle.oauth2_pushed_requests.specs.Pushed.{PushedRequest, PushingClientView, pushed_answer_of, pushed_configuration, reference_pairs}
 use Rattle.oauth2_pushed_requests.specs.Response.{PushedAuthorization, pushed_rows}
-use Rattle.oauth2_request_commands.specs.Authorize.{authorization, url_line}
+use Rattle.oauth2_request_commands.specs.Authorize.{authorization}
 use Rattle.oauth2_request_commands.specs.Client.{WithEndpoint, missing, settings_of}
-use Rattle.oauth2_request_commands.specs.Exchange.{IsRequestShown, error_display}
+use Rattle.oauth2_request_commands.specs.Exchange.{IsRequestShown, error_members}
 use Rattle.oauth2_request_commands.specs.Out.{Output, after, failure_output, success_output}
-use Rattle.oauth2_world.specs.Lines.{expected_lines}
+use Rattle.oauth2_world.specs.Events.{sent_to}
+use Rattle.oauth2_world.specs.declared.event.FaultKind.TheVariants.{BadPush}
 use Rattle.oauth2_script.specs.Client.{Client}
 use Rattle.oauth2_script.specs.PushParams.{PushParams}
 use Rattle.oauth2_script.specs.Replies.{Reply}
@@ -44,27 +46,27 @@ pairs_to_push client p url = query_pairs (authorization (settings_of client) p.a
 unfoldable pub pushed_json : PushedAuthorization → List ℕ
 pushed_json r = compact_text (object (put_all (pushed_rows r) no_members))
 
--- the line `url "U"`, with the URL that the user is sent to: the authorization endpoint's with the two
--- parameters of a request that was pushed (RFC 9126, 4) behind its own query; and then the response
+-- the URL that the user is sent to: the authorization endpoint's with the two parameters of a request
+-- that was pushed (RFC 9126, 4) behind its own query; and then the response
 abbrev pub pushed_output : List ℕ → Addressed → PushedAuthorization → Output
 pushed_output id url r =
-    after (url_line (serialize (append_query_pairs url.url (reference_pairs id r.request_uri)))) (success_output (pushed_json r))
+    after (sent_to (serialize (append_query_pairs url.url (reference_pairs id r.request_uri))) ∷ []) (success_output (pushed_json r))
 
 -- what a reply says: a response, whose status is 201 (RFC 9126, 2.2), or an error (RFC 9126, 2.3)
 abbrev pub pushed_answer : ReplyRule → ReplyView → Answer PushedAuthorization (ErrorParts ErrorCode)
 pushed_answer rule = pushed_answer_of rule (error_reading error_code_reading)
 
--- what is shown of a push: the lines of its request, and then the URL and the response, or the fault
+-- what is shown of a push: its request, and then the URL and the response, or the fault
 abbrev pub IsPushShown : Addressed → PushedRequest → List Reply → Output → Type 0
 IsPushShown url r =
-    IsRequestShown (pushed_output r.client.client_id url) (error_display error_code_text) (pushed_answer r.client.reply_rule)
-    (expected_lines (pushed_configuration r)) r.client.endpoint
+    IsRequestShown (pushed_output r.client.client_id url) (error_members error_code_text) (pushed_answer r.client.reply_rule)
+    (IsRequestOf (pushed_configuration r) (serialize r.client.endpoint)) r.client.endpoint
 
 -- what is shown of a push of these parameters; no request is made if they cannot be pushed
 abbrev pub IsPushedOrRefused : PushingClientView → Addressed → List Pair → List Reply → Output → Type 0
 IsPushedOrRefused client url pairs replies o =
     MatchOption (push_fault client.client_id (Some pairs)) (IsPushShown url (record { client = client; pairs = pairs }) replies o)
-    (λ fault. o ≡ failure_output (push_fault_text fault))
+    (λ fault. o ≡ failure_output BadPush (push_fault_text fault))
 
 -- the output of a push of the parameters for this authorization endpoint, or that the other endpoint
 -- is not set

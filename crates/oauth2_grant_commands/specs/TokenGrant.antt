@@ -11,6 +11,7 @@ use Rattle.oauth2_request_commands.specs.Exchange.{IsTokenShown}
 use Rattle.oauth2_request_commands.specs.Out.{Output, failure_output}
 use Rattle.oauth2_script.specs.Client.{Client}
 use Rattle.oauth2_script.specs.Replies.{Reply}
+use Rattle.oauth2_world.specs.declared.event.FaultKind.TheVariants.{TakenParameter}
 
 -- the client of the script at this token endpoint
 abbrev pub token_client : Client → Addressed → TokenClientView
@@ -34,8 +35,8 @@ has_taken_name extra = list_any (λ pair. is_taken pair.0) extra
 -- made if one of them has a name that the request sends itself
 abbrev pub WithExtra : (ExtensionRequest → Output → Type 0) → ExtensionRequest → List Pair → Output → Type 0
 WithExtra IsOutput r extra o =
-    MatchBool (has_taken_name extra) (o ≡ failure_output (grant_fault_text NameIsTaken)) (IsOutput (with_params r extra) o)
+    MatchBool (has_taken_name extra) (o ≡ failure_output TakenParameter (grant_fault_text NameIsTaken)) (IsOutput (with_params r extra) o)
 
--- the output of a request: its lines, and the token (RFC 6749, 5.1) or the fault
+-- the output of a request: the request, and the token (RFC 6749, 5.1) or the fault
 abbrev pub IsTokenAsked : List Reply → ExtensionRequest → Output → Type 0
 IsTokenAsked replies r o = IsTokenShown r.base.reply_rule (extension_configuration r) r.token_url replies o

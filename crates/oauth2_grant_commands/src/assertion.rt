@@ -1,14 +1,14 @@
 //! The command `assertion`: a token by an assertion of another party.
 
-ghost use Rattle.std.specs.Prelude.{◌≡◌, false, string_bytes, IfOk};
+ghost use Rattle.std.specs.Prelude.{◌≡◌, false, IfOk};
 ghost use Rattle.oauth2_grant_commands.specs.Assertion as spec;
 ghost use Rattle.oauth2_request_commands.specs.Out.{Adds};
 ghost use Rattle.oauth2_script.specs.Views.{assertion_view, client_view};
 ghost use Rattle.oauth2_world.specs.Replay.{client_replies};
 
-use crate::token_grant::{TokenGrant, show_missing, show_token_grant, token_client};
+use crate::token_grant::{TokenGrant, show_token_grant, token_client};
 use oauth2_grants::{ExtensionTokenRequest, TokenClient};
-use oauth2_request_commands::RunStatus;
+use oauth2_request_commands::{RunStatus, show_missing};
 use oauth2_script::{AssertionKind, AssertionParams, ClientPart};
 use oauth2_world::ScriptedClient;
 use std::alloc::{AllocError, Global};
@@ -36,7 +36,7 @@ pub(crate) fn run_assertion(
     http_client: &mut ScriptedClient,
 ) -> Result<RunStatus, AllocError>
     ensures { IfOk result (λ status. http_client.new.is_starved ≡ false
-        → Adds (string_bytes http_client.old.lines) (string_bytes http_client.new.lines) status
+        → Adds http_client.old.events http_client.new.events status
         (spec.IsAssertionOutput (client_view client.now) (assertion_view params)
         (client_replies http_client.old))) }
 {
@@ -47,6 +47,6 @@ pub(crate) fn run_assertion(
             let scoped = request.add_scopes(params.scopes)?;
             show_token_grant(alloc, scoped, params.extra_params.as_slice(), http_client)
         }
-        None => show_missing(alloc, &mut http_client.lines, "token"),
+        None => show_missing(alloc, &mut http_client.events, "token"),
     }
 }

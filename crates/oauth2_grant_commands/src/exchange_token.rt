@@ -12,12 +12,13 @@ ghost use Rattle.oauth2_script.specs.Views.{client_view, exchange_token_view, ty
 ghost use Rattle.oauth2_wire.specs.ServerView.{pair_texts};
 ghost use Rattle.oauth2_world.specs.Replay.{client_replies};
 
-use crate::token_grant::{show_grant_fault, show_missing, token_client, with_extra};
+use crate::exchange_error::shown_end;
+use crate::token_grant::{show_grant_fault, token_client, with_extra};
 use oauth2_grants::{
     ExtensionTokenRequest, TokenClient, TokenExchange, TokenExchangeErrorResponse,
     TokenExchangeResponse, TokenTypeIdentifier,
 };
-use oauth2_request_commands::{RunStatus, show_end};
+use oauth2_request_commands::{RunStatus, show_end, show_missing};
 use oauth2_script::{AbsoluteUri, ClientPart, ExchangeTokenParams, TypedTokenParam};
 use oauth2_world::ScriptedClient;
 use std::alloc::{AllocError, Global};
@@ -170,16 +171,17 @@ fn show_exchange(
     http_client: &mut ScriptedClient,
 ) -> Result<RunStatus, AllocError>
     ensures { IfOk result (λ status. http_client.new.is_starved ≡ false
-        → Adds (string_bytes http_client.old.lines) (string_bytes http_client.new.lines) status
+        → Adds http_client.old.events http_client.new.events status
         (WithExtra (spec.IsExchangeAsked (client_replies http_client.old)) request.entry
         (map pair_texts extra.now))) }
 {
     match with_extra(request, extra) {
         Ok(asked) => {
             let end = asked.request(alloc, http_client);
-            show_end(alloc, &mut http_client.lines, &end)
+            let end = shown_end(end);
+            show_end(alloc, &mut http_client.events, &end)
         }
-        Err(fault) => show_grant_fault(alloc, &mut http_client.lines, fault),
+        Err(fault) => show_grant_fault(alloc, &mut http_client.events, fault),
     }
 }
 
@@ -191,7 +193,7 @@ pub(crate) fn run_exchange_token(
     http_client: &mut ScriptedClient,
 ) -> Result<RunStatus, AllocError>
     ensures { IfOk result (λ status. http_client.new.is_starved ≡ false
-        → Adds (string_bytes http_client.old.lines) (string_bytes http_client.new.lines) status
+        → Adds http_client.old.events http_client.new.events status
         (spec.IsExchangeTokenOutput (client_view client.now) (exchange_token_view params)
         (client_replies http_client.old))) }
 {
@@ -201,6 +203,6 @@ pub(crate) fn run_exchange_token(
             let scoped = request.add_scopes(params.scopes)?;
             show_exchange(alloc, scoped, params.extra_params.as_slice(), http_client)
         }
-        None => show_missing(alloc, &mut http_client.lines, "token"),
+        None => show_missing(alloc, &mut http_client.events, "token"),
     }
 }

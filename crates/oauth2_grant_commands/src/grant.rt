@@ -1,6 +1,6 @@
 //! The commands for further grants and for a pushed request.
 
-ghost use Rattle.std.specs.Prelude.{◌≡◌, false, string_bytes, IfOk};
+ghost use Rattle.std.specs.Prelude.{◌≡◌, false, IfOk};
 ghost use Rattle.oauth2_grant_commands.specs.Grant.{IsGrantOutput};
 ghost use Rattle.oauth2_request_commands.specs.Out.{Adds};
 ghost use Rattle.oauth2_script.specs.Views.{client_view, grant_view};
@@ -24,7 +24,7 @@ pub fn run_grant(
     http_client: &mut ScriptedClient,
 ) -> Result<RunStatus, AllocError>
     ensures { IfOk result (λ status. http_client.new.is_starved ≡ false
-        → Adds (string_bytes http_client.old.lines) (string_bytes http_client.new.lines) status
+        → Adds http_client.old.events http_client.new.events status
         (IsGrantOutput (client_view client.now) (client_replies http_client.old)
         (grant_view command))) }
 {

@@ -3,6 +3,7 @@
 #![tactic(auto)]
 
 mod assertion;
+mod exchange_error;
 mod exchange_token;
 mod extension;
 mod grant;

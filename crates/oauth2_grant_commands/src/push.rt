@@ -1,6 +1,6 @@
 //! The command `push`: the parameters of an authorization request are sent to the server.
 
-ghost use Rattle.std.specs.Prelude.{◌≡◌, ◌≢◌, false, string_bytes, IfOk, List};
+ghost use Rattle.std.specs.Prelude.{◌≡◌, ◌≢◌, false, IfOk, List};
 ghost use Rattle.oauth2_form.specs.Pairs.{Pair};
 ghost use Rattle.oauth2_form.specs.Query.{ExtendsQuery};
 ghost use Rattle.oauth2_grant_commands.specs.Push as spec;
@@ -11,18 +11,18 @@ ghost use Rattle.oauth2_request_commands.specs.Out.{Adds, AddsOutput, failure_ou
 ghost use Rattle.oauth2_request_commands.specs.private.Results.{error_seen};
 ghost use Rattle.oauth2_script.specs.Views.{client_view, push_view};
 ghost use Rattle.oauth2_world.specs.Replay.{client_replies};
+ghost use Rattle.oauth2_world.specs.declared.event.FaultKind.TheVariants.{BadPush};
 
-use crate::token_grant::show_missing;
 use oauth2::basic::BasicErrorResponse;
 use oauth2::{AuthUrl, AuthorizationRequest, ClientId, RequestTokenError, TryClone};
 use oauth2_pushed_requests::{
     PushFault, PushedAuthorizationRequest, PushedAuthorizationResponse, PushingClient,
 };
 use oauth2_request_commands::{
-    RunStatus, authorization_url, print_url, show_answer, show_error_text, show_fault,
+    RunStatus, authorization_url, show_answer, show_error_text, show_fault, show_missing,
 };
 use oauth2_script::{ClientPart, PushParams};
-use oauth2_world::{NoReply, ScriptedClient};
+use oauth2_world::{Event, Events, FaultKind, NoReply, ScriptedClient};
 use std::alloc::{AllocError, Global};
 use url::Url;
 
@@ -51,56 +51,57 @@ fn url_to_push(
     Ok(made.0)
 }
 
-// Adds the line of the URL that the user is sent to, and the line of the response.
+// Adds the event of the URL that the user is sent to, and then the response as the answer.
 fn show_response(
     alloc: Global,
-    lines: &mut String,
+    events: &mut Events,
     auth_url: &AuthUrl,
     client_id: &ClientId,
     response: &PushedAuthorizationResponse,
 ) -> Result<RunStatus, AllocError>
-    ensures { IfOk result (λ status. AddsOutput (string_bytes lines.old) (string_bytes lines.new)
+    ensures { IfOk result (λ status. AddsOutput events.old events.new
         status (spec.pushed_output client_id.now auth_url.now response.now)) }
 {
     match response.authorization_url(alloc, auth_url, client_id) {
         Ok(url) => {
-            print_url(alloc, lines, url.as_str())?;
-            show_answer(alloc, lines, response)
+            let text = String::from_str(alloc, url.as_str())?;
+            events.push(Event::Url(text))?;
+            show_answer(alloc, events, response)
         }
         Err(_) => Err(AllocError),
     }
 }
 
-// Adds the lines of the result of a push.
+// Adds the events of the result of a push.
 fn show_pushed(
     alloc: Global,
-    lines: &mut String,
+    events: &mut Events,
     auth_url: &AuthUrl,
     client_id: &ClientId,
     end: &PushEnd,
 ) -> Result<RunStatus, AllocError>
-    ensures { IfOk result (λ status. AddsOutput (string_bytes lines.old) (string_bytes lines.new)
+    ensures { IfOk result (λ status. AddsOutput events.old events.new
         status (end_output error_seen (spec.pushed_output client_id.now auth_url.now) end.now)) }
 {
     match end {
-        Ok(response) => show_response(alloc, lines, auth_url, client_id, response),
-        Err(fault) => show_fault(alloc, lines, fault),
+        Ok(response) => show_response(alloc, events, auth_url, client_id, response),
+        Err(fault) => show_fault(alloc, events, fault),
     }
 }
 
-// Adds the line of a fault other than that memory ran out.
+// Adds the event of a fault other than that memory ran out.
 fn show_push_fault(
     alloc: Global,
-    lines: &mut String,
+    events: &mut Events,
     fault: PushFault,
 ) -> Result<RunStatus, AllocError>
     ensures { IfOk result (λ status. (fault ≢ Memory)
-        × AddsOutput (string_bytes lines.old) (string_bytes lines.new) status
-        (failure_output (push_fault_text fault))) }
+        × AddsOutput events.old events.new status
+        (failure_output BadPush (push_fault_text fault))) }
 {
     match fault {
         PushFault::Memory => Err(AllocError),
-        _ => show_error_text(alloc, lines, &fault),
+        _ => show_error_text(alloc, events, FaultKind::BadPush, &fault),
     }
 }
 
@@ -115,7 +116,7 @@ fn push(
 ) -> Result<RunStatus, AllocError>
     ensures { IfOk result (λ status. http_client.new.is_starved ≡ false
         → (pairs : List Pair) → ExtendsQuery auth_url.now.url url.now pairs
-        → Adds (string_bytes http_client.old.lines) (string_bytes http_client.new.lines) status
+        → Adds http_client.old.events http_client.new.events status
         (spec.IsPushedOrRefused (spec.pushing_client (client_view client.now) endpoint.now)
         auth_url.now pairs (client_replies http_client.old))) }
 {
@@ -129,9 +130,9 @@ fn push(
     match PushedAuthorizationRequest::<BasicErrorResponse>::new(alloc, pushing, auth_url, url) {
         Ok(pushed) => {
             let end = pushed.request(alloc, http_client);
-            show_pushed(alloc, &mut http_client.lines, auth_url, &client.id, &end)
+            show_pushed(alloc, &mut http_client.events, auth_url, &client.id, &end)
         }
-        Err(fault) => show_push_fault(alloc, &mut http_client.lines, fault),
+        Err(fault) => show_push_fault(alloc, &mut http_client.events, fault),
     }
 }
 
@@ -144,7 +145,7 @@ fn push_for(
     http_client: &mut ScriptedClient,
 ) -> Result<RunStatus, AllocError>
     ensures { IfOk result (λ status. http_client.new.is_starved ≡ false
-        → Adds (string_bytes http_client.old.lines) (string_bytes http_client.new.lines) status
+        → Adds http_client.old.events http_client.new.events status
         (spec.IsPushFor (client_view client.now) (push_view params)
         (client_replies http_client.old) auth_url.now)) }
 {
@@ -155,7 +156,7 @@ fn push_for(
         }
         None => show_missing(
             alloc,
-            &mut http_client.lines,
+            &mut http_client.events,
             "pushed authorization request",
         ),
     }
@@ -170,12 +171,12 @@ pub(crate) fn run_push(
     http_client: &mut ScriptedClient,
 ) -> Result<RunStatus, AllocError>
     ensures { IfOk result (λ status. http_client.new.is_starved ≡ false
-        → Adds (string_bytes http_client.old.lines) (string_bytes http_client.new.lines) status
+        → Adds http_client.old.events http_client.new.events status
         (spec.IsPushOutput (client_view client.now) (push_view params)
         (client_replies http_client.old))) }
 {
     match &client.endpoints.auth {
         Some(auth_url) => push_for(alloc, client, params, auth_url, http_client),
-        None => show_missing(alloc, &mut http_client.lines, "authorization"),
+        None => show_missing(alloc, &mut http_client.events, "authorization"),
     }
 }

@@ -1,6 +1,6 @@
 //! Requests for a token by a grant type that is a URI.
 
-ghost use Rattle.std.specs.Prelude.{◌≡◌, ◌≢◌, ◌⊎◌, false, map, string_bytes};
+ghost use Rattle.std.specs.Prelude.{◌≡◌, ◌≢◌, ◌⊎◌, false, map};
 ghost use Rattle.std.specs.Prelude.{IfOk, IfErr, IsTrue};
 ghost use Rattle.oauth2_grant_commands.specs.TokenGrant as spec;
 ghost use Rattle.oauth2_grants.specs.Extension.{with_params};
@@ -9,18 +9,18 @@ ghost use Rattle.oauth2_grants.specs.declared.grant_fault.GrantFault.TheVariants
   Memory,
   NameIsTaken,
 };
-ghost use Rattle.oauth2_request_commands.specs.Client.{missing};
 ghost use Rattle.oauth2_request_commands.specs.Out.{Adds, AddsOutput, failure_output};
 ghost use Rattle.oauth2_script.specs.Views.{client_view};
 ghost use Rattle.oauth2_wire.specs.ServerView.{pair_texts};
 ghost use Rattle.oauth2_world.specs.Replay.{client_replies};
+ghost use Rattle.oauth2_world.specs.declared.event.FaultKind.TheVariants.{TakenParameter};
 
 use oauth2::basic::{BasicErrorResponse, BasicTokenResponse};
-use oauth2::{ConfigurationError, ParamText, TokenUrl};
+use oauth2::{ParamText, TokenUrl};
 use oauth2_grants::{ExtensionTokenRequest, GrantFault, TokenClient};
-use oauth2_request_commands::{RunStatus, show_configuration_error, show_end, show_error_text};
+use oauth2_request_commands::{RunStatus, show_end, show_error_text};
 use oauth2_script::ClientPart;
-use oauth2_world::ScriptedClient;
+use oauth2_world::{Events, FaultKind, ScriptedClient};
 use std::alloc::{AllocError, Global};
 
 // A request whose reply is read as a token.
@@ -61,19 +61,19 @@ pub(crate) fn with_extra<'a, TE, TR>(
     Ok(request)
 }
 
-// Adds the line of a fault other than that memory ran out.
+// Adds the event of a fault other than that memory ran out.
 pub(crate) fn show_grant_fault(
     alloc: Global,
-    lines: &mut String,
+    events: &mut Events,
     fault: GrantFault,
 ) -> Result<RunStatus, AllocError>
     ensures { IfOk result (λ status. (fault ≢ Memory)
-        × AddsOutput (string_bytes lines.old) (string_bytes lines.new) status
-        (failure_output (grant_fault_text fault))) }
+        × AddsOutput events.old events.new status
+        (failure_output TakenParameter (grant_fault_text fault))) }
 {
     match fault {
         GrantFault::Memory => Err(AllocError),
-        _ => show_error_text(alloc, lines, &fault),
+        _ => show_error_text(alloc, events, FaultKind::TakenParameter, &fault),
     }
 }
 
@@ -85,27 +85,15 @@ pub(crate) fn show_token_grant(
     http_client: &mut ScriptedClient,
 ) -> Result<RunStatus, AllocError>
     ensures { IfOk result (λ status. http_client.new.is_starved ≡ false
-        → Adds (string_bytes http_client.old.lines) (string_bytes http_client.new.lines) status
+        → Adds http_client.old.events http_client.new.events status
         (spec.WithExtra (spec.IsTokenAsked (client_replies http_client.old)) request.entry
         (map pair_texts extra.now))) }
 {
     match with_extra(request, extra) {
         Ok(asked) => {
             let end = asked.request(alloc, http_client);
-            show_end(alloc, &mut http_client.lines, &end)
+            show_end(alloc, &mut http_client.events, &end)
         }
-        Err(fault) => show_grant_fault(alloc, &mut http_client.lines, fault),
+        Err(fault) => show_grant_fault(alloc, &mut http_client.events, fault),
     }
-}
-
-// Adds the line that the client has no endpoint of this name.
-pub(crate) fn show_missing(
-    alloc: Global,
-    lines: &mut String,
-    name: &'static str,
-) -> Result<RunStatus, AllocError>
-    ensures { IfOk result (λ status. AddsOutput (string_bytes lines.old) (string_bytes lines.new)
-        status (missing name.now)) }
-{
-    show_configuration_error(alloc, lines, &ConfigurationError::MissingUrl(name))
 }

@@ -14,6 +14,7 @@ use Rattle.oauth2_wire.specs.ConfigurationError.{IsInsecureUrl, IsMissingUrl}
 use Rattle.oauth2_wire.specs.declared.error.ConfigurationError.{ConfigurationError}
 use Rattle.oauth2_wire.specs.declared.error.ConfigurationError.TheVariants.{MissingUrl, InsecureUrl}
 use Rattle.oauth2_request_commands.specs.Faults.{configuration_output}
+use Rattle.oauth2_world.specs.Events.{Event}
 use Rattle.oauth2_request_commands.specs.declared.status.RunStatus.{RunStatus}
 
 missing_is : (name : List ℕ) (e : ConfigurationError) → IsMissingUrl name e → configuration_output e ≡ missing name
@@ -25,7 +26,7 @@ insecure_is name (MissingUrl given) h = absurd h
 insecure_is name (InsecureUrl given) h = ap insecure h
 
 -- there is no endpoint of this name
-pub missing_told : (name : List ℕ) (IsOut : Addressed → Output → Type 0) (url : Option Addressed) (old new : List ℕ) (s : RunStatus) (e : ConfigurationError)
+pub missing_told : (name : List ℕ) (IsOut : Addressed → Output → Type 0) (url : Option Addressed) (old new : List Event) (s : RunStatus) (e : ConfigurationError)
     → IfSome url (λ _. ⊥) → IfNone url (IsMissingUrl name e) → AddsOutput old new s (configuration_output e) → Adds old new s (WithEndpoint name IsOut url)
 missing_told name IsOut (Some url) old new s e h m p = absurd h
 missing_told name IsOut None old new s e h m p = let told : AddsOutput old new s (missing name) = rw (missing_is name e m) at p in (missing name, refl, told.0, told.1)
@@ -33,7 +34,7 @@ missing_told name IsOut None old new s e h m p = let told : AddsOutput old new s
 -- what is shown of a request that is made for the URL of the endpoint
 pub command_told : (name : List ℕ) (IsAsked : Output → Type 0)
     (IsOut : Addressed → Output → Type 0) (IsMade : Addressed → Type 0) (url : Option Addressed)
-    (old new : List ℕ) (s : RunStatus)
+    (old new : List Event) (s : RunStatus)
     → IfSome url IsMade → IfNone url ⊥ → Adds old new s IsAsked
     → ((u : Addressed) → IsMade u → (o : Output) → IsAsked o → IsOut u o)
     → Adds old new s (WithEndpoint name IsOut url)
@@ -49,7 +50,7 @@ https_or_not : (url : Addressed) → IsHttps url ⊎ (¬ (IsHttps url))
 https_or_not url = https_by url (bytes_eq url.url.scheme (codes "https")) refl
 
 -- there is no `https` endpoint of this name
-pub refusal_told : (name : List ℕ) (IsOut : Addressed → Output → Type 0) (url : Option Addressed) (old new : List ℕ) (s : RunStatus) (e : ConfigurationError)
+pub refusal_told : (name : List ℕ) (IsOut : Addressed → Output → Type 0) (url : Option Addressed) (old new : List Event) (s : RunStatus) (e : ConfigurationError)
     → IfSome url (λ u. IsHttps u → ⊥) → IfSome url (λ u. ¬ (IsHttps u) → IsInsecureUrl name e) → IfNone url (IsMissingUrl name e)
     → AddsOutput old new s (configuration_output e) → Adds old new s (WithEndpoint name (WithHttps name IsOut) url)
 refusal_told name IsOut None old new s e secure is_insecure is_missing p = missing_told name (WithHttps name IsOut) None old new s e tt is_missing p
@@ -62,7 +63,7 @@ refusal_told name IsOut (Some u) old new s e secure is_insecure is_missing p = g
 -- what is shown of a request that is made for the URL of the endpoint if that is an `https` URL
 pub https_told : (name : List ℕ) (IsAsked : Output → Type 0)
     (IsOut : Addressed → Output → Type 0) (IsMade : Addressed → Type 0) (url : Option Addressed)
-    (old new : List ℕ) (s : RunStatus)
+    (old new : List Event) (s : RunStatus)
     → IfSome url (λ u. IsHttps u → IsMade u) → IfSome url (λ u. ¬ (IsHttps u) → ⊥) → IfNone url ⊥
     → Adds old new s IsAsked → ((u : Addressed) → IsMade u → (o : Output) → IsAsked o → IsOut u o)
     → Adds old new s (WithEndpoint name (WithHttps name IsOut) url)
@@ -81,7 +82,7 @@ given_or-none (Some a) = refl
 
 -- ---- a whole command, from what its last call ensures; `Fed` says that the client had memory
 
-module _ (Fed : Type 0) (name : List ℕ) (url : Option Addressed) (old new : List ℕ)
+module _ (Fed : Type 0) (name : List ℕ) (url : Option Addressed) (old new : List Event)
     (result : Result RunStatus AllocError) where
   abbrev Shows : (Output → Type 0) → Type 0
   Shows IsOut = IfOk result (λ s. Fed → Adds old new s IsOut)

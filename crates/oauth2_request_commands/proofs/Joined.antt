@@ -15,7 +15,7 @@ both-answered status.Fault = refl
 both-answered status.BadScript = refl
 
 pub joined-assoc : (a b c : Output) → both_outputs (both_outputs a b) c ≡ both_outputs a (both_outputs b c)
-joined-assoc a b c = rw (append_assoc a.lines b.lines c.lines, both-assoc a.status b.status c.status) refl
+joined-assoc a b c = rw (append_assoc a.events b.events c.events, both-assoc a.status b.status c.status) refl
 
 pub joined-nothing : (a : Output) → both_outputs a nothing ≡ a
-joined-nothing a = rw (append-nil a.lines, both-answered a.status) refl
+joined-nothing a = rw (append-nil a.events, both-answered a.status) refl

@@ -1,18 +1,20 @@
--- What a poll in the scripted world adds to its lines.
-use Rattle.std.proofs.Common.{◌≡◌, ◌⊎◌, inl, inr, ℕ, List, [], ◌∷◌, ◌++◌, length, map, true, false, Option, Some, None, Result, Ok, Err, string_bytes, codes, refl, sym, ap, ◌∙◌, append_assoc, append-nil}
+-- What a poll in the scripted world adds to its events.
+use Rattle.std.proofs.Common.{◌≡◌, ◌⊎◌, inl, inr, ℕ, List, [], ◌∷◌, ◌++◌, length, map, true, false, Option, Some, None, Result, Ok, Err, codes, refl, sym, ap, ◌∙◌, append_assoc, append-nil}
 use Rattle.std.specs.Prelude.{IsErrAnd}
 use Rattle.std.specs.Duration.{as_nanos}
 use Rattle.std.specs.declared.time.Duration.{Duration}
-use Rattle.http_uri.specs.Uri.{SpellsNone, uri_text}
+use Rattle.http_uri.specs.Uri.{SpellsNone}
 use Rattle.jiff.specs.Types.{Timestamp}
 use Rattle.url.specs.Parts.{serialize}
 use Rattle.oauth2_codes.specs.Codes.{token_code_reading}
+use Rattle.oauth2_codes.specs.ErrorCodes.{DeviceErrorCode}
+use Rattle.oauth2_codes.specs.ErrorResponse.{ErrorParts}
 use Rattle.oauth2_replies.specs.Kept.{any_object}
 use Rattle.oauth2_replies.specs.Token.{token_reading}
 use Rattle.oauth2_wire.specs.declared.content_type.ReplyRule.{ReplyRule}
 use Rattle.oauth2_wire.specs.Once.{not_http_text, SaysOther}
 use Rattle.oauth2_wire.specs.Reply.{HttpResponse, Answer, ReplyView, reply_of}
-use Rattle.oauth2_wire.specs.Request.{HttpRequest, view_of}
+use Rattle.oauth2_wire.specs.Request.{HttpRequest, IsRequestOf, view_of}
 use Rattle.oauth2_wire.specs.declared.error.RequestTokenError.TheVariants.{ServerResponse, Request, Parse, Other, Memory}
 use Rattle.oauth2_poll.specs.Laws.{IsTraceOf}
 use Rattle.oauth2_poll.specs.Trace as trace
@@ -21,18 +23,18 @@ use Rattle.oauth2_device.specs.DeviceToken.{DeviceToken, device_token_configurat
 use Rattle.oauth2_device.specs.Events.{Event, Reading, Sent, Slept, Leads, EachRequest, last_reply}
 use Rattle.oauth2_device.specs.Poll.{DeviceError, device_answer, device_error, class_of, plain, input_of, IsDeviceRequest, SaysExpired, IsAnswerAt, IsPoll, Polls}
 use Rattle.oauth2_world.specs.Clock.{reading_of, readings_of}
-use Rattle.oauth2_request_commands.specs.DevicePoll.{calls_of, last_call, poll_answer, class_of_call, AreLinesOf, device_error_display, shown_at, IsPolled}
-use Rattle.oauth2_request_commands.specs.Exchange.{BasicToken, other_text, token_json}
-use Rattle.oauth2_world.specs.Lines.{expected_lines, sleep_line}
-use Rattle.oauth2_request_commands.specs.Out.{Output, after, success_output, failure_output, no_memory_output, AddsOutput as PrintsOutput, Adds}
+use Rattle.oauth2_request_commands.specs.DevicePoll.{calls_of, last_call, poll_answer, class_of_call, AreEventsOf, device_error_members, shown_at, IsPolled}
+use Rattle.oauth2_request_commands.specs.Exchange.{BasicToken, token_json}
+use Rattle.oauth2_world.specs.Events.{Event as ShownEvent, exchanged, slept}
+use Rattle.oauth2_request_commands.specs.Out.{Output, after, success_output, no_memory_output, other_output, refused_output, unsent_output, AddsOutput, Adds}
 use Rattle.oauth2_world.specs.Replies.{next_reply}
 use Rattle.oauth2_world.specs.Replay.{ReplaysOrStarves, reply_seen, client_replies}
 use Rattle.oauth2_request_commands.specs.private.Results.{TokenSeen, token_meaning}
-use Rattle.oauth2_world.specs.World.{Reads, Sends, Prints, Sleeps}
+use Rattle.oauth2_world.specs.World.{Reads, Sends, Shows, Sleeps}
 use Rattle.oauth2_world.specs.declared.replay.NoReply.{NoReply}
 use Rattle.oauth2_request_commands.specs.declared.status.RunStatus.{RunStatus}
 use Rattle.oauth2_world.specs.declared.world.ScriptedWorld.{ScriptedWorld}
-use Rattle.oauth2_request_commands.proofs.Exchanges.{request_lines-expected, judged}
+use Rattle.oauth2_request_commands.proofs.Exchanges.{judged}
 use Rattle.oauth2_request_commands.proofs.Results.{DeviceFault, poll_output}
 
 -- what a reply says to the device
@@ -54,13 +56,13 @@ record Told (r : DeviceToken) (w : ScriptedWorld) (e : List (Event NoReply)) (v 
   answers : answers_in (plain (says r.base.reply_rule) e) ≡ map (class_of_call r.base.reply_rule) (calls_of (client_replies w.http_client) (length (answers_in (plain (says r.base.reply_rule) e))))
   last : (before : Option (Result HttpResponse NoReply)) → last_said (last_reply before e)
       ≡ last_call (last_said before) (calls_of (client_replies w.http_client) (length (answers_in (plain (says r.base.reply_rule) e))))
-  lines : List ℕ
-  are_lines : AreLinesOf (device_token_configuration r) (serialize r.token_url.url) (plain (says r.base.reply_rule) e) lines
-  added : string_bytes v.http_client.lines ≡ string_bytes w.http_client.lines ++ lines
+  shown : List ShownEvent
+  are_shown : AreEventsOf (IsRequestOf (device_token_configuration r) (serialize r.token_url.url)) (client_replies w.http_client) (plain (says r.base.reply_rule) e) shown
+  added : v.http_client.events ≡ w.http_client.events ++ shown
 
--- lines after lines
-after_lines : (old now new lines added : List ℕ) → new ≡ now ++ added → now ≡ old ++ lines → new ≡ old ++ (lines ++ added)
-after_lines old now new lines added grown so_far = rw (grown, so_far) (append_assoc old lines added)
+-- events after events
+after_events : (old now new shown added : List ShownEvent) → new ≡ now ++ added → now ≡ old ++ shown → new ≡ old ++ (shown ++ added)
+after_events old now new shown added grown so_far = rw (grown, so_far) (append_assoc old shown added)
 
 module _ (r : DeviceToken) where
   abbrev Requests : List (Event NoReply) → Type 0
@@ -74,8 +76,8 @@ module _ (r : DeviceToken) where
           shows = rw reads.shows (ap (λ ts. reading_of w.clock ∷ ts) (rw reads.goes_on at k.shows));
           answers = rw reads.client at k.answers;
           last = rw reads.client at k.last;
-          lines = k.lines;
-          are_lines = k.are_lines;
+          shown = k.shown;
+          are_shown = rw reads.client at k.are_shown;
           added = rw reads.client at k.added;
         }
 
@@ -85,39 +87,36 @@ module _ (r : DeviceToken) where
         go : ReplaysOrStarves w.http_client q a u.http_client → Told r w (Sent q a ∷ e) v
         go (inl out) = let fed_then = k.is_fed in cc
         go (inr replays) =
-            let target = uri_text (view_of q).target in
-            let c = device_token_configuration r in
             let means : class_of (says r.base.reply_rule) a ≡ class_of_call r.base.reply_rule (next_reply (client_replies w.http_client)) = class_told r.base.reply_rule a ∙ ap (class_of_call r.base.reply_rule) replays.answers in
-            let sent : string_bytes u.http_client.lines ≡ string_bytes w.http_client.lines ++ expected_lines c target =
-            rw (← request_lines-expected c (serialize r.token_url.url) (view_of q) is) replays.prints in
+            let call : ShownEvent = exchanged (view_of q) (next_reply (client_replies w.http_client)) in
             record {
               is_fed = sym replays.is_fed ∙ k.is_fed;
               shows = rw sends.clock at k.shows;
               answers = rw means (ap (λ rest. class_of_call r.base.reply_rule (next_reply (client_replies w.http_client)) ∷ rest) (rw replays.goes_on at k.answers));
               last = λ before. rw (replays.goes_on, replays.answers) at (k.last (Some a));
-              lines = expected_lines c target ++ k.lines;
-              are_lines = (target, k.lines, ((view_of q).target, is.target, refl), k.are_lines, refl);
+              shown = call ∷ k.shown;
+              are_shown = (view_of q, k.shown, is, rw replays.goes_on at k.are_shown, refl);
               added =
-                  after_lines (string_bytes w.http_client.lines) (string_bytes u.http_client.lines) (string_bytes v.http_client.lines)
-                  (expected_lines c target) k.lines k.added sent;
+                  after_events w.http_client.events u.http_client.events v.http_client.events
+                  (call ∷ []) k.shown k.added replays.shows;
             }
 
     slept_told : (d : Duration) → Sleeps w d u → Told r w (Slept d ∷ e) v
     slept_told d sleeps = go sleeps.client
       where
-        go : ((u.http_client.is_starved ≡ true) ⊎ Prints w d u) → Told r w (Slept d ∷ e) v
+        go : ((u.http_client.is_starved ≡ true) ⊎ Shows w d u) → Told r w (Slept d ∷ e) v
         go (inl out) = let fed_then = k.is_fed in cc
-        go (inr prints) =
+        go (inr shows) =
             record {
-              is_fed = sym prints.is_fed ∙ k.is_fed;
+              is_fed = sym shows.is_fed ∙ k.is_fed;
               shows = rw sleeps.clock at k.shows;
-              answers = rw prints.replies at k.answers;
-              last = rw prints.replies at k.last;
-              lines = sleep_line (as_nanos d) ++ k.lines;
-              are_lines = (k.lines, k.are_lines, refl);
+              answers = rw shows.replies at k.answers;
+              last = rw shows.replies at k.last;
+              shown = slept (as_nanos d) ∷ k.shown;
+              are_shown = (k.shown, rw shows.replies at k.are_shown, refl);
               added =
-                  after_lines (string_bytes w.http_client.lines) (string_bytes u.http_client.lines) (string_bytes v.http_client.lines)
-                  (sleep_line (as_nanos d)) k.lines k.added prints.lines;
+                  after_events w.http_client.events u.http_client.events v.http_client.events
+                  (slept (as_nanos d) ∷ []) k.shown k.added shows.events;
             }
 
   told : (w : ScriptedWorld) (e : List (Event NoReply)) (v : ScriptedWorld) → Requests e → Leads Reads Sends Sleeps w e v
@@ -128,9 +127,9 @@ module _ (r : DeviceToken) where
         shows = refl;
         answers = refl;
         last = λ before. refl;
-        lines = [];
-        are_lines = refl;
-        added = rw h (sym (append-nil (string_bytes v.http_client.lines)));
+        shown = [];
+        are_shown = refl;
+        added = rw h (sym (append-nil v.http_client.events));
       }
   told w (Reading t ∷ e) v requests (u, reads, rest) fed = read_told w u e v (told u e v requests rest fed) t reads
   told w (Sent q a ∷ e) v (is, requests) (u, sends, rest) fed = sent_told w u e v (told u e v requests rest fed) q a is sends
@@ -138,17 +137,17 @@ module _ (r : DeviceToken) where
 
 -- ---- the end
 
-says_other : (text : List ℕ) (result : Result TokenSeen DeviceFault) → IsErrAnd result (SaysOther text) → poll_output result ≡ failure_output (other_text text)
+says_other : (text : List ℕ) (result : Result TokenSeen DeviceFault) → IsErrAnd result (SaysOther text) → poll_output result ≡ other_output text
 says_other text (Ok token) h = absurd h
 says_other text (Err (ServerResponse e)) h = absurd h
 says_other text (Err (Request e)) h = absurd h
 says_other text (Err (Parse f body)) h = absurd h
-says_other text (Err (Other said)) h = ap (λ (t : List ℕ). failure_output (other_text t)) h
+says_other text (Err (Other said)) h = ap (λ (t : List ℕ). other_output t) h
 says_other text (Err (Memory sent)) h = absurd h
 
 says_expired : (rule : ReplyRule) (n : ℕ) (calls : List (Option ReplyView)) (result : Result TokenSeen DeviceFault) → IsErrAnd result SaysExpired → poll_output result ≡ shown_at rule (Late n) calls
 says_expired rule n calls (Ok token) h = absurd h
-says_expired rule n calls (Err (ServerResponse e)) h = rw h refl
+says_expired rule n calls (Err (ServerResponse e)) h = ap (λ (parts : ErrorParts DeviceErrorCode). refused_output (device_error_members parts)) h
 says_expired rule n calls (Err (Request e)) h = absurd h
 says_expired rule n calls (Err (Parse f body)) h = absurd h
 says_expired rule n calls (Err (Other said)) h = absurd h
@@ -164,12 +163,12 @@ at_end rule (Late n) e result calls last h = inl (says_expired rule n calls resu
 at_end rule (Limited n) e result calls last h = inl (says_other (codes "polling limit reached") result h)
 at_end rule (Decided n) e result calls last (reply, is, shows) =
     let said : last_call None calls ≡ Some (reply_of reply) = sym last ∙ ap last_said is in
-    elim (judged token_meaning device_error (λ token. success_output (token_json token)) device_error_display (poll_answer rule) (reply_of reply) result shows) [
+    elim (judged token_meaning device_error (λ token. success_output (token_json token)) device_error_members (poll_answer rule) (reply_of reply) result shows) [
       | inl same ↦ inl (rw said same)
       | inr (sent, memory) ↦ inr (ap poll_output memory)
     ]
 
-module _ (r : DeviceToken) (timeout max_polls : ℕ) (w : ScriptedWorld) (e : List (Event NoReply)) (v : ScriptedWorld) (lines : List ℕ) (s : RunStatus) (result : Result TokenSeen DeviceFault) where
+module _ (r : DeviceToken) (timeout max_polls : ℕ) (w : ScriptedWorld) (e : List (Event NoReply)) (v : ScriptedWorld) (events : List ShownEvent) (s : RunStatus) (result : Result TokenSeen DeviceFault) where
   abbrev IsOutput : Output → Type 0
   IsOutput o = IsPolled r timeout max_polls w.clock (client_replies w.http_client) o
 
@@ -178,12 +177,12 @@ module _ (r : DeviceToken) (timeout max_polls : ℕ) (w : ScriptedWorld) (e : Li
 
   -- these events, and this end
   polled : (k : Told r w e v) (o : Output) (done : IsTraceOf (input_of r timeout max_polls (plain (says r.base.reply_rule) e)) (plain (says r.base.reply_rule) e))
-      → (((done.rest ≡ []) × (o ≡ after k.lines (shown_at r.base.reply_rule done.ending calls)))
-      ⊎ ((o ≡ after k.lines no_memory_output)
+      → (((done.rest ≡ []) × (o ≡ after k.shown (shown_at r.base.reply_rule done.ending calls)))
+      ⊎ ((o ≡ after k.shown no_memory_output)
       ⊎ (SpellsNone (serialize r.token_url.url)
       × ((start moment : _) × (plain (says r.base.reply_rule) e ≡ trace.Reading start ∷ trace.Reading moment ∷ []))
       × (¬ (trace.IsLate (input_of r timeout max_polls (plain (says r.base.reply_rule) e)) 1))
-      × (o ≡ after k.lines (failure_output (other_text not_http_text)))))) → IsOutput o
+      × (o ≡ after k.shown unsent_output)))) → IsOutput o
   polled k o done end =
       record {
         events = plain (says r.base.reply_rule) e;
@@ -192,38 +191,38 @@ module _ (r : DeviceToken) (timeout max_polls : ℕ) (w : ScriptedWorld) (e : Li
         are_calls = refl;
         answers = k.answers;
         done = done;
-        lines = k.lines;
-        are_lines = k.are_lines;
+        shown = k.shown;
+        are_shown = k.are_shown;
         end = end;
       }
 
   pub poll_told : Polls token_meaning (token_reading any_object token_code_reading) r timeout max_polls e result
       → Leads Reads Sends Sleeps w e v → v.http_client.is_starved ≡ false
-      → PrintsOutput (string_bytes v.http_client.lines) lines s (poll_output result) → Adds (string_bytes w.http_client.lines) lines s IsOutput
-  poll_told polls led fed (printed, ended) = (o, by polls.poll, all, ended)
+      → AddsOutput v.http_client.events events s (poll_output result) → Adds w.http_client.events events s IsOutput
+  poll_told polls led fed (grown, ended) = (o, by polls.poll, all, ended)
     where
       k : Told r w e v
       k = told r w e v polls.requests led fed
 
       o : Output
-      o = after k.lines (poll_output result)
+      o = after k.shown (poll_output result)
 
-      all : lines ≡ string_bytes w.http_client.lines ++ o.lines
+      all : events ≡ w.http_client.events ++ o.events
       all =
-          after_lines (string_bytes w.http_client.lines) (string_bytes v.http_client.lines) lines k.lines (poll_output result).lines printed k.added
+          after_events w.http_client.events v.http_client.events events k.shown (poll_output result).events grown k.added
 
       by : IsPoll token_meaning (says r.base.reply_rule) (SpellsNone (serialize r.token_url.url)) (input_of r timeout max_polls (plain (says r.base.reply_rule) e)) e result → IsOutput o
       by (inl whole) =
           elim (at_end r.base.reply_rule whole.done.ending e result calls (k.last None) whole.answer) [
-            | inl same ↦ polled k o whole.done (inl (whole.to_the_end, ap (after k.lines) same))
-            | inr memory ↦ polled k o whole.done (inr (inl (ap (after k.lines) memory)))
+            | inl same ↦ polled k o whole.done (inl (whole.to_the_end, ap (after k.shown) same))
+            | inr memory ↦ polled k o whole.done (inr (inl (ap (after k.shown) memory)))
           ]
-      by (inr (inl cut)) = polled k o cut.done (inr (inl (ap (λ (x : Result TokenSeen DeviceFault). after k.lines (poll_output x)) cut.answer)))
+      by (inr (inl cut)) = polled k o cut.done (inr (inl (ap (λ (x : Result TokenSeen DeviceFault). after k.shown (poll_output x)) cut.answer)))
       by (inr (inr unsent)) =
           polled k o unsent.done
           (inr (inr (
             unsent.not_http,
             (unsent.start.nanosecond, unsent.moment.nanosecond, ap (plain (says r.base.reply_rule)) unsent.events),
             unsent.in_time,
-            ap (after k.lines) (says_other not_http_text result unsent.answer),
+            ap (after k.shown) (says_other not_http_text result unsent.answer),
           )))

@@ -1,14 +1,12 @@
 -- What a run shows of the result of a request.
-use Rattle.std.proofs.Common.{◌≡◌, ℕ, List, ◌++◌, Option, Some, None, Result, Ok, Vec, false, refl}
-use Rattle.std.specs.Prelude.{IfSome, IsOkAnd}
-use Rattle.std.specs.declared.alloc.Global.{Global}
+use Rattle.std.proofs.Common.{◌≡◌, ℕ, List, Option, Some, None, Result, Ok, false, refl}
+use Rattle.std.specs.Prelude.{IsOkAnd}
 use Rattle.serde_json.specs.Data.{Data, string, object, no_members}
 use Rattle.serde_json.specs.Written.{has_float}
 use Rattle.oauth2_codes.specs.Codes.{token_code, token_code_text}
 use Rattle.oauth2_codes.specs.ErrorCodes.{error_code, error_code_text, device_error_code, device_error_code_text, revocation_error_code, revocation_error_code_text}
-use Rattle.oauth2_codes.specs.ErrorResponse.{error_text, parts_of}
+use Rattle.oauth2_codes.specs.ErrorResponse.{ErrorParts, error_text, parts_of}
 use Rattle.oauth2_json.specs.Writing.{Writing}
-use Rattle.oauth2_json.specs.declared.read.ParseFault.{ParseFault}
 use Rattle.oauth2_codes.specs.declared.device_error.DeviceCodeErrorResponseType.{DeviceCodeErrorResponseType}
 use Rattle.oauth2_codes.specs.declared.error_response.StandardErrorResponse.{StandardErrorResponse}
 use Rattle.oauth2_codes.specs.declared.token_type.BasicTokenType.{BasicTokenType}
@@ -17,44 +15,17 @@ use Rattle.oauth2_replies.specs.declared.device.EmptyExtraDeviceAuthorizationFie
 use Rattle.oauth2_introspection.specs.Introspection.{Introspection, introspection_seen, introspection_writing}
 use Rattle.oauth2_replies.specs.Token.{token_writing}
 use Rattle.oauth2_replies.specs.declared.token.EmptyExtraTokenFields.{EmptyExtraTokenFields}
-use Rattle.oauth2_wire.specs.Display.{configuration_text, fault_text}
-use Rattle.oauth2_wire.specs.declared.error.ConfigurationError.{ConfigurationError}
-use Rattle.oauth2_wire.specs.declared.error.ConfigurationError.TheVariants.{MissingUrl, InsecureUrl}
 use Rattle.oauth2_wire.specs.declared.error.RequestTokenError.{RequestTokenError}
-use Rattle.oauth2_wire.specs.declared.error.RequestTokenError.TheVariants.{ServerResponse, Request, Parse, Other, Memory}
-use Rattle.oauth2_request_commands.specs.Exchange.{token_data, token_json, error_display}
+use Rattle.oauth2_request_commands.specs.Exchange.{token_data, token_json}
 use Rattle.oauth2_request_commands.specs.DeviceAuthorization.{BasicDevice, device_data}
-use Rattle.oauth2_request_commands.specs.DevicePoll.{device_error_display}
+use Rattle.oauth2_request_commands.specs.DevicePoll.{device_error_members}
 use Rattle.oauth2_request_commands.specs.Introspect.{BasicIntrospection, introspection_data}
-use Rattle.oauth2_request_commands.specs.Out.{Output, success_output, failure_output, AddsOutput}
-use Rattle.oauth2_world.specs.Lines.{fault_line}
-use Rattle.oauth2_request_commands.specs.Faults.{configuration_output, end_output, fault_output}
+use Rattle.oauth2_request_commands.specs.Out.{Output, success_output, members_text}
+use Rattle.oauth2_request_commands.specs.Faults.{end_output}
 use Rattle.oauth2_request_commands.specs.private.Results.{TokenSeen, token_meaning}
 use Rattle.oauth2_request_commands.specs.private.Results.{ErrorResponse, error_seen, RevocationErrorResponse, revocation_error_seen}
 use Rattle.oauth2_world.specs.declared.replay.NoReply.{NoReply}
 use Rattle.oauth2_request_commands.proofs.NoFloats.{token_data-no_float, device_data-no_float, introspection_data-no_float}
-use Rattle.oauth2_request_commands.specs.declared.status.RunStatus.{RunStatus}
-use Rattle.oauth2_request_commands.specs.declared.status.RunStatus.TheVariants as status
-
--- an error that has a text
-pub error_shown : (o : Option (List ℕ)) (shown old new : List ℕ) → IfSome o (λ text. shown ≡ text) → new ≡ old ++ fault_line shown
-    → IfSome o (λ text. AddsOutput old new status.Fault (failure_output text))
-error_shown None shown old new told printed = tt
-error_shown (Some text) shown old new told printed = (rw (← told) printed, refl)
-
-module _ {T : Type 0} (display : T → Option (List ℕ)) (text : T → List ℕ) (shows : (e : T) → display e ≡ Some (text e)) where
-  pub fault_shown : (fault : RequestTokenError NoReply T) (old new : List ℕ) (s : RunStatus) → ((f : ParseFault) (body : Vec ℕ Global) → fault ≡ Parse f body → ⊥)
-      → IfSome (fault_text display fault) (λ text. AddsOutput old new s (failure_output text)) → AddsOutput old new s (fault_output text fault)
-  fault_shown (ServerResponse e) old new s other told = rw (shows e) at told
-  fault_shown (Request e) old new s other told = told
-  fault_shown (Parse f body) old new s other told = absurd (other f body refl)
-  fault_shown (Other given) old new s other told = told
-  fault_shown (Memory sent) old new s other told = told
-
-pub configuration_shown : (e : ConfigurationError) (old new : List ℕ) (s : RunStatus) → IfSome (configuration_text e) (λ text. AddsOutput old new s (failure_output text))
-    → AddsOutput old new s (configuration_output e)
-configuration_shown (MissingUrl name) old new s told = told
-configuration_shown (InsecureUrl name) old new s told = told
 
 -- ---- the answers and the errors of a server that uses no extension
 
@@ -76,8 +47,8 @@ DeviceErrorResponse = StandardErrorResponse DeviceCodeErrorResponseType
 abbrev pub DeviceFault : Type 0
 DeviceFault = RequestTokenError NoReply DeviceErrorResponse
 
-abbrev pub device_error_seen : DeviceErrorResponse → List ℕ
-device_error_seen e = device_error_display (parts_of device_error_code e)
+abbrev pub device_error_seen : DeviceErrorResponse → ErrorParts (List ℕ)
+device_error_seen e = device_error_members (parts_of device_error_code e)
 
 abbrev pub poll_output : Result TokenSeen DeviceFault → Output
 poll_output result = end_output device_error_seen (λ t. success_output (token_json (token_meaning t))) result
@@ -124,16 +95,13 @@ pub device_free : (r : DeviceSeen) → IsOkAnd (device_written r) (λ d. has_flo
 device_free r = free_of (device_written r) (device_data (device_meaning r)) (device_written-data r) (device_data-no_float (device_meaning r))
 
 -- how the server's error is shown
-pub error_told : (e : ErrorResponse) → error_text (Some (error_code_text (error_code e.error))) (parts_of (λ t. t) e) ≡ Some (error_seen e)
-unfolding error_display
+pub error_told : (e : ErrorResponse) → error_text (Some (error_code_text (error_code e.error))) (parts_of (λ t. t) e) ≡ Some (members_text (error_seen e))
 error_told e = refl
 
 pub device_error_told : (e : DeviceErrorResponse)
-    → error_text (Some (device_error_code_text (device_error_code e.error))) (parts_of (λ t. t) e) ≡ Some (device_error_seen e)
-unfolding error_display
+    → error_text (Some (device_error_code_text (device_error_code e.error))) (parts_of (λ t. t) e) ≡ Some (members_text (device_error_seen e))
 device_error_told e = refl
 
 pub revocation_error_told : (e : RevocationErrorResponse)
-    → error_text (Some (revocation_error_code_text (revocation_error_code e.error))) (parts_of (λ t. t) e) ≡ Some (revocation_error_seen e)
-unfolding error_display
+    → error_text (Some (revocation_error_code_text (revocation_error_code e.error))) (parts_of (λ t. t) e) ≡ Some (members_text (revocation_error_seen e))
 revocation_error_told e = refl

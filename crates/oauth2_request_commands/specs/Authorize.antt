@@ -1,5 +1,5 @@
 -- The command `authorize`: the URL to send a user to (RFC 6749, 4.1.1).
-use Rattle.std.specs.Prelude.{◌≡◌, ℕ, List, ◌++◌, unwrap_or, codes}
+use Rattle.std.specs.Prelude.{◌≡◌, [], ◌∷◌, ◌++◌, unwrap_or, codes}
 use Rattle.url.specs.Parts.{Parts, serialize}
 use Rattle.oauth2_urls.specs.Addressed.{Addressed}
 use Rattle.oauth2_requests.specs.Authorization.{Authorization, query_pairs}
@@ -7,7 +7,8 @@ use Rattle.oauth2_form.specs.Query.{ExtendsQuery}
 use Rattle.oauth2_wire.specs.Expected.{optional_pair}
 use Rattle.oauth2.specs.Settings.{Settings}
 use Rattle.oauth2_request_commands.specs.Client.{WithEndpoint, given_or}
-use Rattle.oauth2_world.specs.Lines.{line, quotation}
+use Rattle.oauth2_world.specs.Events.{sent_to}
+use Rattle.oauth2_world.specs.Quotation.{quotation}
 use Rattle.oauth2_request_commands.specs.Out.{Output, success_output, after}
 use Rattle.oauth2_script.specs.AuthorizeParams.{AuthorizeParams}
 
@@ -25,14 +26,10 @@ authorization client p url = record {
   extra_params = optional_pair (codes "nonce") p.nonce ++ p.extra_params;
 }
 
--- the line `url "U"`, with the URL that the user is sent to
-unfoldable pub url_line : List ℕ → List ℕ
-url_line text = line (codes "url " ++ quotation text)
-
 -- the output is the URL of the authorization endpoint with the parameters, and then the state
 abbrev pub IsUrlShown : Authorization → Output → Type 0
 IsUrlShown r o =
-    (url : Parts) × ExtendsQuery r.auth_url.url url (query_pairs r) × (o ≡ after (url_line (serialize url)) (success_output (quotation r.state)))
+    (url : Parts) × ExtendsQuery r.auth_url.url url (query_pairs r) × (o ≡ after (sent_to (serialize url) ∷ []) (success_output (quotation r.state)))
 
 -- the output of `authorize`: the URL and the state, or that the authorization endpoint is missing
 abbrev pub IsAuthorizeOutput : Settings → AuthorizeParams → Output → Type 0

@@ -4,6 +4,7 @@ use Rattle.oauth2_urls.specs.Addressed.{Addressed}
 use Rattle.oauth2.specs.Settings.{Settings}
 use Rattle.oauth2_script.specs.Client.{Client}
 use Rattle.oauth2_request_commands.specs.Out.{Output, failure_output}
+use Rattle.oauth2_world.specs.declared.event.FaultKind.TheVariants.{MissingEndpoint}
 
 -- the settings of the client that the member `client` of a script describes
 abbrev pub settings_of : Client → Settings
@@ -22,7 +23,7 @@ settings_of c = record {
 
 -- the output of a command whose endpoint the client does not have; `name` says which endpoint
 abbrev pub missing : List ℕ → Output
-missing name = failure_output (codes "No " ++ name ++ codes " endpoint URL specified")
+missing name = failure_output MissingEndpoint (codes "No " ++ name ++ codes " endpoint URL specified")
 
 -- the output that `IsOutput` says for the URL of the endpoint, or that this endpoint is missing
 abbrev pub WithEndpoint : List ℕ → (Addressed → Output → Type 0) → Option Addressed → Output → Type 0

@@ -16,7 +16,7 @@ use Rattle.oauth2.specs.NewRequest.{base_of}
 use Rattle.oauth2.specs.Settings.{Settings}
 use Rattle.oauth2_requests.specs.DeviceAuthorization.{DeviceRequest, device_authorization_configuration}
 use Rattle.oauth2_request_commands.specs.Client.{WithEndpoint}
-use Rattle.oauth2_request_commands.specs.Exchange.{IsPostShown, error_display}
+use Rattle.oauth2_request_commands.specs.Exchange.{IsPostShown, error_members}
 use Rattle.oauth2_request_commands.specs.Out.{Output}
 use Rattle.oauth2_script.specs.DeviceAuthorizationParams.{DeviceAuthorizationParams}
 use Rattle.oauth2_script.specs.Replies.{Reply}
@@ -44,9 +44,9 @@ device_json r = compact_text (device_data r)
 abbrev pub device_authorization_answer : ReplyRule → ReplyView → Answer BasicDevice (ErrorParts ErrorCode)
 device_authorization_answer rule = answer_of rule (device_reading any_object) (error_reading error_code_reading)
 
--- the output of a device authorization request: its lines, and the response or the fault
+-- the output of a device authorization request: the request, and the response or the fault
 abbrev pub IsDeviceAuthorized : ReplyRule → Configuration → Addressed → List Reply → Output → Type 0
-IsDeviceAuthorized rule = IsPostShown device_json (error_display error_code_text) (device_authorization_answer rule)
+IsDeviceAuthorized rule = IsPostShown device_json (error_members error_code_text) (device_authorization_answer rule)
 
 -- the output of `device_authorization`: that of its request, or that the endpoint is missing
 abbrev pub IsDeviceAuthorizationOutput : Settings → DeviceAuthorizationParams → List Reply → Output → Type 0

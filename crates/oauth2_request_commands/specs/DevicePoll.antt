@@ -1,6 +1,6 @@
 -- The command `device_poll`: a device polls for its token until the user decides (RFC 8628, 3.4
 -- and 3.5).
-use Rattle.std.specs.Prelude.{◌≡◌, ◌⊎◌, ℕ, zero, suc, ℤ, List, [], ◌∷◌, ◌++◌, length, map, Option, Some, None, unwrap_or, codes}
+use Rattle.std.specs.Prelude.{◌≡◌, ◌⊎◌, ℕ, zero, suc, ℤ, List, [], ◌∷◌, length, map, Option, Some, None, unwrap_or, codes}
 use Rattle.http_uri.specs.Uri.{SpellsNone}
 use Rattle.url.specs.Parts.{serialize}
 use Rattle.oauth2_codes.specs.Codes.{token_code_reading}
@@ -10,9 +10,8 @@ use Rattle.oauth2_replies.specs.Kept.{any_object}
 use Rattle.oauth2_replies.specs.Token.{token_reading}
 use Rattle.oauth2_urls.specs.Addressed.{Addressed}
 use Rattle.oauth2_wire.specs.declared.content_type.ReplyRule.{ReplyRule}
-use Rattle.oauth2_wire.specs.Expected.{Configuration}
-use Rattle.oauth2_wire.specs.Once.{not_http_text}
 use Rattle.oauth2_wire.specs.Reply.{Answer, ReplyView, answer_of}
+use Rattle.oauth2_wire.specs.Request.{RequestView, IsRequestOf}
 use Rattle.oauth2_poll.specs.declared.device_poll.PollAnswer.{PollAnswer}
 use Rattle.oauth2_poll.specs.declared.device_poll.PollAnswer.TheVariants.{Failed}
 use Rattle.oauth2_poll.specs.Laws.{IsTraceOf}
@@ -23,9 +22,9 @@ use Rattle.oauth2.specs.NewRequest.{base_of}
 use Rattle.oauth2.specs.Settings.{Settings}
 use Rattle.oauth2_request_commands.specs.Client.{WithToken}
 use Rattle.oauth2_world.specs.Clock.{Clock, readings_of}
-use Rattle.oauth2_request_commands.specs.Exchange.{BasicToken, IsTarget, error_display, other_text, refused_text, reply_output, token_json}
-use Rattle.oauth2_world.specs.Lines.{expected_lines, sleep_line}
-use Rattle.oauth2_request_commands.specs.Out.{Output, after, success_output, failure_output, no_memory_output}
+use Rattle.oauth2_world.specs.Events.{Event, exchanged, slept}
+use Rattle.oauth2_request_commands.specs.Exchange.{BasicToken, error_members, reply_output, token_json}
+use Rattle.oauth2_request_commands.specs.Out.{Output, after, success_output, no_memory_output, other_output, refused_output, unsent_output}
 use Rattle.oauth2_world.specs.Replies.{next_reply, later_replies}
 use Rattle.oauth2_script.specs.DevicePollParams.{DevicePollParams}
 use Rattle.oauth2_script.specs.Replies.{Reply}
@@ -68,32 +67,32 @@ class_of_call rule (Some reply) = class_of_answer (poll_answer rule reply)
 
 -- ---- what is shown
 
--- the lines of the events of a poll: those of each request, and one for each sleep; the target of a
--- request is the one that the text of the URL has
-abbrev pub AreLinesOf : Configuration → List ℕ → List TraceEvent → List ℕ → Type 0
-AreLinesOf c url [] lines = lines ≡ []
-AreLinesOf c url (Reading t ∷ events) lines = AreLinesOf c url events lines
-AreLinesOf c url (Asked ∷ events) lines =
-    (target rest : List ℕ) × IsTarget url (Some target) × AreLinesOf c url events rest × (lines ≡ expected_lines c target ++ rest)
-AreLinesOf c url (Answered a ∷ events) lines = AreLinesOf c url events lines
-AreLinesOf c url (Slept d ∷ events) lines =
-    (rest : List ℕ) × AreLinesOf c url events rest × (lines ≡ sleep_line d ++ rest)
+-- the events that a poll shows, with these replies: each request with its reply, and each sleep
+abbrev pub AreEventsOf : (RequestView → Type 0) → List Reply → List TraceEvent → List Event → Type 0
+AreEventsOf IsRequest replies [] shown = shown ≡ []
+AreEventsOf IsRequest replies (Reading t ∷ events) shown = AreEventsOf IsRequest replies events shown
+AreEventsOf IsRequest replies (Asked ∷ events) shown =
+    (request : RequestView) × (rest : List Event) × IsRequest request
+    × AreEventsOf IsRequest (later_replies replies) events rest × (shown ≡ exchanged request (next_reply replies) ∷ rest)
+AreEventsOf IsRequest replies (Answered a ∷ events) shown = AreEventsOf IsRequest replies events shown
+AreEventsOf IsRequest replies (Slept d ∷ events) shown =
+    (rest : List Event) × AreEventsOf IsRequest replies events rest × (shown ≡ slept d ∷ rest)
 
--- the text of an error response to a device (RFC 8628, 3.5)
-abbrev pub device_error_display : ErrorParts DeviceErrorCode → List ℕ
-device_error_display e = error_display device_error_code_text e
+-- the members of an error response to a device (RFC 8628, 3.5)
+abbrev pub device_error_members : ErrorParts DeviceErrorCode → ErrorParts (List ℕ)
+device_error_members e = error_members device_error_code_text e
 
--- the last line of a poll with this ending, after these calls of the client
+-- the last event of a poll with this ending, after these calls of the client
 abbrev pub shown_at : ReplyRule → Ending → List (Option ReplyView) → Output
-shown_at rule TooLong calls = failure_output (other_text (codes "failed to convert the timeout"))
-shown_at rule OutOfRange calls = failure_output (other_text (codes "failed to calculate timeout"))
+shown_at rule TooLong calls = other_output (codes "failed to convert the timeout")
+shown_at rule OutOfRange calls = other_output (codes "failed to calculate timeout")
 shown_at rule (Late n) calls =
-    failure_output (refused_text (device_error_display (parts_of_error expired_token (Some (codes "This device code has expired.")) None)))
-shown_at rule (Decided n) calls = reply_output (λ token. success_output (token_json token)) device_error_display (poll_answer rule) (last_call None calls)
-shown_at rule (Limited n) calls = failure_output (other_text (codes "polling limit reached"))
+    refused_output (device_error_members (parts_of_error expired_token (Some (codes "This device code has expired.")) None))
+shown_at rule (Decided n) calls = reply_output (λ token. success_output (token_json token)) device_error_members (poll_answer rule) (last_call None calls)
+shown_at rule (Limited n) calls = other_output (codes "polling limit reached")
 
 -- the output of a poll: the library polls with what the clock shows and what the client returns,
--- and the lines are those of the events of this poll
+-- and what is shown are the events of this poll
 pub record IsPolled (r : DeviceToken) (timeout max_polls : ℕ) (clock : Clock) (replies : List Reply) (o : Output) : Type 0 where
   pub events : List TraceEvent
   pub shows : readings_in events ≡ readings_of clock (length (readings_in events))
@@ -101,17 +100,17 @@ pub record IsPolled (r : DeviceToken) (timeout max_polls : ℕ) (clock : Clock) 
   pub are_calls : calls ≡ calls_of replies (length (answers_in events))
   pub answers : answers_in events ≡ map (class_of_call r.base.reply_rule) calls
   pub done : IsTraceOf (input_of r timeout max_polls events) events
-  pub lines : List ℕ
-  pub are_lines : AreLinesOf (device_token_configuration r) (serialize r.token_url.url) events lines
+  pub shown : List Event
+  pub are_shown : AreEventsOf (IsRequestOf (device_token_configuration r) (serialize r.token_url.url)) replies events shown
   -- the events are a whole poll, and its answer comes last; or they are the start of a poll, where
   -- memory ran out; or the endpoint is no HTTP target, which is noticed at the first request
   pub end : (
-      ((done.rest ≡ []) × (o ≡ after lines (shown_at r.base.reply_rule done.ending calls)))
-      ⊎ ((o ≡ after lines no_memory_output)
+      ((done.rest ≡ []) × (o ≡ after shown (shown_at r.base.reply_rule done.ending calls)))
+      ⊎ ((o ≡ after shown no_memory_output)
       ⊎ (SpellsNone (serialize r.token_url.url)
       × ((start moment : ℤ) × (events ≡ Reading start ∷ Reading moment ∷ []))
       × (¬ (IsLate (input_of r timeout max_polls events) 1))
-      × (o ≡ after lines (failure_output (other_text not_http_text)))))
+      × (o ≡ after shown unsent_output)))
       )
 
 -- the output of `device_poll`: that of its poll, or that no token endpoint is set

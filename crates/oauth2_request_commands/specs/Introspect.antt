@@ -16,7 +16,7 @@ use Rattle.oauth2.specs.NewRequest.{base_of}
 use Rattle.oauth2.specs.Settings.{Settings}
 use Rattle.oauth2_requests.specs.TokenIntrospection.{TokenIntrospection, introspection_configuration}
 use Rattle.oauth2_request_commands.specs.Client.{WithEndpoint}
-use Rattle.oauth2_request_commands.specs.Exchange.{IsPostShown, error_display}
+use Rattle.oauth2_request_commands.specs.Exchange.{IsPostShown, error_members}
 use Rattle.oauth2_request_commands.specs.Out.{Output}
 use Rattle.oauth2_script.specs.IntrospectParams.{IntrospectParams}
 use Rattle.oauth2_script.specs.Replies.{Reply}
@@ -48,9 +48,9 @@ abbrev pub introspection_answer : ReplyRule → ReplyView → Answer BasicIntros
 introspection_answer rule =
     answer_of rule (introspection_reading any_object token_code_reading) (error_reading error_code_reading)
 
--- what is shown of an introspection request: its lines, and the response or the fault
+-- what is shown of an introspection request: the request, and the response or the fault
 abbrev pub IsIntrospected : ReplyRule → Configuration → Addressed → List Reply → Output → Type 0
-IsIntrospected rule = IsPostShown introspection_json (error_display error_code_text) (introspection_answer rule)
+IsIntrospected rule = IsPostShown introspection_json (error_members error_code_text) (introspection_answer rule)
 
 -- the output of `introspect`: that of its request, or that the endpoint is missing
 abbrev pub IsIntrospectOutput : Settings → IntrospectParams → List Reply → Output → Type 0

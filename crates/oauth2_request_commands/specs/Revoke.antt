@@ -9,8 +9,9 @@ use Rattle.oauth2.specs.NewRequest.{IsHttps, base_of}
 use Rattle.oauth2.specs.Settings.{Settings}
 use Rattle.oauth2_requests.specs.TokenRevocation.{TokenRevocation, revocation_configuration}
 use Rattle.oauth2_request_commands.specs.Client.{WithEndpoint}
-use Rattle.oauth2_request_commands.specs.Exchange.{IsPostShown, error_display}
+use Rattle.oauth2_request_commands.specs.Exchange.{IsPostShown, error_members}
 use Rattle.oauth2_request_commands.specs.Out.{Output, failure_output}
+use Rattle.oauth2_world.specs.declared.event.FaultKind.TheVariants.{InsecureEndpoint}
 use Rattle.oauth2_script.specs.RevokeParams.{RevokeParams}
 use Rattle.oauth2_script.specs.Replies.{Reply}
 use Rattle.oauth2_script.specs.declared.revoke_params.TokenKind.{TokenKind}
@@ -34,13 +35,13 @@ revocation_request client p url = record {
 abbrev pub revocation_answer : ReplyView → Answer Unit (ErrorParts RevocationErrorCode)
 revocation_answer = status_answer_of (error_reading revocation_error_code_reading)
 
--- what is shown of a revocation request: its lines, and `null` for a success, or the fault
+-- what is shown of a revocation request: the request, and `null` for a success, or the fault
 abbrev pub IsRevoked : Configuration → Addressed → List Reply → Output → Type 0
-IsRevoked = IsPostShown (λ done. codes "null") (error_display revocation_error_code_text) revocation_answer
+IsRevoked = IsPostShown (λ done. codes "null") (error_members revocation_error_code_text) revocation_answer
 
 -- the output of a command whose endpoint has a URL that is not `https`
 abbrev pub insecure : List ℕ → Output
-insecure name = failure_output (codes "Scheme for " ++ name ++ codes " endpoint URL must be HTTPS")
+insecure name = failure_output InsecureEndpoint (codes "Scheme for " ++ name ++ codes " endpoint URL must be HTTPS")
 
 -- the output that `IsOutput` says for an `https` URL, or that the endpoint is not `https`
 abbrev pub WithHttps : List ℕ → (Addressed → Output → Type 0) → Addressed → Output → Type 0

@@ -1,33 +1,37 @@
 //! What the output shows of the result of a request.
 
-ghost use Rattle.std.specs.Prelude.{◌≡◌, ◌++◌, ℕ, List, Some, false, string_bytes, codes};
-ghost use Rattle.std.specs.Prelude.{IfOk, OnOk, IsOkAnd, IfSome};
+ghost use Rattle.std.specs.Prelude.{◌≡◌, Some, Ok, false, string_bytes};
+ghost use Rattle.std.specs.Prelude.{IfOk, IsOkAnd, IfSome};
 ghost use Rattle.url.specs.Parts.{serialize};
 ghost use Rattle.serde_json.specs.Data.{Data};
 ghost use Rattle.serde_json.specs.Written.{compact_text, has_float};
 ghost use Rattle.oauth2_codes.specs.ErrorCodes.{error_code};
 ghost use Rattle.oauth2_codes.specs.ErrorResponse.{parts_of};
+ghost use Rattle.oauth2_json.specs.Reading.{fault_of};
 ghost use Rattle.oauth2_urls.specs.Addressed.{Addressed};
 ghost use Rattle.oauth2_wire.specs.declared.content_type.ReplyRule.{ReplyRule};
 ghost use Rattle.oauth2_wire.specs.Expected.{Configuration};
 ghost use Rattle.oauth2_wire.specs.Once.{AsksOnce};
 ghost use Rattle.oauth2_wire.specs.Request.{IsRequestOf};
-ghost use Rattle.oauth2_request_commands.specs.Exchange.{cause_name, unread_line};
+ghost use Rattle.oauth2_request_commands.specs.Client.{missing};
 ghost use Rattle.oauth2_request_commands.specs.Exchange.{token_answer, IsTokenShown};
-ghost use Rattle.oauth2_request_commands.specs.Out.{success_output, failure_output, AddsOutput, Adds};
-ghost use Rattle.oauth2_world.specs.Lines.{line};
+ghost use Rattle.oauth2_request_commands.specs.Out.{success_output, failure_output, fault_shown};
+ghost use Rattle.oauth2_request_commands.specs.Out.{members_text, not_read, AddsOutput, Adds};
+ghost use Rattle.oauth2_world.specs.Events.{fault_seen, refused};
+ghost use Rattle.oauth2_world.specs.declared.event.FaultKind.TheVariants.{ErrorResponse};
 ghost use Rattle.oauth2_world.specs.Replay.{ReplaysOrStarves, client_replies};
 ghost use Rattle.oauth2_world.specs.declared.replay.ScriptedClient.{ScriptedClient};
 ghost use Rattle.oauth2_request_commands.specs.Faults.{configuration_output, fault_output};
 ghost use Rattle.oauth2_request_commands.specs.Faults.{end_output};
 ghost use Rattle.oauth2_request_commands.specs.private.Results.{revocation_output, token_meaning};
 
+use crate::shown_error::ShownError;
 use crate::status::RunStatus;
 use oauth2::basic::{BasicErrorResponse, BasicRevocationErrorResponse, BasicTokenResponse};
-use oauth2::{
-    ConfigurationError, ParseCause, ParseFault, RequestTokenError, ToJson, WriteError, compact,
+use oauth2::{ConfigurationError, ParseFault, RequestTokenError, ToJson, WriteError, compact};
+use oauth2_world::{
+    Event, Events, Fault as FaultEvent, FaultDetails, FaultKind, NoReply, ScriptedClient,
 };
-use oauth2_world::{NoReply, ScriptedClient, print_answer, print_fault, quoted};
 use std::alloc::{AllocError, Global};
 use std::fmt::Display;
 
@@ -37,102 +41,129 @@ pub type Fault = RequestTokenError<NoReply, BasicErrorResponse>;
 /// The error of a revocation request of the scripted client.
 pub type RevocationFault = RequestTokenError<NoReply, BasicRevocationErrorResponse>;
 
-fn cause_name(cause: ParseCause) -> &'static str
-    ensures { result.now ≡ cause_name cause }
+/// Adds the event of a fault. The status is `Fault`.
+pub fn add_fault(events: &mut Events, fault: FaultEvent) -> Result<RunStatus, AllocError>
+    ensures { IfOk result (λ status.
+        AddsOutput events.old events.new status (fault_shown (fault_seen fault))) }
 {
-    match cause {
-        ParseCause::NotJson => "NotJson",
-        ParseCause::NotObject => "NotObject",
-        ParseCause::Missing => "Missing",
-        ParseCause::WrongType => "WrongType",
-        ParseCause::NotWhole => "NotWhole",
-        ParseCause::OutOfRange => "OutOfRange",
-        ParseCause::BadUrl => "BadUrl",
-        ParseCause::BothNames => "BothNames",
-        ParseCause::Refused => "Refused",
-    }
-}
-
-// Adds a line of four words with spaces between them.
-fn print_words(
-    lines: &mut String,
-    first: &str,
-    second: &str,
-    third: &str,
-    fourth: &str,
-) -> Result<(), AllocError>
-    ensures { OnOk result (string_bytes lines.new ≡ string_bytes lines.old
-        ++ line (first.now ++ codes " " ++ second.now ++ codes " " ++ third.now ++ codes " "
-        ++ fourth.now)) }
-{
-    writeln!(lines, "{first} {second} {third} {fourth}")
-}
-
-#[tactic(auto, unfolding(crate::specs::Exchange::unread_line))]
-fn print_unread(
-    alloc: Global,
-    lines: &mut String,
-    member: &str,
-    cause: &str,
-) -> Result<(), AllocError>
-    ensures { OnOk result (string_bytes lines.new
-        ≡ string_bytes lines.old ++ unread_line member.now cause.now) }
-{
-    let display = quoted(alloc, "Failed to parse server response")?;
-    let member = quoted(alloc, member)?;
-    print_words(
-        lines,
-        "answer fault",
-        display.as_str(),
-        member.as_str(),
-        cause,
-    )?;
-    Ok(())
-}
-
-fn print_parse_fault(
-    alloc: Global,
-    lines: &mut String,
-    fault: &ParseFault,
-) -> Result<(), AllocError>
-    ensures { OnOk result (string_bytes lines.new ≡ string_bytes lines.old
-        ++ unread_line (string_bytes fault.now.member) (cause_name fault.now.cause)) }
-{
-    let cause = cause_name(fault.cause);
-    print_unread(alloc, lines, fault.member.as_str(), cause)
-}
-
-/// Adds the line of a fault with the text of this error. The status is `Fault`.
-pub fn show_error_text<E: Display>(
-    alloc: Global,
-    lines: &mut String,
-    error: &E,
-) -> Result<RunStatus, AllocError>
-    ensures { IfOk result (λ status. IfSome (E.output error.now) (λ text.
-        AddsOutput (string_bytes lines.old) (string_bytes lines.new) status
-        (failure_output text))) }
-{
-    let text = error.to_string(alloc)?;
-    print_fault(alloc, lines, text.as_str())?;
+    events.push(Event::Fault(fault))?;
     Ok(RunStatus::Fault)
 }
 
-/// Adds the line of the error of a request. If the body could not be read, the line names the
-/// member and the cause; else it has the text of the error. The status is `Fault`.
-pub fn show_fault<T: Display>(
+/// Adds the event of an answer; `json` is a JSON text. The status is `Answered`.
+pub fn add_answer(events: &mut Events, json: String) -> Result<RunStatus, AllocError>
+    ensures { IfOk result (λ status.
+        AddsOutput events.old events.new status (success_output (string_bytes json))) }
+{
+    events.push(Event::Answer(json))?;
+    Ok(RunStatus::Answered)
+}
+
+// Adds the event of a fault of which nothing is known but its kind and its text.
+fn add_failure(events: &mut Events, kind: FaultKind, text: String) -> Result<RunStatus, AllocError>
+    ensures { IfOk result (λ status.
+        AddsOutput events.old events.new status (failure_output kind (string_bytes text))) }
+{
+    let fault = FaultEvent {
+        kind,
+        text,
+        details: FaultDetails::None,
+    };
+    let status = add_fault(events, fault)?;
+    Ok(status)
+}
+
+// Adds the event of a body that could not be read.
+fn show_unread(
     alloc: Global,
-    lines: &mut String,
+    events: &mut Events,
+    fault: &ParseFault,
+) -> Result<RunStatus, AllocError>
+    ensures { IfOk result (λ status.
+        AddsOutput events.old events.new status (not_read (fault_of fault.now))) }
+{
+    let fault = FaultEvent {
+        kind: FaultKind::UnreadReply,
+        text: String::from_str(alloc, "Failed to parse server response")?,
+        details: FaultDetails::Unread(ParseFault {
+            member: String::from_str(alloc, fault.member.as_str())?,
+            cause: fault.cause,
+        }),
+    };
+    let status = add_fault(events, fault)?;
+    Ok(status)
+}
+
+/// Adds the event of a fault of this kind, with the text of this error. The status is `Fault`.
+pub fn show_error_text<E: Display>(
+    alloc: Global,
+    events: &mut Events,
+    kind: FaultKind,
+    error: &E,
+) -> Result<RunStatus, AllocError>
+    ensures { IfOk result (λ status. IfSome (E.output error.now) (λ text.
+        AddsOutput events.old events.new status (failure_output kind text))) }
+{
+    let text = error.to_string(alloc)?;
+    let status = add_failure(events, kind, text)?;
+    Ok(status)
+}
+
+// Adds the event of an error response, which this text tells.
+fn show_refused<T: ShownError>(
+    alloc: Global,
+    events: &mut Events,
+    text: String,
+    error: &T,
+) -> Result<RunStatus, AllocError>
+    ensures { IfOk result (λ status. AddsOutput events.old events.new status (fault_shown (record {
+      kind = ErrorResponse;
+      text = string_bytes text;
+      details = refused (T.texts error.now);
+    }))) }
+{
+    let fault = FaultEvent {
+        kind: FaultKind::ErrorResponse,
+        text,
+        details: FaultDetails::Refused(error.shown_members(alloc)?),
+    };
+    let status = add_fault(events, fault)?;
+    Ok(status)
+}
+
+/// Adds the event of the error of a request. If the body could not be read, it names the member and
+/// the cause, and that of an error response has its members. The status is `Fault`.
+pub fn show_fault<T: ShownError + Display>(
+    alloc: Global,
+    events: &mut Events,
     fault: &RequestTokenError<NoReply, T>,
 ) -> Result<RunStatus, AllocError>
-    ensures { IfOk result (λ status. (text : T → List ℕ) → ((e : T) → T.output e ≡ Some (text e))
-        → AddsOutput (string_bytes lines.old) (string_bytes lines.new) status
-        (fault_output text fault.now)) }
+    ensures { IfOk result (λ status.
+        ((e : T) → T.output e ≡ Some (members_text (T.texts e)))
+        → AddsOutput events.old events.new status (fault_output T.texts fault.now)) }
 {
-    if let RequestTokenError::Parse(fault, _) = fault {
-        print_parse_fault(alloc, lines, fault)?;
-        Ok(RunStatus::Fault)
-    } else {
-        show_error_text(alloc, lines, fault)
+    match fault {
+        RequestTokenError::Parse(fault, _) => {
+            let status = show_unread(alloc, events, fault)?;
+            Ok(status)
+        }
+        RequestTokenError::ServerResponse(error) => {
+            let text = fault.to_string(alloc)?;
+            let status = show_refused(alloc, events, text, error)?;
+            Ok(status)
+        }
+        RequestTokenError::Request(_) => {
+            let status = show_error_text(alloc, events, FaultKind::RequestFailed, fault)?;
+            Ok(status)
+        }
+        RequestTokenError::Other(_) => {
+            let status = show_error_text(alloc, events, FaultKind::OtherError, fault)?;
+            Ok(status)
+        }
+        RequestTokenError::Memory { .. } => {
+            let status = show_error_text(alloc, events, FaultKind::OutOfMemory, fault)?;
+            Ok(status)
+        }
     }
 }
 
@@ -150,43 +181,42 @@ fn json_of<T: ToJson>(alloc: Global, value: &T) -> Result<String, AllocError>
     }
 }
 
-/// Adds the line of an answer, as compact JSON. The status is `Answered`. The value must be one
+/// Adds the event of an answer, as compact JSON. The status is `Answered`. The value must be one
 /// that can be written as JSON, and have no float.
 pub fn show_answer<A: ToJson>(
     alloc: Global,
-    lines: &mut String,
+    events: &mut Events,
     answer: &A,
 ) -> Result<RunStatus, AllocError>
     requires { IsOkAnd (A.writing answer.now) (λ d. has_float d ≡ false) }
     ensures { IfOk result (λ status. (d : Data) → A.writing answer.now ≡ Ok d
-        → AddsOutput (string_bytes lines.old) (string_bytes lines.new) status
-        (success_output (compact_text d))) }
+        → AddsOutput events.old events.new status (success_output (compact_text d))) }
 {
     let json = json_of(alloc, answer)?;
-    print_answer(lines, json.as_str())?;
-    Ok(RunStatus::Answered)
+    let status = add_answer(events, json)?;
+    Ok(status)
 }
 
-/// Adds the line of the result of a request. Each value of `A` must be one that can be written as
+/// Adds the event of the result of a request. Each value of `A` must be one that can be written as
 /// JSON, and have no float.
-pub fn show_end<A: ToJson, T: Display>(
+pub fn show_end<A: ToJson, T: ShownError + Display>(
     alloc: Global,
-    lines: &mut String,
+    events: &mut Events,
     end: &Result<A, RequestTokenError<NoReply, T>>,
 ) -> Result<RunStatus, AllocError>
     requires { (a : A) → IsOkAnd (A.writing a) (λ d. has_float d ≡ false) }
     ensures { IfOk result (λ status. (value : A → Data) → ((a : A) → A.writing a ≡ Ok (value a))
-        → (text : T → List ℕ) → ((e : T) → T.output e ≡ Some (text e))
-        → AddsOutput (string_bytes lines.old) (string_bytes lines.new) status
-        (end_output text (λ a. success_output (compact_text (value a))) end.now)) }
+        → ((e : T) → T.output e ≡ Some (members_text (T.texts e)))
+        → AddsOutput events.old events.new status
+        (end_output T.texts (λ a. success_output (compact_text (value a))) end.now)) }
 {
     match end {
-        Ok(answer) => show_answer(alloc, lines, answer),
-        Err(fault) => show_fault(alloc, lines, fault),
+        Ok(answer) => show_answer(alloc, events, answer),
+        Err(fault) => show_fault(alloc, events, fault),
     }
 }
 
-/// Adds the line of the result of a token request, which the client has sent.
+/// Adds the event of the result of a token request, which the client has sent.
 pub fn show_token(
     alloc: Global,
     http_client: &mut ScriptedClient,
@@ -197,38 +227,61 @@ pub fn show_token(
         → AsksOnce token_meaning (parts_of error_code) ReplaysOrStarves (token_answer rule)
         (IsRequestOf c) (serialize endpoint.url) before end.now http_client.old
         → IfOk result (λ status. http_client.new.is_starved ≡ false
-        → Adds (string_bytes before.lines) (string_bytes http_client.new.lines) status
+        → Adds before.events http_client.new.events status
         (IsTokenShown rule c endpoint (client_replies before))) }
 {
-    show_end(alloc, &mut http_client.lines, end)
+    show_end(alloc, &mut http_client.events, end)
 }
 
-/// Adds the line of the result of a revocation: `answer ok null` for a success.
+/// Adds the event of the result of a revocation: the answer `null` for a success.
 pub fn show_revocation(
     alloc: Global,
-    lines: &mut String,
+    events: &mut Events,
     end: &Result<(), RevocationFault>,
 ) -> Result<RunStatus, AllocError>
-    ensures { IfOk result (λ status. AddsOutput (string_bytes lines.old) (string_bytes lines.new)
-        status (revocation_output end.now)) }
+    ensures { IfOk result (λ status.
+        AddsOutput events.old events.new status (revocation_output end.now)) }
 {
     match end {
         Ok(()) => {
-            print_answer(lines, "null")?;
-            Ok(RunStatus::Answered)
+            let json = String::from_str(alloc, "null")?;
+            let status = add_answer(events, json)?;
+            Ok(status)
         }
-        Err(fault) => show_fault(alloc, lines, fault),
+        Err(fault) => show_fault(alloc, events, fault),
     }
 }
 
-/// Adds the line that the client lacks an endpoint, or that the URL of one is not `https`.
+/// Adds the event that the client lacks an endpoint, or that the URL of one is not `https`.
 pub fn show_configuration_error(
     alloc: Global,
-    lines: &mut String,
+    events: &mut Events,
     error: &ConfigurationError,
 ) -> Result<RunStatus, AllocError>
-    ensures { IfOk result (λ status. AddsOutput (string_bytes lines.old) (string_bytes lines.new)
-        status (configuration_output error.now)) }
+    ensures { IfOk result (λ status.
+        AddsOutput events.old events.new status (configuration_output error.now)) }
 {
-    show_error_text(alloc, lines, error)
+    match error {
+        ConfigurationError::MissingUrl(_) => {
+            let status = show_error_text(alloc, events, FaultKind::MissingEndpoint, error)?;
+            Ok(status)
+        }
+        ConfigurationError::InsecureUrl(_) => {
+            let status = show_error_text(alloc, events, FaultKind::InsecureEndpoint, error)?;
+            Ok(status)
+        }
+    }
+}
+
+/// Adds the event that the client lacks the endpoint of this name. The status is `Fault`.
+pub fn show_missing(
+    alloc: Global,
+    events: &mut Events,
+    name: &'static str,
+) -> Result<RunStatus, AllocError>
+    ensures { IfOk result (λ status.
+        AddsOutput events.old events.new status (missing name.now)) }
+{
+    let error = ConfigurationError::MissingUrl(name);
+    show_configuration_error(alloc, events, &error)
 }

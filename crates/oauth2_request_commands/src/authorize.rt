@@ -1,7 +1,8 @@
 //! The command `authorize`: the URL that the user is sent to.
 
-ghost use Rattle.std.specs.Prelude.{◌≡◌, ◌++◌, Some, codes, option_copied, unwrap_or, string_bytes};
-ghost use Rattle.std.specs.Prelude.{IfSome, IfNone, IsOkAnd, IsErrAnd, OnOk, IfOk, refl};
+ghost use Rattle.std.specs.Prelude.{◌≡◌, ◌++◌, ◌∷◌, [], Some, codes};
+ghost use Rattle.std.specs.Prelude.{option_copied, unwrap_or};
+ghost use Rattle.std.specs.Prelude.{IfSome, IfNone, IsOkAnd, IsErrAnd, IfOk, refl};
 ghost use Rattle.url.specs.Parts.{serialize};
 ghost use Rattle.oauth2_urls.specs.Addressed.{Addressed};
 ghost use Rattle.oauth2_form.specs.Query.{ExtendsQuery};
@@ -14,9 +15,10 @@ ghost use Rattle.oauth2.specs.Settings.{Settings};
 ghost use Rattle.oauth2_request_commands.specs.Client.{given_or};
 ghost use Rattle.oauth2_request_commands.specs.Out.{Adds, AddsOutput, after, success_output};
 ghost use Rattle.oauth2_script.specs.Views.{authorize_view};
-ghost use Rattle.oauth2_world.specs.Lines.{quotation};
+ghost use Rattle.oauth2_world.specs.Events.{sent_to};
+ghost use Rattle.oauth2_world.specs.Quotation.{quotation};
 
-use crate::answer::show_configuration_error;
+use crate::answer::{add_answer, show_configuration_error};
 use crate::client::ScriptClient;
 use crate::extra::{Extensible, with_extra};
 use crate::status::RunStatus;
@@ -25,7 +27,7 @@ use oauth2::{
     RedirectUrl, ResponseType, TryClone,
 };
 use oauth2_script::AuthorizeParams;
-use oauth2_world::{print_answer, quoted};
+use oauth2_world::{Event, Events, quoted};
 use std::alloc::{AllocError, Global};
 use url::Url;
 
@@ -138,30 +140,21 @@ pub fn authorization_url(
     }
 }
 
-/// Adds the line of the URL that the user is sent to.
-#[tactic(auto, unfolding(crate::specs::Authorize::url_line))]
-pub fn print_url(alloc: Global, lines: &mut String, url: &str) -> Result<(), AllocError>
-    ensures { OnOk result (string_bytes lines.new
-        ≡ string_bytes lines.old ++ spec.url_line url.now) }
-{
-    let url = quoted(alloc, url)?;
-    writeln!(lines, "url {url}")
-}
-
-// Adds the line of the URL, and the line of the state.
+// Adds the event of the URL, and the answer, which is the state.
 fn show_url(
     alloc: Global,
-    lines: &mut String,
+    events: &mut Events,
     url: &Url,
     state: &CsrfToken,
 ) -> Result<RunStatus, AllocError>
-    ensures { IfOk result (λ status. AddsOutput (string_bytes lines.old) (string_bytes lines.new)
-        status (after (spec.url_line (serialize url.now)) (success_output (quotation state.now)))) }
+    ensures { IfOk result (λ status. AddsOutput events.old events.new status
+        (after (sent_to (serialize url.now) ∷ []) (success_output (quotation state.now)))) }
 {
-    print_url(alloc, lines, url.as_str())?;
+    let url = String::from_str(alloc, url.as_str())?;
+    events.push(Event::Url(url))?;
     let json = quoted(alloc, state.secret().as_str())?;
-    print_answer(lines, json.as_str())?;
-    Ok(RunStatus::Answered)
+    let status = add_answer(events, json)?;
+    Ok(status)
 }
 
 /// Shows the URL that the user is sent to, and the state (RFC 6749, section 4.1.1).
@@ -169,17 +162,17 @@ pub fn run_authorize(
     alloc: Global,
     client: &ScriptClient,
     params: AuthorizeParams,
-    lines: &mut String,
+    events: &mut Events,
 ) -> Result<RunStatus, AllocError>
-    ensures { IfOk result (λ status. Adds (string_bytes lines.old) (string_bytes lines.new) status
+    ensures { IfOk result (λ status. Adds events.old events.new status
         (spec.IsAuthorizeOutput client.now (authorize_view params))) }
 {
     let state = params.state.try_clone(alloc)?;
     match start(alloc, client, state) {
         Ok(request) => {
             let made = authorization_url(alloc, request, params)?;
-            show_url(alloc, lines, &made.0, &made.1)
+            show_url(alloc, events, &made.0, &made.1)
         }
-        Err(error) => show_configuration_error(alloc, lines, &error),
+        Err(error) => show_configuration_error(alloc, events, &error),
     }
 }

@@ -1,6 +1,6 @@
 //! The command `client_credentials`: the client asks for a token for itself.
 
-ghost use Rattle.std.specs.Prelude.{◌≡◌, false, string_bytes, IfOk, refl};
+ghost use Rattle.std.specs.Prelude.{◌≡◌, false, IfOk, refl};
 ghost use Rattle.oauth2_request_commands.specs.ClientCredentials as spec;
 ghost use Rattle.oauth2_request_commands.specs.Out.{Adds};
 ghost use Rattle.oauth2_world.specs.Replay.{client_replies};
@@ -42,7 +42,7 @@ pub fn run_client_credentials(
     http_client: &mut ScriptedClient,
 ) -> Result<RunStatus, AllocError>
     ensures { IfOk result (λ status. http_client.new.is_starved ≡ false
-        → Adds (string_bytes http_client.old.lines) (string_bytes http_client.new.lines) status
+        → Adds http_client.old.events http_client.new.events status
         (spec.IsClientCredentialsOutput client.now (client_credentials_view params)
         (client_replies http_client.old))) }
 {
@@ -53,6 +53,6 @@ pub fn run_client_credentials(
             let end = asked.request(alloc, http_client);
             show_token(alloc, http_client, &end)
         }
-        Err(error) => show_configuration_error(alloc, &mut http_client.lines, &error),
+        Err(error) => show_configuration_error(alloc, &mut http_client.events, &error),
     }
 }

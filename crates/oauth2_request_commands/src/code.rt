@@ -1,6 +1,6 @@
 //! The command `code`: an authorization code is exchanged for a token.
 
-ghost use Rattle.std.specs.Prelude.{◌≡◌, false, string_bytes, IfOk, refl};
+ghost use Rattle.std.specs.Prelude.{◌≡◌, false, IfOk, refl};
 ghost use Rattle.oauth2_request_commands.specs.Code as spec;
 ghost use Rattle.oauth2_request_commands.specs.Out.{Adds};
 ghost use Rattle.oauth2_world.specs.Replay.{client_replies};
@@ -64,7 +64,7 @@ pub fn run_code(
     http_client: &mut ScriptedClient,
 ) -> Result<RunStatus, AllocError>
     ensures { IfOk result (λ status. http_client.new.is_starved ≡ false
-        → Adds (string_bytes http_client.old.lines) (string_bytes http_client.new.lines) status
+        → Adds http_client.old.events http_client.new.events status
         (spec.IsCodeOutput client.now (code_view params) (client_replies http_client.old))) }
 {
     match client.exchange_code(alloc, params.code) {
@@ -75,6 +75,6 @@ pub fn run_code(
             let end = asked.request(alloc, http_client);
             show_token(alloc, http_client, &end)
         }
-        Err(error) => show_configuration_error(alloc, &mut http_client.lines, &error),
+        Err(error) => show_configuration_error(alloc, &mut http_client.events, &error),
     }
 }

@@ -1,6 +1,6 @@
 //! The command `device_authorization`: a device asks for its codes.
 
-ghost use Rattle.std.specs.Prelude.{◌≡◌, false, string_bytes, IfOk, refl};
+ghost use Rattle.std.specs.Prelude.{◌≡◌, false, IfOk, refl};
 ghost use Rattle.oauth2_request_commands.specs.DeviceAuthorization as spec;
 ghost use Rattle.oauth2_request_commands.specs.Out.{Adds};
 ghost use Rattle.oauth2_world.specs.Replay.{client_replies};
@@ -38,7 +38,7 @@ pub fn run_device_authorization(
     http_client: &mut ScriptedClient,
 ) -> Result<RunStatus, AllocError>
     ensures { IfOk result (λ status. http_client.new.is_starved ≡ false
-        → Adds (string_bytes http_client.old.lines) (string_bytes http_client.new.lines) status
+        → Adds http_client.old.events http_client.new.events status
         (spec.IsDeviceAuthorizationOutput client.now (device_authorization_view params)
         (client_replies http_client.old))) }
 {
@@ -50,8 +50,8 @@ pub fn run_device_authorization(
                 alloc,
                 http_client,
             );
-            show_end(alloc, &mut http_client.lines, &end)
+            show_end(alloc, &mut http_client.events, &end)
         }
-        Err(error) => show_configuration_error(alloc, &mut http_client.lines, &error),
+        Err(error) => show_configuration_error(alloc, &mut http_client.events, &error),
     }
 }

@@ -1,6 +1,6 @@
 //! The command `device_poll`: a device polls for its token until the user decides.
 
-ghost use Rattle.std.specs.Prelude.{◌≡◌, false, unwrap_or, option_map, string_bytes, IfOk, refl};
+ghost use Rattle.std.specs.Prelude.{◌≡◌, false, unwrap_or, option_map, IfOk, refl};
 ghost use Rattle.std.specs.Duration.{as_nanos};
 ghost use Rattle.std.specs.Int.NonZero.{non_zero_u64_get};
 ghost use Rattle.oauth2_device.specs.Poll.{timeout_of};
@@ -62,13 +62,13 @@ fn poll(
     world: &mut ScriptedWorld,
 ) -> Result<RunStatus, AllocError>
     ensures { IfOk result (λ status. world.new.http_client.is_starved ≡ false
-        → Adds (string_bytes world.old.http_client.lines)
-        (string_bytes world.new.http_client.lines) status
+        → Adds world.old.http_client.events
+        world.new.http_client.events status
         (spec.IsPolled request.entry.request (timeout_of request.entry.request timeout)
         (non_zero_u64_get max_polls) world.old.clock (client_replies world.old.http_client))) }
 {
     let end = request.poll_with(alloc, world, timeout, max_polls.get());
-    show_end(alloc, &mut world.http_client.lines, &end)
+    show_end(alloc, &mut world.http_client.events, &end)
 }
 
 /// Polls for a device's token, and shows each request, each sleep and the result (RFC 8628,
@@ -80,8 +80,8 @@ pub fn run_device_poll(
     world: &mut ScriptedWorld,
 ) -> Result<RunStatus, AllocError>
     ensures { IfOk result (λ status. world.new.http_client.is_starved ≡ false
-        → Adds (string_bytes world.old.http_client.lines)
-        (string_bytes world.new.http_client.lines) status
+        → Adds world.old.http_client.events
+        world.new.http_client.events status
         (spec.IsDevicePollOutput client.now (device_poll_view params) world.old.clock
         (client_replies world.old.http_client))) }
 {
@@ -92,6 +92,6 @@ pub fn run_device_poll(
             let asked = with_extra(capped, params.extra_params.as_slice())?;
             poll(alloc, asked, params.timeout, params.max_polls, world)
         }
-        Err(error) => show_configuration_error(alloc, &mut world.http_client.lines, &error),
+        Err(error) => show_configuration_error(alloc, &mut world.http_client.events, &error),
     }
 }

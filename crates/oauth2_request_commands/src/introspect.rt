@@ -54,7 +54,7 @@ pub fn run_introspect(
     http_client: &mut ScriptedClient,
 ) -> Result<RunStatus, AllocError>
     ensures { IfOk result (λ status. http_client.new.is_starved ≡ false
-        → Adds (string_bytes http_client.old.lines) (string_bytes http_client.new.lines) status
+        → Adds http_client.old.events http_client.new.events status
         (spec.IsIntrospectOutput client.now (introspect_view params)
         (client_replies http_client.old))) }
 {
@@ -64,8 +64,8 @@ pub fn run_introspect(
             let hinted = with_hint(request, params.hint);
             let asked = with_extra(hinted, params.extra_params.as_slice())?;
             let end = asked.request(alloc, http_client);
-            show_end(alloc, &mut http_client.lines, &end)
+            show_end(alloc, &mut http_client.events, &end)
         }
-        Err(error) => show_configuration_error(alloc, &mut http_client.lines, &error),
+        Err(error) => show_configuration_error(alloc, &mut http_client.events, &error),
     }
 }

@@ -1,7 +1,7 @@
 //! The command `password`: the name and the password of a resource owner are exchanged for a
 //! token.
 
-ghost use Rattle.std.specs.Prelude.{◌≡◌, false, string_bytes, IfOk, refl};
+ghost use Rattle.std.specs.Prelude.{◌≡◌, false, IfOk, refl};
 ghost use Rattle.oauth2_request_commands.specs.Password as spec;
 ghost use Rattle.oauth2_request_commands.specs.Out.{Adds};
 ghost use Rattle.oauth2_world.specs.Replay.{client_replies};
@@ -39,7 +39,7 @@ pub fn run_password(
     http_client: &mut ScriptedClient,
 ) -> Result<RunStatus, AllocError>
     ensures { IfOk result (λ status. http_client.new.is_starved ≡ false
-        → Adds (string_bytes http_client.old.lines) (string_bytes http_client.new.lines) status
+        → Adds http_client.old.events http_client.new.events status
         (spec.IsPasswordOutput client.now (password_view params)
         (client_replies http_client.old))) }
 {
@@ -52,6 +52,6 @@ pub fn run_password(
             let end = asked.request(alloc, http_client);
             show_token(alloc, http_client, &end)
         }
-        Err(error) => show_configuration_error(alloc, &mut http_client.lines, &error),
+        Err(error) => show_configuration_error(alloc, &mut http_client.events, &error),
     }
 }

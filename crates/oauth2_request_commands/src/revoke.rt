@@ -49,15 +49,15 @@ pub fn run_revoke(
     http_client: &mut ScriptedClient,
 ) -> Result<RunStatus, AllocError>
     ensures { IfOk result (λ status. http_client.new.is_starved ≡ false
-        → Adds (string_bytes http_client.old.lines) (string_bytes http_client.new.lines) status
+        → Adds http_client.old.events http_client.new.events status
         (spec.IsRevokeOutput client.now (revoke_view params) (client_replies http_client.old))) }
 {
     match client.revoke_token(alloc, token_of(params.token, params.kind)) {
         Ok(request) => {
             let asked = with_extra(request, params.extra_params.as_slice())?;
             let end = asked.request(alloc, http_client);
-            show_revocation(alloc, &mut http_client.lines, &end)
+            show_revocation(alloc, &mut http_client.events, &end)
         }
-        Err(error) => show_configuration_error(alloc, &mut http_client.lines, &error),
+        Err(error) => show_configuration_error(alloc, &mut http_client.events, &error),
     }
 }

@@ -5,6 +5,7 @@ use Rattle.oauth2.specs.Settings.{Settings}
 use Rattle.oauth2_shared_token.specs.declared.renewal.Told.{Told}
 use Rattle.oauth2_shared_token.specs.declared.renewal.Told.TheVariants as told
 use Rattle.oauth2_urls.specs.Addressed.{Addressed}
+use Rattle.oauth2_world.specs.Events.{Event, stepped}
 use Rattle.oauth2_script.specs.Replies.{Reply}
 use Rattle.oauth2_script.specs.declared.shared_keeper_params.Fate.TheVariants as fates
 use Rattle.oauth2_script.specs.declared.shared_keeper_params.SharedKeeperStep.{SharedKeeperStep}
@@ -12,7 +13,7 @@ use Rattle.oauth2_request_commands.specs.Client.{WithToken, missing}
 use Rattle.oauth2_request_commands.specs.Out.{Output, AddsOutput, Adds, both, both_outputs, nothing}
 use Rattle.oauth2_request_commands.specs.declared.status.RunStatus.{RunStatus}
 use Rattle.oauth2_request_commands.proofs.Joined.{joined-assoc, joined-nothing}
-use Rattle.oauth2_shared_keeper_command.specs.Effect.{Effect, keeper_line, end_lines, load_effect, replace_effect}
+use Rattle.oauth2_shared_keeper_command.specs.Effect.{Effect, end_events, load_effect, replace_effect}
 use Rattle.oauth2_shared_keeper_command.specs.Refreshing.{IsRefreshed}
 use Rattle.oauth2_shared_keeper_command.specs.Renewal.{over, going_on, turn_of, turned}
 use Rattle.oauth2_shared_keeper_command.specs.SharedKeeper.{Standing, IsEffect, without_effect, refresh_text, told_of, with_given, coming, around, IsSending, IsAction, IsStep, AreSteps, says, with_renewal}
@@ -58,9 +59,9 @@ module _ (client : Settings) (url : Addressed) (place : ℕ) (s kept : Standing)
       → IsEffect s step.keeper renewal (without_effect s (codes "stopped") told.Stop) o kept → IsStep client url place s step o kept
   stopped_is renewal f r h = rw (f, ← r) h
 
-  pub killed_is : step.fate ≡ fates.Killed → o ≡ says (keeper_line step.keeper (codes "killed")) → kept ≡ with_renewal s step.keeper over
+  pub killed_is : step.fate ≡ fates.Killed → o ≡ says (stepped step.keeper (codes "killed") ∷ []) → kept ≡ with_renewal s step.keeper over
       → IsStep client url place s step o kept
-  killed_is f lines is = rw f (lines, is)
+  killed_is f shown is = rw f (shown, is)
 
 -- a refresh token that is sent, from its parts
 pub sending_told : (client : Settings) (url : Addressed) (s : Standing) (keeper : ℕ) (renewal : Renewal) (token : ℕ) (is_told : Bool)
@@ -68,51 +69,51 @@ pub sending_told : (client : Settings) (url : Addressed) (s : Standing) (keeper 
     (stored : Stored) (tokens : List (List ℕ)) (renewals : List Renewal)
     → IsRefreshed client url (slice_index_or s.tokens token []) (coming is_told s.replies) sent given left
     → what ≡ told_of s.tokens given → stored ≡ s.stored → tokens ≡ with_given s.tokens given → renewals ≡ slice_set s.renewals keeper (turned renewal what)
-    → (old mid after new : List ℕ) (status : RunStatus) → mid ≡ old ++ keeper_line keeper (refresh_text s.tokens token)
-    → AddsOutput mid after status sent → new ≡ after ++ end_lines (with_given s.tokens given) keeper (turn_of renewal what).step
+    → (old mid after new : List Event) (status : RunStatus) → mid ≡ old ++ stepped keeper (refresh_text s.tokens token) ∷ []
+    → AddsOutput mid after status sent → new ≡ after ++ end_events (with_given s.tokens given) keeper (turn_of renewal what).step
     → (o : Output) × IsSending client url s keeper renewal token is_told o (record { stored = stored; tokens = tokens; renewals = renewals; replies = left })
     × AddsOutput old new status o
-sending_told client url s keeper renewal token is_told sent given left what stored tokens renewals refreshed w st t r old mid after new status m (printed, ended) n =
-    let line = keeper_line keeper (refresh_text s.tokens token) in
-    let end = end_lines (with_given s.tokens given) keeper (turn_of renewal (told_of s.tokens given)).step in
-    let lines : new ≡ old ++ (line ++ sent.lines ++ end) = rw (n, printed, m, w) (simp append_assoc) in
-    (around line sent end, (sent, given, left, refreshed, refl, rw (st, t, r, w) refl), (lines, ended))
+sending_told client url s keeper renewal token is_told sent given left what stored tokens renewals refreshed w st t r old mid after new status m (added, ended) n =
+    let begin : List Event = stepped keeper (refresh_text s.tokens token) ∷ [] in
+    let end = end_events (with_given s.tokens given) keeper (turn_of renewal (told_of s.tokens given)).step in
+    let all : new ≡ old ++ (begin ++ sent.events ++ end) = rw (n, added, m, w) (simp append_assoc) in
+    (around begin sent end, (sent, given, left, refreshed, refl, rw (st, t, r, w) refl), (all, ended))
 
 -- the output for the endpoint that there is
 pub endpoint_told : (IsOut : Addressed → Output → Type 0) (url : Option Addressed) (u : Addressed) → url ≡ Some u
-    → (old new : List ℕ) (status : RunStatus) → ((o : Output) × IsOut u o × AddsOutput old new status o) → Adds old new status (WithToken IsOut url)
-endpoint_told IsOut url u there old new status (o, is, (lines, ended)) = rw there (o, is, lines, ended)
+    → (old new : List Event) (status : RunStatus) → ((o : Output) × IsOut u o × AddsOutput old new status o) → Adds old new status (WithToken IsOut url)
+endpoint_told IsOut url u there old new status (o, is, (added, ended)) = rw there (o, is, added, ended)
 
 -- there is none
 pub no_endpoint_told : (IsOut : Addressed → Output → Type 0) (url : Option Addressed) → url ≡ None
-    → (old new : List ℕ) (status : RunStatus) → AddsOutput old new status (missing (codes "token")) → Adds old new status (WithToken IsOut url)
-no_endpoint_told IsOut url none old new status (lines, ended) = rw none (missing (codes "token"), refl, lines, ended)
+    → (old new : List Event) (status : RunStatus) → AddsOutput old new status (missing (codes "token")) → Adds old new status (WithToken IsOut url)
+no_endpoint_told IsOut url none old new status (added, ended) = rw none (missing (codes "token"), refl, added, ended)
 
 -- ---- all steps
 
 module _ (client : Settings) (url : Addressed) (first : Standing) where
   -- `done` is what is shown of the steps before `now`; whatever is shown of the rest comes behind it
-  abbrev pub SoFar : List SharedKeeperStep → List SharedKeeperStep → ℕ → Standing → List ℕ → List ℕ → RunStatus → Type 0
+  abbrev pub SoFar : List SharedKeeperStep → List SharedKeeperStep → ℕ → Standing → List Event → List Event → RunStatus → Type 0
   SoFar all left place now old new status =
       (done : Output) × AddsOutput old new status done
       × ((rest : Output) (kept : Standing) → AreSteps client url place now left rest kept → AreSteps client url 0 first all (both_outputs done rest) kept)
 
   -- one more step
   pub one_more : (now next : Standing) (all : List SharedKeeperStep) (step : SharedKeeperStep) (later : List SharedKeeperStep) (place : ℕ)
-      (old mid new : List ℕ) (status later_status : RunStatus)
+      (old mid new : List Event) (status later_status : RunStatus)
       → SoFar all (step ∷ later) place now old mid status
       → ((o : Output) × IsStep client url place now step o next × AddsOutput mid new later_status o)
       → SoFar all later (place + 1) next old new (both status later_status)
-  one_more now next all step later place old mid new status later_status (done, (printed, ended), goes_on) (o, is, (printed_now, ended_now)) =
-      let lines : new ≡ old ++ (both_outputs done o).lines = rw (printed_now, printed) (append_assoc old done.lines o.lines) in
+  one_more now next all step later place old mid new status later_status (done, (added, ended), goes_on) (o, is, (added_now, ended_now)) =
+      let all : new ≡ old ++ (both_outputs done o).events = rw (added_now, added) (append_assoc old done.events o.events) in
       let ends : both status later_status ≡ (both_outputs done o).status = rw (ended, ended_now) refl in (
         both_outputs done o,
-        (lines, ends),
+        (all, ends),
         λ rest kept steps. rw (joined-assoc done o rest) (goes_on (both_outputs o rest) kept (o, next, rest, is, steps, refl)),
       )
 
   -- no step is left
-  pub no_more : (now : Standing) (all left : List SharedKeeperStep) → length left ≡ 0 → (place : ℕ) (old new : List ℕ) (status : RunStatus)
+  pub no_more : (now : Standing) (all left : List SharedKeeperStep) → length left ≡ 0 → (place : ℕ) (old new : List Event) (status : RunStatus)
       → SoFar all left place now old new status → (o : Output) × AreSteps client url 0 first all o now × AddsOutput old new status o
   no_more now all [] none place old new status (done, added, goes_on) =
       (done, subst (λ (o : Output). AreSteps client url 0 first all o now) (joined-nothing done) (goes_on nothing now (refl, refl)), added)

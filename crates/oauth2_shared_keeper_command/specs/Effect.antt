@@ -1,5 +1,5 @@
--- What a keeper does at the store: what its line says of it, what it is told, and what is stored then.
-use Rattle.std.specs.Prelude.{ℕ, ◌+◌, ◌==◌, ◌&&◌, Bool, List, [], ◌++◌, Option, Some, None, codes, slice_index_or, if◌then◌else◌}
+-- What a keeper does at the store: the text of its step, what it is told, and what is stored then.
+use Rattle.std.specs.Prelude.{ℕ, ◌+◌, ◌==◌, ◌&&◌, Bool, List, [], ◌∷◌, ◌++◌, Option, Some, None, codes, slice_index_or, if◌then◌else◌}
 use Rattle.std.specs.Fmt.{decimal}
 use Rattle.oauth2_shared_token.specs.declared.renewal.Content.{Content}
 use Rattle.oauth2_shared_token.specs.declared.renewal.Content.TheVariants.{AtRest, Marked}
@@ -7,15 +7,12 @@ use Rattle.oauth2_shared_token.specs.declared.renewal.Step.{Step}
 use Rattle.oauth2_shared_token.specs.declared.renewal.Step.TheVariants as step
 use Rattle.oauth2_shared_token.specs.declared.renewal.Told.{Told}
 use Rattle.oauth2_shared_token.specs.declared.renewal.Told.TheVariants as told
-use Rattle.oauth2_world.specs.Lines.{line, quotation}
+use Rattle.oauth2_world.specs.Events.{Event, stepped}
+use Rattle.oauth2_world.specs.Quotation.{quotation}
 use Rattle.oauth2_shared_keeper_command.specs.declared.action.Replacement.{Replacement}
 use Rattle.oauth2_shared_keeper_command.specs.declared.action.Stored.{Stored}
 
 -- ---- texts
-
--- the line `keeper N T`, with the number of the keeper and a text
-unfoldable pub keeper_line : ℕ → List ℕ → List ℕ
-keeper_line keeper text = line (codes "keeper " ++ decimal keeper ++ codes " " ++ text)
 
 -- a token, shown by its refresh token as a JSON string
 abbrev pub token_text : List (List ℕ) → ℕ → List ℕ
@@ -30,23 +27,23 @@ content_text tokens token (Some renewal) = codes "mark " ++ decimal renewal ++ c
 abbrev pub version_text : List (List ℕ) → ℕ → ℕ → Option ℕ → List ℕ
 version_text tokens version token mark = decimal version ++ codes " " ++ content_text tokens token mark
 
--- the lines of the step that ends a renewal; none for other steps
-abbrev pub end_lines : List (List ℕ) → ℕ → Step ℕ → List ℕ
-end_lines tokens keeper step.Look = []
-end_lines tokens keeper (step.Mark version token) = []
-end_lines tokens keeper (step.Send version token) = []
-end_lines tokens keeper (step.Keep version token) = []
-end_lines tokens keeper (step.GiveBack version token) = []
-end_lines tokens keeper step.Repeat = []
-end_lines tokens keeper (step.InUse other token) =
-    keeper_line keeper (codes "in_use " ++ decimal other ++ codes " " ++ token_text tokens token)
-end_lines tokens keeper step.LoggedOut = keeper_line keeper (codes "logged_out")
-end_lines tokens keeper step.End = keeper_line keeper (codes "over")
+-- the event of the step that ends a renewal; none for other steps
+abbrev pub end_events : List (List ℕ) → ℕ → Step ℕ → List Event
+end_events tokens keeper step.Look = []
+end_events tokens keeper (step.Mark version token) = []
+end_events tokens keeper (step.Send version token) = []
+end_events tokens keeper (step.Keep version token) = []
+end_events tokens keeper (step.GiveBack version token) = []
+end_events tokens keeper step.Repeat = []
+end_events tokens keeper (step.InUse other token) =
+    stepped keeper (codes "in_use " ++ decimal other ++ codes " " ++ token_text tokens token) ∷ []
+end_events tokens keeper step.LoggedOut = stepped keeper (codes "logged_out") ∷ []
+end_events tokens keeper step.End = stepped keeper (codes "over") ∷ []
 
 -- ---- effects
 
 pub record Effect : Type 0 where
-  -- what the line of the keeper says of it
+  -- the text of the step
   pub text : List ℕ
   -- what the keeper is told
   pub told : Told ℕ
@@ -73,7 +70,7 @@ load_effect tokens stored is_told =
 abbrev pub is_taken : Stored → Replacement → Bool → Bool
 is_taken stored asked is_done = is_done && (stored.version == asked.version)
 
--- what the line says of a request to replace: `done`, `refused`, or `lost` if the keeper is told nothing
+-- what became of a request to replace: `done`, `refused`, or `lost` if the keeper is told nothing
 abbrev pub outcome_text : Bool → Bool → List ℕ
 outcome_text is_told taken = if is_told then (if taken then codes "done" else codes "refused") else codes "lost"
 

@@ -4,6 +4,7 @@ use Rattle.oauth2.specs.Settings.{Settings}
 use Rattle.oauth2_shared_token.specs.declared.renewal.Told.{Told}
 use Rattle.oauth2_shared_token.specs.declared.renewal.Told.TheVariants as told
 use Rattle.oauth2_urls.specs.Addressed.{Addressed}
+use Rattle.oauth2_world.specs.Events.{Event, stepped}
 use Rattle.oauth2_world.specs.Replies.{later_replies}
 use Rattle.oauth2_script.specs.Replies.{Reply, failed}
 use Rattle.oauth2_script.specs.SharedKeeperParams.{SharedKeeperParams}
@@ -13,7 +14,7 @@ use Rattle.oauth2_script.specs.declared.shared_keeper_params.SharedKeeperStep.{S
 use Rattle.oauth2_request_commands.specs.Client.{WithToken}
 use Rattle.oauth2_request_commands.specs.Out.{Output, nothing, both_outputs}
 use Rattle.oauth2_request_commands.specs.declared.status.RunStatus.TheVariants as status
-use Rattle.oauth2_shared_keeper_command.specs.Effect.{Effect, keeper_line, token_text, end_lines, load_effect, replace_effect}
+use Rattle.oauth2_shared_keeper_command.specs.Effect.{Effect, token_text, end_events, load_effect, replace_effect}
 use Rattle.oauth2_shared_keeper_command.specs.Refreshing.{IsRefreshed}
 use Rattle.oauth2_shared_keeper_command.specs.Renewal.{over, going_on, turn_of, turned}
 use Rattle.oauth2_shared_keeper_command.specs.declared.action.Action.{Action}
@@ -33,9 +34,9 @@ pub record Standing : Type 0 where
 abbrev pub with_renewal : Standing → ℕ → Renewal → Standing
 with_renewal s keeper renewal = record s { renewals = slice_set s.renewals keeper renewal }
 
--- lines of a step that is no fault
-abbrev pub says : List ℕ → Output
-says lines = record { lines = lines; status = status.Answered }
+-- events of a step that is no fault
+abbrev pub says : List Event → Output
+says events = record { events = events; status = status.Answered }
 
 -- a keeper did this at the store, and its renewal takes its turn
 abbrev pub after_effect : Standing → ℕ → Renewal → Effect → Standing
@@ -43,16 +44,16 @@ after_effect s keeper renewal effect = with_renewal (record s { stored = effect.
 
 abbrev pub effect_output : Standing → ℕ → Renewal → Effect → Output
 effect_output s keeper renewal effect =
-    says (keeper_line keeper effect.text ++ end_lines s.tokens keeper (turn_of renewal effect.told).step)
+    says (stepped keeper effect.text ∷ end_events s.tokens keeper (turn_of renewal effect.told).step)
 
 abbrev pub IsEffect : Standing → ℕ → Renewal → Effect → Output → Standing → Type 0
 IsEffect s keeper renewal effect o kept = (o ≡ effect_output s keeper renewal effect) × (kept ≡ after_effect s keeper renewal effect)
 
--- the keeper is told this, and nothing else happens; `text` is what its line says
+-- the keeper is told this, and nothing else happens; `text` is that of the step
 abbrev pub without_effect : Standing → List ℕ → Told ℕ → Effect
 without_effect s text what = record { text = text; told = what; stored = s.stored }
 
--- the line of a refresh token that a keeper sends, or wants to send
+-- the text for a refresh token that a keeper sends, or wants to send
 abbrev pub refresh_text : List (List ℕ) → ℕ → List ℕ
 refresh_text tokens token = codes "refresh " ++ token_text tokens token
 
@@ -73,17 +74,17 @@ abbrev pub coming : Bool → List Reply → List Reply
 coming true replies = replies
 coming false replies = failed ∷ later_replies replies
 
--- the lines of the keeper around those of the request
-abbrev pub around : List ℕ → Output → List ℕ → Output
-around before sent end = record { lines = before ++ sent.lines ++ end; status = sent.status }
+-- the events of the keeper around those of the request
+abbrev pub around : List Event → Output → List Event → Output
+around before sent end = record { events = before ++ sent.events ++ end; status = sent.status }
 
 -- the client sends the refresh token, and the renewal takes its turn
 abbrev pub IsSending : Settings → Addressed → Standing → ℕ → Renewal → ℕ → Bool → Output → Standing → Type 0
 IsSending client url s keeper renewal token is_told o kept =
     (sent : Output) × (given : Option (List ℕ)) × (left : List Reply)
     × IsRefreshed client url (slice_index_or s.tokens token []) (coming is_told s.replies) sent given left
-    × (o ≡ around (keeper_line keeper (refresh_text s.tokens token)) sent
-    (end_lines (with_given s.tokens given) keeper (turn_of renewal (told_of s.tokens given)).step))
+    × (o ≡ around (stepped keeper (refresh_text s.tokens token) ∷ []) sent
+    (end_events (with_given s.tokens given) keeper (turn_of renewal (told_of s.tokens given)).step))
     × (kept ≡ with_renewal (record s { tokens = with_given s.tokens given; replies = left }) keeper (turned renewal (told_of s.tokens given)))
 
 -- ---- steps
@@ -108,7 +109,7 @@ IsGoing client url s keeper renewal fates.ReplyLost o kept = IsAction client url
 IsGoing client url s keeper renewal fates.RequestLost o kept = IsAction client url s keeper renewal renewal.action false false o kept
 IsGoing client url s keeper renewal fates.Stopped o kept = IsEffect s keeper renewal (without_effect s (codes "stopped") told.Stop) o kept
 IsGoing client url s keeper renewal fates.Killed o kept =
-    (o ≡ says (keeper_line keeper (codes "killed"))) × (kept ≡ with_renewal s keeper over)
+    (o ≡ says (stepped keeper (codes "killed") ∷ [])) × (kept ≡ with_renewal s keeper over)
 
 -- one step; the name of a renewal is the place of the step that began it
 abbrev pub IsStep : Settings → Addressed → ℕ → Standing → SharedKeeperStep → Output → Standing → Type 0

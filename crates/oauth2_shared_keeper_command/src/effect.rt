@@ -4,12 +4,12 @@ ghost use Rattle.std.specs.Prelude.{◌≡◌, ◌<◌, ◌+◌, ◌^◌, IfOk, 
 ghost use Rattle.oauth2_shared_keeper_command.specs.Effect as spec;
 
 use crate::action::{Replacement, Stored};
-use crate::lines::content_text;
+use crate::texts::content_text;
 use oauth2::RefreshToken;
 use oauth2_shared_token::{Content, StoredValue, Told};
 use std::alloc::{AllocError, Global};
 
-/// What the line of a keeper says of what it did, and what it is told.
+/// What the step of a keeper says of what it did, and what it is told.
 #[derive(Drop)]
 pub struct Effect {
     pub text: String,

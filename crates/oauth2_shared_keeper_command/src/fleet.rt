@@ -6,8 +6,8 @@ ghost use Rattle.oauth2_shared_keeper_command.specs.Renewal.{going_on, over};
 ghost use Rattle.oauth2_shared_keeper_command.specs.SharedKeeper.{told_of, with_given};
 
 use crate::action::Stored;
-use crate::lines::secret_of;
 use crate::renewal::Renewal;
+use crate::texts::secret_of;
 use oauth2::RefreshToken;
 use oauth2_shared_token::Told;
 use std::alloc::{AllocError, Global};

@@ -8,11 +8,11 @@
 mod action;
 mod effect;
 mod fleet;
-mod lines;
 mod refreshing;
 mod renewal;
 mod run;
 mod sending;
+mod texts;
 mod turn;
 
 pub use run::run_shared_keeper;

@@ -1,6 +1,6 @@
 //! The sending of a refresh token.
 
-ghost use Rattle.std.specs.Prelude.{◌≡◌, Some, false, string_bytes, IfOk};
+ghost use Rattle.std.specs.Prelude.{◌≡◌, Some, false, IfOk};
 ghost use Rattle.oauth2_request_commands.specs.Out.{Output, AddsOutput};
 ghost use Rattle.oauth2_shared_keeper_command.specs.Refreshing.{IsRefreshed};
 ghost use Rattle.oauth2_shared_keeper_command.specs.private.Given.{given_in};
@@ -42,18 +42,18 @@ pub fn refresh(
         → http_client.new.is_starved ≡ false → (http_client.old.is_starved ≡ false)
         × ((o : Output) × IsRefreshed client.now url sent.now (client_replies http_client.old) o
         r.1 (client_replies http_client.new)
-        × AddsOutput (string_bytes http_client.old.lines) (string_bytes http_client.new.lines)
+        × AddsOutput http_client.old.events http_client.new.events
         r.0 o)) }
 {
     match client.exchange_refresh_token(alloc, sent) {
         Ok(request) => {
             let end = request.request(alloc, http_client);
             let given = given_in(alloc, sent, &end)?;
-            let status = show_end(alloc, &mut http_client.lines, &end)?;
+            let status = show_end(alloc, &mut http_client.events, &end)?;
             Ok((status, given))
         }
         Err(error) => {
-            let status = show_configuration_error(alloc, &mut http_client.lines, &error)?;
+            let status = show_configuration_error(alloc, &mut http_client.events, &error)?;
             Ok((status, None))
         }
     }

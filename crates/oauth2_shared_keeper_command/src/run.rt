@@ -1,37 +1,35 @@
 //! The steps of the keepers.
 
-ghost use Rattle.std.specs.Prelude.{◌≡◌, ◌+◌, ◌<◌, ◌≤◌, ◌^◌, List, Some, false, IfOk, OnOk};
-ghost use Rattle.std.specs.Prelude.{codes, string_bytes};
-ghost use Rattle.oauth2_request_commands.specs.Client.{missing};
+ghost use Rattle.std.specs.Prelude.{◌≡◌, ◌+◌, ◌<◌, ◌≤◌, ◌^◌, [], ◌∷◌, List, Some, false};
+ghost use Rattle.std.specs.Prelude.{IfOk, OnOk, codes};
 ghost use Rattle.oauth2_request_commands.specs.Out.{Adds, AddsOutput, Output};
 ghost use Rattle.oauth2_script.specs.Replies.{Reply};
 ghost use Rattle.oauth2_script.specs.Views.{shared_keeper_view};
-ghost use Rattle.oauth2_shared_keeper_command.specs.Effect.{keeper_line, load_effect};
-ghost use Rattle.oauth2_shared_keeper_command.specs.Effect.{replace_effect};
+ghost use Rattle.oauth2_shared_keeper_command.specs.Effect.{load_effect, replace_effect};
 ghost use Rattle.oauth2_shared_keeper_command.specs.Renewal.{over};
 ghost use Rattle.oauth2_shared_keeper_command.specs.SharedKeeper as spec;
 ghost use Rattle.oauth2_shared_keeper_command.specs.private.Standing.{standing};
 ghost use Rattle.oauth2_urls.specs.Addressed.{Addressed};
+ghost use Rattle.oauth2_world.specs.Events.{stepped};
 ghost use Rattle.oauth2_world.specs.Replay.{client_replies};
 
 use crate::action::{Action, Replacement};
 use crate::effect::{load, replace};
 use crate::fleet::Fleet;
-use crate::lines::print_keeper;
 use crate::renewal::Renewal;
 use crate::sending::{show_lost, show_refresh};
+use crate::texts::add_step;
 use crate::turn::{Going, show_effect, tell};
-use oauth2::ConfigurationError;
-use oauth2_request_commands::{RunStatus, ScriptClient, show_configuration_error};
+use oauth2_request_commands::{RunStatus, ScriptClient, show_missing};
 use oauth2_script::{Fate, SharedKeeperParams, SharedKeeperStep};
 use oauth2_shared_token::Told;
-use oauth2_world::ScriptedClient;
+use oauth2_world::{Events, ScriptedClient};
 use std::alloc::{AllocError, Global};
 
 // The keeper loads what is stored.
 fn show_load(
     alloc: Global,
-    lines: &mut String,
+    events: &mut Events,
     fleet: &mut Fleet,
     going: Going,
 ) -> Result<RunStatus, AllocError>
@@ -39,17 +37,17 @@ fn show_load(
         → (o : Output) × spec.IsEffect (standing fleet.old replies) going.keeper going.renewal
         (load_effect fleet.old.tokens.items fleet.old.stored going.is_told)
         o (standing fleet.new replies)
-        × AddsOutput (string_bytes lines.old) (string_bytes lines.new) status o) }
+        × AddsOutput events.old events.new status o) }
     ensures stored { OnOk result (fleet.new.stored ≡ fleet.old.stored) }
 {
     let effect = load(alloc, fleet.tokens.as_slice(), fleet.stored, going.is_told)?;
-    show_effect(alloc, lines, fleet, going, effect)
+    show_effect(alloc, events, fleet, going, effect)
 }
 
 // The keeper asks the store to replace what it has.
 fn show_replace(
     alloc: Global,
-    lines: &mut String,
+    events: &mut Events,
     fleet: &mut Fleet,
     going: Going,
     asked: Replacement,
@@ -59,7 +57,7 @@ fn show_replace(
         → (o : Output) × spec.IsEffect (standing fleet.old replies) going.keeper going.renewal
         (replace_effect fleet.old.tokens.items fleet.old.stored asked going.is_done going.is_told)
         o (standing fleet.new replies)
-        × AddsOutput (string_bytes lines.old) (string_bytes lines.new) status o) }
+        × AddsOutput events.old events.new status o) }
     ensures version { OnOk result (fleet.new.stored.version ≤ fleet.old.stored.version + 1) }
 {
     let effect = replace(
@@ -70,7 +68,7 @@ fn show_replace(
         going.is_done,
         going.is_told,
     )?;
-    show_effect(alloc, lines, fleet, going, effect)
+    show_effect(alloc, events, fleet, going, effect)
 }
 
 // The renewal of the keeper does what comes next.
@@ -88,34 +86,39 @@ fn act(
         (standing fleet.old (client_replies http_client.old)) going.keeper going.renewal
         going.renewal.action going.is_done going.is_told o
         (standing fleet.new (client_replies http_client.new))
-        × AddsOutput (string_bytes http_client.old.lines) (string_bytes http_client.new.lines)
+        × AddsOutput http_client.old.events http_client.new.events
         status o)) }
     ensures version { OnOk result (fleet.new.stored.version ≤ fleet.old.stored.version + 1) }
 {
-    let lines = &mut http_client.lines;
+    let events = &mut http_client.events;
     match going.renewal.action {
-        Action::Load => show_load(alloc, lines, fleet, going),
-        Action::Replace(asked) => show_replace(alloc, lines, fleet, going, asked),
+        Action::Load => show_load(alloc, events, fleet, going),
+        Action::Replace(asked) => show_replace(alloc, events, fleet, going, asked),
         Action::Refresh(token) => {
             if going.is_done {
                 show_refresh(alloc, client, fleet, going, token, http_client)
             } else {
-                show_lost(alloc, lines, fleet, going, token)
+                show_lost(alloc, events, fleet, going, token)
             }
         }
-        Action::Nothing => tell(alloc, lines, fleet, going, "over", Told::Nothing),
+        Action::Nothing => tell(alloc, events, fleet, going, "over", Told::Nothing),
     }
 }
 
 // The renewal of the keeper is never heard of again.
-fn kill(lines: &mut String, fleet: &mut Fleet, keeper: u8) -> Result<RunStatus, AllocError>
+fn kill(
+    alloc: Global,
+    events: &mut Events,
+    fleet: &mut Fleet,
+    keeper: u8,
+) -> Result<RunStatus, AllocError>
     ensures shown { IfOk result (λ status. (replies : List Reply)
         → (standing fleet.new replies ≡ spec.with_renewal (standing fleet.old replies) keeper over)
-        × AddsOutput (string_bytes lines.old) (string_bytes lines.new) status
-        (spec.says (keeper_line keeper (codes "killed")))) }
+        × AddsOutput events.old events.new status
+        (spec.says (stepped keeper (codes "killed") ∷ []))) }
     ensures stored { OnOk result (fleet.new.stored ≡ fleet.old.stored) }
 {
-    print_keeper(lines, keeper, "killed")?;
+    add_step(events, keeper, String::from_str(alloc, "killed")?)?;
     fleet.put(keeper, Renewal::over());
     Ok(RunStatus::Answered)
 }
@@ -135,7 +138,7 @@ fn show_step(
         × ((o : Output) × spec.IsStep client.now url place
         (standing fleet.old (client_replies http_client.old)) step
         o (standing fleet.new (client_replies http_client.new))
-        × AddsOutput (string_bytes http_client.old.lines) (string_bytes http_client.new.lines)
+        × AddsOutput http_client.old.events http_client.new.events
         status o)) }
     ensures version { OnOk result (fleet.new.stored.version ≤ fleet.old.stored.version + 1) }
 {
@@ -152,13 +155,13 @@ fn show_step(
         }
         Fate::Stopped => tell(
             alloc,
-            &mut http_client.lines,
+            &mut http_client.events,
             fleet,
             going,
             "stopped",
             Told::Stop,
         ),
-        Fate::Killed => kill(&mut http_client.lines, fleet, keeper),
+        Fate::Killed => kill(alloc, &mut http_client.events, fleet, keeper),
     }
 }
 
@@ -176,7 +179,7 @@ fn show_steps(
         → (o : Output) × spec.AreSteps client.now url 0
         (standing fleet.old (client_replies http_client.old)) steps.now
         o (standing fleet.new (client_replies http_client.new))
-        × AddsOutput (string_bytes http_client.old.lines) (string_bytes http_client.new.lines)
+        × AddsOutput http_client.old.events http_client.new.events
         status o) }
 {
     let mut status = RunStatus::Answered;
@@ -203,7 +206,7 @@ fn show_new_fleet(
         → (o : Output) × (kept : spec.Standing) × spec.AreSteps client.now url 0
         (spec.new_standing (shared_keeper_view params) (client_replies http_client.old))
         params.steps.items o kept
-        × AddsOutput (string_bytes http_client.old.lines) (string_bytes http_client.new.lines)
+        × AddsOutput http_client.old.events http_client.new.events
         status o) }
 {
     let SharedKeeperParams {
@@ -212,15 +215,6 @@ fn show_new_fleet(
     } = params;
     let mut fleet = Fleet::new(alloc, refresh_token)?;
     show_steps(alloc, client, &mut fleet, steps.as_slice(), http_client)
-}
-
-// Adds the line that the client has no token endpoint.
-fn show_no_endpoint(alloc: Global, lines: &mut String) -> Result<RunStatus, AllocError>
-    ensures { IfOk result (λ status. AddsOutput (string_bytes lines.old) (string_bytes lines.new)
-        status (missing (codes "token"))) }
-{
-    let error = ConfigurationError::MissingUrl("token");
-    show_configuration_error(alloc, lines, &error)
 }
 
 /// Lets keepers of one token go step by step, and shows what each does, each request and its
@@ -232,7 +226,7 @@ pub fn run_shared_keeper(
     http_client: &mut ScriptedClient,
 ) -> Result<RunStatus, AllocError>
     ensures { IfOk result (λ status. http_client.new.is_starved ≡ false
-        → Adds (string_bytes http_client.old.lines) (string_bytes http_client.new.lines) status
+        → Adds http_client.old.events http_client.new.events status
         (spec.IsSharedKeeperOutput client.now (shared_keeper_view params)
         (client_replies http_client.old))) }
 {
@@ -240,7 +234,7 @@ pub fn run_shared_keeper(
         Some(_) => show_new_fleet(alloc, client, params, http_client),
         None => {
             drop(params);
-            show_no_endpoint(alloc, &mut http_client.lines)
+            show_missing(alloc, &mut http_client.events, "token")
         }
     }
 }

@@ -11,17 +11,17 @@ ghost use Rattle.oauth2_urls.specs.Addressed.{Addressed};
 ghost use Rattle.oauth2_world.specs.Replay.{client_replies};
 
 use crate::fleet::Fleet;
-use crate::lines::{print_keeper, token_text};
 use crate::refreshing::refresh;
+use crate::texts::{add_step, token_text};
 use crate::turn::{Going, take_turn, tell};
 use oauth2::RefreshToken;
 use oauth2_request_commands::{RunStatus, ScriptClient};
 use oauth2_script::Reply;
 use oauth2_shared_token::Told;
-use oauth2_world::ScriptedClient;
+use oauth2_world::{Events, ScriptedClient};
 use std::alloc::{AllocError, Global};
 
-// What the line of a keeper says of a refresh token that it sends.
+// What the step of a keeper says of a refresh token that it sends.
 fn refresh_text(alloc: Global, tokens: &[RefreshToken], token: usize) -> Result<String, AllocError>
     ensures { IfOk result (λ s. string_bytes s ≡ spec.refresh_text tokens.now token) }
 {
@@ -41,7 +41,7 @@ fn lost_text(alloc: Global, tokens: &[RefreshToken], token: usize) -> Result<Str
 /// The keeper sends a refresh token, which is lost on its way.
 pub fn show_lost(
     alloc: Global,
-    lines: &mut String,
+    events: &mut Events,
     fleet: &mut Fleet,
     going: Going,
     token: usize,
@@ -51,18 +51,18 @@ pub fn show_lost(
         (spec.without_effect (standing fleet.old replies)
         (spec.refresh_text fleet.old.tokens.items token ++ codes " lost") told.Nothing)
         o (standing fleet.new replies)
-        × AddsOutput (string_bytes lines.old) (string_bytes lines.new) status o) }
+        × AddsOutput events.old events.new status o) }
     ensures stored { OnOk result (fleet.new.stored ≡ fleet.old.stored) }
 {
     let text = lost_text(alloc, fleet.tokens.as_slice(), token)?;
-    tell(alloc, lines, fleet, going, text.as_str(), Told::Nothing)
+    tell(alloc, events, fleet, going, text.as_str(), Told::Nothing)
 }
 
 // Unless the keeper is told of it, the reply of the next call is lost: the call fails.
 fn lose_reply_unless(is_told: bool, http_client: &mut ScriptedClient) -> Result<(), AllocError>
     ensures replies { OnOk result (client_replies http_client.new
         ≡ spec.coming is_told (client_replies http_client.old)) }
-    ensures lines { OnOk result (http_client.new.lines ≡ http_client.old.lines) }
+    ensures events { OnOk result (http_client.new.events ≡ http_client.old.events) }
     ensures is_fed { OnOk result (http_client.new.is_starved ≡ http_client.old.is_starved) }
 {
     if is_told {
@@ -88,16 +88,16 @@ pub fn show_refresh(
         × ((o : Output) × spec.IsSending client.now url
         (standing fleet.old (client_replies http_client.old)) going.keeper going.renewal token
         going.is_told o (standing fleet.new (client_replies http_client.new))
-        × AddsOutput (string_bytes http_client.old.lines) (string_bytes http_client.new.lines)
+        × AddsOutput http_client.old.events http_client.new.events
         status o)) }
     ensures stored { OnOk result (fleet.new.stored ≡ fleet.old.stored) }
 {
     let text = refresh_text(alloc, fleet.tokens.as_slice(), token)?;
-    print_keeper(&mut http_client.lines, going.keeper, text.as_str())?;
+    add_step(&mut http_client.events, going.keeper, text)?;
     lose_reply_unless(going.is_told, http_client)?;
     let refresh_token = fleet.refresh_token(alloc, token)?;
     let (status, given) = refresh(alloc, client, &refresh_token, http_client)?;
     let told = fleet.told(given)?;
-    take_turn(alloc, &mut http_client.lines, fleet, going, told)?;
+    take_turn(alloc, &mut http_client.events, fleet, going, told)?;
     Ok(status)
 }

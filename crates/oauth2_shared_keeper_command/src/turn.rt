@@ -3,17 +3,18 @@
 ghost use Rattle.std.specs.Prelude.{◌≡◌, ◌++◌, List, OnOk, IfOk, slice_set, string_bytes};
 ghost use Rattle.oauth2_request_commands.specs.Out.{AddsOutput, Output};
 ghost use Rattle.oauth2_script.specs.Replies.{Reply};
-ghost use Rattle.oauth2_shared_keeper_command.specs.Effect.{end_lines};
+ghost use Rattle.oauth2_shared_keeper_command.specs.Effect.{end_events};
 ghost use Rattle.oauth2_shared_keeper_command.specs.Renewal.{turn_of, turned};
 ghost use Rattle.oauth2_shared_keeper_command.specs.SharedKeeper as spec;
 ghost use Rattle.oauth2_shared_keeper_command.specs.private.Standing.{standing};
 
 use crate::effect::Effect;
 use crate::fleet::Fleet;
-use crate::lines::{print_end, print_keeper};
 use crate::renewal::Renewal;
+use crate::texts::{add_end, add_step};
 use oauth2_request_commands::RunStatus;
 use oauth2_shared_token::Told;
+use oauth2_world::Events;
 use std::alloc::{AllocError, Global};
 
 /// A keeper that goes.
@@ -29,31 +30,31 @@ pub struct Going {
     pub is_told: bool,
 }
 
-/// The keeper is told this, and its renewal takes its turn; adds the line of its end.
+/// The keeper is told this, and its renewal takes its turn; adds the event of its end.
 pub fn take_turn(
     alloc: Global,
-    lines: &mut String,
+    events: &mut Events,
     fleet: &mut Fleet,
     going: Going,
     told: Told<usize>,
 ) -> Result<(), AllocError>
-    ensures lines { OnOk result (string_bytes lines.new ≡ string_bytes lines.old
-        ++ end_lines fleet.old.tokens.items going.keeper (turn_of going.renewal told).step) }
+    ensures events { OnOk result (events.new ≡ events.old
+        ++ end_events fleet.old.tokens.items going.keeper (turn_of going.renewal told).step) }
     ensures renewals { OnOk result (fleet.new.renewals.items
         ≡ slice_set fleet.old.renewals.items going.keeper (turned going.renewal told)) }
     ensures stored { OnOk result (fleet.new.stored ≡ fleet.old.stored) }
     ensures tokens { OnOk result (fleet.new.tokens ≡ fleet.old.tokens) }
 {
     let (renewal, step) = going.renewal.turned(told);
-    print_end(alloc, lines, fleet.tokens.as_slice(), going.keeper, &step)?;
+    add_end(alloc, events, fleet.tokens.as_slice(), going.keeper, &step)?;
     fleet.put(going.keeper, renewal);
     Ok(())
 }
 
-/// Adds the line of what the keeper did, and its renewal takes its turn.
+/// Adds the event of what the keeper did, and its renewal takes its turn.
 pub fn show_effect(
     alloc: Global,
-    lines: &mut String,
+    events: &mut Events,
     fleet: &mut Fleet,
     going: Going,
     effect: Effect,
@@ -62,19 +63,19 @@ pub fn show_effect(
         → (o : Output) × spec.IsEffect (standing fleet.old replies) going.keeper going.renewal
         (record { text = string_bytes effect.text; told = effect.told; stored = fleet.old.stored })
         o (standing fleet.new replies)
-        × AddsOutput (string_bytes lines.old) (string_bytes lines.new) status o) }
+        × AddsOutput events.old events.new status o) }
     ensures stored { OnOk result (fleet.new.stored ≡ fleet.old.stored) }
 {
     let Effect { text, told } = effect;
-    print_keeper(lines, going.keeper, text.as_str())?;
-    take_turn(alloc, lines, fleet, going, told)?;
+    add_step(events, going.keeper, text)?;
+    take_turn(alloc, events, fleet, going, told)?;
     Ok(RunStatus::Answered)
 }
 
 /// The keeper is told this, and nothing else happens.
 pub fn tell(
     alloc: Global,
-    lines: &mut String,
+    events: &mut Events,
     fleet: &mut Fleet,
     going: Going,
     text: &str,
@@ -84,9 +85,9 @@ pub fn tell(
         → (o : Output) × spec.IsEffect (standing fleet.old replies) going.keeper going.renewal
         (spec.without_effect (standing fleet.old replies) text.now told)
         o (standing fleet.new replies)
-        × AddsOutput (string_bytes lines.old) (string_bytes lines.new) status o) }
+        × AddsOutput events.old events.new status o) }
     ensures stored { OnOk result (fleet.new.stored ≡ fleet.old.stored) }
 {
     let text = String::from_str(alloc, text)?;
-    show_effect(alloc, lines, fleet, going, Effect { text, told })
+    show_effect(alloc, events, fleet, going, Effect { text, told })
 }

@@ -1,2 +1,0 @@
-pub mod ViewLines
-pub mod Sleeps

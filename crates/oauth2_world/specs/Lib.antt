@@ -1,6 +1,6 @@
+pub mod Quotation
 pub mod Adapted
-pub mod Lines
-pub mod RequestLines
+pub mod Events
 pub mod Replies
 pub mod Replay
 pub mod Clock

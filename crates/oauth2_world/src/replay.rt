@@ -1,11 +1,13 @@
-//! A client that returns the replies of a script and collects the lines of its requests.
+//! A client that returns the replies of a script and collects the events of its calls.
 
-ghost use Rattle.std.specs.Prelude.{◌≡◌, IfOk};
+ghost use Rattle.std.specs.Prelude.{◌≡◌, ◌++◌, ◌∷◌, [], Some, None, IfOk, OnOk};
 ghost use Rattle.oauth2_wire.specs.Reply.{reply_of};
+ghost use Rattle.oauth2_wire.specs.Request.{view_of};
+ghost use Rattle.oauth2_world.specs.Events.{exchanged};
 ghost use Rattle.oauth2_script.specs.Views.{http_reply_view};
 ghost use Rattle.oauth2_world.specs.Replies.{view_of_http_reply};
 
-use crate::lines::print_request;
+use crate::event::{Event, Events};
 use http::Response;
 use http::response::Parts;
 use http_header::{CONTENT_TYPE, HeaderMapError};
@@ -31,9 +33,9 @@ impl AsksToWait for NoReply {
 pub struct ScriptedClient {
     pub alloc: Global,
     pub replies: VecDeque<Reply>,
-    /// The lines that its calls have added.
-    pub lines: String,
-    /// Whether memory for a line or a reply ran out.
+    /// The events of the run so far.
+    pub events: Events,
+    /// Whether memory for an event or a reply ran out.
     pub is_starved: bool,
 }
 
@@ -58,6 +60,47 @@ fn response_of(alloc: Global, reply: HttpReply) -> Result<HttpResponse, AllocErr
     Ok(Response::from_parts(parts, body))
 }
 
+// A copy of a reply, for the event of its exchange.
+fn copy_of(alloc: Global, reply: &HttpReply) -> Result<HttpReply, AllocError>
+    ensures { IfOk result (λ copy. http_reply_view copy ≡ http_reply_view reply.now) }
+{
+    let content_type = match &reply.content_type {
+        Some(value) => Some(value.clone()?),
+        None => None,
+    };
+    Ok(HttpReply {
+        status: reply.status,
+        content_type,
+        body: reply.body.as_slice().to_vec(alloc)?,
+    })
+}
+
+// Adds the event of an exchange, and returns the reply as the client receives it.
+fn show_exchange(
+    alloc: Global,
+    events: &mut Events,
+    request: HttpRequest,
+    reply: HttpReply,
+) -> Result<HttpResponse, AllocError>
+    ensures { IfOk result (λ response.
+        (reply_of response ≡ view_of_http_reply (http_reply_view reply))
+        × (events.new ≡ events.old ++ exchanged (view_of request)
+        (Some (view_of_http_reply (http_reply_view reply))) ∷ [])) }
+{
+    let copy = copy_of(alloc, &reply)?;
+    events.push(Event::Exchange(request, Some(copy)))?;
+    let response = response_of(alloc, reply)?;
+    Ok(response)
+}
+
+// Adds the event of a call that failed.
+fn show_failed_call(events: &mut Events, request: HttpRequest) -> Result<(), AllocError>
+    ensures { OnOk result (events.new ≡ events.old ++ exchanged (view_of request) None ∷ []) }
+{
+    events.push(Event::Exchange(request, None))?;
+    Ok(())
+}
+
 impl SyncHttpClient for ScriptedClient {
     ghost use Rattle.oauth2_world.specs.Replay.{ReplaysOrStarves};
 
@@ -66,19 +109,22 @@ impl SyncHttpClient for ScriptedClient {
     ghost step = { ReplaysOrStarves };
 
     fn call(&mut self, request: HttpRequest) -> Result<HttpResponse, NoReply> {
-        if print_request(self.alloc, &mut self.lines, &request).is_err() {
-            self.is_starved = true;
-        }
         match self.replies.pop_front() {
-            Some(Reply::Replied(reply)) => match response_of(self.alloc, reply) {
-                Ok(response) => Ok(response),
-                Err(_) => {
-                    self.is_starved = true;
-                    Err(NoReply)
+            Some(Reply::Replied(reply)) => {
+                match show_exchange(self.alloc, &mut self.events, request, reply) {
+                    Ok(response) => Ok(response),
+                    Err(_) => {
+                        self.is_starved = true;
+                        Err(NoReply)
+                    }
                 }
-            },
-            Some(Reply::Failed) => Err(NoReply),
-            None => Err(NoReply),
+            }
+            Some(Reply::Failed) | None => {
+                if show_failed_call(&mut self.events, request).is_err() {
+                    self.is_starved = true;
+                }
+                Err(NoReply)
+            }
         }
     }
 }

@@ -1,14 +1,14 @@
 //! The client and the clock of a poll.
 
 use crate::clock::ScriptedClock;
-use crate::lines::print_sleep;
+use crate::event::Event;
 use crate::replay::{NoReply, ScriptedClient};
 use jiff::Timestamp;
 use oauth2_device::PollWorld;
 use oauth2_wire::{HttpRequest, HttpResponse, SyncHttpClient};
 use std::time::Duration;
 
-/// The client of a script and its clock. A sleep adds its line to the lines of the client.
+/// The client of a script and its clock. A sleep adds its event to those of the client.
 #[derive(Drop)]
 pub struct ScriptedWorld {
     pub http_client: ScriptedClient,
@@ -35,7 +35,12 @@ impl PollWorld for ScriptedWorld {
     }
 
     fn sleep(&mut self, duration: Duration) {
-        if print_sleep(&mut self.http_client.lines, duration).is_err() {
+        if self
+            .http_client
+            .events
+            .push(Event::Sleep(duration))
+            .is_err()
+        {
             self.http_client.is_starved = true;
         }
     }

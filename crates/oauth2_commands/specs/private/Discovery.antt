@@ -13,6 +13,7 @@ use Rattle.oauth2_commands.specs.Metadata.{BasicMetadata, metadata_json}
 use Rattle.oauth2_request_commands.specs.Out.{Output, success_output, failure_output}
 use Rattle.oauth2_request_commands.specs.Faults.{fault_output}
 use Rattle.oauth2_request_commands.specs.private.Results.{ErrorResponse, error_seen}
+use Rattle.oauth2_world.specs.declared.event.FaultKind.TheVariants as kind
 use Rattle.oauth2_world.specs.declared.replay.NoReply.{NoReply}
 
 -- the error is neither that memory ran out nor that a URL is too long
@@ -30,9 +31,10 @@ metadata_meaning m = metadata_seen (λ _. tt) m
 -- what is shown of an error of a request for metadata
 abbrev pub metadata_error_output : MetadataError NoReply ErrorResponse → Output
 metadata_error_output (Reply fault) = fault_output error_seen fault
-metadata_error_output (Status reply) = failure_output (other_reply_text reply.status)
-metadata_error_output (Endpoint fault) = failure_output (fault_text fault)
-metadata_error_output (OtherIssuer issuer) = failure_output (other_issuer_text (string_bytes issuer))
+metadata_error_output (Status reply) = failure_output kind.OtherStatus (other_reply_text reply.status)
+metadata_error_output (Endpoint fault) = failure_output kind.BadMetadata (fault_text fault)
+metadata_error_output (OtherIssuer issuer) =
+    failure_output kind.OtherIssuer (other_issuer_text (string_bytes issuer))
 
 -- what is shown of the result of a request for metadata: the metadata, or the error
 abbrev pub discovery_output : Result MetadataSeen (MetadataError NoReply ErrorResponse) → Output

@@ -8,7 +8,8 @@ use Rattle.oauth2_keeper.specs.declared.patient_keeper.PatientError.TheVariants.
 use Rattle.oauth2_script.specs.KeeperParams.{KeeperParams}
 use Rattle.oauth2_script.specs.Replies.{Reply}
 use Rattle.oauth2_commands.specs.Keeper.{Standing, AreCalls, given_in, new_standing, waiting}
-use Rattle.oauth2_world.specs.Lines.{quotation}
+use Rattle.oauth2_world.specs.Events.{Event}
+use Rattle.oauth2_world.specs.Quotation.{quotation}
 use Rattle.oauth2_request_commands.specs.Out.{Output, success_output, AddsOutput}
 use Rattle.oauth2_world.specs.Replay.{client_replies}
 use Rattle.oauth2_request_commands.specs.Faults.{fault_output}
@@ -56,12 +57,12 @@ abbrev pub told_by : TokenSeen → Given
 told_by reply = given_in (token_meaning reply)
 
 -- what is shown after a call: the kept token, or the fault
-abbrev pub ShowsCall : List ℕ → List ℕ → RunStatus → Keeper → Result Unit ShownFault → Type 0
+abbrev pub ShowsCall : List Event → List Event → RunStatus → Keeper → Result Unit ShownFault → Type 0
 ShowsCall old new s kept (Ok done) = IsSomeAnd kept.token (λ token. AddsOutput old new s (success_output (quotation token.access_token)))
 ShowsCall old new s kept (Err fault) = AddsOutput old new s (fault_output error_seen fault)
 
 -- what is shown if the keeper has no good token: the fault of a request, or the end of a wait
-abbrev pub ShowsError : List ℕ → List ℕ → RunStatus → PatientError NoReply ErrorResponse → Type 0
+abbrev pub ShowsError : List Event → List Event → RunStatus → PatientError NoReply ErrorResponse → Type 0
 ShowsError old new s (Request fault) = AddsOutput old new s (fault_output error_seen fault)
 ShowsError old new s (Waits until) = (end : ℤ) → IsUntil end until → AddsOutput old new s (waiting end)
 

@@ -1,4 +1,4 @@
-use Rattle.std.proofs.Common.{refl, inl, inr, string_bytes, subst}
+use Rattle.std.proofs.Common.{refl, inl, inr, subst}
 use Rattle.std.proofs.lemmas.Result.{IfOk-weaker}
 use Rattle.oauth2_jwt_access_tokens.specs.AccessToken.{AccessToken}
 use Rattle.oauth2_jwt_access_tokens.specs.Introspected.{introspected}
@@ -13,7 +13,7 @@ returns-in-Ok c =
     (λ status printed.
     added _ _ status _ (inl (c.in-Ok.ensures.succeeds.0 refl, refl))
     (subst
-    (λ (t : AccessToken). AddsOutput (string_bytes c.args.lines.now) (string_bytes c.show_introspection.new.lines) status (success_output (introspection_json (introspected t tt))))
+    (λ (t : AccessToken). AddsOutput (c.args.events.now) c.show_introspection.new.events status (success_output (introspection_json (introspected t tt))))
     c.in-Ok.ensures.same printed))
     c.show_introspection.ensures
 

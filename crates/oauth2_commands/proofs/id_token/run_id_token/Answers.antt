@@ -1,4 +1,3 @@
-use Rattle.std.proofs.Common.{string_bytes}
 use Rattle.std.proofs.lemmas.Result.{IfOk-weaker}
 use Rattle.oauth2_openid.specs.Seen.{token_of}
 use Rattle.oauth2_script.specs.Views.{id_token_view}
@@ -9,7 +8,7 @@ pub returns-in-Ok : goal.returns-in-Ok
 returns-in-Ok c =
     IfOk-weaker c.show_checked.result _ _
     (λ status shown.
-    token_shown c.args.client.now (id_token_view c.args.params) c.args.clock.now (string_bytes c.args.lines.now) (string_bytes c.show_checked.new.lines) status
+    token_shown c.args.client.now (id_token_view c.args.params) c.args.clock.now (c.args.events.now) c.show_checked.new.events status
     (token_of c.in-Ok.token) c.read.result.nanosecond (rw c.as_str.ensures.value at c.in-Ok.ensures.read) c.read.ensures.shown shown)
     c.show_checked.ensures
 

@@ -1,4 +1,3 @@
-use Rattle.std.proofs.Common.{string_bytes}
 use Rattle.std.proofs.lemmas.Result.{IfOk-weaker}
 use Rattle.oauth2_commands.proofs.IdTokens.{keys_error_shown}
 use Rattle.oauth2_commands.proofs.id_token.show_keys_error.Goals as goal
@@ -7,5 +6,5 @@ pub returns : goal.returns
 returns c =
     IfOk-weaker c.show_error_text.result _ _
     (λ status printed. λ read tells.
-    keys_error_shown c.args.error.now read (string_bytes c.args.lines.now) (string_bytes c.show_error_text.new.lines) status c.in_default.not-Memory tells printed)
+    keys_error_shown c.args.error.now read (c.args.events.now) c.show_error_text.new.events status c.in_default.not-Memory tells printed)
     c.show_error_text.ensures

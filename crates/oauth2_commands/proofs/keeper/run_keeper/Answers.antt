@@ -1,4 +1,4 @@
-use Rattle.std.proofs.Common.{rules, ◌≡◌, None, string_bytes, codes, map}
+use Rattle.std.proofs.Common.{rules, ◌≡◌, None, codes, map}
 use Rattle.std.proofs.lemmas.Result.{IfOk-weaker}
 use Rattle.oauth2_script.specs.Views.{keeper_view}
 use Rattle.oauth2_world.specs.Replay.{client_replies}
@@ -11,13 +11,13 @@ returns-in_ok-client-in-Some c =
     (λ status adds. λ fed.
     keeper_told c.args.client.now c.in_ok-client-in-Some.client c.in-Some.token_url.now (search rules) c.in_ok-client-in-Some.ensures
     (keeper_view c.args.params) (map (λ t. t.nanosecond) c.args.readings.now) (client_replies c.args.http_client.now)
-    (string_bytes c.args.http_client.now.lines) (string_bytes c.show_new_keeper.new.http_client.lines) status (adds fed))
+    c.args.http_client.now.events c.show_new_keeper.new.http_client.events status (adds fed))
     c.show_new_keeper.ensures
 
 pub returns-in-None : goal.returns-in-None
 returns-in-None c =
     let none : c.args.client.now.token_url ≡ None = search rules in
-    IfOk-weaker c.show_no_endpoint.result _ _
+    IfOk-weaker c.show_missing.result _ _
     (λ status printed. λ fed.
-    unset_told (codes "token") _ c.args.client.now.token_url none (string_bytes c.args.http_client.now.lines) (string_bytes c.show_no_endpoint.new.lines) status printed)
-    c.show_no_endpoint.ensures
+    unset_told (codes "token") _ c.args.client.now.token_url none c.args.http_client.now.events c.show_missing.new.events status printed)
+    c.show_missing.ensures

@@ -1,4 +1,3 @@
-use Rattle.std.proofs.Common.{string_bytes}
 use Rattle.oauth2_commands.specs.private.Kept.{standing_of}
 use Rattle.oauth2_commands.proofs.Kept.{calls_more}
 use Rattle.oauth2_commands.proofs.keeper.show_calls.Goals as goal
@@ -12,6 +11,6 @@ loop-now-preserved c = λ wait waits. (
       rw c.both-status.ensures
       (calls_more wait (standing_of c.args.keeper.now c.args.http_client.now) (standing_of c.loop-now.keeper c.loop-now.http_client) (standing_of c.show_call.new.keeper c.show_call.new.http_client)
       c.args.readings.now c.loop-now.now-index c.from_plain.result c.loop-now-test.true (rw c.from_plain.ensures c.now-item.is)
-      (string_bytes c.args.http_client.now.lines) (string_bytes c.loop-now.http_client.lines) (string_bytes c.show_call.new.http_client.lines)
+      c.args.http_client.now.events c.loop-now.http_client.events c.show_call.new.http_client.events
       c.loop-now.status c.in_ok-later.later so_far call.1),
 )

@@ -1,4 +1,4 @@
-use Rattle.std.proofs.Common.{◌≡◌, ℕ, Option, false, map, take, string_bytes}
+use Rattle.std.proofs.Common.{◌≡◌, ℕ, Option, false, map, take}
 use Rattle.oauth2_commands.specs.Keeper.{AreCalls}
 use Rattle.oauth2_request_commands.specs.Out.{Output, AddsOutput}
 use Rattle.oauth2_commands.specs.private.Kept.{standing_of, WaitsFor}
@@ -10,4 +10,4 @@ invariant-loop-now l =
     → WaitsFor l.keeper wait
     × (l.http_client.is_starved ≡ false
     → (o : Output) × AreCalls wait (standing_of l.initial.keeper l.initial.http_client) (map (λ t. t.nanosecond) (take l.now-index l.readings)) o (standing_of l.keeper l.http_client)
-    × AddsOutput (string_bytes l.initial.http_client.lines) (string_bytes l.http_client.lines) l.status o)
+    × AddsOutput l.initial.http_client.events l.http_client.events l.status o)

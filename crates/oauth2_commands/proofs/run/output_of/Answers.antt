@@ -1,10 +1,11 @@
-use Rattle.std.proofs.Common.{◌≡◌, None, refl}
-use Rattle.oauth2_commands.specs.Run.{IsOutputOf, bad_script}
-use Rattle.oauth2_script.specs.Script.{script_in}
+use Rattle.std.proofs.Common.{◌≡◌, string_bytes}
+use Rattle.oauth2_results.specs.Result.{text_in}
+use Rattle.oauth2_script.specs.Form.{form_in}
 use Rattle.oauth2_commands.proofs.run.output_of.Goals as goal
 
-pub returns-in_ok-lines-in-Err-Bad : goal.returns-in_ok-lines-in-Err-Bad
-unfolding IsOutputOf
-returns-in_ok-lines-in-Err-Bad c =
-    let none : script_in c.args.input.now ≡ None = rw c.in-Err-Bad.field-0-is at c.in-Err-Bad.ensures in
-    (bad_script, rw none refl, c.in_ok-lines-in-Err-Bad.ensures.ok, refl)
+pub returns : goal.returns
+returns c =
+    let run = c.in_ok-events.ensures in
+    let text : string_bytes c.in_ok-text.text ≡ text_in (form_in c.args.input.now) run.0.events =
+    rw (← c.in_ok-form.ensures, ← run.2) c.in_ok-text.ensures in
+    (run.0, run.1, text, run.3)

@@ -1,4 +1,4 @@
-use Rattle.std.proofs.Common.{Ok, Err, string_bytes, rules}
+use Rattle.std.proofs.Common.{Ok, Err, rules}
 use Rattle.std.proofs.lemmas.Result.{IfOk-weaker}
 use Rattle.oauth2_commands.proofs.Kept.{kept_shown, got_told, no_token_told, still_waits}
 use Rattle.oauth2_commands.proofs.script_keeper.show_waiting_call.Goals as goal
@@ -7,16 +7,16 @@ pub returns-in-Ok-clause-shown : goal.returns-in-Ok-clause-shown
 returns-in-Ok-clause-shown c =
     IfOk-weaker c.show_kept.result _ _
     (λ status printed. λ wait waits fed.
-    got_told c.args.keeper.now c.args.now.nanosecond c.args.http_client.now c.keep_good.new.http_client (string_bytes c.show_kept.new.lines) status fed wait waits
+    got_told c.args.keeper.now c.args.now.nanosecond c.args.http_client.now c.keep_good.new.http_client c.show_kept.new.events status fed wait waits
     c.keep_good.new.self c.in-Ok.ensures.call
-    (kept_shown c.keep_good.new.self.keeper.token c.unwrap-token.result.now (string_bytes c.keep_good.new.http_client.lines) (string_bytes c.show_kept.new.lines) status (search rules) printed))
+    (kept_shown c.keep_good.new.self.keeper.token c.unwrap-token.result.now c.keep_good.new.http_client.events c.show_kept.new.events status (search rules) printed))
     c.show_kept.ensures
 
 pub returns-in-Err-clause-shown : goal.returns-in-Err-clause-shown
 returns-in-Err-clause-shown c =
     IfOk-weaker c.show_error.result _ _
     (λ status shows. λ wait waits fed.
-    no_token_told c.args.keeper.now c.args.now.nanosecond c.args.http_client.now c.keep_good.new.http_client (string_bytes c.show_error.new.lines) status fed wait waits
+    no_token_told c.args.keeper.now c.args.now.nanosecond c.args.http_client.now c.keep_good.new.http_client c.show_error.new.events status fed wait waits
     c.keep_good.new.self c.in-Err.error c.in-Err.ensures.call shows)
     c.show_error.ensures
 

@@ -1,4 +1,4 @@
-use Rattle.std.proofs.Common.{◌≡◌, ◌⊎◌, None, Some, string_bytes, sym, ◌∙◌}
+use Rattle.std.proofs.Common.{◌≡◌, ◌⊎◌, None, Some, sym, ◌∙◌}
 use Rattle.std.proofs.lemmas.Result.{IfOk-weaker}
 use Rattle.oauth2_pushed_requests.specs.Parameters.{push_fault}
 use Rattle.oauth2_pushed_requests.proofs.PushLaws.{added-extended}
@@ -21,7 +21,7 @@ returns-in-Ok c =
     let asking : c.new-pushing.result ≡ client = rw c.as_ref.ensures.value at c.new-pushing.ensures in
     let whose : made.client ≡ client = c.in-Ok.ensures.client ∙ asking in
     let free : push_fault client.client_id (Some pairs) ≡ None = rw (all, asking) at c.in-Ok.ensures.ok in
-    sent_told client auth pairs made c.args.http_client.now c.request-end.new.http_client (string_bytes c.show_pushed.new.lines)
+    sent_told client auth pairs made c.args.http_client.now c.request-end.new.http_client c.show_pushed.new.events
     status c.request-end.result (made_of made client pairs whose found) free c.request-end.ensures.once fed printed)
     c.show_pushed.ensures
 

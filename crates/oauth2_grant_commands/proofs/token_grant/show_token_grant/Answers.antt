@@ -1,9 +1,9 @@
-use Rattle.std.proofs.Common.{map, string_bytes}
+use Rattle.std.proofs.Common.{map}
 use Rattle.std.proofs.lemmas.Result.{IfOk-weaker}
 use Rattle.oauth2_codes.specs.ErrorCodes.{error_code, error_code_text}
 use Rattle.oauth2_codes.specs.ErrorResponse.{parts_of}
 use Rattle.oauth2_grants.specs.Extension.{extension_configuration}
-use Rattle.oauth2_request_commands.specs.Exchange.{error_display, token_answer, token_json}
+use Rattle.oauth2_request_commands.specs.Exchange.{error_members, token_answer, token_json}
 use Rattle.oauth2_request_commands.specs.private.Results.{token_meaning}
 use Rattle.oauth2_request_commands.proofs.Exchanges.{exchange_told}
 use Rattle.oauth2_request_commands.proofs.Results.{token_free, token_written-data, error_told}
@@ -23,11 +23,11 @@ returns-in-Ok c =
     IfOk-weaker c.show_end.result _ _
     (λ status shows. λ fed.
     asked_told (IsTokenAsked (client_replies c.args.http_client.now)) c.args.request _ _ _ status r c.in-Ok.ensures.ok
-    (exchange_told token_meaning (parts_of error_code) token_json (error_display error_code_text)
+    (exchange_told token_meaning (parts_of error_code) token_json (error_members error_code_text)
     (token_answer r.base.reply_rule) (extension_configuration r) r.token_url
-    c.args.http_client.now c.request-end.new.http_client (string_bytes c.show_end.new.lines) status
+    c.args.http_client.now c.request-end.new.http_client c.show_end.new.events status
     c.request-end.result c.request-end.ensures.once fed
-    (shows _ token_written-data _ error_told)))
+    (shows _ token_written-data error_told)))
     c.show_end.ensures
 
 pub returns-in-Err : goal.returns-in-Err

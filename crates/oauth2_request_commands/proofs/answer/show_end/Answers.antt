@@ -7,8 +7,8 @@ show_answer-requires g c = c.requires c.in-Ok.answer
 pub returns-in-Ok : goal.returns-in-Ok
 returns-in-Ok g c =
     IfOk-weaker c.show_answer.result _ _
-    (λ status shows. λ value written text told. rw c.in-Ok.is (shows (value c.in-Ok.answer) (written c.in-Ok.answer))) c.show_answer.ensures
+    (λ status shows. λ value written told. rw c.in-Ok.is (shows (value c.in-Ok.answer) (written c.in-Ok.answer))) c.show_answer.ensures
 
 pub returns-in-Err : goal.returns-in-Err
 returns-in-Err g c =
-    IfOk-weaker c.show_fault.result _ _ (λ status shows. λ value written text told. rw c.in-Err.is (shows text told)) c.show_fault.ensures
+    IfOk-weaker c.show_fault.result _ _ (λ status shows. λ value written told. rw c.in-Err.is (shows told)) c.show_fault.ensures

@@ -1,16 +1,16 @@
-use Rattle.std.proofs.Common.{◌≡◌, codes, refl}
+use Rattle.std.proofs.Common.{◌≡◌, [], ◌∷◌, codes, refl}
 use Rattle.std.proofs.lemmas.Result.{IfOk-weaker}
 use Rattle.url.specs.Parts.{serialize}
-use Rattle.oauth2_request_commands.specs.Authorize.{url_line}
+use Rattle.oauth2_world.specs.Events.{sent_to}
 use Rattle.oauth2_request_commands.specs.Out.{Output, success_output, after}
-use Rattle.oauth2_world.specs.Lines.{quotation}
+use Rattle.oauth2_world.specs.Quotation.{quotation}
 use Rattle.oauth2_request_commands.proofs.Commands.{missing_told, command_told}
 use Rattle.oauth2_request_commands.proofs.authorize.run_authorize.Goals as goal
 
 pub returns-in_ok-made-in-Ok : goal.returns-in_ok-made-in-Ok
 returns-in_ok-made-in-Ok c =
     let made = c.in_ok-made-in-Ok.made in
-    let o : Output = after (url_line (serialize made.0)) (success_output (quotation made.1)) in
+    let o : Output = after (sent_to (serialize made.0) ∷ []) (success_output (quotation made.1)) in
     IfOk-weaker c.show_url.result _ _
     (λ status told.
     command_told (codes "authorization") (λ shown. shown ≡ o) _ _ c.args.client.now.auth_url _ _ status

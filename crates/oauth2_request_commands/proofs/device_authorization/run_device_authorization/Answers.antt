@@ -1,9 +1,9 @@
-use Rattle.std.proofs.Common.{◌≡◌, string_bytes, codes}
+use Rattle.std.proofs.Common.{◌≡◌, codes}
 use Rattle.std.proofs.lemmas.Result.{IfOk-weaker}
 use Rattle.oauth2_codes.specs.ErrorCodes.{error_code, error_code_text}
 use Rattle.oauth2_codes.specs.ErrorResponse.{parts_of}
 use Rattle.oauth2_requests.specs.DeviceAuthorization.{device_authorization_configuration}
-use Rattle.oauth2_request_commands.specs.Exchange.{error_display}
+use Rattle.oauth2_request_commands.specs.Exchange.{error_members}
 use Rattle.oauth2_request_commands.specs.DeviceAuthorization.{device_authorization_answer, device_json}
 use Rattle.oauth2_request_commands.proofs.Commands.{request_told, no_endpoint_told}
 use Rattle.oauth2_request_commands.proofs.Exchanges.{exchange_told}
@@ -25,11 +25,11 @@ returns-in_ok-asked-in-Ok c =
     c.in-Ok.ensures.there c.in-Ok.ensures.missing
     (IfOk-weaker c.show_end.result _ _
     (λ status shows. λ fed.
-    exchange_told device_meaning (parts_of error_code) device_json (error_display error_code_text)
+    exchange_told device_meaning (parts_of error_code) device_json (error_members error_code_text)
     (device_authorization_answer r.base.reply_rule) (device_authorization_configuration r)
     r.device_authorization_url c.args.http_client.now c.request-end.new.http_client
-    (string_bytes c.show_end.new.lines) status c.request-end.result c.request-end.ensures.once fed
-    (shows _ device_written-data _ error_told))
+    c.show_end.new.events status c.request-end.result c.request-end.ensures.once fed
+    (shows _ device_written-data error_told))
     c.show_end.ensures)
     (λ u start o shown. rw (c.in_ok-asked-in-Ok.ensures, h.4, all, start, c.as_slice.ensures.value) at shown)
 

@@ -1,4 +1,3 @@
-use Rattle.std.proofs.Common.{string_bytes}
 use Rattle.std.specs.Int.NonZero.{non_zero_u64_get}
 use Rattle.std.proofs.lemmas.Result.{IfOk-weaker}
 use Rattle.oauth2_device.specs.Poll.{timeout_of}
@@ -17,6 +16,6 @@ returns c =
     IfOk-weaker c.show_end.result _ _
     (λ status shows. λ fed.
     poll_told c.args.request.request (timeout_of c.args.request.request c.args.timeout) (non_zero_u64_get c.args.max_polls) c.args.world.now seen.0
-    c.poll_with-end.new.world (string_bytes c.show_end.new.lines) status c.poll_with-end.result seen.2 seen.1 fed
-    (shows _ token_written-data _ device_error_told))
+    c.poll_with-end.new.world c.show_end.new.events status c.poll_with-end.result seen.2 seen.1 fed
+    (shows _ token_written-data device_error_told))
     c.show_end.ensures

@@ -1,4 +1,4 @@
-use Rattle.std.proofs.Common.{◌≡◌, string_bytes}
+use Rattle.std.proofs.Common.{◌≡◌}
 use Rattle.oauth2.specs.NewRequest.{new_refresh_request}
 use Rattle.oauth2_request_commands.specs.Exchange.{token_json}
 use Rattle.oauth2_request_commands.proofs.Results.{token_written-data, error_told}
@@ -15,5 +15,5 @@ returns-in_ok-status-in-Ok c = λ url there fed.
     let asks = rw made at c.request-end.ensures.once in
     rw c.in_ok-given-in-Ok.ensures
     (refresh_told client.reply_rule sent (refreshing client sent url) url c.args.http_client.now c.request-end.new.http_client
-    (string_bytes c.show_end.new.lines) c.in_ok-status-in-Ok.status c.request-end.result asks fed
-    (c.in_ok-status-in-Ok.ensures _ token_written-data _ error_told))
+    c.show_end.new.events c.in_ok-status-in-Ok.status c.request-end.result asks fed
+    (c.in_ok-status-in-Ok.ensures _ token_written-data error_told))

@@ -16,5 +16,5 @@ returns-clause-shown c =
     IfOk-weaker c.show_effect.result _ _
     (λ status shown. λ replies.
     subst (λ (e : Effect). (o : Output) × IsEffect (standing c.args.fleet.now replies) c.args.going.keeper c.args.going.renewal e o (standing c.show_effect.new.fleet replies)
-    × AddsOutput (string_bytes c.args.lines.now) (string_bytes c.show_effect.new.lines) status o) is (shown replies))
+    × AddsOutput c.args.events.now c.show_effect.new.events status o) is (shown replies))
     c.show_effect.ensures.shown

@@ -1,4 +1,4 @@
-use Rattle.std.proofs.Common.{◌≡◌, ◌+◌, ◌≤◌, ◌∷◌, length, sym, refl, arith, string_bytes, append-nil}
+use Rattle.std.proofs.Common.{◌≡◌, ◌+◌, ◌≤◌, ◌∷◌, length, sym, refl, arith, append-nil}
 use Rattle.oauth2_world.specs.Replay.{client_replies}
 use Rattle.oauth2_request_commands.specs.Out.{nothing}
 use Rattle.oauth2_shared_keeper_command.specs.private.Standing.{standing}
@@ -7,7 +7,7 @@ use Rattle.oauth2_shared_keeper_command.proofs.run.show_steps.Goals as goal
 
 pub loop-step-init : goal.loop-step-init
 loop-step-init c =
-    (omega (arith, c.requires), omega (arith, c.requires), λ url there fed. (nothing, (sym (append-nil (string_bytes c.args.http_client.now.lines)), refl), λ rest kept steps. steps))
+    (omega (arith, c.requires), omega (arith, c.requires), λ url there fed. (nothing, (sym (append-nil c.args.http_client.now.events), refl), λ rest kept steps. steps))
 
 pub loop-step-preserved : goal.loop-step-preserved
 loop-step-preserved c =
@@ -24,7 +24,7 @@ loop-step-preserved c =
           rw c.both-status.ensures
           (one_more c.args.client.now url (standing c.args.fleet.now (client_replies c.args.http_client.now)) (standing c.loop-step.fleet (client_replies c.loop-step.http_client))
           (standing c.show_step.new.fleet (client_replies c.show_step.new.http_client)) c.args.steps.now c.in-Some.step.now c.in-Some.later.now c.loop-step.place
-          (string_bytes c.args.http_client.now.lines) (string_bytes c.loop-step.http_client.lines) (string_bytes c.show_step.new.http_client.lines)
+          c.args.http_client.now.events c.loop-step.http_client.events c.show_step.new.http_client.events
           c.loop-step.status c.in_ok-next.next (rw split at so_far) step.1)),
     )
 
@@ -33,4 +33,4 @@ returns c = λ url there fed.
     let none : length c.loop-step.rest.now ≡ 0 = c.in_default.ensures.cases in
     no_more c.args.client.now url (standing c.args.fleet.now (client_replies c.args.http_client.now)) (standing c.loop-step.fleet (client_replies c.loop-step.http_client))
     c.args.steps.now c.loop-step.rest.now none c.loop-step.place
-    (string_bytes c.args.http_client.now.lines) (string_bytes c.loop-step.http_client.lines) c.loop-step.status (c.loop-step.invariant.2 url there fed)
+    c.args.http_client.now.events c.loop-step.http_client.events c.loop-step.status (c.loop-step.invariant.2 url there fed)

@@ -1,0 +1,9 @@
+pub mod Words
+pub mod Json
+pub mod Decoded
+pub mod RequestLines
+pub mod Lines
+pub mod RequestJson
+pub mod ReplyJson
+pub mod FaultJson
+pub mod Result
