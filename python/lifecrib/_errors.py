@@ -1,0 +1,180 @@
+"""Why a call has no answer: one class for each kind of fault that the library tells."""
+from __future__ import annotations
+
+from typing import Optional
+
+
+class LifecribError(Exception):
+    """A call that has no answer. No text of it has a secret that was sent.
+
+    kind names the fault, and text says it in words. error, error_description and error_uri are those of an error
+    response, or of a redirect that has an error. member and cause say what of a reply can not be read. status and
+    content_type are those of the last reply, if there was one.
+    """
+
+    kind = 'fault'
+
+    def __init__(self, text: str = '', *, kind: Optional[str] = None, error: Optional[str] = None,
+                 error_description: Optional[str] = None, error_uri: Optional[str] = None,
+                 member: Optional[str] = None, cause: Optional[str] = None, status: Optional[int] = None,
+                 content_type: Optional[str] = None) -> None:
+        super().__init__(text)
+        if kind is not None:
+            self.kind = kind
+        self.text, self.error, self.error_description, self.error_uri = text, error, error_description, error_uri
+        self.member, self.cause, self.status, self.content_type = member, cause, status, content_type
+
+    def __str__(self) -> str:
+        more = []
+        if self.cause is not None:
+            more.append('%s: %s' % (self.member or 'the body', self.cause))
+        if self.status is not None:
+            more.append('HTTP status %d' % self.status)
+        return '%s (%s)' % (self.text, ', '.join(more)) if more else self.text
+
+
+class MissingEndpoint(LifecribError):
+    """The client does not have the URL that the call needs. Nothing was sent."""
+
+    kind = 'missing_endpoint'
+
+
+class InsecureEndpoint(LifecribError):
+    """The endpoint is no https URL. Nothing was sent."""
+
+    kind = 'insecure_endpoint'
+
+
+class RequestFailed(LifecribError):
+    """There is no reply. The exception of the transport is the __cause__. The server may have got the request."""
+
+    kind = 'request_failed'
+
+    def __str__(self) -> str:
+        why = self.__cause__
+        return '%s (%s)' % (self.text, type(why).__name__) if why else super().__str__()
+
+
+class ErrorResponse(LifecribError):
+    """The server answered with an error response (RFC 6749, 5.2): error is its code."""
+
+    kind = 'error_response'
+
+
+class UnreadReply(LifecribError):
+    """The body is not what the standard says: member is where, '' for the whole body, and cause is why."""
+
+    kind = 'unread_reply'
+
+
+class OtherError(LifecribError):
+    """The reply has another Content-Type, or no body; or the polls of a device have come to their limit."""
+
+    kind = 'other_error'
+
+
+class OutOfMemory(LifecribError, MemoryError):
+    """Memory ran out in the library. The request may have been sent."""
+
+    kind = 'out_of_memory'
+
+
+class RefusedRedirect(LifecribError):
+    """A redirect has another state, another issuer, an error or no code; or a server redirects a request."""
+
+    kind = 'refused_redirect'
+
+
+class OtherStatus(LifecribError):
+    """A request for metadata has a reply with another status than 200."""
+
+    kind = 'other_status'
+
+
+class BadMetadata(LifecribError):
+    """An endpoint in the metadata is one that a client may not call."""
+
+    kind = 'bad_metadata'
+
+
+class OtherIssuer(LifecribError):
+    """The metadata are those of another issuer."""
+
+    kind = 'other_issuer'
+
+
+class BadIssuer(LifecribError):
+    """A text is no issuer. Nothing was sent."""
+
+    kind = 'bad_issuer'
+
+
+class BadToken(LifecribError):
+    """There is no ID token, or a token can not be read."""
+
+    kind = 'bad_token'
+
+
+class BadClaims(LifecribError):
+    """A claim of an ID token breaks a rule of OpenID Connect Core 1.0, 3.1.3.7."""
+
+    kind = 'bad_claims'
+
+
+class BadSignature(LifecribError):
+    """The signature of a token is wrong."""
+
+    kind = 'bad_signature'
+
+
+class UncheckedSignature(LifecribError):
+    """No signature of the algorithm is checked."""
+
+    kind = 'unchecked_signature'
+
+
+class BadKeys(LifecribError):
+    """The keys are no key set, or none of them fits the token."""
+
+    kind = 'bad_keys'
+
+
+class BadAccessToken(LifecribError):
+    """A JWT access token breaks a rule of RFC 9068, 4."""
+
+    kind = 'bad_access_token'
+
+
+class TakenParameter(LifecribError):
+    """A name in extra is one that the request sends itself. Nothing was sent."""
+
+    kind = 'taken_parameter'
+
+
+class BadPush(LifecribError):
+    """A pushed authorization request can not be made. Nothing was sent."""
+
+    kind = 'bad_push'
+
+
+class Waiting(LifecribError):
+    """A keeper makes no request now, since one failed: until is the second since 1970 at which it may again."""
+
+    kind = 'wait'
+    until: Optional[int] = None
+
+
+class BadScript(LifecribError, ValueError):
+    """Something that was given is not what it has to be: member says what, as 'client.token_url', and why says why."""
+
+    kind = 'bad_script'
+
+    def __init__(self, text: str = '', *, member: Optional[str] = None, why: Optional[str] = None) -> None:
+        super().__init__(text, member=member)
+        self.why = why
+
+
+KINDS = {it.kind: it for it in (
+    MissingEndpoint, InsecureEndpoint, RequestFailed, ErrorResponse, UnreadReply, OtherError, OutOfMemory,
+    RefusedRedirect, OtherStatus, BadMetadata, OtherIssuer, BadIssuer, BadToken, BadClaims, BadSignature,
+    UncheckedSignature, BadKeys, BadAccessToken, TakenParameter, BadPush)}

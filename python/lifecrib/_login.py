@@ -1,0 +1,132 @@
+"""Logins: a user is sent to a URL, and comes back with a code that is exchanged for a token."""
+from __future__ import annotations
+
+import dataclasses
+import secrets
+import urllib.parse
+from typing import Any, Generic, Mapping, Optional, TypeVar
+
+from . import _calls, _json
+from ._calls import Call, Pairs, Settings, Texts
+from ._data import Token, _without_none
+from ._errors import BadToken, LifecribError, OtherError
+
+S = TypeVar('S', bound=Settings)
+NEEDED = ('state', 'verifier')
+
+
+class LoginState(Generic[S]):
+    """What is kept of a login until the user comes back. url is where the user is sent; one that was read from a text
+    has none. It belongs to one session of one user, and to one redirect."""
+
+    def __init__(self, client: Optional[S], url: str, kept: Mapping[str, Any]) -> None:
+        self.client, self.url, self._kept = client, url, dict(kept)
+
+    def __repr__(self) -> str:
+        return '%s()' % type(self).__name__
+
+    @property
+    def state(self) -> str:
+        """The state, which the redirect has to repeat: a key under which a login may be kept."""
+        return str(self._kept['state'])
+
+    def to_json(self) -> str:
+        """The login as a text, with its secrets, without the client."""
+        return _json.text_of(self._kept)
+
+    def __getstate__(self) -> str:
+        return self.to_json()
+
+    def __setstate__(self, text: str) -> None:
+        self.client, self.url, self._kept = None, '', read(text)
+
+    @property
+    def _settings(self) -> S:
+        if self.client is None:
+            raise ValueError('a login that was kept needs its client: set client')
+        return self.client
+
+
+def read(text: str) -> dict[str, Any]:
+    """What the text of a login says. ValueError if it is none."""
+    try:
+        found = _json.value_of(text)
+        if all(isinstance(found[it], str) for it in NEEDED):
+            return dict(found)
+    except (LookupError, TypeError, RecursionError):
+        pass
+    raise ValueError('this is no text of a login')
+
+
+def start(self: Settings, scopes: Texts = (), *, redirect: Optional[str] = None, openid: Optional[bool] = None,
+          max_age: Optional[int] = None, push: bool = False, extra: Pairs = (), resource: Texts = (),
+          client_assertion: Optional[str] = None) -> 'Call[tuple[str, dict[str, Any]]]':
+    """The URL of a new login, and what is kept of it."""
+    wanted, extras = _calls.texts(scopes), _calls.pairs(extra)
+    if openid is None:
+        openid = 'openid' in wanted
+    if openid and 'openid' not in wanted:
+        wanted.insert(0, 'openid')
+    if max_age is not None:
+        extras.append(['max_age', str(max_age)])
+    kept = {'state': secrets.token_urlsafe(16), 'verifier': secrets.token_urlsafe(32),
+            'redirect_uri': redirect or self.script.get('redirect'),
+            'nonce': secrets.token_urlsafe(16) if openid else None, 'max_age': max_age,
+            'resource': _calls.texts(resource) or None}
+    params = {'state': kept['state'], 'verifier': kept['verifier'], 'redirect': redirect, 'scopes': wanted or None,
+              'nonce': kept['nonce'], 'extra': extras or None, 'resource': kept['resource']}
+    if push:
+        run = yield from _calls.exchange(self, 'push', {**params, 'client_assertion': client_assertion})
+    else:
+        run = self.run('authorize', params)
+    run.answer()
+    return run.events[-2]['url'], _without_none(kept)
+
+
+def finish(self: LoginState[Any], redirect_url: str, *, issuer: Optional[str] = None,
+           keys: Optional[Mapping[str, Any]] = None, algorithm: Optional[str] = None, leeway: int = _calls.LEEWAY,
+           other_audiences: Texts = (), authorized_parties: Texts = (), signature: bool = True, extra: Pairs = (),
+           client_assertion: Optional[str] = None) -> Call[Token]:
+    """The token of this login, whose user came back to a URL. No code is sent if that has another state. The arguments
+    from issuer to signature are for a login with OpenID Connect: see check_id_token of a Client."""
+    client, kept = self._settings, self._kept
+    is_openid = 'nonce' in kept
+    if is_openid:  # before the code is used up
+        _calls.needs_of_id_token(client, issuer, keys, signature)
+    found = client.run('redirect', {'state': kept['state'], 'redirect': redirect_url, **redirect_issuer(client)})
+    if found.last['event'] == 'fault':
+        raise with_error_of(found.error(), redirect_url)
+    got = yield from _calls.exchange_code(client, found.answer(), verifier=kept['verifier'],
+                                          redirect=kept.get('redirect_uri'), extra=extra,
+                                          resource=kept.get('resource', ()), client_assertion=client_assertion)
+    if not is_openid:
+        return got
+    if got.token_type != 'bearer':
+        raise OtherError('the token is not of the type Bearer')
+    if got.id_token is None:
+        raise BadToken('the reply has no ID token')
+    claims = yield from _calls.check_id_token(
+        client, got.id_token, got.access_token, issuer=issuer, keys=keys, nonce=kept['nonce'], algorithm=algorithm,
+        leeway=leeway, max_age=kept.get('max_age'), other_audiences=other_audiences,
+        authorized_parties=authorized_parties, signature=signature)
+    return dataclasses.replace(got, claims=claims)
+
+
+def redirect_issuer(self: Settings) -> dict[str, str]:
+    """Which issuer a redirect has to name, or must not differ from (RFC 9207, 2.4)."""
+    if not self.metadata:
+        return {}
+    needed = self.metadata.authorization_response_iss_parameter_supported
+    return {'issuer' if needed else 'issuer_compared': self.metadata.issuer}
+
+
+def with_error_of(fault: LifecribError, redirect_url: str) -> LifecribError:
+    """The fault of a redirect with the parts of its text, which the redirect has as parameters."""
+    if fault.error is None:
+        query = urllib.parse.urlsplit(redirect_url).query
+        said = dict(reversed(urllib.parse.parse_qsl(query, errors='replace')))
+        error, about, where = (said.get(it) for it in ('error', 'error_description', 'error_uri'))
+        whole = (error or '') + (': ' + about if about else '') + (' (see %s)' % where if where else '')
+        if error and whole == fault.text:
+            fault.error, fault.error_description, fault.error_uri = error, about, where
+    return fault
