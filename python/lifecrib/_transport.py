@@ -43,9 +43,14 @@ class _Body:
         return b''.join(self.parts)
 
 
-class _NoRedirect(urllib.request.HTTPRedirectHandler):
-    def redirect_request(self, *_: Any) -> None:
-        return None
+class _AnyStatus(urllib.request.HTTPErrorProcessor):
+    """Takes a reply of any status as it is, also a redirect."""
+
+    def http_response(self, request: urllib.request.Request, response: Any) -> Any:
+        return response
+
+    def https_response(self, request: urllib.request.Request, response: Any) -> Any:
+        return response
 
 
 class UrllibTransport:
@@ -61,7 +66,7 @@ class UrllibTransport:
         # http is for this machine alone, and goes by no proxy
         proxies = {name: by for name, by in urllib.request.getproxies().items() if name == 'https'}
         self._opener = urllib.request.build_opener(
-            _NoRedirect(), urllib.request.HTTPSHandler(context=context), urllib.request.ProxyHandler(proxies))
+            _AnyStatus(), urllib.request.HTTPSHandler(context=context), urllib.request.ProxyHandler(proxies))
         self._opener.addheaders = [('User-Agent', 'lifecrib')]
 
     def __call__(self, request: Request) -> Reply:
@@ -70,8 +75,6 @@ class UrllibTransport:
         body = _Body(self._limit, self._timeout)
         try:
             reply: http.client.HTTPResponse = self._opener.open(asked, timeout=self._timeout)
-        except urllib.error.HTTPError as error:
-            reply = error.fp  # type: ignore[assignment]  # any status is one of a reply
         except urllib.error.URLError as error:
             raise error.reason if isinstance(error.reason, Exception) else error
         with reply:
@@ -100,6 +103,7 @@ class RequestsTransport:
         # an auth that adds nothing, or else the secret of a .netrc would go in place of the client's
         with session.request(request.method, request.url, data=request.body, headers=dict([*request.headers, PLAIN]),
                              timeout=self._timeout, allow_redirects=False, stream=True, auth=_same) as reply:
+            reply.raw.enforce_content_length = True  # a reply that is cut is none
             for part in reply.iter_content(CHUNK):
                 body.add(part)
             return Reply(reply.status_code, reply.headers.get('Content-Type'), body.whole())

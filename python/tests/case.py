@@ -84,12 +84,11 @@ class Handler(http.server.BaseHTTPRequestHandler):
         self.server.seen.append((self.command, self.path, dict(self.headers), body))
         status, headers, body = self.server.answer(self.path)
         self.send_response(status)
-        length = headers.pop('Content-Length', str(len(body)))
-        for name, value in {'Content-Type': JSON, 'Content-Length': length, **headers}.items():
+        for name, value in {'Content-Type': JSON, 'Content-Length': str(len(body)), **headers}.items():
             self.send_header(name, value)
         self.end_headers()
         self.wfile.write(body)
-        self.close_connection = True
+        self.close_connection = 'Content-Length' in headers  # of a reply that is cut
 
     do_GET = do_POST
 

@@ -1,4 +1,4 @@
-#!/usr/bin/env python3
+#!/usr/bin/env -S python3 -IS
 """A stand-in of the program: it reads a script and writes a result, as far as the tests here need it. Nothing is proved.
 
 The tests use it where LIFECRIB_PROGRAM and LIFECRIB_LIBRARY name nothing.

@@ -1,0 +1,104 @@
+"""The calls that are awaited: the same requests and results, and what only they have."""
+import asyncio
+import time
+import unittest
+from unittest import mock
+
+from case import TOKEN, Case, async_client
+import lifecrib
+from lifecrib import AsyncClient, AsyncKeeper, AsyncLogin, Token
+
+CODES = {'device_code': 'd', 'user_code': 'U-1', 'verification_uri': 'https://v/', 'expires_in': 600, 'interval': 5}
+
+
+class Async(Case, unittest.IsolatedAsyncioTestCase):
+    async def fails_later(self, kind, call):
+        with self.assertRaises(kind) as caught:
+            await call
+        return caught.exception
+
+    async def test_the_names_are_those_of_a_client(self):
+        def names(it):
+            return {name for name in vars(it) if not name.startswith('_')}
+        self.assertEqual(names(AsyncClient), names(lifecrib.Client))
+        for name in names(AsyncClient):
+            self.assertTrue(getattr(AsyncClient, name).__doc__, name)
+
+    async def test_tokens(self):
+        it, server = async_client((200, TOKEN), (200, TOKEN), (200, TOKEN), (200, TOKEN), (200, {'active': True}), (200, {}))
+        self.assertEqual((await it.fetch_token(scopes='read')).access_token, 't1')
+        await it.exchange_code('c')
+        await it.password('joe', 'p')
+        await it.refresh('r')
+        self.assertTrue((await it.introspect('t')).active)
+        self.assertIsNone(await it.revoke('t'))
+        self.assertEqual(len(server.requests), 6)
+        self.assertEqual(server.bodies[0], 'grant_type=client_credentials&scope=read')
+
+    async def test_errors(self):
+        it, _ = async_client((400, {'error': 'invalid_grant'}), OSError('down'))
+        self.assertEqual((await self.fails_later(lifecrib.ErrorResponse, it.fetch_token('c'))).error, 'invalid_grant')
+        error = await self.fails_later(lifecrib.RequestFailed, it.fetch_token('c'))
+        self.assertIsInstance(error.__cause__, OSError)
+
+    async def test_a_login(self):
+        it, server = async_client((200, TOKEN), (201, {'request_uri': 'urn:r', 'expires_in': 60}))
+        login = await it.login(scopes='read')
+        again = AsyncLogin.from_json(login.to_json(), it)
+        token = await again.finish('https://app.example/back?code=c&state=' + login.state)
+        self.assertEqual(token.access_token, 't1')
+        self.assertIn('request_uri=urn%3Ar', (await it.login(push=True)).url)
+
+    async def test_a_device(self):
+        it, _ = async_client((200, CODES), (400, {'error': 'authorization_pending'}), (200, TOKEN))
+        device, waits = await it.device(), []
+
+        async def sleep(seconds):
+            waits.append(seconds)
+        self.assertEqual((await device.token(sleep=sleep)).access_token, 't1')
+        self.assertEqual(waits, [5])
+
+    async def test_discovery(self):
+        issuer = 'https://as.example'
+        metadata = {'issuer': issuer, 'token_endpoint': issuer + '/t'}
+        _, server = async_client((200, metadata), (200, TOKEN))
+
+        async def send(request):
+            return server(request)
+        it = await AsyncClient.discover(issuer, 'aaa', transport=send)
+        await it.fetch_token()
+        self.assertEqual(server.requests[1].url, issuer + '/t')
+
+    async def test_tasks_share_one_renewal(self):
+        it, server = async_client((200, TOKEN), (200, {**TOKEN, 'access_token': 't2'}))
+        keeper = AsyncKeeper(it)
+        found = await asyncio.gather(*[keeper.token() for _ in range(8)])
+        self.assertEqual(({it.access_token for it in found}, len(server.requests)), ({'t1'}, 1))
+        with mock.patch('lifecrib._calls.now', lambda: int(time.time()) + 4000):
+            self.assertEqual((await keeper.token()).access_token, 't2')
+        self.assertIn('refresh_token=r1', server.bodies[1])
+
+    async def test_a_call_is_cancelled(self):
+        begun = asyncio.Event()
+
+        async def never(_):
+            begun.set()
+            await asyncio.sleep(60)
+        it = AsyncClient('aaa', token_url='https://as.example/t', transport=never)
+        keeper = AsyncKeeper(it)
+        task = asyncio.create_task(keeper.token())
+        await begun.wait()
+        task.cancel()
+        with self.assertRaises(asyncio.CancelledError):
+            await task
+        it._transport, server = async_client((200, TOKEN))[0]._transport, None
+        self.assertEqual((await keeper.token()).access_token, 't1')
+
+    async def test_a_token_is_the_same_data(self):
+        it, _ = async_client((200, TOKEN))
+        token = await it.fetch_token()
+        self.assertEqual(Token.from_json(token.to_json()), token)
+
+
+if __name__ == '__main__':
+    unittest.main()
