@@ -1,4 +1,4 @@
-"""What the packages of tools/oauth2 have in them, and how they are written; for tools/package."""
+"""What the packages of tools/oauth2 and of the Python package have in them, and how they are written; for tools/package."""
 from __future__ import annotations
 
 import ast
@@ -24,8 +24,13 @@ NAME = 'lifecrib'
 TOOLS = os.path.dirname(os.path.abspath(__file__))
 TIME = (1980, 1, 1, 0, 0, 0)  # of each file, so that the same files make the same package
 ABOUT = 'tokens of OAuth 2.0 from the command line'
+ABOUT_WHEEL = 'an OAuth 2.0 client over a proved library, and its command'
 LICENSES = ('LICENSE', 'LICENSE-APACHE', 'LICENSE-MIT')
 PYTHON = (3, 9)
+# The Python package: its sources, the library that it loads, and the folder in it that has the tool.
+SOURCES = os.path.join(repository.ROOT, 'python', NAME)
+LIBRARY, COMMAND = 'liblifecrib.so', '_command'
+EXTRAS = {'redis': 'redis', 'requests': 'requests', 'httpx': 'httpx', 'aiohttp': 'aiohttp'}
 # Starts the tool of a package: its modules are found beside this file, before any others.
 MAIN = '''"""Starts lifecrib."""
 import os
@@ -68,9 +73,10 @@ class Program(NamedTuple):
 
 
 class Contents(NamedTuple):
-    """The files of the package by their names, those beside them, and the libc that the programs need."""
+    """The files of the tool by their names, those of the Python package, those beside them, and the libc that programs and library need."""
 
     package: dict[str, bytes]
+    python: dict[str, bytes]
     licenses: dict[str, bytes]
     page: bytes
     man_page: bytes
@@ -79,8 +85,8 @@ class Contents(NamedTuple):
     glibc: Optional[tuple[int, int]]
 
 
-def contents(programs: list[Program]) -> Contents:
-    """What a package has that is made with these programs."""
+def contents(programs: list[Program], library: Optional[bytes] = None) -> Contents:
+    """What a package has that is made with these programs, and with this shared library if there is one."""
     found = {name + '.py': read(os.path.join(TOOLS, name + '.py')) for name in modules('oauth2')}
     found['lifecrib_tool.py'] = read(os.path.join(TOOLS, 'oauth2'))
     found['__init__.py'] = ('"""%s."""\n' % ABOUT.capitalize()).encode()
@@ -91,8 +97,14 @@ def contents(programs: list[Program]) -> Contents:
             found[it.name + '.proved'] = it.proved.encode()
     licenses = {name: read(os.path.join(repository.ROOT, name)) for name in LICENSES}
     page = read(os.path.join(repository.ROOT, 'docs', 'TOOL.md'))
-    libcs = [libc for libc in (glibc_of(found[it.name]) for it in programs) if libc]
-    return Contents(found, licenses, page, *manuals(), max(libcs, default=None))
+    libcs = [libc for libc in map(glibc_of, [*(found[it.name] for it in programs), library or b'']) if libc]
+    return Contents(found, python(library), licenses, page, *manuals(), max(libcs, default=None))
+
+
+def python(library: Optional[bytes]) -> dict[str, bytes]:
+    """The files of the Python package. Without a library it runs the program."""
+    names = sorted(it for it in os.listdir(SOURCES) if it.endswith('.py') or it == 'py.typed')
+    return {**{name: read(os.path.join(SOURCES, name)) for name in names}, **({LIBRARY: library} if library else {})}
 
 
 def is_program(name: str) -> bool:
@@ -147,12 +159,13 @@ def wheel(it: Contents, to: str) -> str:
     tag = 'py3-none-' + ('manylinux_%d_%d_x86_64' % it.glibc if it.glibc else 'any')
     base = '%s-%s' % (NAME, version.VERSION)
     info, data = base + '.dist-info/', base + '.data/data/share/'
-    files = {'%s/%s' % (NAME, name): text for name, text in it.package.items()}
+    files = {'%s/%s' % (NAME, name): text for name, text in it.python.items()}
+    files.update({'%s/%s/%s' % (NAME, COMMAND, name): text for name, text in it.package.items()})
     files.update({data + 'doc/%s/TOOL.md' % NAME: it.page, data + 'man/man1/%s.1' % NAME: it.man_page,
                   data + 'bash-completion/completions/' + NAME: it.bash,
                   data + 'zsh/site-functions/_' + NAME: it.zsh,
                   info + 'METADATA': metadata(), info + 'WHEEL': about_wheel(tag),
-                  info + 'entry_points.txt': ('[console_scripts]\n%s = %s.__main__:main\n' % (NAME, NAME)).encode()})
+                  info + 'entry_points.txt': ('[console_scripts]\n%s = %s.%s.__main__:main\n' % (NAME, NAME, COMMAND)).encode()})
     files.update({info + 'licenses/' + name: text for name, text in it.licenses.items()})
     files[info + 'RECORD'] = record(files, info + 'RECORD')
     path = os.path.join(to, '%s-%s.whl' % (base, tag))
@@ -166,9 +179,11 @@ def wheel(it: Contents, to: str) -> str:
 
 
 def metadata() -> bytes:
-    lines = ['Metadata-Version: 2.1', 'Name: ' + NAME, 'Version: ' + version.VERSION, 'Summary: ' + ABOUT,
+    lines = ['Metadata-Version: 2.1', 'Name: ' + NAME, 'Version: ' + version.VERSION, 'Summary: ' + ABOUT_WHEEL,
              'License: MIT OR Apache-2.0', 'Requires-Python: >=%d.%d' % PYTHON,
-             *('License-File: ' + it for it in LICENSES), 'Provides-Extra: redis', 'Requires-Dist: redis; extra == "redis"']
+             'Classifier: Typing :: Typed', *('License-File: ' + it for it in LICENSES),
+             *('Provides-Extra: ' + it for it in EXTRAS),
+             *('Requires-Dist: %s; extra == "%s"' % (needed, it) for it, needed in EXTRAS.items())]
     return ('\n'.join(lines) + '\n').encode()
 
 

@@ -96,11 +96,18 @@ class Handler(http.server.BaseHTTPRequestHandler):
         pass
 
 
+class Listener(http.server.ThreadingHTTPServer):
+    block_on_close = False
+
+    def handle_error(self, *_):  # of a client that has gone
+        pass
+
+
 class Local:
     """A server on this machine, with TLS by a certificate of its own if asked."""
 
     def __init__(self, answer, tls=False):
-        self.server = http.server.ThreadingHTTPServer(('127.0.0.1', 0), Handler)
+        self.server = Listener(('127.0.0.1', 0), Handler)
         self.server.answer, self.server.seen = answer, []
         self.room = tempfile.TemporaryDirectory()
         self.url = '%s://localhost:%d' % ('https' if tls else 'http', self.server.server_address[1])
@@ -109,7 +116,7 @@ class Local:
             context = ssl.SSLContext(ssl.PROTOCOL_TLS_SERVER)
             context.load_cert_chain(self.certificate)
             self.server.socket = context.wrap_socket(self.server.socket, server_side=True)
-        self.thread = threading.Thread(target=self.server.serve_forever, daemon=True)
+        self.thread = threading.Thread(target=self.server.serve_forever, args=[0.02], daemon=True)
 
     @property
     def seen(self):

@@ -73,7 +73,7 @@ class Packages(stand_in.Case):
         for name, digest, length in rows[:-1]:
             found = base64.urlsafe_b64encode(hashlib.sha256(files[name]).digest()).decode().rstrip('=')
             self.assertEqual((digest, length), ('sha256=' + found, str(len(files[name]))))
-        self.assertEqual([name for name, mode in modes.items() if mode != 0o644], ['lifecrib/' + program.NAME])
+        self.assertEqual([name for name, mode in modes.items() if mode != 0o644], ['lifecrib/_command/' + program.NAME])
         self.assertTrue({info + 'licenses/' + it for it in packages.LICENSES} <= set(files))
         with open(path, 'rb') as f:
             before = f.read()
@@ -96,8 +96,8 @@ class Packages(stand_in.Case):
         for words, names in ((['--keeper', self.program], {program.NAME, program.KEEPER}), ([], {program.NAME})):
             with zipfile.ZipFile(self.package('wheel', '--program', self.program, *words)) as f:
                 found = {it.filename for it in f.infolist() if it.external_attr >> 16 & 0o777 == 0o755}
-                self.assertIn('lifecrib/shared_cache.py', f.namelist())
-            self.assertEqual(found, {'lifecrib/' + it for it in names})
+                self.assertIn('lifecrib/_command/shared_cache.py', f.namelist())
+            self.assertEqual(found, {'lifecrib/_command/' + it for it in names})
 
     @unittest.skipUnless(shutil.which('dpkg-deb'), 'there is no dpkg-deb here')
     def test_a_deb(self):

@@ -1,0 +1,31 @@
+"""The C library: a static one from the crate oauth2_c, and a shared one of that; for tools/package-c and tools/package."""
+import os
+import subprocess
+import sys
+
+import repository
+
+C = os.path.join(repository.ROOT, 'c')
+CRATE = os.path.join(repository.CRATES, 'oauth2_c')
+SONAME = 'liblifecrib.so.0'
+
+
+def static_library(given):
+    """The path of the static library, which is proved and built if none is given, for a plain x86-64."""
+    if given:
+        return given
+    subprocess.run(['rt', 'lib', '--cpu', 'x86-64'], cwd=CRATE, check=True, stdout=sys.stderr)
+    return os.path.join(CRATE, 'out', 'liboauth2_c.a')
+
+
+def kit_library():
+    """The part of the kit that every program in C links."""
+    page = subprocess.run(['rt', 'doc'], stdout=subprocess.PIPE, text=True, check=True).stdout.strip()
+    return os.path.join(os.path.dirname(page), 'c', 'liblibc_c.a')
+
+
+def shared_library(archive, to):
+    """Links the shared library; it exports what c/exports.map names, and nothing else."""
+    words = ['-Wl,-soname,' + SONAME, '-Wl,--version-script=' + os.path.join(C, 'exports.map'), '-Wl,-u,lifecrib_run',
+             '-Wl,-z,relro,-z,now,-z,defs', '-Wl,--gc-sections', '-Wl,--build-id=none']
+    subprocess.run(['cc', '-shared', '-o', to, *words, archive, kit_library()], check=True)
