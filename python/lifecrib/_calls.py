@@ -7,9 +7,9 @@ import time
 import urllib.parse
 from typing import Any, Generator, Iterable, Mapping, Optional, TypeVar, Union
 
-from . import _json, _library
-from ._data import (Claims, Introspection, Metadata, Reply, Request, Token, _claims, _introspection, _metadata, _token,
-                    _without_none)
+from . import _library
+from ._data import (Claims, Introspection, Metadata, Reply, Request, Token, claims_of, introspection_of, metadata_of,
+                    token_of, without_none)
 from ._errors import BadKeys, InsecureEndpoint, LifecribError, OutOfMemory
 
 T = TypeVar('T')
@@ -32,8 +32,8 @@ NO_KEYS = 'the signature of an ID token needs keys: give keys, discover the clie
 class Settings:
     """What a client is: the settings of a script, and what was discovered."""
 
-    def __init__(self, script: Mapping[str, Any], metadata: Optional[Metadata] = None, plain_http: bool = False) -> None:
-        self.script, self.metadata, self.plain_http = _without_none(script), metadata, plain_http
+    def __init__(self, script: Mapping[str, Any], metadata: Optional[Metadata], plain_http: bool) -> None:
+        self.script, self.metadata, self.plain_http = without_none(script), metadata, plain_http
         self.keys: Optional[tuple[float, Any]] = None  # when they came, and the key set
         # a run that makes no request, so that a bad setting is told here
         self.run('redirect', {'state': '', 'redirect': 'https://localhost/'})
@@ -44,7 +44,7 @@ class Settings:
     def run(self, command: str, params: Mapping[str, Any], replies: Iterable[Mapping[str, Any]] = (),
             readings: Iterable[int] = ()) -> _library.Run:
         """Runs a script of this client. Parameters that are None are left out."""
-        return _library.run({'client': self.script, 'command': command, 'params': _without_none(params),
+        return _library.run({'client': self.script, 'command': command, 'params': without_none(params),
                              'replies': list(replies), 'readings': list(readings)})
 
 
@@ -80,10 +80,10 @@ def request_of(exchange: Mapping[str, Any]) -> Request:
 def may_send(url: str, plain_http: bool) -> bool:
     """Whether what is sent to a URL can not be read on the way: it is https, or stays on this machine."""
     at = urllib.parse.urlsplit(url)
-    if at.scheme == 'https' or (plain_http and at.scheme == 'http'):
-        return True
+    if at.scheme != 'http' or plain_http or at.hostname == 'localhost':
+        return at.scheme in ('https', 'http')
     try:
-        return at.scheme == 'http' and (at.hostname == 'localhost' or ipaddress.ip_address(at.hostname or '').is_loopback)
+        return ipaddress.ip_address(at.hostname or '').is_loopback
     except ValueError:
         return False
 
@@ -127,7 +127,7 @@ def token(self: Settings, command: str, params: Mapping[str, Any], kept: Optiona
     """The token that a command gets."""
     asked_at = now()
     run = yield from exchange(self, command, params)
-    return _token(run.answer(), run.members(), asked_at, kept)
+    return token_of(run.answer(), run.members(), asked_at, kept)
 
 
 # Tokens
@@ -207,7 +207,7 @@ def introspect(self: Settings, token: str, *, hint: Optional[str] = None, extra:
                client_assertion: Optional[str] = None) -> Call[Introspection]:
     """What a token is worth (RFC 7662, 2.1)."""
     run = yield from exchange(self, 'introspect', {'token': token, 'hint': hint, **more(extra, (), client_assertion)})
-    return _introspection(run.answer(), run.members())
+    return introspection_of(run.answer(), run.members())
 
 
 def revoke(self: Settings, token: str, *, kind: str = 'access', extra: Pairs = (),
@@ -226,7 +226,7 @@ def fetch_metadata(self: Settings, issuer: str, well_known: Optional[str] = None
     for place in places:
         try:
             run = yield from exchange(self, 'metadata', {'issuer': issuer, 'well_known': place})
-            return _metadata(run.answer(), run.members())
+            return metadata_of(run.answer(), run.members())
         except (InsecureEndpoint, OutOfMemory):
             raise
         except LifecribError as error:
@@ -240,7 +240,7 @@ def found_by(metadata: Metadata) -> dict[str, Any]:
     """The endpoints that metadata name, as settings of a client."""
     push = metadata.members.get(PUSH)
     found = {name: getattr(metadata, member) for name, member in ENDPOINTS.items()}
-    return {**_without_none(found), **({'push_url': push} if isinstance(push, str) else {})}
+    return {**without_none(found), **({'push_url': push} if isinstance(push, str) else {})}
 
 
 def value(body: bytes) -> Any:
@@ -274,8 +274,8 @@ def check_id_token(self: Settings, id_token: str, access_token: str, *, issuer: 
                    algorithm: Optional[str] = None, leeway: int = LEEWAY, max_age: Optional[int] = None,
                    other_audiences: Texts = (), authorized_parties: Texts = (),
                    signature: bool = True) -> Call[Claims]:
-    """The claims of an ID token, if all rules hold (OpenID Connect Core 1.0, 3.1.3.7), and its signature is one by keys,
-    or by those of the discovered issuer. signature=False leaves the signature unchecked."""
+    """The claims of an ID token, if all rules hold (OpenID Connect Core 1.0, 3.1.3.7), and its signature is one by
+    keys, or by those of the discovered issuer. signature=False leaves the signature unchecked."""
     issuer = needs_of_id_token(self, issuer, keys, signature)
     params: dict[str, Any] = {'id_token': id_token, 'access_token': access_token, 'issuer': issuer, 'nonce': nonce,
                               'algorithm': algorithm, 'leeway': leeway, 'max_age': max_age,
@@ -305,15 +305,15 @@ def needs_of_id_token(self: Settings, issuer: Optional[str], keys: Optional[Mapp
 def checked(self: Settings, params: Mapping[str, Any]) -> Claims:
     """The claims of an ID token that is checked now."""
     answer = self.run('id_token', params, readings=[now()]).answer()
-    return _claims({**answer['claims'], 'access_token_hash': answer['access_token_hash'],
+    return claims_of({**answer['claims'], 'access_token_hash': answer['access_token_hash'],
                     'signature_checked': 'keys' in params, 'members': payload(params['id_token'])})
 
 
 def check_access_token(access_token: str, *, issuer: str, audience: str, keys: Mapping[str, Any],
                        algorithm: Optional[str] = None, leeway: int = LEEWAY) -> Introspection:
     """What a JWT access token says, as its resource server checks it by the issuer's keys (RFC 9068, 4)."""
-    params = _without_none({'access_token': access_token, 'issuer': issuer, 'audience': audience, 'keys': keys,
+    params = without_none({'access_token': access_token, 'issuer': issuer, 'audience': audience, 'keys': keys,
                             'algorithm': algorithm, 'leeway': leeway})
     answer = _library.run({'client': {'id': ''}, 'command': 'access_token', 'params': params,
                            'readings': [now()]}).answer()
-    return _introspection(answer, payload(access_token))
+    return introspection_of(answer, payload(access_token))

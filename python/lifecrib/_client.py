@@ -225,9 +225,8 @@ class Keeper(_keeper.KeeperState[Client]):
 
     _good = _sync(_keeper.good_token)
 
-    def __init__(self, client: Client, token: Optional[Token] = None, **settings: Any) -> None:
-        super().__init__(client, token, **settings)
-        self._lock = threading.RLock()
+    def _new_lock(self) -> Any:
+        return threading.RLock()
 
     def token(self) -> Token:
         """A token that is good for longer than the margin."""
@@ -250,9 +249,8 @@ class AsyncKeeper(_keeper.KeeperState[AsyncClient]):
 
     _good = _async(_keeper.good_token)
 
-    def __init__(self, client: AsyncClient, token: Optional[Token] = None, **settings: Any) -> None:
-        super().__init__(client, token, **settings)
-        self._lock: Optional[asyncio.Lock] = None
+    def _new_lock(self) -> Any:
+        return None
 
     async def token(self) -> Token:
         """A token that is good for longer than the margin."""

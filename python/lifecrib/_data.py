@@ -90,9 +90,9 @@ class Token:
 
     def to_json(self) -> str:
         """The token as a text, with its secrets."""
-        found = _without_none(vars(self))
+        found = without_none(vars(self))
         if self.claims:
-            found['claims'] = _without_none(vars(self.claims))
+            found['claims'] = without_none(vars(self.claims))
         return _json.text_of(found)
 
     @staticmethod
@@ -150,7 +150,7 @@ class Metadata:
     members: Mapping[str, Any] = dataclasses.field(default_factory=dict, repr=False)
 
 
-def _without_none(found: Mapping[str, Any]) -> dict[str, Any]:
+def without_none(found: Mapping[str, Any]) -> dict[str, Any]:
     return {name: value for name, value in found.items() if value is not None}
 
 
@@ -165,23 +165,23 @@ def _scopes(found: Mapping[str, Any]) -> tuple[str, ...]:
     return tuple(it for it in found.get('scope', '').split(' ') if it)
 
 
-def _claims(found: Mapping[str, Any]) -> Claims:
+def claims_of(found: Mapping[str, Any]) -> Claims:
     made: Claims = _of_types(Claims, found)
     return made
 
 
-def _token(answer: Mapping[str, Any], members: Mapping[str, Any], asked_at: int, kept: Optional[str] = None) -> Token:
+def token_of(answer: Mapping[str, Any], members: Mapping[str, Any], asked_at: int, kept: Optional[str] = None) -> Token:
     """The token of an answer; kept is the refresh token that stays good if the answer has none."""
     made: Token = _of_types(Token, answer, scopes=_scopes(answer), members=members, asked_at=asked_at,
                             refresh_token=answer.get('refresh_token', kept))
     return made
 
 
-def _introspection(answer: Mapping[str, Any], members: Mapping[str, Any]) -> Introspection:
+def introspection_of(answer: Mapping[str, Any], members: Mapping[str, Any]) -> Introspection:
     made: Introspection = _of_types(Introspection, answer, scopes=_scopes(answer), members=members)
     return made
 
 
-def _metadata(answer: Mapping[str, Any], members: Mapping[str, Any]) -> Metadata:
+def metadata_of(answer: Mapping[str, Any], members: Mapping[str, Any]) -> Metadata:
     made: Metadata = _of_types(Metadata, answer, members=members)
     return made

@@ -5,7 +5,7 @@ from typing import Any, Generic, Mapping, NamedTuple, Optional, TypeVar
 
 from . import _calls
 from ._calls import Call, Pairs, Settings, Texts
-from ._data import Token, _token, _without_none
+from ._data import Token, token_of
 from ._errors import InsecureEndpoint
 
 S = TypeVar('S', bound=Settings)
@@ -70,7 +70,7 @@ def poll(self: DeviceState[Any], *, timeout: Optional[int] = None) -> Call[Optio
             self.wait = step['seconds'] + step['nanoseconds'] / 1e9
             return None
         else:
-            return _token(run.answer(), run.members(), self._readings[-1])
+            return token_of(run.answer(), run.members(), self._readings[-1])
 
 
 def _reply(client: Settings, exchange: Mapping[str, Any]) -> Call[dict[str, Any]]:

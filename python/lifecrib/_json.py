@@ -1,4 +1,4 @@
-"""JSON whose numbers keep their spelling: the library's results, and what this package stores. No reply is read here."""
+"""JSON whose numbers keep their spelling, for the library's results and what this package stores: never for replies."""
 from __future__ import annotations
 
 import decimal

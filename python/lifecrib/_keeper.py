@@ -6,7 +6,7 @@ from typing import Any, Callable, Generic, Mapping, Optional, TypeVar
 
 from . import _calls, _json, _library
 from ._calls import Call, Pairs, Settings, Texts
-from ._data import Token, _token, _without_none
+from ._data import Token, token_of, without_none
 from ._errors import InsecureEndpoint, LifecribError
 
 S = TypeVar('S', bound=Settings)
@@ -16,15 +16,19 @@ class KeeperState(Generic[S]):
     """What a keeper holds. Its script begins with the request whose reply was accepted last, and then has the one that
     failed after that, if one did: so the library knows all that decides."""
 
-    def __init__(self, client: S, token: Optional[Token] = None, *, scopes: Texts = (), margin: int = 60, life: int = 300,
-                 retry_after: Optional[int] = None, on_token: Optional[Callable[[Token], Any]] = None, extra: Pairs = (),
-                 resource: Texts = (), client_assertion: Optional[str] = None) -> None:
+    def __init__(self, client: S, token: Optional[Token] = None, *, scopes: Texts = (), margin: int = 60,
+                 life: int = 300, retry_after: Optional[int] = None, on_token: Optional[Callable[[Token], Any]] = None,
+                 extra: Pairs = (), resource: Texts = (), client_assertion: Optional[str] = None) -> None:
         self.client, self._is_of_a_user = client, token is not None
         self._params: dict[str, Any] = {
             **_calls.more(extra, resource, client_assertion, scopes), 'margin': margin, 'life': life,
             'retry_after': retry_after}
         self._on_token, self._retry_after = on_token, retry_after
+        self._lock = self._new_lock()
         self._start(token)
+
+    def _new_lock(self) -> Any:
+        raise NotImplementedError
 
     def _start(self, token: Optional[Token], refresh: Optional[str] = None) -> None:
         """Holds this token, and no failure."""
@@ -92,11 +96,11 @@ def _new_token(self: KeeperState[Any], sent: Optional[str], reply: Mapping[str, 
     """The token of the reply that a keeper has accepted, as the command of its request reads it."""
     params: Mapping[str, Any] = self._params if sent is None else {'refresh_token': sent}
     run = self.client.run('client_credentials' if sent is None else 'refresh', params, [reply])
-    return _token(run.answer(), run.members(), at, sent)
+    return token_of(run.answer(), run.members(), at, sent)
 
 
 def _reply_of(token: Token) -> dict[str, Any]:
     """The reply that gave a token, as far as a keeper looks at it."""
     found = {'access_token': token.access_token, 'token_type': token.token_type, 'expires_in': token.expires_in,
              'refresh_token': token.refresh_token}
-    return {'status': 200, 'body': _json.text_of(_without_none(found))}
+    return {'status': 200, 'body': _json.text_of(without_none(found))}

@@ -8,7 +8,7 @@ from typing import Any, Generic, Mapping, Optional, TypeVar
 
 from . import _calls, _json
 from ._calls import Call, Pairs, Settings, Texts
-from ._data import Token, _without_none
+from ._data import Token, without_none
 from ._errors import BadToken, LifecribError, OtherError
 
 S = TypeVar('S', bound=Settings)
@@ -80,7 +80,7 @@ def start(self: Settings, scopes: Texts = (), *, redirect: Optional[str] = None,
     else:
         run = self.run('authorize', params)
     run.answer()
-    return run.events[-2]['url'], _without_none(kept)
+    return run.events[-2]['url'], without_none(kept)
 
 
 def finish(self: LoginState[Any], redirect_url: str, *, issuer: Optional[str] = None,

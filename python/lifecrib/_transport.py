@@ -58,7 +58,8 @@ class UrllibTransport:
     those of the system. timeout is how many seconds each step may take, and all of the body; limit is how many bytes
     that may have."""
 
-    def __init__(self, timeout: float = TIMEOUT, limit: int = MOST_BYTES, context: Optional[ssl.SSLContext] = None) -> None:
+    def __init__(self, timeout: float = TIMEOUT, limit: int = MOST_BYTES,
+                 context: Optional[ssl.SSLContext] = None) -> None:
         if context is None:
             context = ssl.create_default_context()
             context.minimum_version = ssl.TLSVersion.TLSv1_2

@@ -56,7 +56,8 @@ def later(transport):
 def client(*replies, **settings):
     """A client with a secret and all endpoints, and the server that it asks."""
     server = Server(*replies)
-    return Client('aaa', 'bbb', **{**URLS, 'redirect': 'https://app.example/back', 'transport': server, **settings}), server
+    known = {**URLS, 'redirect': 'https://app.example/back', 'transport': server}
+    return Client('aaa', 'bbb', **{**known, **settings}), server
 
 
 def async_client(*replies, **settings):
@@ -136,8 +137,8 @@ class Local:
 def certificate(folder):
     """A new certificate for localhost with its key, in one file."""
     path = os.path.join(folder, 'both.pem')
-    words = ['openssl', 'req', '-x509', '-newkey', 'rsa:2048', '-nodes', '-days', '2', '-subj', '/CN=localhost', '-addext',
-             'subjectAltName=DNS:localhost', '-keyout', path, '-out', path + '.crt']
+    words = ['openssl', 'req', '-x509', '-newkey', 'rsa:2048', '-nodes', '-days', '2', '-subj', '/CN=localhost',
+             '-addext', 'subjectAltName=DNS:localhost', '-keyout', path, '-out', path + '.crt']
     subprocess.run(words, check=True, capture_output=True)
     with open(path, 'a') as f, open(path + '.crt') as crt:
         f.write(crt.read())

@@ -1,7 +1,7 @@
 #!/usr/bin/env -S python3 -IS
-"""A stand-in of the program: it reads a script and writes a result, as far as the tests here need it. Nothing is proved.
+"""A stand-in of the program: it reads a script and writes a result, as far as the tests here need it.
 
-The tests use it where LIFECRIB_PROGRAM and LIFECRIB_LIBRARY name nothing.
+Nothing of it is proved. The tests use it where LIFECRIB_PROGRAM and LIFECRIB_LIBRARY name nothing.
 """
 import base64
 import hashlib
@@ -64,7 +64,7 @@ class Stand:
                 text = ':'.join(map(urllib.parse.quote_plus, basic))
                 headers.append(['authorization', 'Basic ' + base64.b64encode(text.encode()).decode()])
             else:
-                pairs = pairs + [('client_id', client_id)] + [('client_secret', it) for it in [secret] if it is not None]
+                pairs = pairs + [('client_id', client_id)] + [('client_secret', secret)] * (secret is not None)
             pairs = pairs + [('resource', it) for it in self.params.get('resource', [])]
             pairs = pairs + [tuple(it) for it in self.params.get('extra', [])]
         request = {'method': method, 'url': url, 'headers': headers, 'body': urllib.parse.urlencode(pairs),
@@ -210,7 +210,8 @@ class Stand:
         end(0, 'answer', answer=said['code'])
 
     def metadata(self):
-        issuer, place = self.params['issuer'], '/.well-known/' + self.params.get('well_known', 'oauth-authorization-server')
+        issuer = self.params['issuer']
+        place = '/.well-known/' + self.params.get('well_known', 'oauth-authorization-server')
         at = urllib.parse.urlsplit(issuer)
         if not at.scheme:
             fault('bad_issuer', 'issuer is not a URL')
@@ -271,7 +272,8 @@ class Stand:
             reply = self.exchange(url, pairs)
             value = reply[3] if reply and reply[0] == 200 else None
             if value is None:
-                said = reply and reply[3] and {it: reply[3].get(it) for it in ('error', 'error_description', 'error_uri')}
+                names = 'error', 'error_description', 'error_uri'
+                said = reply and reply[3] and {it: reply[3].get(it) for it in names}
                 last = {'event': 'fault', 'kind': 'error_response' if said else 'request_failed',
                         'text': 'Server returned error response: ' + said['error'] if said else 'Request failed',
                         'error': said, 'unread': None}

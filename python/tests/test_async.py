@@ -25,7 +25,7 @@ class Async(Case, unittest.IsolatedAsyncioTestCase):
             self.assertTrue(getattr(AsyncClient, name).__doc__, name)
 
     async def test_tokens(self):
-        it, server = async_client((200, TOKEN), (200, TOKEN), (200, TOKEN), (200, TOKEN), (200, {'active': True}), (200, {}))
+        it, server = async_client(*[(200, TOKEN)] * 4, (200, {'active': True}), (200, {}))
         self.assertEqual((await it.fetch_token(scopes='read')).access_token, 't1')
         await it.exchange_code('c')
         await it.password('joe', 'p')
@@ -91,7 +91,7 @@ class Async(Case, unittest.IsolatedAsyncioTestCase):
         task.cancel()
         with self.assertRaises(asyncio.CancelledError):
             await task
-        it._transport, server = async_client((200, TOKEN))[0]._transport, None
+        it._transport = async_client((200, TOKEN))[0]._transport
         self.assertEqual((await keeper.token()).access_token, 't1')
 
     async def test_a_token_is_the_same_data(self):

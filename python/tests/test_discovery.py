@@ -20,7 +20,8 @@ class Discovery(Case):
 
     def test_the_endpoints(self):
         it, server = self.discover((200, METADATA), (200, TOKEN))
-        self.assertEqual((server.requests[0].method, server.requests[0].url, server.requests[0].body), ('GET', FIRST, b''))
+        first = server.requests[0]
+        self.assertEqual((first.method, first.url, first.body), ('GET', FIRST, b''))
         self.assertEqual((it.metadata.issuer, it.metadata.jwks_uri, it.metadata.scopes_supported),
                          (ISSUER, ISSUER + '/keys', ('openid',)))
         self.assertEqual(it.metadata.members['userinfo_endpoint'], ISSUER + '/user')

@@ -99,7 +99,8 @@ class Faults(Case):
             self.assertEqual((error.member, error.kind), ('client.' + name, 'bad_script'))
             self.assertTrue(error.why)
         it, _ = client()
-        self.assertEqual(self.fails(lifecrib.BadScript, it.fetch_token, 'c', verifier='short').member, 'params.verifier')
+        error = self.fails(lifecrib.BadScript, it.fetch_token, 'c', verifier='short')
+        self.assertEqual(error.member, 'params.verifier')
         self.fails(lifecrib.BadScript, it.fetch_token, '\ud800')
 
     def test_errors_are_copied_and_pickled(self):

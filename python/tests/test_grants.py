@@ -16,7 +16,7 @@ class Grants(Case):
         return server.requests[0], found
 
     def test_client_credentials(self):
-        request, token = self.sent(lambda it: it.client_credentials(scopes=['read', 'write'], extra={'audience': 'api'}))
+        request, token = self.sent(lambda it: it.client_credentials(['read', 'write'], extra={'audience': 'api'}))
         self.assertEqual((request.method, request.url), ('POST', 'https://as.example/token_url'))
         self.assertEqual(request.body, b'grant_type=client_credentials&scope=read+write&audience=api')
         headers = dict(request.headers)

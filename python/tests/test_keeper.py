@@ -5,7 +5,7 @@ import time
 import unittest
 from unittest import mock
 
-from case import TOKEN, Case, client
+from case import Case, client
 import lifecrib
 from lifecrib import Keeper, Token
 

@@ -26,8 +26,8 @@ class Signer:
     def __init__(self, folder, kid):
         self.path, self.kid = os.path.join(folder, kid), kid
         subprocess.run(['openssl', 'genrsa', '-out', self.path, '2048'], check=True, capture_output=True)
-        run = subprocess.run(['openssl', 'rsa', '-in', self.path, '-noout', '-modulus'], check=True, capture_output=True,
-                             text=True)
+        run = subprocess.run(['openssl', 'rsa', '-in', self.path, '-noout', '-modulus'], check=True,
+                             capture_output=True, text=True)
         self.key = {'kty': 'RSA', 'kid': kid, 'alg': 'RS256', 'use': 'sig', 'e': 'AQAB',
                     'n': base64url(bytes.fromhex(run.stdout.strip().partition('=')[2]))}
 
@@ -138,7 +138,8 @@ class OpenId(Case):
         it, server = self.discovered()
         for signer, keys in ((self.signer, [self.keys]), (self.other, [{'keys': [self.other.key]}])):
             login = it.login(scopes='openid')
-            server.replies += [(200, {**TOKEN, 'id_token': signer.token(**self.claims(login))})] + [(200, it) for it in keys]
+            id_token = signer.token(**self.claims(login))
+            server.replies += [(200, {**TOKEN, 'id_token': id_token}), *((200, it) for it in keys)]
             token = login.finish('https://app.example/back?code=c&state=' + login.state)
             self.assertTrue(token.claims.signature_checked)
         self.assertEqual(server.replies, [])
