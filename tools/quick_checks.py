@@ -36,9 +36,10 @@ def pages():
 
 
 def tools():
-    """The tools' own tests."""
-    command = [sys.executable, '-B', '-m', 'unittest', 'discover', '-s', os.path.join('tools', 'tests')]
-    return [Check('tests of the tools', repository.ROOT, command, b'', fault_of_status)]
+    """The tests of the tools and of the Python package."""
+    folders = {'the tools': os.path.join('tools', 'tests'), 'the Python package': os.path.join('python', 'tests')}
+    command = [sys.executable, '-B', '-m', 'unittest', 'discover', '-s']
+    return [Check('tests of ' + what, repository.ROOT, [*command, at], b'', fault_of_status) for what, at in folders.items()]
 
 
 def readme():

@@ -61,10 +61,10 @@ class Token:
     expires_in: Optional[int] = None
     refresh_token: Optional[str] = dataclasses.field(default=None, repr=False)
     scopes: tuple[str, ...] = ()
-    issued_token_type: Optional[str] = None
+    issued_token_type: Optional[str] = dataclasses.field(default=None, repr=False)
     members: Mapping[str, Any] = dataclasses.field(default_factory=dict, repr=False)
-    asked_at: int = 0
-    claims: Optional[Claims] = None
+    asked_at: int = dataclasses.field(default=0, repr=False)
+    claims: Optional[Claims] = dataclasses.field(default=None, repr=False)
 
     @property
     def expires_at(self) -> Optional[int]:

@@ -23,6 +23,7 @@ def _no_number(text: str) -> None:
     raise ValueError('%s is no number of JSON' % text)
 
 
+_encode = json.JSONEncoder(separators=(',', ':'), allow_nan=False).encode
 _decoder = json.JSONDecoder(parse_float=_number, parse_int=_whole, parse_constant=_no_number)
 
 
@@ -34,7 +35,7 @@ def value_of(text: str) -> Any:
 def text_of(value: Any) -> str:
     """The JSON text of a value, in ASCII."""
     try:
-        return json.dumps(value, separators=(',', ':'), allow_nan=False)
+        return _encode(value)
     except TypeError:
         return _text_of(value)
 
@@ -49,4 +50,4 @@ def _text_of(value: Any) -> str:
         return '{%s}' % ','.join('%s:%s' % (json.dumps(str(name)), _text_of(it)) for name, it in value.items())
     if isinstance(value, (list, tuple)):
         return '[%s]' % ','.join(map(_text_of, value))
-    return json.dumps(value, separators=(',', ':'), allow_nan=False)
+    return _encode(value)

@@ -99,6 +99,28 @@ class Packages(stand_in.Case):
                 self.assertIn('lifecrib/_command/shared_cache.py', f.namelist())
             self.assertEqual(found, {'lifecrib/_command/' + it for it in names})
 
+    @unittest.skipUnless(importlib.util.find_spec('ensurepip'), 'this Python has no pip for a virtual environment')
+    def test_the_python_package(self):
+        library = os.path.join(self.folder(), 'liblifecrib.so.0')
+        with open(library, 'wb') as f:
+            f.write(b'no library')
+        program = os.path.join(repository.ROOT, 'python', 'tests', 'stand_in.py')
+        for words in ([], ['--library', library]):
+            path = self.package('wheel', '--program', program, *words)
+            with zipfile.ZipFile(path) as f:
+                self.assertEqual('lifecrib/liblifecrib.so' in f.namelist(), bool(words))
+                self.assertIn('lifecrib/py.typed', f.namelist())
+            python = os.path.join(os.path.dirname(self.installed(path)), 'python')
+            get = ("import lifecrib; it = lifecrib.Client('a', token_url='https://as.example/t', transport=lambda _: lifecrib.Reply("
+                   "200, None, b'{\"access_token\":\"t1\",\"token_type\":\"bearer\"}')); print(it.fetch_token().access_token)")
+            for command in (['-m', 'lifecrib', '--version'], ['-c', get], ['-m', 'lifecrib', '--help']):
+                run = subprocess.run([python, *command], env=self.env, cwd='/', capture_output=True, text=True, timeout=300)
+                if words and command[0] == '-c':
+                    self.assertIn('file too short', run.stderr)
+                else:
+                    self.assertEqual(run.returncode, 0, run.stderr)
+                    self.assertIn({'--version': 'lifecrib ' + version.VERSION, get: 't1', '--help': 'git-credential'}[command[-1]], run.stdout)
+
     @unittest.skipUnless(shutil.which('dpkg-deb'), 'there is no dpkg-deb here')
     def test_a_deb(self):
         room = self.folder()
