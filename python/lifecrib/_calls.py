@@ -10,7 +10,7 @@ from typing import Any, Generator, Iterable, Mapping, Optional, TypeVar, Union
 from . import _library
 from ._data import (Claims, Introspection, Metadata, Reply, Request, Token, claims_of, introspection_of, metadata_of,
                     token_of, without_none)
-from ._errors import BadKeys, InsecureEndpoint, LifecribError, OutOfMemory
+from ._errors import BadKeys, BadSignature, InsecureEndpoint, LifecribError, OutOfMemory
 
 T = TypeVar('T')
 Call = Generator[Request, Reply, T]
@@ -285,7 +285,7 @@ def check_id_token(self: Settings, id_token: str, access_token: str, *, issuer: 
     if kept and time.monotonic() < kept[0] + KEEP_KEYS:
         try:
             return checked(self, {**params, 'keys': kept[1]})
-        except BadKeys:  # the issuer may have new ones
+        except (BadKeys, BadSignature):  # the issuer may have new keys
             pass
     if signature:
         params['keys'] = keys if keys is not None else (yield from fetch_keys(self))

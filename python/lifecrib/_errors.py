@@ -122,7 +122,7 @@ class BadClaims(LifecribError):
 
 
 class BadSignature(LifecribError):
-    """The signature of a token is wrong."""
+    """The signature of a token is wrong, or no key is for it."""
 
     kind = 'bad_signature'
 
@@ -134,7 +134,7 @@ class UncheckedSignature(LifecribError):
 
 
 class BadKeys(LifecribError):
-    """The keys are no key set, or none of them fits the token."""
+    """What should be a key set is none."""
 
     kind = 'bad_keys'
 

@@ -3,13 +3,12 @@ from __future__ import annotations
 
 import dataclasses
 import secrets
-import urllib.parse
 from typing import Any, Generic, Mapping, Optional, TypeVar
 
 from . import _calls, _json
 from ._calls import Call, Pairs, Settings, Texts
 from ._data import Token, without_none
-from ._errors import BadToken, LifecribError, OtherError
+from ._errors import BadToken, OtherError
 
 S = TypeVar('S', bound=Settings)
 NEEDED = ('state', 'verifier')
@@ -93,10 +92,9 @@ def finish(self: LoginState[Any], redirect_url: str, *, issuer: Optional[str] = 
     is_openid = 'nonce' in kept
     if is_openid:  # before the code is used up
         _calls.needs_of_id_token(client, issuer, keys, signature)
-    found = client.run('redirect', {'state': kept['state'], 'redirect': redirect_url, **redirect_issuer(client)})
-    if found.last['event'] == 'fault':
-        raise with_error_of(found.error(), redirect_url)
-    got = yield from _calls.exchange_code(client, found.answer(), verifier=kept['verifier'],
+    params = {'state': kept['state'], 'redirect': redirect_url, **redirect_issuer(client)}
+    code = client.run('redirect', params).answer()
+    got = yield from _calls.exchange_code(client, code, verifier=kept['verifier'],
                                           redirect=kept.get('redirect_uri'), extra=extra,
                                           resource=kept.get('resource', ()), client_assertion=client_assertion)
     if not is_openid:
@@ -118,15 +116,3 @@ def redirect_issuer(self: Settings) -> dict[str, str]:
         return {}
     needed = self.metadata.authorization_response_iss_parameter_supported
     return {'issuer' if needed else 'issuer_compared': self.metadata.issuer}
-
-
-def with_error_of(fault: LifecribError, redirect_url: str) -> LifecribError:
-    """The fault of a redirect with the parts of its text, which the redirect has as parameters."""
-    if fault.error is None:
-        query = urllib.parse.urlsplit(redirect_url).query
-        said = dict(reversed(urllib.parse.parse_qsl(query, errors='replace')))
-        error, about, where = (said.get(it) for it in ('error', 'error_description', 'error_uri'))
-        whole = (error or '') + (': ' + about if about else '') + (' (see %s)' % where if where else '')
-        if error and whole == fault.text:
-            fault.error, fault.error_description, fault.error_uri = error, about, where
-    return fault

@@ -204,7 +204,8 @@ class Stand:
         if 'error' in said:
             about = ''.join(': ' + it for it in [said.get('error_description')] if it)
             where = ''.join(' (see %s)' % it for it in [said.get('error_uri')] if it)
-            fault('refused_redirect', said['error'] + about + where)
+            names = 'error', 'error_description', 'error_uri'
+            fault('refused_redirect', said['error'] + about + where, error={it: said.get(it) for it in names})
         if 'code' not in said:
             fault('refused_redirect', 'redirect has no code')
         end(0, 'answer', answer=said['code'])
@@ -244,7 +245,7 @@ class Stand:
                 fault('bad_claims', why)
         if keys is not None:
             if not [it for it in keys.get('keys', []) if it['kid'] == header.get('kid')]:
-                fault('bad_keys', 'no key fits')
+                fault('bad_signature', 'no key of the set is for the token')
             if parts[2] == 'AAAA':
                 fault('bad_signature', 'the signature is wrong')
         known = ('iss', 'sub', 'aud', 'exp', 'iat', 'nonce', 'auth_time')

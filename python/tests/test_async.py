@@ -12,6 +12,9 @@ CODES = {'device_code': 'd', 'user_code': 'U-1', 'verification_uri': 'https://v/
 
 
 class Async(Case, unittest.IsolatedAsyncioTestCase):
+    async def asyncSetUp(self):
+        asyncio.get_running_loop().slow_callback_duration = 60  # of a program that is started for each run
+
     async def fails_later(self, kind, call):
         with self.assertRaises(kind) as caught:
             await call

@@ -97,7 +97,7 @@ class Faults(Case):
                 client(**{name: given})
             error = self.fails(lifecrib.BadScript, client, **{name: given})
             self.assertEqual((error.member, error.kind), ('client.' + name, 'bad_script'))
-            self.assertTrue(error.why)
+            self.assertIn('client.' + name, str(error))
         it, _ = client()
         error = self.fails(lifecrib.BadScript, it.fetch_token, 'c', verifier='short')
         self.assertEqual(error.member, 'params.verifier')

@@ -85,8 +85,8 @@ class OpenId(Case):
             self.assertIn(text, error.text)
 
     def test_the_signature(self):
-        it = self.fails(lifecrib.BadKeys, self.finish, signer=self.other)
-        self.assertEqual(it.kind, 'bad_keys')
+        it = self.fails(lifecrib.BadSignature, self.finish, signer=self.other)
+        self.assertEqual((it.kind, it.text), ('bad_signature', 'no key of the set is for the token'))
         same_name = {'keys': [{**self.other.key, 'kid': 'k1'}]}
         if not lifecrib._library.library().path.endswith('stand_in.py'):
             self.fails(lifecrib.BadSignature, self.finish, options={'keys': same_name})
