@@ -8,7 +8,7 @@ from ._calls import check_access_token
 from ._client import AsyncClient, AsyncDevice, AsyncKeeper, AsyncLogin, Client, Device, Keeper, Login
 from ._data import Claims, Introspection, Metadata, Reply, Request, Token
 from ._errors import (BadAccessToken, BadClaims, BadIssuer, BadKeys, BadMetadata, BadPush, BadScript, BadSignature,
-                      BadToken, ErrorResponse, InsecureEndpoint, LifecribError, MissingEndpoint, OtherError,
+                      BadToken, Ended, ErrorResponse, InsecureEndpoint, LifecribError, MissingEndpoint, OtherError,
                       OtherIssuer, OtherStatus, OutOfMemory, RefusedRedirect, RequestFailed, TakenParameter,
                       UncheckedSignature, UnreadReply, Waiting)
 from ._transport import (AiohttpTransport, AsyncHttpxTransport, AsyncTransport, HttpxTransport, RequestsTransport,
@@ -18,8 +18,8 @@ __version__ = '0.1.0'
 __all__ = [
     'AiohttpTransport', 'AsyncClient', 'AsyncDevice', 'AsyncHttpxTransport', 'AsyncKeeper', 'AsyncLogin',
     'AsyncTransport', 'BadAccessToken', 'BadClaims', 'BadIssuer', 'BadKeys', 'BadMetadata', 'BadPush', 'BadScript',
-    'BadSignature', 'BadToken', 'Claims', 'Client', 'Device', 'ErrorResponse', 'HttpxTransport', 'InsecureEndpoint',
-    'Introspection', 'Keeper', 'LifecribError', 'Login', 'Metadata', 'MissingEndpoint', 'OtherError', 'OtherIssuer',
-    'OtherStatus', 'OutOfMemory', 'RefusedRedirect', 'Reply', 'Request', 'RequestFailed', 'RequestsTransport',
-    'TakenParameter', 'ThreadTransport', 'Token', 'TooLarge', 'Transport', 'UncheckedSignature', 'UnreadReply',
-    'UrllibTransport', 'Waiting', 'check_access_token']
+    'BadSignature', 'BadToken', 'Claims', 'Client', 'Device', 'Ended', 'ErrorResponse', 'HttpxTransport',
+    'InsecureEndpoint', 'Introspection', 'Keeper', 'LifecribError', 'Login', 'Metadata', 'MissingEndpoint',
+    'OtherError', 'OtherIssuer', 'OtherStatus', 'OutOfMemory', 'RefusedRedirect', 'Reply', 'Request', 'RequestFailed',
+    'RequestsTransport', 'TakenParameter', 'ThreadTransport', 'Token', 'TooLarge', 'Transport', 'UncheckedSignature',
+    'UnreadReply', 'UrllibTransport', 'Waiting', 'check_access_token']

@@ -5,7 +5,7 @@ from typing import Optional
 
 
 class LifecribError(Exception):
-    """A call that has no answer. No text of it has a secret that was sent.
+    """A call that has no answer. Beside what a server says of an error, no text of it has a token or a secret.
 
     kind names the fault, and text says it in words. error, error_description and error_uri are those of an error
     response, or of a redirect that has an error. member and cause say what of a reply can not be read. status and
@@ -162,6 +162,12 @@ class Waiting(LifecribError):
 
     kind = 'wait'
     until: Optional[int] = None
+
+
+class Ended(LifecribError):
+    """The token that a keeper holds for a user has ended, and there is no refresh token: the user has to log in."""
+
+    kind = 'ended'
 
 
 class BadScript(LifecribError, ValueError):

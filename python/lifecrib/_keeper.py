@@ -7,7 +7,7 @@ from typing import Any, Callable, Generic, Mapping, Optional, TypeVar
 from . import _calls, _json, _library
 from ._calls import Call, Pairs, Settings, Texts
 from ._data import Token, token_of, without_none
-from ._errors import InsecureEndpoint, LifecribError
+from ._errors import Ended, InsecureEndpoint
 
 S = TypeVar('S', bound=Settings)
 
@@ -73,7 +73,7 @@ def good_token(self: KeeperState[Any]) -> Call[Token]:
     why: Optional[Exception] = None
     sent = dict(exchange['request']['pairs'])
     if self._is_of_a_user and 'refresh_token' not in sent:
-        raise LifecribError('the token of the user has ended, and there is no refresh token', kind='ended')
+        raise Ended('the token of the user has ended, and there is no refresh token')
     try:
         reply: dict[str, Any] = _calls.in_script((yield from _calls.sent(self.client, _calls.request_of(exchange))))
     except InsecureEndpoint:

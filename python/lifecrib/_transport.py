@@ -2,6 +2,7 @@
 from __future__ import annotations
 
 import asyncio
+import contextlib
 import http.client
 import ssl
 import time
@@ -104,7 +105,8 @@ class RequestsTransport:
         # an auth that adds nothing, or else the secret of a .netrc would go in place of the client's
         with session.request(request.method, request.url, data=request.body, headers=dict([*request.headers, PLAIN]),
                              timeout=self._timeout, allow_redirects=False, stream=True, auth=_same) as reply:
-            reply.raw.enforce_content_length = True  # a reply that is cut is none
+            with contextlib.suppress(AttributeError):  # of an adapter that has no connection
+                reply.raw.enforce_content_length = True  # a reply that is cut is none
             for part in reply.iter_content(CHUNK):
                 body.add(part)
             return Reply(reply.status_code, reply.headers.get('Content-Type'), body.whole())

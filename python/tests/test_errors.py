@@ -3,7 +3,7 @@ import copy
 import pickle
 import unittest
 
-from case import TOKEN, Case, Server, client
+from case import IS_STAND_IN, TOKEN, Case, Server, client
 import lifecrib
 from lifecrib import Client, _errors
 
@@ -114,7 +114,7 @@ class Faults(Case):
 
     def test_adapters(self):
         it, _ = client((200, {'error': 'bad_verification_code'}), adapters=['errors_at_status_200'])
-        if lifecrib._library.library().path.endswith('stand_in.py'):
+        if IS_STAND_IN:
             self.skipTest('the stand-in has no adapters')
         self.assertEqual(self.fails(lifecrib.ErrorResponse, it.fetch_token, 'c').error, 'bad_verification_code')
 

@@ -1,11 +1,14 @@
 """Keepers: when a token is renewed, by what, and by one thread alone."""
 import concurrent.futures
+import itertools
+import json
+import random
 import threading
 import time
 import unittest
 from unittest import mock
 
-from case import Case, client
+from case import IS_STAND_IN, Case, client
 import lifecrib
 from lifecrib import Keeper, Token
 
@@ -57,7 +60,7 @@ class Keepers(Case):
         keeper, server = self.keeper(token=Token('t0', 'bearer', expires_in=100, asked_at=self.now))
         self.assertEqual(keeper.token().access_token, 't0')
         self.now += 100
-        self.assertEqual(self.fails(lifecrib.LifecribError, keeper.token).kind, 'ended')
+        self.assertEqual(self.fails(lifecrib.Ended, keeper.token).kind, 'ended')
         self.assertEqual(server.requests, [])
 
     def test_a_failure_is_told_and_the_next_call_tries_again(self):
@@ -135,6 +138,43 @@ class Keepers(Case):
         with concurrent.futures.ThreadPoolExecutor(8) as pool:
             found = set(it.access_token for it in pool.map(lambda _: keeper.token(), range(16)))
         self.assertEqual((found, len(server.requests)), ({'t1'}, 1))
+
+    def test_it_is_the_keeper_of_one_long_script(self):
+        """Random calls: what comes of each, and what is sent, is as in one script that has all replies and readings."""
+        rng = random.Random(7)
+        for _ in range(20 if IS_STAND_IN else 60):
+            replies, readings, came, self.now = [], [], [], 1700000000
+            retry_after = rng.choice([None, 0, 30])
+            given = {'margin': rng.choice([0, 10]), 'life': 50, 'scopes': ['read'], 'retry_after': retry_after}
+            number = itertools.count()
+
+            def answer(request):
+                kind = rng.randrange(5)
+                found = {'access_token': 't%d' % next(number), 'token_type': 'bearer',
+                         **({'expires_in': rng.choice([0, 5, 100])} if rng.random() < 0.8 else {}),
+                         **({'refresh_token': 'r%d' % len(replies)} if rng.random() < 0.5 else {})}
+                status, body = [(200, found), (200, found), (400, {'error': 'e'}), (200, {}), (None, None)][kind]
+                replies.append({'fail': True} if status is None else {'status': status, 'body': json.dumps(body)})
+                came.append(request.body.decode())
+                if status is None:
+                    raise OSError
+                return lifecrib.Reply(status, None, json.dumps(body).encode())
+            it, _ = client()
+            it._transport = answer
+            keeper = Keeper(it, **given)
+            for _ in range(10):
+                self.now += rng.choice([0, 1, 29, 30, 40, 100, -50])
+                readings.append(self.now)
+                try:
+                    came.append(keeper.token().access_token)
+                except lifecrib.Waiting as error:
+                    came.append(error.until)
+                except lifecrib.LifecribError as error:
+                    came.append(error.kind)
+            whole = it.run('keeper', given, replies, readings)
+            wanted = [it['request']['body'] if it['event'] == 'exchange' else
+                      it.get('answer', it.get('until', it.get('kind'))) for it in whole.events]
+            self.assertEqual(came, wanted)
 
     def test_it_does_not_grow(self):
         keeper, _ = self.keeper(*[reply(it, refresh_token='r%d' % it) for it in range(5)], *[OSError()] * 5)

@@ -9,7 +9,7 @@ import time
 import unittest
 import urllib.parse
 
-from case import TOKEN, Case, Server, client
+from case import IS_STAND_IN, TOKEN, Case, Server, client
 import lifecrib
 from lifecrib import Client, Login, Token
 
@@ -31,9 +31,9 @@ class Signer:
         self.key = {'kty': 'RSA', 'kid': kid, 'alg': 'RS256', 'use': 'sig', 'e': 'AQAB',
                     'n': base64url(bytes.fromhex(run.stdout.strip().partition('=')[2]))}
 
-    def token(self, **claims):
-        """An ID token with these claims."""
-        parts = [{'alg': 'RS256', 'kid': self.kid}, claims]
+    def token(self, typ='JWT', **claims):
+        """A token with these claims."""
+        parts = [{'alg': 'RS256', 'kid': self.kid, 'typ': typ}, claims]
         text = '.'.join(base64url(json.dumps(it).encode()) for it in parts)
         run = subprocess.run(['openssl', 'dgst', '-sha256', '-sign', self.path], input=text.encode(), check=True,
                              capture_output=True)
@@ -88,7 +88,7 @@ class OpenId(Case):
         it = self.fails(lifecrib.BadSignature, self.finish, signer=self.other)
         self.assertEqual((it.kind, it.text), ('bad_signature', 'no key of the set is for the token'))
         same_name = {'keys': [{**self.other.key, 'kid': 'k1'}]}
-        if not lifecrib._library.library().path.endswith('stand_in.py'):
+        if not IS_STAND_IN:
             self.fails(lifecrib.BadSignature, self.finish, options={'keys': same_name})
 
     def test_without_keys(self):
@@ -163,6 +163,22 @@ class OpenId(Case):
                 self.assertEqual(login.finish(url).access_token, 't1')
             else:
                 self.assertIn('issuer', self.fails(lifecrib.RefusedRedirect, login.finish, url).text)
+
+    @unittest.skipIf(IS_STAND_IN, 'the stand-in checks no access tokens')
+    def test_access_tokens(self):
+        now = int(time.time())
+        claims = {'iss': ISSUER, 'sub': 'u1', 'aud': 'https://api.example', 'exp': now + 60, 'iat': now,
+                  'client_id': 'aaa', 'jti': 'j', 'scope': 'read write', 'tenant': 7}
+        given = {'issuer': ISSUER, 'audience': 'https://api.example', 'keys': self.keys}
+        found = lifecrib.check_access_token(self.signer.token('at+jwt', **claims), **given)
+        self.assertEqual((found.active, found.sub, found.scopes, found.client_id, found.aud, found.members['tenant']),
+                         (True, 'u1', ('read', 'write'), 'aaa', ('https://api.example',), 7))
+        for kind, text in ((lifecrib.BadAccessToken, self.signer.token(**claims)),
+                           (lifecrib.BadAccessToken, self.signer.token('at+jwt', **{**claims, 'exp': 1})),
+                           (lifecrib.BadToken, 'a.b'),
+                           (lifecrib.LifecribError, self.signer.token('at+jwt', **claims)[:-8] + 'AAAAAAAA')):
+            error = self.fails(kind, lifecrib.check_access_token, text, **given)
+            self.assertNotIn(text, str(error))
 
 
 if __name__ == '__main__':
