@@ -184,7 +184,8 @@ def metadata() -> bytes:
              'Classifier: Typing :: Typed', *('License-File: ' + it for it in LICENSES),
              *('Provides-Extra: ' + it for it in EXTRAS),
              *('Requires-Dist: %s; extra == "%s"' % (needed, it) for it, needed in EXTRAS.items())]
-    return ('\n'.join(lines) + '\n').encode()
+    lines += ['Description-Content-Type: text/markdown', '']
+    return ('\n'.join(lines) + '\n').encode() + read(os.path.join(os.path.dirname(SOURCES), 'README.md'))
 
 
 def about_wheel(tag: str) -> bytes:

@@ -3,6 +3,7 @@ from __future__ import annotations
 
 import asyncio
 import functools
+import inspect
 import threading
 import time
 from typing import TYPE_CHECKING, Any, Awaitable, Callable, Coroutine, Generic, Iterable, Optional, TypeVar
@@ -10,7 +11,7 @@ from typing import TYPE_CHECKING, Any, Awaitable, Callable, Coroutine, Generic, 
 from . import _calls, _device, _keeper, _login
 from ._calls import Call, Pairs, Settings, Texts
 from ._data import Metadata, Token
-from ._transport import AsyncTransport, ThreadTransport, Transport, UrllibTransport
+from ._transport import AsyncTransport, ThreadTransport, Transport, default_transport
 
 if TYPE_CHECKING:
     from typing_extensions import Concatenate, ParamSpec
@@ -65,7 +66,7 @@ class Client(_Client[Transport]):
     """A client of one authorization server (docs/PYTHON.md). Threads may share it, if its transport takes that."""
 
     def _default(self) -> Transport:
-        return UrllibTransport()
+        return default_transport()
 
     @classmethod
     def discover(cls: type[C], issuer: str, id: str, secret: Optional[str] = None, *,
@@ -229,9 +230,12 @@ class Keeper(_keeper.KeeperState[Client]):
         return threading.RLock()
 
     def token(self) -> Token:
-        """A token that is good for longer than the margin."""
+        """A token that is good for longer than the margin. A new one is told to on_token first."""
         with self._lock:
-            return self._good()
+            before, found = self._token, self._good()
+            if found is not before and self._on_token:
+                self._on_token(found)
+            return found
 
     def forget_token(self) -> None:
         """Gets another token at the next call, as after a server has refused this one."""
@@ -245,7 +249,7 @@ class Keeper(_keeper.KeeperState[Client]):
 
 
 class AsyncKeeper(_keeper.KeeperState[AsyncClient]):
-    """A Keeper for the tasks of one loop."""
+    """A Keeper for the tasks of one loop. What on_token returns is awaited, if it can be."""
 
     _good = _async(_keeper.good_token)
 
@@ -253,8 +257,13 @@ class AsyncKeeper(_keeper.KeeperState[AsyncClient]):
         return None
 
     async def token(self) -> Token:
-        """A token that is good for longer than the margin."""
+        """A token that is good for longer than the margin. A new one is told to on_token first."""
         if self._lock is None:
             self._lock = asyncio.Lock()  # of the loop that runs now
         async with self._lock:
-            return await self._good()
+            before, found = self._token, await self._good()
+            if found is not before and self._on_token:
+                told = self._on_token(found)
+                if inspect.isawaitable(told):
+                    await told
+            return found

@@ -102,9 +102,11 @@ class Token:
             found = _json.value_of(text)
             claims = found.pop('claims', None)
             made: Token = _of_types(Token, found, claims=None if claims is None else _of_types(Claims, claims))
-            return made
         except (AttributeError, TypeError, RecursionError) as error:
             raise ValueError('this is no text of a token') from error
+        if not (isinstance(made.access_token, str) and isinstance(made.token_type, str)):
+            raise ValueError('this is no text of a token')
+        return made
 
     def __reduce__(self) -> Any:
         return Token.from_json, (self.to_json(),)

@@ -87,8 +87,6 @@ def good_token(self: KeeperState[Any]) -> Call[Token]:
         raise run.error() from why
     self._token = _new_token(self, sent.get('refresh_token'), reply, at)
     self._refresh, self._replies, self._readings = sent.get('refresh_token'), [reply], [at]
-    if self._on_token:
-        self._on_token(self._token)
     return self._token
 
 

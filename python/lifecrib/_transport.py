@@ -3,6 +3,7 @@ from __future__ import annotations
 
 import asyncio
 import contextlib
+import functools
 import http.client
 import ssl
 import time
@@ -85,6 +86,12 @@ class UrllibTransport:
             if reply.length:  # the connection was closed before all of it came
                 raise http.client.IncompleteRead(b'', reply.length)
             return Reply(reply.status, reply.headers.get('Content-Type'), body.whole())
+
+
+@functools.lru_cache(maxsize=None)
+def default_transport() -> UrllibTransport:
+    """The transport of all clients that are given none: its context takes a while to make."""
+    return UrllibTransport()
 
 
 class RequestsTransport:
@@ -189,7 +196,7 @@ class ThreadTransport:
     """Sends by a transport that is not async, in a thread of asyncio's pool."""
 
     def __init__(self, transport: Optional[Transport] = None) -> None:
-        self._transport = transport or UrllibTransport()
+        self._transport = transport or default_transport()
 
     async def __call__(self, request: Request) -> Reply:
         return await asyncio.to_thread(self._transport, request)

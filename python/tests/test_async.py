@@ -74,9 +74,14 @@ class Async(Case, unittest.IsolatedAsyncioTestCase):
 
     async def test_tasks_share_one_renewal(self):
         it, server = async_client((200, TOKEN), (200, {**TOKEN, 'access_token': 't2'}))
-        keeper = AsyncKeeper(it)
+        told = []
+
+        async def tell(token):
+            await asyncio.sleep(0)
+            told.append(token.access_token)
+        keeper = AsyncKeeper(it, on_token=tell)
         found = await asyncio.gather(*[keeper.token() for _ in range(8)])
-        self.assertEqual(({it.access_token for it in found}, len(server.requests)), ({'t1'}, 1))
+        self.assertEqual(({it.access_token for it in found}, len(server.requests), told), ({'t1'}, 1, ['t1']))
         with mock.patch('lifecrib._calls.now', lambda: int(time.time()) + 4000):
             self.assertEqual((await keeper.token()).access_token, 't2')
         self.assertIn('refresh_token=r1', server.bodies[1])

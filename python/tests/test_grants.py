@@ -115,7 +115,8 @@ class Tokens(Case):
         token = self.token(tenant=1.5)
         self.assertEqual(Token.from_json(token.to_json()), token)
         self.assertEqual(pickle.loads(pickle.dumps(token)), token)
-        for text in ('', '[]', 'null', '{}', '{"access_token":1}x', '{"access_token":"t"}'):
+        for text in ('', '[]', 'null', '{}', '{"access_token":1}x', '{"access_token":"t"}',
+                     '{"access_token":1,"token_type":"bearer"}'):
             with self.assertRaises(ValueError):
                 Token.from_json(text)
 

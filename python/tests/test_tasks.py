@@ -14,6 +14,7 @@ import warnings
 from unittest import mock
 
 from case import HERE, Local
+from lifecrib import _transport
 from test_openid import Signer
 
 TASKS = os.path.join(os.path.dirname(HERE), 'tasks')
@@ -70,6 +71,7 @@ class Authorization:
 class Tasks(unittest.TestCase):
     @contextlib.contextmanager
     def server(self, tls=False):
+        self.addCleanup(_transport.default_transport.cache_clear)
         with tempfile.TemporaryDirectory() as room:
             answer = Authorization(room)
             with Local(answer, tls) as server:
@@ -77,6 +79,7 @@ class Tasks(unittest.TestCase):
                 trusted = {name: server.certificate for name in ('SSL_CERT_FILE', 'REQUESTS_CA_BUNDLE')} if tls else {}
                 with mock.patch.dict(os.environ, {**PLAIN, **trusted}), warnings.catch_warnings():
                     warnings.simplefilter('ignore', ResourceWarning)  # of sessions that nobody closes
+                    _transport.default_transport.cache_clear()
                     yield server, answer
 
     def each(self, task):
