@@ -1,5 +1,6 @@
 """What the tests share: a library, a transport that answers in order, and a server on this machine."""
 import asyncio
+import functools
 import http.server
 import json
 import os
@@ -10,6 +11,7 @@ import tempfile
 import threading
 import unittest
 
+ROOM = tempfile.TemporaryDirectory()  # of keys, which take a while to make
 HERE = os.path.dirname(os.path.abspath(__file__))
 sys.path.insert(0, os.path.dirname(HERE))
 IS_STAND_IN = not (os.environ.get('LIFECRIB_PROGRAM') or os.environ.get('LIFECRIB_LIBRARY'))
@@ -110,10 +112,9 @@ class Local:
     def __init__(self, answer, tls=False):
         self.server = Listener(('127.0.0.1', 0), Handler)
         self.server.answer, self.server.seen = answer, []
-        self.room = tempfile.TemporaryDirectory()
         self.url = '%s://localhost:%d' % ('https' if tls else 'http', self.server.server_address[1])
         if tls:
-            self.certificate = certificate(self.room.name)
+            self.certificate = certificate()
             context = ssl.SSLContext(ssl.PROTOCOL_TLS_SERVER)
             context.load_cert_chain(self.certificate)
             self.server.socket = context.wrap_socket(self.server.socket, server_side=True)
@@ -131,12 +132,12 @@ class Local:
         self.server.shutdown()
         self.server.server_close()
         self.thread.join()
-        self.room.cleanup()
 
 
-def certificate(folder):
-    """A new certificate for localhost with its key, in one file."""
-    path = os.path.join(folder, 'both.pem')
+@functools.lru_cache(maxsize=None)
+def certificate():
+    """A certificate for localhost with its key, in one file."""
+    path = os.path.join(ROOM.name, 'both.pem')
     words = ['openssl', 'req', '-x509', '-newkey', 'rsa:2048', '-nodes', '-days', '2', '-subj', '/CN=localhost',
              '-addext', 'subjectAltName=DNS:localhost', '-keyout', path, '-out', path + '.crt']
     subprocess.run(words, check=True, capture_output=True)

@@ -1,15 +1,15 @@
 """Logins with OpenID Connect: the nonce, the rules of an ID token, and its signature by the issuer's keys."""
 import base64
+import functools
 import json
 import os
 import shutil
 import subprocess
-import tempfile
 import time
 import unittest
 import urllib.parse
 
-from case import IS_STAND_IN, TOKEN, Case, Server, client
+from case import IS_STAND_IN, ROOM, TOKEN, Case, Server, client
 import lifecrib
 from lifecrib import Client, Login, Token
 
@@ -20,11 +20,16 @@ def base64url(it):
     return base64.urlsafe_b64encode(it).rstrip(b'=').decode()
 
 
+@functools.lru_cache(maxsize=None)
+def signer(kid):
+    return Signer(kid)
+
+
 class Signer:
     """An RSA key, by openssl."""
 
-    def __init__(self, folder, kid):
-        self.path, self.kid = os.path.join(folder, kid), kid
+    def __init__(self, kid):
+        self.path, self.kid = os.path.join(ROOM.name, kid), kid
         subprocess.run(['openssl', 'genrsa', '-out', self.path, '2048'], check=True, capture_output=True)
         run = subprocess.run(['openssl', 'rsa', '-in', self.path, '-noout', '-modulus'], check=True,
                              capture_output=True, text=True)
@@ -44,9 +49,7 @@ class Signer:
 class OpenId(Case):
     @classmethod
     def setUpClass(cls):
-        cls.room = tempfile.TemporaryDirectory()
-        cls.addClassCleanup(cls.room.cleanup)
-        cls.signer, cls.other = Signer(cls.room.name, 'k1'), Signer(cls.room.name, 'k2')
+        cls.signer, cls.other = signer('k1'), signer('k2')
         cls.keys = {'keys': [cls.signer.key]}
 
     def claims(self, login, **more):

@@ -3,14 +3,13 @@ import json
 import os
 import re
 import shutil
-import tempfile
 import time
 import unittest
 import urllib.parse
 from unittest import mock
 
 from case import HERE
-from test_openid import ISSUER, Signer
+from test_openid import ISSUER, signer
 import lifecrib
 from lifecrib import Client, Reply
 
@@ -51,16 +50,14 @@ class Pages(unittest.TestCase):
     def run_page(self, path):
         with open(path, encoding='utf-8') as f:
             page = f.read()
-        with tempfile.TemporaryDirectory() as room:
-            site = Site(Signer(room, 'k1'))
-            said, names = [], {'came_back': site.came_back, 'store': lambda _: None}
-            names['print'] = lambda *them: said.append(' '.join(map(str, them)))
-            with mock.patch.object(Client, '_default', lambda _: site), \
-                    mock.patch('lifecrib._client.ThreadTransport', lambda: self.later(site)), \
-                    mock.patch('lifecrib.UrllibTransport', lambda **_: site), \
-                    mock.patch('lifecrib._calls.now', lambda: int(time.time())):
-                for block in BLOCK.findall(page):
-                    exec(compile(block, os.path.basename(path), 'exec'), names)
+        site = Site(signer('k1'))
+        said, names = [], {'came_back': site.came_back, 'store': lambda _: None}
+        names['print'] = lambda *them: said.append(' '.join(map(str, them)))
+        with mock.patch.object(Client, '_default', lambda _: site), \
+                mock.patch('lifecrib._client.ThreadTransport', lambda: self.later(site)), \
+                mock.patch('lifecrib.UrllibTransport', lambda **_: site):
+            for block in BLOCK.findall(page):
+                exec(compile(block, os.path.basename(path), 'exec'), names)
         return page, said
 
     @staticmethod

@@ -6,7 +6,6 @@ import json
 import os
 import re
 import shutil
-import tempfile
 import time
 import unittest
 import urllib.parse
@@ -15,7 +14,7 @@ from unittest import mock
 
 from case import HERE, Local
 from lifecrib import _transport
-from test_openid import Signer
+from test_openid import signer
 
 TASKS = os.path.join(os.path.dirname(HERE), 'tasks')
 PAGE = os.path.join(os.path.dirname(HERE), '..', 'docs', 'PYTHON.md')
@@ -43,8 +42,8 @@ def lines_of(path):
 class Authorization:
     """What a server answers to the tasks."""
 
-    def __init__(self, room):
-        self.signer, self.polls, self.claims, self.seen = Signer(room, 'k1'), 0, {}, None
+    def __init__(self):
+        self.signer, self.polls, self.claims, self.seen = signer('k1'), 0, {}, None
 
     def __call__(self, path):
         sent = dict(urllib.parse.parse_qsl(self.seen[-1][3].decode()))
@@ -72,15 +71,14 @@ class Tasks(unittest.TestCase):
     @contextlib.contextmanager
     def server(self, tls=False):
         self.addCleanup(_transport.default_transport.cache_clear)
-        with tempfile.TemporaryDirectory() as room:
-            answer = Authorization(room)
-            with Local(answer, tls) as server:
-                answer.seen = server.seen
-                trusted = {name: server.certificate for name in ('SSL_CERT_FILE', 'REQUESTS_CA_BUNDLE')} if tls else {}
-                with mock.patch.dict(os.environ, {**PLAIN, **trusted}), warnings.catch_warnings():
-                    warnings.simplefilter('ignore', ResourceWarning)  # of sessions that nobody closes
-                    _transport.default_transport.cache_clear()
-                    yield server, answer
+        answer = Authorization()
+        with Local(answer, tls) as server:
+            answer.seen = server.seen
+            trusted = {name: server.certificate for name in ('SSL_CERT_FILE', 'REQUESTS_CA_BUNDLE')} if tls else {}
+            with mock.patch.dict(os.environ, {**PLAIN, **trusted}), warnings.catch_warnings():
+                warnings.simplefilter('ignore', ResourceWarning)  # of sessions that nobody closes
+                _transport.default_transport.cache_clear()
+                yield server, answer
 
     def each(self, task):
         """The program of a task by each library that is here."""
