@@ -271,11 +271,12 @@ class Stand:
             else:
                 pairs = [('grant_type', 'client_credentials')] + self.scope()
             reply = self.exchange(url, pairs)
-            value = reply[3] if reply and reply[0] == 200 else None
+            value = reply[3] if reply and reply[0] == 200 and 'access_token' in reply[3] else None
             if value is None:
                 names = 'error', 'error_description', 'error_uri'
                 said = reply and reply[3] and {it: reply[3].get(it) for it in names}
-                last = {'event': 'fault', 'kind': 'error_response' if said else 'request_failed',
+                kind = 'error_response' if said else 'unread_reply' if reply else 'request_failed'
+                last = {'event': 'fault', 'kind': kind,
                         'text': 'Server returned error response: ' + said['error'] if said else 'Request failed',
                         'error': said, 'unread': None}
                 failed_at = now

@@ -142,7 +142,7 @@ class Keepers(Case):
     def test_it_is_the_keeper_of_one_long_script(self):
         """Random calls: what comes of each, and what is sent, is as in one script that has all replies and readings."""
         rng = random.Random(7)
-        for _ in range(20 if IS_STAND_IN else 60):
+        for _ in range(2 if IS_STAND_IN else 60):
             replies, readings, came, self.now = [], [], [], 1700000000
             retry_after = rng.choice([None, 0, 30])
             given = {'margin': rng.choice([0, 10]), 'life': 50, 'scopes': ['read'], 'retry_after': retry_after}
