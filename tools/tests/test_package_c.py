@@ -23,7 +23,7 @@ STAND_IN = '''
 #include <string.h>
 #include "lifecrib.h"
 
-/* The lines are the script three times. */
+/* The result is the script three times. */
 int32_t lifecrib_run(const uint8_t *script, size_t script_length, uint8_t *output, size_t output_length, size_t *length) {
     *length = 3 * script_length;
     for (int at = 0; at < 3 && *length <= output_length; at++) memcpy(output + at * script_length, script, script_length);
@@ -57,8 +57,8 @@ class PackageC(unittest.TestCase):
         self.addCleanup(room.cleanup)
         self.room = room.name
 
-    def compiled(self, *words):
-        run = subprocess.run(['cc', '-Wall', '-Wextra', '-pedantic', '-Werror', '-I', C, *words], capture_output=True, text=True)
+    def compiled(self, *words, compiler='cc'):
+        run = subprocess.run([compiler, '-Wall', '-Wextra', '-pedantic', '-Werror', '-I', C, *words], capture_output=True, text=True)
         self.assertEqual(run.returncode, 0, run.stderr)
 
     def stand_in(self):
@@ -87,6 +87,12 @@ class PackageC(unittest.TestCase):
             found = re.findall(r'\blifecrib[-_](?:c-)?(\d+\.\d+\.\d+)', text_of(repository.ROOT, page))
             self.assertLessEqual(set(found), {version.VERSION}, page)
 
+    def test_the_page_begins_with_the_end_of_the_example(self):
+        page, example = text_of(repository.ROOT, 'docs', 'C.md'), text_of(C, 'examples', 'token.c')
+        shown = re.search(r'\n\n((?: {4}.*\n)+)', page).group(1)
+        self.assertEqual(re.sub('(?m)^ {4}', '', shown), example[example.index('int main('):])
+        self.assertLessEqual(shown.count('\n'), 16)
+
     def test_the_header_has_the_numbers_of_the_crate(self):
         lines = text_of(CRATE, 'lines.rt')
         numbers = dict(re.findall(r'RunStatus::(\w+) => (\d)', lines))
@@ -96,15 +102,16 @@ class PackageC(unittest.TestCase):
         self.assertEqual({names[it]: number for it, number in numbers.items()}, declared)
 
     def test_the_header_is_one_of_c_and_of_cpp(self):
-        for language, standard in (('c', 'c99'), ('c++', 'c++11')):
-            source = os.path.join(self.room, 'one.' + language)
-            with open(source, 'w') as f:
-                f.write('#include "lifecrib.h"\n#include "lifecrib.h"\nint one(void);\nint one(void) { return LIFECRIB_FAULT; }\n')
-            self.compiled('-std=' + standard, '-x', language, '-c', source, '-o', os.path.join(self.room, 'one.o'))
+        source = os.path.join(self.room, 'one.c')
+        with open(source, 'w') as f:
+            f.write('#include "lifecrib.h"\n#include "lifecrib.h"\nint one(void);\nint one(void) { return LIFECRIB_FAULT; }\n')
+        for compiler in filter(shutil.which, ('cc', 'clang')):
+            for language, standard in (('c', 'c99'), ('c', 'c17'), ('c++', 'c++11'), ('c++', 'c++20')):
+                self.compiled('-std=' + standard, '-x', language, '-c', source, '-o', os.path.join(self.room, 'one.o'), compiler=compiler)
 
-    def test_the_example_makes_room_for_long_lines(self):
+    def test_the_example_makes_room_for_a_long_result(self):
         program = os.path.join(self.room, 'run')
-        self.compiled('-std=c99', os.path.join(C, 'run.c'), self.stand_in(), '-o', program)
+        self.compiled('-std=c99', os.path.join(C, 'examples', 'run.c'), self.stand_in(), '-o', program)
         for size in (0, 1, 1365, 1366, 4095, 4096, 100000):
             given = bytes(at % 251 for at in range(size))
             run = subprocess.run([program], input=given, capture_output=True)
@@ -121,7 +128,7 @@ class PackageC(unittest.TestCase):
             archive.extractall(self.room)
         base = os.path.join(self.room, 'lifecrib-c-' + version.VERSION)
         program = os.path.join(self.room, 'run')
-        subprocess.run(['cc', os.path.join(base, 'share/doc/lifecrib/run.c'), '-I', base + '/include', '-L', base + '/lib', '-llifecrib',
+        subprocess.run(['cc', os.path.join(base, 'share/doc/lifecrib/examples/run.c'), '-I', base + '/include', '-L', base + '/lib', '-llifecrib',
                         '-Wl,-rpath,' + base + '/lib', '-o', program], check=True)
         run = subprocess.run([program], input=b'abc', capture_output=True)
         self.assertEqual((run.returncode, run.stdout), (1, b'abcabcabc'))

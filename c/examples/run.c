@@ -1,4 +1,4 @@
-/* Runs the script on standard input and prints the lines of its run, as the program oauth2_run does.
+/* Runs the script on standard input and prints the result of its run, as the program oauth2_run does.
  *
  *     cc run.c -llifecrib -o run && ./run < script.json
  */
@@ -38,15 +38,15 @@ static uint8_t *input(size_t *length) {
 
 int main(void) {
     size_t script_length, length, size = 4096;
-    uint8_t *script = input(&script_length), *lines = room_of(size);
-    int status = lifecrib_run(script, script_length, lines, size, &length);
-    if (length > size) { /* the lines did not fit */
-        free(lines);
-        lines = room_of(size = length);
-        status = lifecrib_run(script, script_length, lines, size, &length);
+    uint8_t *script = input(&script_length), *output = room_of(size);
+    int status = lifecrib_run(script, script_length, output, size, &length);
+    if (length > size) { /* it did not fit */
+        free(output);
+        output = room_of(size = length);
+        status = lifecrib_run(script, script_length, output, size, &length);
     }
-    if (fwrite(lines, 1, length, stdout) < length || fflush(stdout)) stop("standard output cannot be written");
-    free(lines);
+    if (fwrite(output, 1, length, stdout) < length || fflush(stdout)) stop("standard output cannot be written");
+    free(output);
     free(script);
     return status;
 }

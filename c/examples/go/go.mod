@@ -1,0 +1,3 @@
+module lifecrib.example/token
+
+go 1.19
