@@ -1,4 +1,5 @@
 """Tests of tools/package-c, and of the header and the example that it packs. The library is a stand-in in C, so nothing is proved."""
+import hashlib
 import os
 import re
 import shutil
@@ -34,6 +35,11 @@ int32_t lifecrib_run(const uint8_t *script, size_t script_length, uint8_t *outpu
 
 def text_of(*path):
     with open(os.path.join(*path), encoding='utf-8') as f:
+        return f.read()
+
+
+def bytes_in(path):
+    with open(path, 'rb') as f:
         return f.read()
 
 
@@ -117,13 +123,23 @@ class PackageC(unittest.TestCase):
             run = subprocess.run([program], input=given, capture_output=True)
             self.assertEqual((run.returncode, run.stdout, run.stderr), (1, given * 3, b''), size)
 
+    def package(self, kind, archive):
+        """The paths of the packages, which are made twice, as the same bytes."""
+        bytes_of = []
+        for umask in (0o022, 0o077):
+            to = tempfile.mkdtemp(dir=self.room)
+            words = [sys.executable, os.path.join(tool.TOOLS, 'package-c'), '--library', archive, '--to', to, kind]
+            run = subprocess.run(words, capture_output=True, text=True, preexec_fn=lambda: os.umask(umask) and None)
+            self.assertEqual(run.returncode, 0, run.stderr)
+            paths = run.stdout.splitlines()
+            bytes_of.append([bytes_in(it) for it in paths])
+        self.assertEqual(*bytes_of)
+        return paths
+
     @unittest.skipUnless(shutil.which('rt'), 'there is no kit')
-    def test_the_package(self):
-        words = [sys.executable, os.path.join(tool.TOOLS, 'package-c'), '--library', self.stand_in(), '--to', self.room]
-        runs = [subprocess.run(words, capture_output=True, text=True) for _ in range(2)]
-        path = os.path.join(self.room, 'lifecrib-c-%s-linux-x86_64.tar.xz' % version.VERSION)
-        for run in runs:
-            self.assertEqual((run.returncode, run.stdout), (0, path + '\n'), run.stderr)
+    def test_the_tar(self):
+        path, = self.package('tar', self.stand_in())
+        self.assertEqual(os.path.basename(path), 'lifecrib-c-%s-linux-x86_64.tar.xz' % version.VERSION)
         with tarfile.open(path) as archive:
             archive.extractall(self.room)
         base = os.path.join(self.room, 'lifecrib-c-' + version.VERSION)
@@ -132,12 +148,84 @@ class PackageC(unittest.TestCase):
                         '-Wl,-rpath,' + base + '/lib', '-o', program], check=True)
         run = subprocess.run([program], input=b'abc', capture_output=True)
         self.assertEqual((run.returncode, run.stdout), (1, b'abcabcabc'))
-        exported = subprocess.run(['nm', '-D', '--defined-only', base + '/lib/liblifecrib.so.0'], capture_output=True, text=True).stdout
-        self.assertEqual(re.findall(r' T (\w+)', exported), [name for name, _ in exports()])
+        self.assertEqual(self.exported(base + '/lib/liblifecrib.so.0'), [name for name, _ in exports()])
         if shutil.which('pkg-config'):
             env = dict(os.environ, PKG_CONFIG_PATH=base + '/lib/pkgconfig')
             run = subprocess.run(['pkg-config', '--modversion', 'lifecrib'], env=env, capture_output=True, text=True)
             self.assertEqual(run.stdout.strip(), version.VERSION, run.stderr)
+
+    def test_the_tar_has_each_example(self):
+        top = os.path.join(C, 'examples')
+        found = {os.path.relpath(os.path.join(at, name), top) for at, _, names in os.walk(top) for name in names}
+        source = text_of(tool.TOOLS, 'package-c')
+        self.assertEqual(found, set(re.findall(r"'([^']+)'", re.search(r'EXAMPLES = \((.*)\)', source).group(1))))
+
+    def exported(self, *words):
+        """The functions that a library exports."""
+        return re.findall(r' T (\w+)', subprocess.run(['nm', '-D', '--defined-only', *words], capture_output=True, text=True).stdout)
+
+    @unittest.skipUnless(shutil.which('rt') and shutil.which('dpkg-deb'), 'there is no kit, or no dpkg-deb')
+    def test_the_debs(self):
+        paths = self.package('deb', self.stand_in())
+        self.assertEqual([os.path.basename(it) for it in paths],
+                         ['%s_%s_amd64.deb' % (it, version.VERSION) for it in ('liblifecrib0', 'liblifecrib-dev')])
+        root = os.path.join(self.room, 'root')
+        for path in paths:
+            subprocess.run(['dpkg-deb', '-x', path, root], check=True)
+            listed = subprocess.run(['dpkg-deb', '-c', path], capture_output=True, text=True).stdout.splitlines()
+            self.assertEqual({it.split()[1] for it in listed}, {'root/root'})
+            self.assertLessEqual({it[:10] for it in listed}, {'drwxr-xr-x', '-rw-r--r--', 'lrwxrwxrwx'})
+            name, control = os.path.basename(path).partition('_')[0], self.control(path, 'md5sums')
+            self.assertIn('usr/share/doc/%s/copyright' % name, control)
+            for line in control.splitlines():
+                self.assertEqual(hashlib.md5(bytes_in(os.path.join(root, line[34:]))).hexdigest(), line[:32])
+        needed = 'liblifecrib0 (= %s)' % version.VERSION
+        self.assertEqual([self.field(it, 'Depends').startswith(wanted) for it, wanted in zip(paths, ('libc6 (>= ', needed))], [True, True])
+        self.check_use_of(root)
+        if shutil.which('lintian'):
+            # the names of the stand-in's own functions are not those of a hardened build
+            words = ['lintian', '--fail-on', 'error,warning', '--suppress-tags', 'hardening-no-fortify-functions', *paths]
+            run = subprocess.run(words, capture_output=True, text=True)
+            self.assertEqual(run.returncode, 0, run.stdout + run.stderr)
+
+    def check_use_of(self, root):
+        """A program compiled with what the packages install, by the shared and by the static library."""
+        lib = os.path.join(root, 'usr/lib/x86_64-linux-gnu')
+        program, example = os.path.join(self.room, 'used'), os.path.join(root, 'usr/share/doc/liblifecrib-dev/examples/run.c')
+        for library in (['-L', lib, '-llifecrib', '-Wl,-rpath,' + lib], [lib + '/liblifecrib.a']):
+            subprocess.run(['cc', example, '-I', root + '/usr/include', *library, '-o', program], check=True)
+            run = subprocess.run([program], input=b'abc', capture_output=True)
+            self.assertEqual((run.returncode, run.stdout), (1, b'abcabcabc'))
+        names = [name for name, _ in exports()]
+        self.assertEqual(self.exported(lib + '/liblifecrib.so.0'), names)
+        of_archive = subprocess.run(['nm', '-g', '--defined-only', lib + '/liblifecrib.a'], capture_output=True, text=True).stdout
+        self.assertEqual(re.findall(r' T (\w+)', of_archive), names)
+        if shutil.which('pkg-config'):
+            env = dict(os.environ, PKG_CONFIG_PATH=lib + '/pkgconfig', PKG_CONFIG_SYSROOT_DIR=root)
+            for flag, wanted in (('--modversion', version.VERSION), ('--libs', '-llifecrib')):
+                run = subprocess.run(['pkg-config', flag, 'lifecrib'], env=env, capture_output=True, text=True)
+                self.assertEqual(run.stdout.split()[-1:], [wanted], run.stderr)
+
+    @unittest.skipUnless(shutil.which('rt') and shutil.which('dpkg-deb'), 'there is no kit, or no dpkg-deb')
+    def test_the_symbols_of_the_deb(self):
+        path = self.package('deb', self.stand_in())[0]
+        version_node, = re.findall(r'^(\w+) \{', text_of(C, 'exports.map'), re.M)
+        found = dict(re.findall(r'^ (\w+)@(\w+) %s$' % re.escape(version.VERSION), self.control(path, 'symbols'), re.M))
+        self.assertEqual(found, {it: version_node for it in [version_node, *(name for name, _ in exports())]})
+        self.assertEqual(self.control(path, 'shlibs'), 'liblifecrib 0 liblifecrib0 (>= %s)\n' % version.VERSION)
+        self.assertEqual(self.control(path, 'triggers'), 'activate-noawait ldconfig\n')
+
+    def control(self, path, name):
+        """A file of a package's control."""
+        return subprocess.run(['dpkg-deb', '-I', path, name], capture_output=True, text=True, check=True).stdout
+
+    def field(self, path, name):
+        return subprocess.run(['dpkg-deb', '-f', path, name], capture_output=True, text=True, check=True).stdout.strip()
+
+    def test_a_kind_that_is_none(self):
+        run = subprocess.run([sys.executable, os.path.join(tool.TOOLS, 'package-c'), 'rpm'], capture_output=True, text=True)
+        self.assertEqual(run.returncode, 2)
+        self.assertIn('a package is one of tar, deb', run.stderr)
 
 
 if __name__ == '__main__':
