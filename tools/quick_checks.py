@@ -43,8 +43,8 @@ def tools():
 
 
 def readme():
-    """The commands on README.md, which compile programs without proofs."""
-    return [of_tool('readme')]
+    """The commands on README.md, and the examples of the C library, which compile programs without proofs."""
+    return [of_tool('readme'), of_tool('try-c-examples')]
 
 
 def has_tests(crate):

@@ -164,7 +164,7 @@ func token(url, id, secret string) (string, error) {
 		return "", err
 	}
 	if end.Event != "answer" {
-		return "", errors.New(strings.TrimSpace(end.Text + " " + end.Event))
+		return "", errors.New(end.Event + ": " + end.Text)
 	}
 	var answer struct {
 		AccessToken string `json:"access_token"`
