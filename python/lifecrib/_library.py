@@ -127,21 +127,10 @@ def run(script: Mapping[str, Any]) -> Run:
     except (ValueError, LookupError, TypeError, RecursionError) as error:
         raise RuntimeError('%s gives no result of lifecrib (exit status %d)' % (by.path, status)) from error
     if name == 'bad_script':
-        raise bad_script(events[-1]['member'] or _bad_member(script), events[-1]['why'])
+        raise bad_script(events[-1]['member'], events[-1]['why'])
     return Run(events)
 
 
 def bad_script(member: Optional[str], why: Optional[str]) -> BadScript:
     said = [it for it in (member and member + ' is not what it has to be', why) if it]
     return BadScript(': '.join(['bad script', *said]), member=member, why=why)
-
-
-def _bad_member(script: Mapping[str, Any]) -> Optional[str]:
-    """Which member makes a script bad, if it is none without that, and the library does not say."""
-    for part in ('client', 'params'):
-        for name in script.get(part, {}):
-            rest = {it: value for it, value in script[part].items() if it != name}
-            status, _ = library().run(_json.text_of({**script, part: rest, 'result': 'json'}).encode('ascii'))
-            if status in (ANSWERED, FAULT):
-                return '%s.%s' % (part, name)
-    return None
