@@ -35,7 +35,7 @@ enum lifecrib_status {
  *   the script, or touches the other two.
  * - malloc, realloc and free are one allocator.
  * - No call is made from a signal handler, or in the forked child of a process with threads.
- * - The thread has 128 KiB of stack. (That is measured, and not proved.)
+ * - The thread has 192 KiB of stack. (That is measured, and not proved.)
  *
  * Nothing is kept between calls: all memory that a call takes is given back before it returns, and threads
  * need no lock. */
