@@ -64,8 +64,12 @@ def objects(script, known, commands):
         yield '"params" of "%s"' % script['command'], script.get('params', {}), commands[script['command']]
     replies = script.get('replies')
     for number, reply in enumerate(replies if isinstance(replies, list) else [], 1):
-        fails = isinstance(reply, dict) and 'fail' in reply
-        yield 'reply %d' % number, reply, known['replies']._replace(needed=[]) if fails else known['replies']
+        names, given = known['replies'], reply if isinstance(reply, dict) else {}
+        if 'fail' in given:
+            names = names._replace(needed=[])
+        elif 'body_base64' not in given:
+            names = names._replace(needed=[*names.needed, 'body'])
+        yield 'reply %d' % number, reply, names
 
 
 def near(name, names):

@@ -100,9 +100,9 @@ class PackageC(unittest.TestCase):
         self.assertLessEqual(shown.count('\n'), 16)
 
     def test_the_header_has_the_numbers_of_the_crate(self):
-        lines = text_of(CRATE, 'lines.rt')
-        numbers = dict(re.findall(r'RunStatus::(\w+) => (\d)', lines))
-        numbers['NoMemory'] = re.search(r'NO_MEMORY: i32 = (\d)', lines).group(1)
+        source = text_of(CRATE, 'run.rt')
+        numbers = dict(re.findall(r'RunStatus::(\w+) => (\d)', source))
+        numbers['NoMemory'] = re.search(r'NO_MEMORY: i32 = (\d)', source).group(1)
         names = {it: 'LIFECRIB' + re.sub(r'(?=[A-Z])', '_', it).upper() for it in numbers}
         declared = dict(re.findall(r'(LIFECRIB_[A-Z_]+) = (\d)', text_of(C, 'lifecrib.h')))
         self.assertEqual({names[it]: number for it, number in numbers.items()}, declared)
