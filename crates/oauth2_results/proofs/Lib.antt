@@ -1,4 +1,3 @@
 pub mod Sleeps
 pub mod PairLines
-pub mod Joins
 pub mod NotUtf8

@@ -3,7 +3,7 @@
 ghost use Rattle.std.specs.Prelude.{◌≡◌, string_bytes, IfOk};
 ghost use Rattle.oauth2_world.specs.Quotation.{quotation};
 
-use serde_json::Value;
+use json::Writer;
 use std::alloc::{AllocError, Global};
 
 /// A text as a JSON string, with its quotation marks.
@@ -11,5 +11,11 @@ use std::alloc::{AllocError, Global};
 pub fn quoted(alloc: Global, text: &str) -> Result<String, AllocError>
     ensures { IfOk result (λ s. string_bytes s ≡ quotation text.now) }
 {
-    Value::String(String::from_str(alloc, text)?).to_string(alloc)
+    let room = text.len().saturating_add(2);
+    let mut writer = Writer::new(Vec::with_capacity(alloc, room)?);
+    writer.string(text)?;
+    match String::from_utf8(writer.into_inner()) {
+        Ok(text) => Ok(text),
+        Err(_) => unreachable!(),
+    }
 }
