@@ -127,7 +127,7 @@ def token(self: Settings, command: str, params: Mapping[str, Any], kept: Optiona
     """The token that a command gets."""
     asked_at = now()
     run = yield from exchange(self, command, params)
-    return token_of(run.answer(), run.members(), asked_at, kept)
+    return token_of(run.answer(), run.scopes(), run.members(), asked_at, kept)
 
 
 # Tokens
@@ -207,7 +207,7 @@ def introspect(self: Settings, token: str, *, hint: Optional[str] = None, extra:
                client_assertion: Optional[str] = None) -> Call[Introspection]:
     """What a token is worth (RFC 7662, 2.1)."""
     run = yield from exchange(self, 'introspect', {'token': token, 'hint': hint, **more(extra, (), client_assertion)})
-    return introspection_of(run.answer(), run.members())
+    return introspection_of(run.answer(), run.scopes(), run.members())
 
 
 def revoke(self: Settings, token: str, *, kind: str = 'access', extra: Pairs = (),
@@ -314,6 +314,5 @@ def check_access_token(access_token: str, *, issuer: str, audience: str, keys: M
     """What a JWT access token says, as its resource server checks it by the issuer's keys (RFC 9068, 4)."""
     params = without_none({'access_token': access_token, 'issuer': issuer, 'audience': audience, 'keys': keys,
                             'algorithm': algorithm, 'leeway': leeway})
-    answer = _library.run({'client': {'id': ''}, 'command': 'access_token', 'params': params,
-                           'readings': [now()]}).answer()
-    return introspection_of(answer, payload(access_token))
+    run = _library.run({'client': {'id': ''}, 'command': 'access_token', 'params': params, 'readings': [now()]})
+    return introspection_of(run.answer(), run.scopes(), payload(access_token))

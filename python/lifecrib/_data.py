@@ -163,24 +163,21 @@ def _of_types(kind: Any, found: Mapping[str, Any], **more: Any) -> Any:
     return kind(**{**known, **more})
 
 
-def _scopes(found: Mapping[str, Any]) -> tuple[str, ...]:
-    return tuple(it for it in found.get('scope', '').split(' ') if it)
-
-
 def claims_of(found: Mapping[str, Any]) -> Claims:
     made: Claims = _of_types(Claims, found)
     return made
 
 
-def token_of(answer: Mapping[str, Any], members: Mapping[str, Any], asked_at: int, kept: Optional[str] = None) -> Token:
+def token_of(answer: Mapping[str, Any], scopes: tuple[str, ...], members: Mapping[str, Any], asked_at: int,
+             kept: Optional[str] = None) -> Token:
     """The token of an answer; kept is the refresh token that stays good if the answer has none."""
-    made: Token = _of_types(Token, answer, scopes=_scopes(answer), members=members, asked_at=asked_at,
+    made: Token = _of_types(Token, answer, scopes=scopes, members=members, asked_at=asked_at,
                             refresh_token=answer.get('refresh_token', kept))
     return made
 
 
-def introspection_of(answer: Mapping[str, Any], members: Mapping[str, Any]) -> Introspection:
-    made: Introspection = _of_types(Introspection, answer, scopes=_scopes(answer), members=members)
+def introspection_of(answer: Mapping[str, Any], scopes: tuple[str, ...], members: Mapping[str, Any]) -> Introspection:
+    made: Introspection = _of_types(Introspection, answer, scopes=scopes, members=members)
     return made
 
 

@@ -70,7 +70,7 @@ def poll(self: DeviceState[Any], *, timeout: Optional[int] = None) -> Call[Optio
             self.wait = step['seconds'] + step['nanoseconds'] / 1e9
             return None
         else:
-            return token_of(run.answer(), run.members(), self._readings[-1])
+            return token_of(run.answer(), run.scopes(), run.members(), self._readings[-1])
 
 
 def _reply(client: Settings, exchange: Mapping[str, Any]) -> Call[dict[str, Any]]:

@@ -94,7 +94,7 @@ def _new_token(self: KeeperState[Any], sent: Optional[str], reply: Mapping[str, 
     """The token of the reply that a keeper has accepted, as the command of its request reads it."""
     params: Mapping[str, Any] = self._params if sent is None else {'refresh_token': sent}
     run = self.client.run('client_credentials' if sent is None else 'refresh', params, [reply])
-    return token_of(run.answer(), run.members(), at, sent)
+    return token_of(run.answer(), run.scopes(), run.members(), at, sent)
 
 
 def _reply_of(token: Token) -> dict[str, Any]:

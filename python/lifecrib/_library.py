@@ -97,6 +97,10 @@ class Run(NamedTuple):
             raise self.error()
         return self.last['answer']
 
+    def scopes(self) -> tuple[str, ...]:
+        """The scopes of the answer, without empty ones."""
+        return tuple(it for it in self.last['scopes'] or () if it)
+
     def error(self) -> LifecribError:
         """The error that the last event is."""
         it, reply = self.last, self.reply()

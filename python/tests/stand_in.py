@@ -22,8 +22,17 @@ NEEDED = ('access_token', 'token_type', 'issued_token_type', 'active', 'request_
 BODIES = []  # of replies, each the text of one JSON value
 
 
+def scopes_of(answer):
+    """The scopes of an answer as a list."""
+    found = answer.get('scope') if isinstance(answer, dict) else None
+    return found.split(' ') if isinstance(found, str) else None
+
+
 def end(status, event, **more):
     EVENTS.append({'event': event, **more})
+    for it in EVENTS:
+        if it['event'] == 'answer':
+            it['scopes'] = scopes_of(it['answer'])
     text = json.dumps({'events': EVENTS})
     for at, body in enumerate(BODIES):  # each as it came
         text = text.replace('"\\u0000%d"' % at, body)

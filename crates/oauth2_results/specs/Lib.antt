@@ -6,4 +6,5 @@ pub mod Lines
 pub mod RequestJson
 pub mod ReplyJson
 pub mod FaultJson
+pub mod ScopesJson
 pub mod Result

@@ -13,6 +13,7 @@ use Rattle.oauth2_results.specs.Lines.{lines_of}
 use Rattle.oauth2_results.specs.Json.{object_text, list_text, optional_number}
 use Rattle.oauth2_results.specs.ReplyJson.{reply_json}
 use Rattle.oauth2_results.specs.RequestJson.{request_json}
+use Rattle.oauth2_results.specs.ScopesJson.{scopes_json}
 
 -- a request that the client sent, and the reply
 abbrev pub exchange_json : RequestView → Option ReplyView → List ℕ
@@ -32,9 +33,12 @@ sleep_json nanos =
 abbrev pub url_json : List ℕ → List ℕ
 url_json url = object_text ((codes "event", quotation (codes "url")) ∷ (codes "url", quotation url) ∷ [])
 
--- an answer, which is a JSON text
+-- an answer, which is a JSON text, with its scopes
 abbrev pub answer_json : List ℕ → List ℕ
-answer_json answer = object_text ((codes "event", quotation (codes "answer")) ∷ (codes "answer", answer) ∷ [])
+answer_json answer =
+    object_text ((codes "event", quotation (codes "answer"))
+    ∷ (codes "answer", answer)
+    ∷ (codes "scopes", scopes_json answer) ∷ [])
 
 -- a wait until this second since 1970, or `null`
 abbrev pub wait_json : Option ℤ → List ℕ

@@ -13,6 +13,7 @@ use crate::fault_json::fault_json;
 use crate::json_text::{list_text, object_text, optional_number};
 use crate::reply_json::reply_json;
 use crate::request_json::request_json;
+use crate::scopes::scopes_json;
 use oauth2_script::{HttpReply, ScriptFault};
 use oauth2_wire::HttpRequest;
 use oauth2_world::{Event, quoted};
@@ -68,8 +69,13 @@ fn answer_json(alloc: Global, answer: &str) -> Result<String, AllocError>
     ensures { IfOk result (λ s. string_bytes s ≡ spec.answer_json answer.now) }
 {
     let event = quoted(alloc, "answer")?;
+    let scopes = scopes_json(alloc, answer)?;
     let answer = String::from_str(alloc, answer)?;
-    let members = [("event", event.as_str()), ("answer", answer.as_str())];
+    let members = [
+        ("event", event.as_str()),
+        ("answer", answer.as_str()),
+        ("scopes", scopes.as_str()),
+    ];
     let json = object_text(alloc, &members)?;
     Ok(json)
 }

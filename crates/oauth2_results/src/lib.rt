@@ -10,6 +10,7 @@ mod lines;
 mod reply_json;
 mod request_json;
 mod request_lines;
+mod scopes;
 mod text;
 mod words;
 
