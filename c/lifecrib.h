@@ -42,6 +42,12 @@ enum lifecrib_status {
 int32_t lifecrib_run(const uint8_t *script, size_t script_length, uint8_t *output, size_t output_length,
                      size_t *length);
 
+/* Gives the version of the library that is linked, as LIFECRIB_VERSION is that of this header; and the kinds
+ * of faults, each with a newline behind it, in the words of docs/SCRIPT.md. The text goes into the output, and
+ * its length into *length, as in lifecrib_run. Neither call takes memory. */
+void lifecrib_version(uint8_t *output, size_t output_length, size_t *length);
+void lifecrib_kinds(uint8_t *output, size_t output_length, size_t *length);
+
 #ifdef __cplusplus
 }
 #endif

@@ -8,6 +8,7 @@ import repository
 C = os.path.join(repository.ROOT, 'c')
 CRATE = os.path.join(repository.CRATES, 'oauth2_c')
 SONAME = 'liblifecrib.so.0'
+EXPORTS = ('lifecrib_run', 'lifecrib_version', 'lifecrib_kinds')
 
 
 def static_library(given):
@@ -26,6 +27,6 @@ def kit_library():
 
 def shared_library(archive, to):
     """Links the shared library; it exports what c/exports.map names, and nothing else."""
-    words = ['-Wl,-soname,' + SONAME, '-Wl,--version-script=' + os.path.join(C, 'exports.map'), '-Wl,-u,lifecrib_run',
+    words = ['-Wl,-soname,' + SONAME, '-Wl,--version-script=' + os.path.join(C, 'exports.map'), *('-Wl,-u,' + it for it in EXPORTS),
              '-Wl,-z,relro,-z,now,-z,defs', '-Wl,--gc-sections', '-Wl,--build-id=none']
     subprocess.run(['cc', '-shared', '-o', to, *words, archive, kit_library()], check=True)

@@ -17,7 +17,7 @@ import version
 SOURCE, RUN, DEV = 'lifecrib', 'liblifecrib0', 'liblifecrib-dev'
 LIB = 'usr/lib/x86_64-linux-gnu/'
 MAINTAINER = 'Lifecrib maintainers <maintainers@users.noreply.lifecrib.example>'
-NODE, FUNCTIONS = 'LIFECRIB_0', ('lifecrib_run',)  # as c/exports.map has them
+NODE, FUNCTIONS = 'LIFECRIB_0', c_library.EXPORTS  # as c/exports.map has them
 EPOCH, DATE = '315532800', 'Tue, 01 Jan 1980 00:00:00 +0000'  # so that the same files make the same package
 CHANGELOG = '''%s (%s) unstable; urgency=medium
 

@@ -12,6 +12,7 @@ import unittest
 import tool
 
 sys.path.insert(0, tool.TOOLS)
+import c_library
 import repository
 import version
 
@@ -19,7 +20,7 @@ C = os.path.join(repository.ROOT, 'c')
 CRATE = os.path.join(repository.CRATES, 'oauth2_c', 'src')
 # What C has in place of each type of a parameter of the crate; a slice is a pointer and a length.
 TYPES = {'&[u8]': 'const uint8_t *{0}, size_t {0}_length', '&mut [u8]': 'uint8_t *{0}, size_t {0}_length',
-         '&mut usize': 'size_t *{0}', 'i32': 'int32_t'}
+         '&mut usize': 'size_t *{0}', 'i32': 'int32_t', '': 'void'}
 STAND_IN = '''
 #include <string.h>
 #include "lifecrib.h"
@@ -29,6 +30,19 @@ int32_t lifecrib_run(const uint8_t *script, size_t script_length, uint8_t *outpu
     *length = 3 * script_length;
     for (int at = 0; at < 3 && *length <= output_length; at++) memcpy(output + at * script_length, script, script_length);
     return LIFECRIB_FAULT;
+}
+
+static void put(const char *text, uint8_t *output, size_t output_length, size_t *length) {
+    *length = strlen(text);
+    if (*length <= output_length) memcpy(output, text, *length);
+}
+
+void lifecrib_version(uint8_t *output, size_t output_length, size_t *length) {
+    put(LIFECRIB_VERSION, output, output_length, length);
+}
+
+void lifecrib_kinds(uint8_t *output, size_t output_length, size_t *length) {
+    put("bad_push\\n", output, output_length, length);
 }
 '''
 
@@ -50,7 +64,7 @@ def joined(text):
 def exports():
     """The exported functions of the crate, as C declares them."""
     source = text_of(CRATE, 'lib.rt')
-    for name, parameters, result in re.findall(r'extern "C" fn (\w+)\((.*?)\) -> (\w+)', source, re.S):
+    for name, parameters, result in re.findall(r'extern "C" fn (\w+)\((.*?)\)(?: -> (\w+))?\n', source, re.S):
         taken = [it.strip().split(': ') for it in parameters.split(',') if it.strip()]
         words = [TYPES[kind].format(it) for it, kind in taken if kind != 'Global']
         yield name, '%s %s(%s);' % (TYPES[result], name, ', '.join(words))
@@ -83,7 +97,9 @@ class PackageC(unittest.TestCase):
         for declared in found.values():
             self.assertIn(declared, joined(header))
         self.assertEqual(re.findall(r'^\w[\w ]* \*?(\w+)\(', header, re.M), list(found))
-        self.assertEqual(re.findall(r'global: (.*);', text_of(C, 'exports.map')), [', '.join(found)])
+        self.assertEqual(re.findall(r'global: (.*);', text_of(C, 'exports.map')), ['; '.join(found)])
+        self.assertEqual(list(c_library.EXPORTS), list(found))
+        self.assertIn('put("%s"' % version.VERSION, text_of(CRATE, 'lib.rt'))
         self.assertIn('#define LIFECRIB_VERSION "%s"' % version.VERSION, header)
 
     def test_the_pages_have_the_function_and_the_version(self):
@@ -148,7 +164,7 @@ class PackageC(unittest.TestCase):
                         '-Wl,-rpath,' + base + '/lib', '-o', program], check=True)
         run = subprocess.run([program], input=b'abc', capture_output=True)
         self.assertEqual((run.returncode, run.stdout), (1, b'abcabcabc'))
-        self.assertEqual(self.exported(base + '/lib/liblifecrib.so.0'), [name for name, _ in exports()])
+        self.assertEqual(self.exported(base + '/lib/liblifecrib.so.0'), sorted(name for name, _ in exports()))
         if shutil.which('pkg-config'):
             env = dict(os.environ, PKG_CONFIG_PATH=base + '/lib/pkgconfig')
             run = subprocess.run(['pkg-config', '--modversion', 'lifecrib'], env=env, capture_output=True, text=True)
@@ -196,7 +212,7 @@ class PackageC(unittest.TestCase):
             subprocess.run(['cc', example, '-I', root + '/usr/include', *library, '-o', program], check=True)
             run = subprocess.run([program], input=b'abc', capture_output=True)
             self.assertEqual((run.returncode, run.stdout), (1, b'abcabcabc'))
-        names = [name for name, _ in exports()]
+        names = sorted(name for name, _ in exports())
         self.assertEqual(self.exported(lib + '/liblifecrib.so.0'), names)
         of_archive = subprocess.run(['nm', '-g', '--defined-only', lib + '/liblifecrib.a'], capture_output=True, text=True).stdout
         self.assertEqual(re.findall(r' T (\w+)', of_archive), names)

@@ -1,5 +1,5 @@
 -- What a call of the library gives.
-use Rattle.std.specs.Prelude.{◌≡◌, ℕ, ℤ, pos, ◌≤◌, ◌<◌, ◌++◌, ◌⊎◌, List, length, drop}
+use Rattle.std.specs.Prelude.{◌≡◌, ℕ, ℤ, pos, ◌≤◌, ◌<◌, ◌++◌, ◌⊎◌, List, length, drop, codes}
 use Rattle.oauth2_commands.specs.Run.{IsResultOf}
 use Rattle.oauth2_request_commands.specs.declared.status.RunStatus.{RunStatus}
 use Rattle.oauth2_request_commands.specs.declared.status.RunStatus.TheVariants.{Answered, Fault, BadScript}
@@ -15,11 +15,19 @@ abbrev pub IsPut : List ℕ → List ℕ → List ℕ → Type 0
 IsPut text old new =
     (length text ≤ length old → new ≡ text ++ drop (length text) old) × (length old < length text → new ≡ old)
 
+-- a text of so many bytes is in the room, if it fits
+abbrev pub IsText : List ℕ → List ℕ → List ℕ → ℕ → Type 0
+IsText text old new count = (count ≡ length text) × IsPut text old new
+
+-- the version of the library
+abbrev pub version : List ℕ
+version = codes "0.1.0"
+
 -- the script has a result with this status, whose text has so many bytes and is in the room
 abbrev pub IsRun : List ℕ → List ℕ → List ℕ → ℕ → ℤ → Type 0
 IsRun script old new count status =
     (text : List ℕ) × (s : RunStatus) × IsResultOf script text s
-    × (status ≡ pos (status_code s)) × (count ≡ length text) × IsPut text old new
+    × (status ≡ pos (status_code s)) × IsText text old new count
 
 -- memory ran out outside a call of the client: there is no text, and the room is as it was
 abbrev pub IsUnfed : List ℕ → List ℕ → ℕ → ℤ → Type 0

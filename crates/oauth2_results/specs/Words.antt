@@ -1,5 +1,6 @@
 -- The words for kinds and causes of faults.
-use Rattle.std.specs.Prelude.{ℕ, List, codes}
+use Rattle.std.specs.Prelude.{ℕ, List, [], ◌∷◌, ◌++◌, codes}
+use Rattle.std.specs.List.{flat_map}
 use Rattle.oauth2_json.specs.declared.read.ParseCause.{ParseCause}
 use Rattle.oauth2_json.specs.declared.read.ParseCause.TheVariants as cause
 use Rattle.oauth2_world.specs.declared.event.FaultKind.{FaultKind}
@@ -27,6 +28,18 @@ kind_word kind.BadKeys = codes "bad_keys"
 kind_word kind.BadAccessToken = codes "bad_access_token"
 kind_word kind.TakenParameter = codes "taken_parameter"
 kind_word kind.BadPush = codes "bad_push"
+
+-- all kinds of faults
+abbrev pub kinds : List FaultKind
+kinds =
+    kind.MissingEndpoint ∷ kind.InsecureEndpoint ∷ kind.RequestFailed ∷ kind.ErrorResponse ∷ kind.UnreadReply ∷
+    kind.OtherError ∷ kind.OutOfMemory ∷ kind.RefusedRedirect ∷ kind.OtherStatus ∷ kind.BadMetadata ∷
+    kind.OtherIssuer ∷ kind.BadIssuer ∷ kind.BadToken ∷ kind.BadClaims ∷ kind.BadSignature ∷
+    kind.UncheckedSignature ∷ kind.BadKeys ∷ kind.BadAccessToken ∷ kind.TakenParameter ∷ kind.BadPush ∷ []
+
+-- the words of all kinds, a line each
+abbrev pub kinds_text : List ℕ
+kinds_text = flat_map (λ k. kind_word k ++ codes "\n") kinds
 
 -- the name of the cause why a body could not be read
 abbrev pub cause_name : ParseCause → List ℕ

@@ -18,4 +18,4 @@ pub use event_json::result_text;
 pub use json_text::{list_text, object_text};
 pub use lines::lines_of;
 pub use text::text_of;
-pub use words::kind_word;
+pub use words::{kind_word, kinds_text};

@@ -1,6 +1,8 @@
 //! The words for kinds and causes of faults.
 
 ghost use Rattle.std.specs.Prelude.{◌≡◌};
+ghost use Rattle.std.specs.List.{Contains};
+ghost use Rattle.oauth2_world.specs.declared.event.FaultKind.{FaultKind as Kind};
 ghost use Rattle.oauth2_results.specs.Words as spec;
 
 use oauth2_json::ParseCause;
@@ -32,6 +34,33 @@ pub fn kind_word(kind: FaultKind) -> &'static str
         FaultKind::TakenParameter => "taken_parameter",
         FaultKind::BadPush => "bad_push",
     }
+}
+
+/// The words for all kinds of faults, each with a newline behind it.
+pub fn kinds_text() -> &'static str
+    ensures text { result.now ≡ spec.kinds_text }
+    ensures all { (kind : Kind) → Contains spec.kinds kind }
+{
+    "missing_endpoint\n\
+     insecure_endpoint\n\
+     request_failed\n\
+     error_response\n\
+     unread_reply\n\
+     other_error\n\
+     out_of_memory\n\
+     refused_redirect\n\
+     other_status\n\
+     bad_metadata\n\
+     other_issuer\n\
+     bad_issuer\n\
+     bad_token\n\
+     bad_claims\n\
+     bad_signature\n\
+     unchecked_signature\n\
+     bad_keys\n\
+     bad_access_token\n\
+     taken_parameter\n\
+     bad_push\n"
 }
 
 /// The name of the cause why a body could not be read.
