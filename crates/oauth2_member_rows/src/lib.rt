@@ -11,5 +11,7 @@ mod rows;
 pub use kinds::{Needed, Optional, OptionalFlag, OptionalNumber, OptionalText, OptionalTextList};
 pub use member::{Member, MemberKind};
 pub use member_pair::{MemberPair, PairKind};
-pub use objects::{object_of, object_with, read_body_with, read_object, read_value_with};
+pub use objects::{
+    object_of, object_with, read_body_with, read_object, read_value_after, read_value_with,
+};
 pub use rows::{Rows, WriteRows};

@@ -10,7 +10,7 @@ ghost use Rattle.oauth2_json.specs.Writing.{WritesAs};
 ghost use Rattle.oauth2_body_members.specs.Object.{object_members};
 ghost use Rattle.oauth2_member_rows.specs.Rows.{are_distinct};
 ghost use Rattle.oauth2_member_rows.specs.Objects.{object_reading, row_with, reading_with};
-ghost use Rattle.oauth2_member_rows.specs.Objects.{both_seen, writing_with};
+ghost use Rattle.oauth2_member_rows.specs.Objects.{reading_after, both_seen, writing_with};
 
 use crate::rows::{Rows, WriteRows};
 use oauth2_body_members::Object;
@@ -88,6 +88,22 @@ fn read_with<R: Rows, E: FromJson + Drop>(
     let values = rows.read(alloc, &mut object)?;
     let extra = E::from_json(alloc, object.into_value(alloc)?)?;
     Ok((values, extra))
+}
+
+/// As `read_value_with`, but a fault of the `E` is told before one of the rows.
+pub fn read_value_after<R: Rows, E: FromJson + Drop>(
+    rows: &R,
+    alloc: Global,
+    value: Value,
+) -> Result<(E, R::Values), ReadError>
+    requires { are_distinct (R.names rows.now) ≡ true }
+    ensures { ReadsAs (both_seen E.meaning R.meaning) result
+        (reading_after (R.names rows.now) (R.reading rows.now) E.reading (view value)) }
+{
+    let mut members = Object::of_value(alloc, value)?;
+    let values = rows.read(alloc, &mut members);
+    let extra = E::from_json(alloc, members.into_value(alloc)?)?;
+    Ok((extra, values?))
 }
 
 /// The object that is written by these rows, next to the members of `extra`.
