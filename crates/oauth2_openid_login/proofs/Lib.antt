@@ -1,2 +1,1 @@
-pub mod LoginRows
 pub mod EndLaws

@@ -1,12 +1,12 @@
 -- A login with OpenID Connect: what is kept while the user is away.
-use Rattle.std.specs.Prelude.{ℕ, List, ◌∷◌, Option, Some, Ok, codes, option_map}
+use Rattle.std.specs.Prelude.{ℕ, List, ◌++◌, Option, Some, Ok, codes, option_map}
 use Rattle.serde_json.specs.Data.{Data, Members, string, number, unsigned, object, no_members}
-use Rattle.serde_json.specs.Find.{get_member}
 use Rattle.oauth2_json.specs.Reading.{Reading, read_then, ◌⊛◌}
 use Rattle.oauth2_json.specs.Writing.{Writing}
 use Rattle.oauth2_json.specs.Members.{members_of_object, needed_member, optional_member}
 use Rattle.oauth2_json.specs.Puts.{Row, put_all}
 use Rattle.oauth2_json.specs.Values.{text, whole_number}
+use Rattle.oauth2_body_members.specs.Table.{Table, column, ◌▸◌, end, table_reading, rows_of}
 use Rattle.oauth2_redirect.specs.Login.{LoginView, login_row, login_rows}
 
 -- what is kept during a login: the login by a code, the nonce that the ID token must have, and the
@@ -20,25 +20,26 @@ pub record OpenIdKept : Type 0 where
 abbrev pub openid_kept : LoginView → List ℕ → Option ℕ → OpenIdKept
 openid_kept l n m = record { login = l; nonce = n; max_age = m }
 
--- a login, read from the members of its JSON object: those of the login by a code, `nonce` and
--- `max_age`; other members are ignored
+-- the members of a login besides those of the login by a code: how each is read and written;
+-- `max_age` is in seconds
+abbrev pub openid_login_table : Table OpenIdKept
+openid_login_table =
+    column (codes "nonce") (needed_member text) (λ l. Some (string l.nonce))
+    ▸ column (codes "max_age") (optional_member whole_number) (λ l. option_map (λ n. number (unsigned n)) l.max_age)
+    ▸ end
+
+-- a login, read from the members of its JSON object: those of the login by a code, and those of
+-- the table; other members are ignored
 abbrev pub openid_login_row : Members → Reading OpenIdKept
-openid_login_row ms =
-    Ok openid_kept
-    ⊛ login_row ms
-    ⊛ needed_member text (codes "nonce") (get_member (codes "nonce") ms)
-    ⊛ optional_member whole_number (codes "max_age") (get_member (codes "max_age") ms)
+openid_login_row ms = table_reading openid_login_table (Ok openid_kept ⊛ login_row ms) ms
 
 -- a login, read from a JSON value, which must be an object
 abbrev pub openid_login_reading : Data → Reading OpenIdKept
 openid_login_reading d = read_then (members_of_object d) openid_login_row
 
--- the members of a login's JSON object; `max_age` is in seconds
+-- the members of a login's JSON object
 abbrev pub openid_login_rows : OpenIdKept → List Row
-openid_login_rows l =
-    (codes "nonce", Some (string l.nonce))
-    ∷ (codes "max_age", option_map (λ n. number (unsigned n)) l.max_age)
-    ∷ login_rows l.login
+openid_login_rows l = rows_of openid_login_table l ++ login_rows l.login
 
 -- the JSON object that a login is written as
 abbrev pub openid_login_writing : OpenIdKept → Writing
