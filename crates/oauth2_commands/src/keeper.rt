@@ -1,15 +1,15 @@
 //! The command `keeper`: a keeper of the client's token, called once at each reading.
 
-ghost use Rattle.std.specs.Prelude.{◌≡◌, ◌++◌, ℕ, Option, Some, false};
+ghost use Rattle.std.specs.Prelude.{◌≡◌, ◌++◌, Some, false};
 ghost use Rattle.std.specs.Prelude.{IfOk, map};
 ghost use Rattle.oauth2_commands.specs.Keeper as spec;
-ghost use Rattle.oauth2_request_commands.specs.Out.{Output, Adds, AddsOutput};
-ghost use Rattle.oauth2_commands.specs.private.Kept.{standing_of, WaitsFor, AreKept};
+ghost use Rattle.oauth2_request_commands.specs.Out.{Adds};
+ghost use Rattle.oauth2_commands.specs.private.Kept.{standing, CallsAdd, AreKept};
 ghost use Rattle.oauth2_wire.specs.ServerView.{pair_texts};
 ghost use Rattle.oauth2_world.specs.Replay.{client_replies};
 ghost use Rattle.oauth2_script.specs.Views.{keeper_view};
 
-use crate::script_keeper::{PlainKeeper, ScriptKeeper, show_call};
+use crate::script_keeper::{PlainKeeper, ScriptKeeper, show_call, waiting_keeper};
 use jiff::Timestamp;
 use oauth2::basic::BasicClient;
 use oauth2::{EndpointMaybeSet, EndpointSet, ParamText, TokenUrl, TryClone};
@@ -35,12 +35,10 @@ fn show_calls(
     readings: &[jiff_core::Timestamp],
     http_client: &mut ScriptedClient,
 ) -> Result<RunStatus, AllocError>
-    ensures { IfOk result (λ status. (wait : Option ℕ) → WaitsFor keeper.old wait
-        → http_client.new.is_starved ≡ false
-        → (o : Output) × spec.AreCalls wait (standing_of keeper.old http_client.old)
-        (map (λ t. t.nanosecond) readings.now) o (standing_of keeper.new http_client.new)
-        × AddsOutput http_client.old.events http_client.new.events
-        status o) }
+    ensures { IfOk result (λ status. http_client.new.is_starved ≡ false
+        → CallsAdd (standing keeper.old http_client.old) (standing keeper.new http_client.new)
+        http_client.old.events http_client.new.events status
+        (map (λ t. t.nanosecond) readings.now)) }
 {
     let mut status = RunStatus::Answered;
     for now in readings {
@@ -110,7 +108,7 @@ fn show_new_keeper(
     let mut keeper = TokenKeeper::new(client, refresh, times);
     keeper.add_scopes(alloc, scopes)?;
     add_extra(alloc, &mut keeper, extra_params.as_slice())?;
-    let mut keeper = ScriptKeeper::new(keeper, retry_after);
+    let mut keeper = waiting_keeper(keeper, retry_after);
     show_calls(alloc, &mut keeper, readings, http_client)
 }
 

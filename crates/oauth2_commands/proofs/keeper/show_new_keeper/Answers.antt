@@ -1,11 +1,13 @@
-use Rattle.std.proofs.Common.{◌≡◌, length, map, refl, rules, subst, ap, ◌∙◌}
+use Rattle.std.proofs.Common.{◌≡◌, length, refl, rules, subst, ap, ◌∙◌}
 use Rattle.std.specs.Vec.Iter.{into_iter_len}
 use Rattle.std.proofs.lemmas.Result.{IfOk-weaker}
 use Rattle.oauth2_form.specs.Params.{with_scopes}
+use Rattle.oauth2_keeper.specs.Patience.{Patient}
 use Rattle.oauth2_script.specs.Views.{keeper_view}
 use Rattle.oauth2_world.specs.Replay.{client_replies}
 use Rattle.oauth2_commands.specs.Keeper.{Standing, AreCalls, new_standing}
-use Rattle.oauth2_commands.specs.private.Kept.{standing_of}
+use Rattle.oauth2_commands.specs.private.Kept.{standing}
+use Rattle.oauth2_commands.proofs.Kept.{moments_of}
 use Rattle.oauth2_request_commands.proofs.Scopes.{every_item}
 use Rattle.oauth2_commands.proofs.keeper.show_new_keeper.Goals as goal
 
@@ -17,16 +19,15 @@ returns c =
     let count : into_iter_len h.0 ≡ length c.args.params.scopes.items = h.2.1 ∙ search rules in
     let scoped : c.add_scopes.new.self ≡ record c.new-keeper.result { scope = with_scopes c.new-keeper.result.scope c.args.params.scopes.items } =
     h.4 ∙ ap (λ added. record c.new-keeper.result { scope = with_scopes c.new-keeper.result.scope added }) (every_item h.0 c.args.params.scopes.items h.1 h.2.0 count h.3) in
-    let made : standing_of c.new-keeper-2.result client ≡ new_standing c.args.client.now p (client_replies client) =
-    c.new-keeper-2.ensures.stands client ∙ rw (c.in_ok-add_extra.ensures, scoped, c.new-keeper.ensures, c.as_slice.ensures.value) refl in
+    let made : standing c.waiting_keeper-keeper.result client ≡ new_standing c.args.client.now p (client_replies client) =
+    ap (λ (keeper : Patient). standing keeper client) c.waiting_keeper-keeper.ensures
+    ∙ rw (c.in_ok-add_extra.ensures, scoped, c.new-keeper.ensures, c.as_slice.ensures.value) refl in
+    let kept = standing c.show_calls.new.keeper c.show_calls.new.http_client in
     IfOk-weaker c.show_calls.result _ _
     (λ status shown. λ fed.
-    (let all = shown p.retry_after c.new-keeper-2.ensures.waits fed in (
+    (let all = shown fed in (
       all.0,
-      (
-        standing_of c.show_calls.new.keeper c.show_calls.new.http_client,
-        subst (λ (w : Standing). AreCalls p.retry_after w (map (λ t. t.nanosecond) c.args.readings.now) all.0 (standing_of c.show_calls.new.keeper c.show_calls.new.http_client)) made all.1,
-      ),
+      (kept, subst (λ (w : Standing). AreCalls w (moments_of c.args.readings.now) all.0 kept) made all.1),
       all.2.0,
       all.2.1,
     )))
