@@ -132,6 +132,7 @@ class Stand:
                 'subject_token_type', 'redirect')
         pairs = [('grant_type', GRANTS.get(self.command) or self.params['grant_type'])]
         pairs += [(names.get(it, it), self.params[it]) for it in sent if it in self.params]
+        pairs += [('audience', it) for it in self.params.get('audience', [])]
         taken = [it for it, _ in self.params.get('extra', []) if it in ('grant_type', 'scope')]
         url = self.endpoint('token_url', 'token')
         if taken and self.command in ('exchange_token', 'assertion', 'extension'):
@@ -260,6 +261,22 @@ class Stand:
         known = ('iss', 'sub', 'aud', 'exp', 'iat', 'nonce', 'auth_time')
         found = {it: claims[it] for it in known if it in claims}
         end(0, 'answer', answer={'access_token_hash': 'absent', 'claims': {**found, 'aud': [claims['aud']]}})
+
+    def access_token(self):
+        parts = self.params['access_token'].split('.')
+        if len(parts) != 3:
+            fault('bad_token', 'not three parts')
+        header, claims = (json.loads(base64.urlsafe_b64decode(it + '==')) for it in parts[:2])
+        for holds, why in ((header['typ'] == 'at+jwt', 'the type is another one'),
+                           (claims['iss'] == self.params['issuer'], 'the issuer is another one'),
+                           (claims['aud'] == self.params['audience'], 'the audience is another one'),
+                           (self.readings[0] < claims['exp'] + self.params['leeway'], 'the token has expired')):
+            if not holds:
+                fault('bad_access_token', why)
+        if not [it for it in self.params['keys']['keys'] if it['kid'] == header['kid']]:
+            fault('bad_signature', 'no key of the set is for the token')
+        names = ('iss', 'sub', 'exp', 'iat', 'client_id', 'scope', 'jti')
+        end(0, 'answer', answer={'active': True, 'aud': [claims['aud']], **{it: claims[it] for it in names}})
 
     def keeper(self):
         refresh, token, failed_at, last = self.params.get('refresh'), None, None, None
