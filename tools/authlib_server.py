@@ -2,8 +2,9 @@
 JWTBearerClientAssertion, and one of an issuer as a grant (RFC 7523, 2.1) by JWTBearerGrant. Of the exchange of a token (RFC 8693) Authlib
 has nothing, so Exchange here is a grant of our own.
 
-It runs in a Python that has Authlib: authlib_server.py PORT, in a folder with cert.pem and key.pem. The client that asserts itself is
-"code", whose key is client.pem there; that of the client "issuer", which gives tokens for the user "ann", is grant.pem.
+It runs in a Python that has Authlib: authlib_server.py PORT SECRET, in a folder with cert.pem and key.pem. The client that asserts itself
+is "code", whose key is client.pem there; that of the client "issuer", which gives tokens for the user "ann", is grant.pem. The client
+"service" has the secret.
 """
 import http.server
 import json
@@ -13,11 +14,12 @@ import urllib.parse
 
 from authlib.oauth2 import rfc6749, rfc6750, rfc7523
 
-PORT = int(sys.argv[1])
+PORT, SECRET = int(sys.argv[1]), sys.argv[2]
 TOKEN_URL = 'https://localhost:%d/token' % PORT
 KEYS = {'issuer': 'grant.pem', 'code': 'client.pem'}
 USERS = ('ann',)
-TOKEN, TOKEN_TYPE, AUDIENCE = 'a token of Authlib', 'urn:ietf:params:oauth:token-type:', 'https://api.example/'
+SERVICE, BY_SECRET = 'service', 'client_secret_basic'
+TOKEN, TOKEN_TYPE, AUDIENCE = 'a-token-of-Authlib', 'urn:ietf:params:oauth:token-type:', 'https://api.example/'
 
 
 class Client(rfc6749.ClientMixin):
@@ -31,7 +33,10 @@ class Client(rfc6749.ClientMixin):
         return scope
 
     def check_endpoint_auth_method(self, method, _endpoint):
-        return method == ByAssertion.CLIENT_AUTH_METHOD
+        return method == (BY_SECRET if self.name == SERVICE else ByAssertion.CLIENT_AUTH_METHOD)
+
+    def check_client_secret(self, secret):
+        return secret == SECRET
 
     def check_grant_type(self, grant_type):
         return True
@@ -43,7 +48,7 @@ class Client(rfc6749.ClientMixin):
 
 
 def client_of(name):
-    return Client(name) if name in KEYS else None
+    return Client(name) if name in (*KEYS, SERVICE) else None
 
 
 class ByAssertion(rfc7523.JWTBearerClientAssertion):
@@ -60,7 +65,7 @@ class ByAssertion(rfc7523.JWTBearerClientAssertion):
 
 
 class ByClient(rfc6749.ClientCredentialsGrant):
-    TOKEN_ENDPOINT_AUTH_METHODS = [ByAssertion.CLIENT_AUTH_METHOD]
+    TOKEN_ENDPOINT_AUTH_METHODS = [ByAssertion.CLIENT_AUTH_METHOD, BY_SECRET]
 
 
 class ByJwt(rfc7523.JWTBearerGrant):
@@ -88,7 +93,7 @@ class InvalidTarget(rfc6749.errors.OAuth2Error):
 class Exchange(rfc6749.BaseGrant, rfc6749.TokenEndpointMixin):
     """RFC 8693, 2: of the token that this server gives; the actor's token is a JWT of the issuer."""
     GRANT_TYPE = 'urn:ietf:params:oauth:grant-type:token-exchange'
-    TOKEN_ENDPOINT_AUTH_METHODS = [ByAssertion.CLIENT_AUTH_METHOD]
+    TOKEN_ENDPOINT_AUTH_METHODS = [ByAssertion.CLIENT_AUTH_METHOD, BY_SECRET]
 
     def validate_token_request(self):
         form = self.request.form
@@ -111,7 +116,7 @@ class Exchange(rfc6749.BaseGrant, rfc6749.TokenEndpointMixin):
     def create_token_response(self):
         issued = self.request.form.get('requested_token_type', TOKEN_TYPE + 'access_token')
         kind = 'Bearer' if issued == TOKEN_TYPE + 'access_token' else 'N_A'
-        token = {'access_token': 'another token', 'issued_token_type': issued, 'token_type': kind, 'expires_in': 60}
+        token = {'access_token': 'another-token', 'issued_token_type': issued, 'token_type': kind, 'expires_in': 60}
         return 200, token, self.TOKEN_RESPONSE_HEADER
 
 

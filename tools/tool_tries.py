@@ -360,7 +360,7 @@ def exchanges(tries):
     def run(tried, wanted, *flags, **env):
         with open(path, 'w', encoding='utf-8') as f:
             f.write(signed(folder, 'client', iss='code', sub='code', aud=url, exp=now + 600, jti=str(next(numbers))))
-        it = tries.start('exchange', '--client-assertion-file', path, *flags, **{'OAUTH2_SUBJECT_TOKEN': 'a token of Authlib', **env})
+        it = tries.start('exchange', '--client-assertion-file', path, *flags, **{'OAUTH2_SUBJECT_TOKEN': 'a-token-of-Authlib', **env})
         tries.end('exchange: ' + tried, it, '', wanted)
     acts = ['--actor-token-type', 'jwt']
     run('a token for another', '"issued_token_type":"urn:ietf:params:oauth:token-type:access_token"', '--audience', 'https://api.example/')

@@ -16,7 +16,7 @@ import urllib.request
 import wsgiref.simple_server
 from typing import NamedTuple
 
-from lifecrib import Client, Keeper, LifecribError, Login
+from lifecrib import Client, Ended, ErrorResponse, Keeper, LifecribError, Login
 
 BASE, API = os.environ['BASE'], os.environ['API']
 SCOPES = ['openid', *os.environ.get('SCOPES', '').split()]
@@ -65,8 +65,8 @@ def orders(name, _query):
         return answer('401 Unauthorized', 'sign in')
     try:
         headers = session.keeper.token().headers
-    except LifecribError:
-        del SESSIONS[name]
+    except (Ended, ErrorResponse):  # the server has ended the login
+        SESSIONS.pop(name, None)
         return answer('401 Unauthorized', 'sign in again')
     with urllib.request.urlopen(urllib.request.Request(API, headers=headers), timeout=30) as reply:
         return answer('200 OK', json.dumps({'user': session.user, 'orders': json.load(reply)}), 'application/json')
