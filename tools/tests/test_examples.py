@@ -88,6 +88,17 @@ class Marks(unittest.TestCase):
         self.shows('file', [], SOURCE.replace('ghost use Rattle.std.specs.Prelude.{codes};\n\n', '')
                    .replace('    ensures { result ≡ 1 }\n', '').replace('-> u8\n{', '-> u8 {'))
 
+    def test_items_of_python(self):
+        with open(os.path.join(self.room, 'b.py'), 'w', encoding='utf-8') as f:
+            f.write('import os\n\n\n@cached\ndef one():\n    a = 1\n\n    return a\n\n\nclass Two:\n    pass\n')
+        mark = '<!-- example b.py\ndef one\nclass Two\n-->\n'
+        self.assertEqual(examples.filled(mark), mark + '```python\n# b.py\n@cached\ndef one():\n    a = 1\n\n    return a\n\n'
+                         'class Two:\n    pass\n```\n')
+
+    def test_a_block_of_python(self):
+        block = '```python\nimport os\n```\n'
+        self.assertEqual((examples.without_mark(block), examples.without_mark(block, is_run=True)), ([1], []))
+
     def test_a_mark_that_names_nothing(self):
         for mark in ('<!-- code a.rt\npub fn two\n-->\n', '<!-- code b.rt\npub fn one\n-->\n', '<!-- shown a.rt\n-->\n'):
             with self.subTest(mark), self.assertRaises(examples.BadMark):
