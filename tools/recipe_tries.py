@@ -133,11 +133,11 @@ class Recipes:
         """A token by client credentials."""
         return json.loads(self.tries.start('token', *flags, **env).communicate()[0])['access_token']
 
-    def resource_server(self, base, token):
+    def resource_server(self, base, how, token):
         name = 'resource_server.py'
-        self.asked(name, 'a good token', base, 200, Authorization='Bearer ' + token)
-        self.asked(name, 'another text', base, 401, Authorization='Bearer x' + token)
-        self.asked(name, 'no token', base, 401)
+        self.asked(name, 'a good token, ' + how, base, 200, Authorization='Bearer ' + token)
+        self.asked(name, 'another text, ' + how, base, 401, Authorization='Bearer x' + token)
+        self.asked(name, 'no token, ' + how, base, 401)
 
     def fleet(self):
         """Machines at once, of which each job renews the token; the refresh token is taken once."""
@@ -164,9 +164,13 @@ def at_server(tries):
         it.serving('web_backend.py', it.web_backend)
         it.command_line()
         it.device()
+        by_issuer = {**dict.fromkeys(('OAUTH2_' + name.upper() for name in it.server.urls), ''), 'OAUTH2_ISSUER': it.env['ISSUER']}
+        jwt = it.token(**by_issuer)  # whose audience is the scope, at this server
+        it.serving('resource_server.py', lambda base: it.resource_server(base, 'by keys', jwt), without=['INTROSPECTION_URL'],
+                   AUDIENCE=it.server.scope)
     it.serving('service.py', it.service, CLIENT_ID=it.server.clients.get('token', 'code'), AUDIENCE='-')
     token = it.token()
-    it.serving('resource_server.py', lambda base: it.resource_server(base, token))
+    it.serving('resource_server.py', lambda base: it.resource_server(base, 'by introspection', token))
     it.fleet()
 
 
