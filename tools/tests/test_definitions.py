@@ -26,6 +26,12 @@ class Strays(unittest.TestCase):
         self.assertEqual(self.strays('In `answer.rt` and `crates/answer/specs/answer.antt`.'), [])
 
 
+class Promises(unittest.TestCase):
+    def test_a_section_begins_with_what_is_ruled_out(self):
+        self.assertTrue(definitions.rules_out('\n\nA code is sent once. Ruled\nout, for example: a second\nrequest.\n\nMore.\n'))
+        self.assertFalse(definitions.rules_out('\n\n`f` sends a code once.\n\nRuled out, for example: a second request.\n'))
+
+
 class Parts(unittest.TestCase):
     def test_what_is_ahead_is_counted_in_each_part(self):
         empty = '<!-- overview -->\n<!-- end -->\n'
