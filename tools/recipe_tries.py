@@ -141,7 +141,7 @@ class Recipes:
 
     def fleet(self):
         """Machines at once, of which each job renews the token; the refresh token is taken once."""
-        place, command = 'file://%s/fleet' % self.server.folder, os.path.join(self.server.folder, 'lifecrib')
+        place, command = 'file://%s/fleet' % self.server.folder, os.path.join(self.server.folder, 'renewing')
         os.mkdir(os.path.join(self.server.folder, 'fleet'))
         with open(command, 'w', encoding='utf-8') as f:
             f.write("#!/bin/sh\nexec '%s' \"$@\" --margin %d\n" % (self.tries.tool, MARGIN))
