@@ -173,7 +173,9 @@ async def main() -> Token:
         faults = [lines[int(line) - 1] for line, kind, _ in said if kind == 'error']
         self.assertEqual(faults, ['client.fetch_token(1)', 'client.refresh()', "Client('a', transport=3)"], run.stdout)
         self.assertIn('Union[lifecrib._data.Token, None]', run.stdout)
-        self.assertNotIn('lifecrib/', re.sub(r'.*uses.py.*', '', run.stdout))
+        # those of this file, and that a library which is left out here has no types
+        others = re.sub(r'.*(uses\.py|library stub for module|#missing-imports).*', '', run.stdout)
+        self.assertNotIn('lifecrib/', others)
 
 
 if __name__ == '__main__':
