@@ -4,7 +4,7 @@ from __future__ import annotations
 import argparse
 import re
 
-import grants
+from lifecrib_command import grants
 
 Parsers = dict[str, argparse.ArgumentParser]
 FILES = ('FILE',)  # what a flag's value is called that is the name of a file

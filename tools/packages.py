@@ -1,7 +1,6 @@
-"""What the packages of tools/oauth2 and of the Python package have in them, and how they are written; for tools/package."""
+"""What the packages of the command and of the Python package have in them, and how they are written; for tools/package."""
 from __future__ import annotations
 
-import ast
 import base64
 import gzip
 import hashlib
@@ -9,63 +8,41 @@ import os
 import re
 import shutil
 import subprocess
+import sys
 import tempfile
 import zipfile
 from typing import NamedTuple, Optional
 
-import endings
-import flags
-import manual
 import program
 import repository
 import version
 
+sys.path.append(repository.PYTHON)
+import manual
+from lifecrib_command import endings, flags, main
+
 NAME = 'lifecrib'
-TOOLS = os.path.dirname(os.path.abspath(__file__))
 TIME = (1980, 1, 1, 0, 0, 0)  # of each file, so that the same files make the same package
 ABOUT = 'tokens of OAuth 2.0 from the command line'
 ABOUT_WHEEL = 'an OAuth 2.0 client over a proved library, and its command'
 LICENSES = ('LICENSE', 'LICENSE-APACHE', 'LICENSE-MIT')
 PYTHON = (3, 9)
-# The Python package: its sources, the library that it loads, and the folder in it that has the tool.
-SOURCES = os.path.join(repository.ROOT, 'python', NAME)
-LIBRARY, COMMAND = 'liblifecrib.so', '_command'
+# The Python packages: the one that programs import, the library that it loads, and the command.
+LIBRARY, COMMAND = 'liblifecrib.so', 'lifecrib_command'
 EXTRAS = {'redis': 'redis', 'requests': 'requests', 'httpx': 'httpx', 'aiohttp': 'aiohttp'}
-# Starts the tool of a package: its modules are found beside this file, before any others.
-MAIN = '''"""Starts lifecrib."""
-import os
-import signal
-import sys
-
-if signal.getsignal(signal.SIGINT) != signal.SIG_IGN:
-    signal.signal(signal.SIGINT, signal.SIG_DFL)  # until the tool can say that it is stopped
-sys.path.insert(0, os.path.dirname(os.path.abspath(__file__)))
-import endings
-
-endings.command = 'lifecrib'
-import lifecrib_tool
-
-
-def main():
-    sys.exit(lifecrib_tool.main())
-
-
-if __name__ == '__main__':
-    main()
-'''
 STARTER = '''#!/usr/bin/python3 -I
 import sys
 
 sys.dont_write_bytecode = True  # dpkg would not know of it
 sys.path.insert(0, '/usr/lib/lifecrib')
-from lifecrib.__main__ import main
+from lifecrib_command.__main__ import main
 
 main()
 '''
 
 
 class Program(NamedTuple):
-    """A program that goes into a package: its name there, its path, and the record of a proved one."""
+    """A program or a library that goes into a package: its name there, its path, and the record of a proved one."""
 
     name: str
     path: str
@@ -73,9 +50,9 @@ class Program(NamedTuple):
 
 
 class Contents(NamedTuple):
-    """The files of the tool by their names, those of the Python package, those beside them, and the libc that programs and library need."""
+    """The files of the command and of the Python package by their names, those beside them, and the libc that programs and library need."""
 
-    package: dict[str, bytes]
+    command: dict[str, bytes]
     python: dict[str, bytes]
     licenses: dict[str, bytes]
     page: bytes
@@ -85,26 +62,29 @@ class Contents(NamedTuple):
     glibc: Optional[tuple[int, int]]
 
 
-def contents(programs: list[Program], library: Optional[bytes] = None) -> Contents:
+def contents(programs: list[Program], library: Optional[Program] = None) -> Contents:
     """What a package has that is made with these programs, and with this shared library if there is one."""
-    found = {name + '.py': read(os.path.join(TOOLS, name + '.py')) for name in modules('oauth2')}
-    found['lifecrib_tool.py'] = read(os.path.join(TOOLS, 'oauth2'))
-    found['__init__.py'] = ('"""%s."""\n' % ABOUT.capitalize()).encode()
-    found['__main__.py'] = MAIN.encode()
-    for it in programs:
-        found[it.name] = read(it.path)
-        if it.proved:
-            found[it.name + '.proved'] = it.proved.encode()
+    command, python = {**sources(COMMAND), **files_of(programs)}, sources(NAME)
+    if library:
+        python.update(files_of([library]))
     licenses = {name: read(os.path.join(repository.ROOT, name)) for name in LICENSES}
     page = read(os.path.join(repository.ROOT, 'docs', 'TOOL.md'))
-    libcs = [libc for libc in map(glibc_of, [*(found[it.name] for it in programs), library or b'']) if libc]
-    return Contents(found, python(library), licenses, page, *manuals(), max(libcs, default=None))
+    built = [*programs, library] if library else programs
+    libcs = [libc for libc in (glibc_of(read(it.path)) for it in built) if libc]
+    return Contents(command, python, licenses, page, *manuals(), max(libcs, default=None))
 
 
-def python(library: Optional[bytes]) -> dict[str, bytes]:
-    """The files of the Python package. Without a library it runs the program."""
-    names = sorted(it for it in os.listdir(SOURCES) if it.endswith('.py') or it == 'py.typed')
-    return {**{name: read(os.path.join(SOURCES, name)) for name in names}, **({LIBRARY: library} if library else {})}
+def files_of(programs: list[Program]) -> dict[str, bytes]:
+    """Programs by their names, each with its record."""
+    records = {it.name + '.proved': it.proved.encode() for it in programs if it.proved}
+    return {**{it.name: read(it.path) for it in programs}, **records}
+
+
+def sources(package: str) -> dict[str, bytes]:
+    """The sources of a Python package."""
+    folder = os.path.join(repository.PYTHON, package)
+    names = sorted(it for it in os.listdir(folder) if it.endswith('.py') or it == 'py.typed')
+    return {name: read(os.path.join(folder, name)) for name in names}
 
 
 def is_program(name: str) -> bool:
@@ -117,23 +97,9 @@ def read(path: str) -> bytes:
         return f.read()
 
 
-def modules(name: str, found: Optional[list[str]] = None) -> list[str]:
-    """The modules beside this file that a tool needs, each once."""
-    found = [] if found is None else found
-    for node in ast.walk(ast.parse(read(os.path.join(TOOLS, name)))):
-        names = [it.name for it in node.names] if isinstance(node, ast.Import) else []
-        if isinstance(node, ast.ImportFrom):
-            names = [node.module or '']
-        for it in names:
-            if it not in found and os.path.exists(os.path.join(TOOLS, it + '.py')):
-                found.append(it)
-                modules(it + '.py', found)
-    return sorted(found)
-
-
 def manuals() -> tuple[bytes, bytes, bytes]:
     """The man page, and the completion of bash and of zsh."""
-    doc = ast.get_docstring(ast.parse(read(os.path.join(TOOLS, 'oauth2'))), clean=False) or ''
+    doc = main.__doc__ or ''
     before, endings.command = endings.command, NAME
     try:
         parser, commands = flags.parser_of(doc)
@@ -160,12 +126,12 @@ def wheel(it: Contents, to: str) -> str:
     base = '%s-%s' % (NAME, version.VERSION)
     info, data = base + '.dist-info/', base + '.data/data/share/'
     files = {'%s/%s' % (NAME, name): text for name, text in it.python.items()}
-    files.update({'%s/%s/%s' % (NAME, COMMAND, name): text for name, text in it.package.items()})
+    files.update({'%s/%s' % (COMMAND, name): text for name, text in it.command.items()})
     files.update({data + 'doc/%s/TOOL.md' % NAME: it.page, data + 'man/man1/%s.1' % NAME: it.man_page,
                   data + 'bash-completion/completions/' + NAME: it.bash,
                   data + 'zsh/site-functions/_' + NAME: it.zsh,
                   info + 'METADATA': metadata(), info + 'WHEEL': about_wheel(tag),
-                  info + 'entry_points.txt': ('[console_scripts]\n%s = %s.%s.__main__:main\n' % (NAME, NAME, COMMAND)).encode()})
+                  info + 'entry_points.txt': ('[console_scripts]\n%s = %s.__main__:main\n' % (NAME, COMMAND)).encode()})
     files.update({info + 'licenses/' + name: text for name, text in it.licenses.items()})
     files[info + 'RECORD'] = record(files, info + 'RECORD')
     path = os.path.join(to, '%s-%s.whl' % (base, tag))
@@ -185,7 +151,7 @@ def metadata() -> bytes:
              *('Provides-Extra: ' + it for it in EXTRAS),
              *('Requires-Dist: %s; extra == "%s"' % (needed, it) for it, needed in EXTRAS.items())]
     lines += ['Description-Content-Type: text/markdown', '']
-    return ('\n'.join(lines) + '\n').encode() + read(os.path.join(os.path.dirname(SOURCES), 'README.md'))
+    return ('\n'.join(lines) + '\n').encode() + read(os.path.join(repository.PYTHON, 'README.md'))
 
 
 def about_wheel(tag: str) -> bytes:
@@ -210,7 +176,9 @@ def deb(it: Contents, to: str) -> str:
     if not shutil.which('dpkg-deb'):
         raise ValueError('there is no dpkg-deb here, which a .deb needs')
     share = 'usr/share/'
-    files = {'usr/lib/lifecrib/lifecrib/' + name: text for name, text in it.package.items()}
+    lib = 'usr/lib/lifecrib/'
+    files = {lib + '%s/%s' % (NAME, name): text for name, text in it.python.items()}
+    files.update({lib + '%s/%s' % (COMMAND, name): text for name, text in it.command.items()})
     files.update({'usr/bin/' + NAME: STARTER.encode(), 'DEBIAN/control': control(it).encode(),
                   share + 'man/man1/%s.1.gz' % NAME: gzip.compress(it.man_page, 9, mtime=0),
                   share + 'bash-completion/completions/' + NAME: it.bash,

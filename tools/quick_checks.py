@@ -36,8 +36,9 @@ def pages():
 
 
 def tools():
-    """The tests of the tools and of the Python package."""
-    folders = {'the tools': os.path.join('tools', 'tests'), 'the Python package': os.path.join('python', 'tests')}
+    """The tests of the tools, of the Python package and of the command."""
+    folders = {'the tools': os.path.join('tools', 'tests'), 'the Python package': os.path.join('python', 'tests'),
+               'the command': os.path.join('python', 'command_tests')}
     command = [sys.executable, '-B', '-m', 'unittest', 'discover', '-s']
     return [Check('tests of ' + what, repository.ROOT, [*command, at], b'', fault_of_status) for what, at in folders.items()]
 

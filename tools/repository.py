@@ -8,6 +8,7 @@ import tempfile
 
 ROOT = os.path.dirname(os.path.dirname(os.path.abspath(__file__)))
 CRATES = os.path.join(ROOT, 'crates')
+PYTHON = os.path.join(ROOT, 'python')
 PARTS = ('src', 'specs', 'proofs')
 
 

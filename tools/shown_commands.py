@@ -4,11 +4,13 @@ import functools
 import os
 import re
 import shlex
+import sys
 
-import endings
-import flags
 import repository
 import sources
+
+sys.path.append(repository.PYTHON)
+from lifecrib_command import endings, flags
 
 TOOLS = os.path.join(repository.ROOT, 'tools')
 COMMENT = re.compile(r'<!--.*?-->', re.S)

@@ -18,12 +18,11 @@ def main() -> int:
         print('lifecrib %s (%s)' % (__version__, by))
         return 0
     try:
-        from ._command.__main__ import main as command  # type: ignore[import]
+        from lifecrib_command import main as command
     except ImportError:
         print(USAGE, file=sys.stderr)
         return 2
-    command()
-    return 0
+    return command.main()
 
 
 if __name__ == '__main__':

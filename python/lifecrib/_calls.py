@@ -44,7 +44,7 @@ class Settings:
     def run(self, command: str, params: Mapping[str, Any], replies: Iterable[Mapping[str, Any]] = (),
             readings: Iterable[int] = ()) -> _library.Run:
         """Runs a script of this client. Parameters that are None are left out."""
-        return _library.run({'client': self.script, 'command': command, 'params': without_none(params),
+        return _library.run_script({'client': self.script, 'command': command, 'params': without_none(params),
                              'replies': list(replies), 'readings': list(readings)})
 
 
@@ -246,7 +246,7 @@ def found_by(metadata: Metadata) -> dict[str, Any]:
 def value(body: bytes) -> Any:
     """What the library reads in a JSON text, which is given to it as a reply; None if it is no JSON text."""
     script = {'client': {'id': ''}, 'command': 'metadata', 'params': {'issuer': 'https://localhost'}}
-    found = _library.run({**script, 'replies': [in_script(Reply(200, None, body))]}).reply()
+    found = _library.run_script({**script, 'replies': [in_script(Reply(200, None, body))]}).reply()
     return found['json'] if found else None
 
 
@@ -314,5 +314,5 @@ def check_access_token(access_token: str, *, issuer: str, audience: str, keys: M
     """What a JWT access token says, as its resource server checks it by the issuer's keys (RFC 9068, 4)."""
     params = without_none({'access_token': access_token, 'issuer': issuer, 'audience': audience, 'keys': keys,
                             'algorithm': algorithm, 'leeway': leeway})
-    run = _library.run({'client': {'id': ''}, 'command': 'access_token', 'params': params, 'readings': [now()]})
+    run = _library.run_script({'client': {'id': ''}, 'command': 'access_token', 'params': params, 'readings': [now()]})
     return introspection_of(run.answer(), run.scopes(), payload(access_token))

@@ -1,10 +1,8 @@
 """The library: a script goes in, and the events of its run come out (docs/SCRIPT.md)."""
 from __future__ import annotations
 
-import ctypes
 import functools
 import os
-import subprocess
 from typing import Any, Callable, Mapping, NamedTuple, Optional
 
 from . import _json
@@ -13,7 +11,8 @@ from ._errors import KINDS, BadScript, LifecribError, OutOfMemory, Waiting
 ANSWERED, FAULT, BAD_SCRIPT, NO_MEMORY = range(4)
 LEAST_ROOM = 8192
 HERE = os.path.dirname(os.path.abspath(__file__))
-LIBRARY, PROGRAM = os.path.join(HERE, 'liblifecrib.so'), os.path.join(HERE, '_command', 'oauth2_run')
+LIBRARY = os.path.join(HERE, 'liblifecrib.so')
+PROGRAM = os.path.join(os.path.dirname(HERE), 'lifecrib_command', 'oauth2_run')
 Runner = Callable[[bytes], 'tuple[int, bytes]']
 
 
@@ -26,6 +25,7 @@ class Library(NamedTuple):
 
 def by_library(path: str) -> Runner:
     """Runs scripts by the function of a shared library (c/lifecrib.h)."""
+    import ctypes
     call = ctypes.CDLL(path).lifecrib_run  # other threads of Python run during a call
     call.argtypes = [ctypes.c_char_p, ctypes.c_size_t, ctypes.c_char_p, ctypes.c_size_t,
                      ctypes.POINTER(ctypes.c_size_t)]
@@ -43,11 +43,12 @@ def by_library(path: str) -> Runner:
 
 
 def by_program(path: str) -> Runner:
-    """Runs scripts by a program, which reads one and writes the output."""
+    """Runs scripts by a program, which reads one and writes the output. A Ctrl-C at the terminal does not end it."""
+    import subprocess
     environment: dict[str, str] = {}
 
     def run(script: bytes) -> tuple[int, bytes]:
-        ended = subprocess.run([path], input=script, stdout=subprocess.PIPE, env=environment)
+        ended = subprocess.run([path], input=script, stdout=subprocess.PIPE, env=environment, start_new_session=True)
         return ended.returncode, ended.stdout
     return run
 
@@ -117,9 +118,10 @@ class Run(NamedTuple):
             status=reply['status'] if reply else None, content_type=reply['content_type'] if reply else None)
 
 
-def run(script: Mapping[str, Any]) -> Run:
-    """Runs a script. BadScript if it is none; OutOfMemory if there is no output."""
-    by = library()
+def run_script(script: Mapping[str, Any], by: Optional[Library] = None) -> Run:
+    """Runs a script (docs/SCRIPT.md), by the library of this package if no other is given. BadScript if it is none;
+    OutOfMemory if there is no output."""
+    by = by or library()
     status, output = by.run(_json.text_of({**script, 'result': 'json'}).encode('ascii'))
     if status == NO_MEMORY:
         raise OutOfMemory('Out of memory')

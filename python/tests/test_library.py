@@ -1,4 +1,5 @@
 """What runs scripts: a shared library by ctypes, or a program; and the version."""
+import json
 import os
 import re
 import shutil
@@ -71,16 +72,27 @@ class Loaded(Case):
         for padding in (1, 1000, 100000):
             given = {**script('code'), 'padding': 'y' * padding}
             length = len(_json.text_of({**given, 'result': 'json'}))
-            self.assertEqual(_library.run(given).answer(), 'x' * (50 * length))
+            self.assertEqual(_library.run_script(given).answer(), 'x' * (50 * length))
 
     def test_no_memory(self):
-        self.assertEqual(self.fails(lifecrib.OutOfMemory, _library.run, script('none')).kind, 'out_of_memory')
+        self.assertEqual(self.fails(lifecrib.OutOfMemory, _library.run_script, script('none')).kind, 'out_of_memory')
         with self.assertRaises(MemoryError):
-            _library.run(script('none'))
+            _library.run_script(script('none'))
 
     def test_no_result(self):
         with self.assertRaisesRegex(RuntimeError, 'no result'):
-            _library.run(script('nonsense'))
+            _library.run_script(script('nonsense'))
+
+    def test_another_library(self):
+        def runs(text):
+            seen.append(json.loads(text))
+            return 1, b'{"events":[{"event":"fault","kind":"other_error","text":"x","error":null,"unread":null}]}'
+        seen = []
+        run = lifecrib.run_script(script('code'), _library.Library('x', runs))
+        self.assertEqual(seen, [{**script('code'), 'result': 'json'}])
+        self.assertIsInstance(run, lifecrib.Run)
+        self.assertEqual(run.last['kind'], 'other_error')
+        self.fails(lifecrib.OtherError, run.answer)
 
     def test_none_there(self):
         os.environ['LIFECRIB_LIBRARY'] = '/none'
@@ -105,6 +117,20 @@ class Json(unittest.TestCase):
         for it in (float('nan'), _json.decimal.Decimal('inf')):
             with self.assertRaises(ValueError):
                 _json.text_of([it])
+
+
+class Names(unittest.TestCase):
+    def test_what_is_used_is_loaded_then(self):
+        told = 'import lifecrib, sys; print(sorted(it for it in ("ssl", "asyncio", "ctypes") if it in sys.modules)); '
+        for more, wanted in (('', '[]'), ('lifecrib.Token; lifecrib.run_script; ', '[]'), ('lifecrib.Client; ', "['asyncio', 'ssl']")):
+            run = subprocess.run([sys.executable, '-B', '-c', told.replace('; print', '; %sprint' % more)], cwd=PACKAGE,
+                                 capture_output=True, text=True)
+            self.assertEqual(run.stdout.strip(), wanted, run.stderr)
+
+    def test_each_is_there(self):
+        self.assertEqual([it for it in lifecrib.__all__ if not hasattr(lifecrib, it)], [])
+        self.assertLessEqual(set(lifecrib.__all__), set(dir(lifecrib)))
+        self.assertFalse(hasattr(lifecrib, 'TokenOfAnother'))
 
 
 class Version(unittest.TestCase):

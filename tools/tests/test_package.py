@@ -9,7 +9,6 @@ import sys
 import unittest
 import zipfile
 
-import stand_in
 import tool
 
 sys.path.insert(0, tool.TOOLS)
@@ -17,6 +16,11 @@ import packages
 import program
 import repository
 import version
+
+COMMAND_TESTS = os.path.join(repository.PYTHON, 'command_tests')
+sys.path.append(COMMAND_TESTS)
+import stand_in
+from lifecrib_command import programs
 
 
 class Packages(stand_in.Case):
@@ -53,7 +57,7 @@ class Packages(stand_in.Case):
     def keeps_a_token(self, command, said):
         """A run of what is installed that keeps a token on a stand-in of Redis; standard error says this."""
         modules, store = self.folder(), self.folder()
-        shutil.copy(os.path.join(tool.TOOLS, 'tests', 'fake_redis.py'), os.path.join(modules, 'redis.py'))
+        shutil.copy(os.path.join(COMMAND_TESTS, 'fake_redis.py'), os.path.join(modules, 'redis.py'))
         words = [command, 'token', '--client-id', 'aaa', '--token-url', self.server.url + '/token', '--cache', 'redis://cache.example']
         env = dict(self.env, PYTHONPATH=modules, FAKE_REDIS=store, XDG_STATE_HOME=store)
         run = subprocess.run(words, env=env, cwd='/', capture_output=True, text=True, timeout=300)
@@ -73,7 +77,7 @@ class Packages(stand_in.Case):
         for name, digest, length in rows[:-1]:
             found = base64.urlsafe_b64encode(hashlib.sha256(files[name]).digest()).decode().rstrip('=')
             self.assertEqual((digest, length), ('sha256=' + found, str(len(files[name]))))
-        self.assertEqual([name for name, mode in modes.items() if mode != 0o644], ['lifecrib/_command/' + program.NAME])
+        self.assertEqual([name for name, mode in modes.items() if mode != 0o644], ['lifecrib_command/' + program.NAME])
         self.assertTrue({info + 'licenses/' + it for it in packages.LICENSES} <= set(files))
         with open(path, 'rb') as f:
             before = f.read()
@@ -96,8 +100,8 @@ class Packages(stand_in.Case):
         for words, names in ((['--keeper', self.program], {program.NAME, program.KEEPER}), ([], {program.NAME})):
             with zipfile.ZipFile(self.package('wheel', '--program', self.program, *words)) as f:
                 found = {it.filename for it in f.infolist() if it.external_attr >> 16 & 0o777 == 0o755}
-                self.assertIn('lifecrib/_command/shared_cache.py', f.namelist())
-            self.assertEqual(found, {'lifecrib/_command/' + it for it in names})
+                self.assertIn('lifecrib_command/shared_cache.py', f.namelist())
+            self.assertEqual(found, {'lifecrib_command/' + it for it in names})
 
     @unittest.skipUnless(importlib.util.find_spec('ensurepip'), 'this Python has no pip for a virtual environment')
     def test_the_python_package(self):
@@ -109,6 +113,7 @@ class Packages(stand_in.Case):
             path = self.package('wheel', '--program', program, *words)
             with zipfile.ZipFile(path) as f:
                 self.assertEqual('lifecrib/liblifecrib.so' in f.namelist(), bool(words))
+                self.assertNotIn('lifecrib/liblifecrib.so.proved', f.namelist())
                 self.assertIn('lifecrib/py.typed', f.namelist())
             python = os.path.join(os.path.dirname(self.installed(path)), 'python')
             get = ("import lifecrib; it = lifecrib.Client('a', token_url='https://as.example/t', transport=lambda _: lifecrib.Reply("
@@ -155,12 +160,7 @@ class Proved(unittest.TestCase):
             if record:
                 with open(path + '.proved', 'w') as f:
                     f.write(record)
-            before, program.PACKAGE = program.PACKAGE, room
-            try:
-                self.assertEqual((program.packed(), program.is_proved_here()), (path, is_proved))
-            finally:
-                program.PACKAGE = before
-        self.assertIsNone(program.packed())
+            self.assertEqual(programs.is_proved(path), is_proved)
 
 
 class Manuals(unittest.TestCase):

@@ -1,4 +1,4 @@
-"""Tests of tools/shared_stores.py and of the judge of tools/try-shared-keepers: what a store does, and histories that break a law."""
+"""Tests of the stores of shared tokens and of the judge of tools/try-shared-keepers: what a store does, and histories that break a law."""
 import os
 import sys
 import tempfile
@@ -8,9 +8,8 @@ import unittest
 import tool
 
 sys.path.insert(0, tool.TOOLS)
-import shared_stores  # noqa: E402, of the folder above
-
 TOOL = tool.load('try-shared-keepers')
+shared_stores = TOOL.shared_stores
 
 # The history of a store, what the server gave for which refresh token, and what the processes said; and how a broken law begins, if one is.
 # Tokens are 1:a, 1:b and so on; 1:x is of a new login.
