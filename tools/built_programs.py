@@ -6,10 +6,11 @@ import sys
 import repository
 
 sys.path.append(repository.PYTHON)
+import c_library
 import program
 import version
 from lifecrib_command import endings, programs, signals
-from lifecrib_command.endings import BAD_SETTING, Stop
+from lifecrib_command.endings import Stop
 
 program.undone = signals.undone  # a signal may end a tool at any moment
 
@@ -23,6 +24,11 @@ def path_of(name=program.NAME, by=None):
         if not os.access(path, os.X_OK):
             raise Stop('%s can not be run: chmod +x %s' % (path, path))
     return os.path.abspath(path) if path else unproved_path(name, by)
+
+
+def has_library():
+    """Whether the package lifecrib of this checkout has the library, proved of the sources that are here."""
+    return c_library.is_proved()
 
 
 def unproved_path(name, by):

@@ -1,12 +1,15 @@
-"""The C library: a static one from the crate oauth2_c, and a shared one of that; for tools/package-c and tools/package."""
+"""The C library: a static one from the crate oauth2_c, and a shared one of that; for tools/package-c, tools/package and tools/prove."""
 import os
 import subprocess
 import sys
 
+import program
 import repository
 
 C = os.path.join(repository.ROOT, 'c')
-CRATE = os.path.join(repository.CRATES, 'oauth2_c')
+NAME = 'oauth2_c'
+CRATE = os.path.join(repository.CRATES, NAME)
+OF_PYTHON = os.path.join(repository.PYTHON, 'lifecrib', 'liblifecrib.so')  # where the Python package looks for the library
 SONAME = 'liblifecrib.so.0'
 EXPORTS = ('lifecrib_run', 'lifecrib_version', 'lifecrib_kinds')
 
@@ -30,3 +33,16 @@ def shared_library(archive, to):
     words = ['-Wl,-soname,' + SONAME, '-Wl,--version-script=' + os.path.join(C, 'exports.map'), *('-Wl,-u,' + it for it in EXPORTS),
              '-Wl,-z,relro,-z,now,-z,defs', '-Wl,--gc-sections', '-Wl,--build-id=none']
     subprocess.run(['cc', '-shared', '-o', to, *words, archive, kit_library()], check=True)
+
+
+def prove():
+    """Proves and builds the library, and puts it where the Python package looks for it, with a record of that."""
+    made_of, new = repository.sum_of_sources(NAME), OF_PYTHON + '.new'
+    shared_library(static_library(None), new)
+    os.replace(new, OF_PYTHON)
+    program.record(OF_PYTHON, OF_PYTHON + '.proved', made_of)
+
+
+def is_proved():
+    """Whether the library there is the one that was recorded, and its sources are those that are here."""
+    return os.path.exists(OF_PYTHON) and program.is_recorded(OF_PYTHON, OF_PYTHON + '.proved', NAME)

@@ -33,12 +33,17 @@ EXTRAS = {'redis': 'redis', 'requests': 'requests', 'httpx': 'httpx', 'aiohttp':
 STARTER = '''#!/usr/bin/python3 -I
 import sys
 
-sys.dont_write_bytecode = True  # dpkg would not know of it
+sys.dont_write_bytecode = True  # it was compiled when the package was installed
 sys.path.insert(0, '/usr/lib/lifecrib')
 from lifecrib_command.__main__ import main
 
 main()
 '''
+
+
+# What dpkg runs once the package is unpacked, and before it is removed: Debian's Python compiles the modules, and removes that.
+SCRIPTS = {'postinst': '#!/bin/sh\nset -e\nif command -v py3compile >/dev/null; then py3compile -p lifecrib /usr/lib/lifecrib; fi\n',
+           'prerm': '#!/bin/sh\nset -e\nif command -v py3clean >/dev/null; then py3clean -p lifecrib; fi\n'}
 
 
 class Program(NamedTuple):
@@ -179,6 +184,7 @@ def deb(it: Contents, to: str) -> str:
     lib = 'usr/lib/lifecrib/'
     files = {lib + '%s/%s' % (NAME, name): text for name, text in it.python.items()}
     files.update({lib + '%s/%s' % (COMMAND, name): text for name, text in it.command.items()})
+    files.update({'DEBIAN/' + name: text.encode() for name, text in SCRIPTS.items()})
     files.update({'usr/bin/' + NAME: STARTER.encode(), 'DEBIAN/control': control(it).encode(),
                   share + 'man/man1/%s.1.gz' % NAME: gzip.compress(it.man_page, 9, mtime=0),
                   share + 'bash-completion/completions/' + NAME: it.bash,
@@ -188,7 +194,7 @@ def deb(it: Contents, to: str) -> str:
     path = os.path.join(to, '%s_%s_amd64.deb' % (NAME, version.VERSION))
     with tempfile.TemporaryDirectory() as room:
         for name, text in files.items():
-            put(os.path.join(room, name), text, name == 'usr/bin/' + NAME or is_program(name))
+            put(os.path.join(room, name), text, name == 'usr/bin/' + NAME or os.path.basename(name) in SCRIPTS or is_program(name))
         for at, _, _ in os.walk(room):
             os.chmod(at, 0o755)
         words = ['dpkg-deb', '--root-owner-group', '--build', room, path]

@@ -39,14 +39,16 @@ GRANTS = {'code': 'authorization_code', 'client_credentials': 'client_credential
 SENT = ('code', 'verifier', 'refresh_token', 'username', 'password', 'assertion', 'audience', 'requested_token_type', 'subject_token',
         'subject_token_type', 'actor_token', 'actor_token_type')
 
-EVENTS = []
+EVENTS, BODIES = [], []
 PARSE = 'Failed to parse server response'
 SERVER = 'Server returned error response: '
 
 def end(status, event, **more):
     EVENTS.append({'event': event, **more})
-    json.dump({'events': EVENTS}, sys.stdout)
-    print()
+    text = json.dumps({'events': EVENTS})
+    for at, body in enumerate(BODIES):  # each as it came
+        text = text.replace('"body %%d"' %% at, body)
+    print(text)
     sys.exit(status)
 
 def answer(value):
@@ -66,7 +68,9 @@ def shown(method, url, headers, body):
     found = None
     if not reply.get('fail'):
         try:
-            value = json.loads(reply['body'])
+            json.loads(reply['body'])
+            value = 'body %%d' %% len(BODIES)
+            BODIES.append(reply['body'])
         except ValueError:
             value = None
         found = {'status': reply['status'], 'content_type': reply.get('content_type'), 'json': value}

@@ -72,7 +72,7 @@ class Endpoints(Case):
         (_, headers), = self.server.looked_at
         self.assertEqual({name: value for name, value in headers.items() if name not in ('Host', 'Connection', 'Accept-Encoding')},
                          {'Accept': 'application/json'})
-        self.assertEqual(self.scripts()[0], {'client': {'id': 'aaa'}, 'command': 'metadata', 'replies': [],
+        self.assertEqual(self.scripts()[0], {'client': {'id': 'aaa'}, 'command': 'metadata', 'replies': [], 'result': 'json',
                                              'params': {'issuer': self.issuer, 'well_known': 'oauth-authorization-server'}})
 
     def test_the_issuer_is_a_flag_a_variable_or_a_member(self):
@@ -113,7 +113,7 @@ class Endpoints(Case):
         self.assertIn('tools/oauth2: --issuer is "%s", and the metadata at %s name the issuer "https://other.example", so they are not used'
                       % (self.issuer, self.issuer + SECOND), err)
         self.server.documents = {}
-        said = ': Failed to parse server response "error" Missing (HTTP status 404)'
+        said = ': server answers the request for metadata with status 404 (HTTP status 404)'
         self.assertEqual(self.run_tool('token')[2], 'tools/oauth2: the endpoints of the issuer %s can not be discovered '
                          '(is --issuer right?): %s%s; %s%s\n' % (self.issuer, self.issuer + FIRST, said, self.issuer + SECOND, said))
         self.assertEqual(self.server.asked, [])

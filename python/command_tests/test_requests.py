@@ -17,9 +17,12 @@ import stand_in
 import where
 from stand_in import OK
 
-from lifecrib_command import commands, endings, help_texts
+import lifecrib_command
+from lifecrib import _library
+from lifecrib_command import commands, endings, help_texts, programs
 
 import built_programs
+import c_library
 import program
 import repository
 
@@ -105,6 +108,13 @@ class Program(unittest.TestCase):
                     self.found(True, None)
                 with self.assertRaisesRegex(endings.Stop, 'does not fit this checkout .*, and no kit to compile it'):
                     self.found(False, lambda note, _: note(), has_kit=False)
+
+    def test_the_library_of_this_checkout_is_taken_if_it_is_of_these_sources(self):
+        library = _library.Library(_library.LIBRARY, lambda _: (0, b''))
+        for is_proved in True, False:
+            with mock.patch.object(_library, 'library', lambda: library), mock.patch.object(c_library, 'is_proved', lambda: is_proved), \
+                    mock.patch.object(lifecrib_command, 'tools', where.TOOLS):
+                self.assertEqual(programs.of_package(), library if is_proved else None)
 
     def test_why_there_is_none(self):
         def broken(*_):

@@ -98,7 +98,8 @@ if TYPE_CHECKING:  # typing takes a while to load
             """Whether the refresh token is as good as before, since the server said no or was not asked."""
 
         def in_place_of(self, kept: Entry, is_over: bool) -> Optional[Entry]:
-            """The token that the client itself gets in the place of one that another run did not renew; None where a user has to sign in."""
+            """The token that the client itself gets in the place of one that another run did not renew; None where a user has to sign
+            in."""
 
 
 SHARED = ('redis', 'rediss', 'file')  # the schemes of places that runs of many machines, or of one, share

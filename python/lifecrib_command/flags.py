@@ -13,9 +13,9 @@ TYPE_CHECKING = False
 if TYPE_CHECKING:  # typing takes a while to load
     from typing import Any, Callable, Iterable, Mapping, NoReturn, Sequence
 
-VERSION = '0.1.0'
 WIDTH = 78  # of a help that is not shown
-OF_KEPT = ('status', 'whoami', 'logout', 'git-credential')  # the commands that are about a token that is kept, so that its place has to be known
+# The commands that are about a token that is kept, so that its place has to be known.
+OF_KEPT = ('status', 'whoami', 'logout', 'git-credential')
 GIVES_NO_TOKEN = ('introspect', 'revoke', 'verify-token', *OF_KEPT)
 KEEPS_NONE = ('exchange', 'assertion')  # the commands that give a token and keep none
 # The one place to which a further parameter goes, of a command that has several.
@@ -59,8 +59,8 @@ ABOUT = {
                'tools/oauth2 revoke --cache ~/.token --revocation-url https://as.example/revoke'),
     'verify-token': ('checks a JWT access token as a resource server does',
                      'The token is ' + STDIN % 'OAUTH2_TOKEN' + ' Its signature is checked by the keys of --jwks-url, or\n'
-                     'those of the metadata of --issuer. Prints what an introspection would say of it. What is accepted is one of this issuer\n'
-                     'for this audience that has not expired (RFC 9068, 4); whether it was revoked only the issuer knows.',
+                     'those of the metadata of --issuer. Prints what an introspection would say of it. What is accepted is one of this '
+                     'issuer\nfor this audience that has not expired (RFC 9068, 4); whether it was revoked only the issuer knows.',
                      'tools/oauth2 verify-token --issuer https://as.example --audience https://api.example'),
     'status': ('says whose token is kept, from which server, and until when it is good',
                'No secret is shown, and no request is made. The exit status is 5 if a user has to sign in for a good token.',
@@ -164,7 +164,8 @@ def add_for_tokens(it: argparse.ArgumentParser) -> None:
 
 def add_for_caches(it: argparse.ArgumentParser) -> None:
     it.add_argument('--cache', type=file_of, metavar='FILE',
-                    help='keep the token in this file, or at redis://HOST[:PORT][/DB] or file:///FOLDER, and use the one that is there while good')
+                    help='keep the token in this file, or at redis://HOST[:PORT][/DB] or file:///FOLDER, and use the one that is there '
+                         'while good')
     add_for_renewals(it)
     it.add_argument('--anew', action='store_true', help='ask for a token whatever --cache has, and keep the new one')
 
@@ -178,7 +179,8 @@ def add_for_renewals(it: argparse.ArgumentParser) -> None:
 
 def add_for_kept(it: argparse.ArgumentParser, name: str) -> None:
     """The flags of the commands that are about a token that is kept."""
-    it.add_argument('--cache', type=file_of, metavar='FILE', help='the file or the redis://HOST that keeps the token (else that of the profile)')
+    it.add_argument('--cache', type=file_of, metavar='FILE',
+                    help='the file or the redis://HOST that keeps the token (else that of the profile)')
     if name == 'status':
         it.add_argument('--output', choices=('text', 'json'), default='text', help='lines for people, or one line of JSON (%(default)s)')
     if name in ('whoami', 'git-credential'):
@@ -217,7 +219,8 @@ def add_for_one(it: argparse.ArgumentParser, name: str) -> None:
                         help="how far this clock and the issuer's may differ (%d)" % LEEWAY)
     if name == 'revoke':
         it.add_argument('--kind', choices=('access', 'refresh'), help='what the token is (access)')
-        it.add_argument('--cache', type=file_of, metavar='FILE', help='revoke the token of this file, or of redis://HOST, and remove it there')
+        it.add_argument('--cache', type=file_of, metavar='FILE',
+                        help='revoke the token of this file, or of redis://HOST, and remove it there')
     if name == 'device':
         it.add_argument('--max-polls', type=whole_from(1), default=1000, metavar='N', help='how often to ask at most (%(default)s)')
         it.add_argument('--give-up', type=whole_from(0), metavar='SECONDS', help='when to give up (else as the server says)')
@@ -262,8 +265,10 @@ class Parser(argparse.ArgumentParser):
 
 class Version(argparse.Action):
     def __call__(self, parser: argparse.ArgumentParser, *_: Any) -> None:
+        import lifecrib
+
         from . import programs
-        answers.put('%s %s\n' % (endings.command, programs.version(VERSION)))
+        answers.put('%s %s\n' % (endings.command, programs.version(lifecrib.__version__)))
         parser.exit()
 
 

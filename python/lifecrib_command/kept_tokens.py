@@ -205,7 +205,8 @@ def not_renewed(session: Session, held: Held, kept: Entry, asking: Asking) -> Op
 
 def is_good(session: Session, kept: Entry) -> bool:
     """Whether a kept token is handed out as it is."""
-    return not session.cache.mark and session.given.command != 'refresh' and token_cache.is_good(kept, int(time.time()), session.given.margin)
+    given = session.given
+    return not session.cache.mark and given.command != 'refresh' and token_cache.is_good(kept, int(time.time()), given.margin)
 
 
 def check_fits(session: Session, kept: Entry) -> None:

@@ -35,7 +35,8 @@ def renewal_of(given: argparse.Namespace, cache: Optional[Cache]) -> renewal.Ren
     beside = cache.rescue_path() if cache else None
     if not cache or cache.kind == 'file':
         return renewal.Renewal(beside)
-    back = 'unless %s status shows it by then, give its refresh token to %s refresh --anew %s' % (endings.command, endings.command, given.place)
+    name = endings.command
+    back = 'unless %s status shows it by then, give its refresh token to %s refresh --anew %s' % (name, name, given.place)
     return renewal.Renewal(beside, back)
 
 

@@ -84,7 +84,8 @@ def members_of(table: toml_subset.Table, folder: str) -> dict[str, Any]:
             raise toml_subset.Fault(line, '"listen" is no port: it is 0 to 65535')
         found[name] = value
         if name == 'cache' and not is_shared(str(value)):
-            raise toml_subset.Fault(line, '"cache" is no shared place: it has to be redis://HOST[:PORT][/DB][?name=NAME] or file:///FOLDER[?name=NAME]')
+            raise toml_subset.Fault(line, '"cache" is no shared place: it has to be redis://HOST[:PORT][/DB][?name=NAME] '
+                                          'or file:///FOLDER[?name=NAME]')
         if name in PATHS:
             found[name] = os.path.join(folder, os.path.expanduser(str(value)))
     return found

@@ -58,15 +58,24 @@ def library() -> Library:
     path = named(NAME)
     if path:
         return by_program(path)
-    try:
-        found = _library.library()
-    except ImportError:
+    found = of_package()
+    if not found:
         return by_program(path_of(NAME))
-    except OSError as error:
-        raise Stop('the library can not be loaded: %s' % error) from None
     if not is_proved(found.path):
         endings.note('the %s that runs here is not proved' % called(found.path))
     return found
+
+
+def of_package() -> Optional[Library]:
+    """What the package lifecrib runs scripts by, if there is anything; in a checkout not a library of other sources."""
+    try:
+        found = _library.library()
+    except ImportError:
+        return None
+    except OSError as error:
+        raise Stop('the library can not be loaded: %s' % error) from None
+    is_other = lifecrib_command.tools and found.path == _library.LIBRARY and not of_checkout().has_library()
+    return None if is_other else found
 
 
 def by_program(path: str) -> Library:
@@ -103,10 +112,9 @@ def version(number: str) -> str:
 def about_library() -> str:
     """Which library or program runs scripts, where the environment names none for the command alone."""
     try:
-        path = _library.library().path
-    except ImportError:
-        is_one = bool(lifecrib_command.tools and of_checkout().program.is_proved())
-        return 'proved program' if is_one else 'program without proofs'
-    except OSError:
-        return 'a library that can not be loaded'
-    return 'proved ' + called(path) if is_proved(path) else called(path) + ' without proofs'
+        found = of_package()
+    except Stop as stop:
+        return str(stop)
+    if found:
+        return 'proved ' + called(found.path) if is_proved(found.path) else called(found.path) + ' without proofs'
+    return 'proved program' if lifecrib_command.tools and of_checkout().program.is_proved() else 'program without proofs'

@@ -9,7 +9,8 @@ if TYPE_CHECKING:  # typing takes a while to load
 
 # Of each server: its endpoints, and the adapters of docs/SCRIPT.md through which its replies go. Both are from its public documents.
 SERVERS: dict[str, tuple[dict[str, str], tuple[str, ...]]] = {
-    'bitbucket': ({'auth_url': 'https://bitbucket.org/site/oauth2/authorize', 'token_url': 'https://bitbucket.org/site/oauth2/access_token'},
+    'bitbucket': ({'auth_url': 'https://bitbucket.org/site/oauth2/authorize',
+                   'token_url': 'https://bitbucket.org/site/oauth2/access_token'},
                   ()),
     'facebook': ({'auth_url': 'https://www.facebook.com/dialog/oauth', 'token_url': 'https://graph.facebook.com/oauth/access_token'},
                  ('form_bodies', 'other_media_types')),

@@ -12,7 +12,7 @@ from .endings import BAD_SETTING, Stop, status_at, tell
 TYPE_CHECKING = False
 if TYPE_CHECKING:  # typing takes a while to load
     import argparse
-    from typing import Any, Mapping, NoReturn, Optional
+    from typing import Any, Mapping, Optional
     Settings = dict[str, Any]
 
 LEEWAY = 60  # seconds that two clocks may differ, unless --leeway says otherwise
@@ -28,7 +28,8 @@ ENDPOINTS = {'auth_url': 'authorization_endpoint', 'token_url': 'token_endpoint'
              'userinfo_url': 'userinfo_endpoint', 'jwks_url': 'jwks_uri', 'push_url': 'pushed_authorization_request_endpoint'}
 # The settings that are texts, each with what it is.
 TEXTS = {'client_id': "the client's identifier",
-         'server': 'a server that the tool knows, with its endpoints: %s' % ', '.join(servers.SERVERS), 'auth': 'where the secret goes: basic (a header; the default) or body',
+         'server': 'a server that the tool knows, with its endpoints: %s' % ', '.join(servers.SERVERS),
+         'auth': 'where the secret goes: basic (a header; the default) or body',
          'issuer': 'the issuer, whose metadata names the endpoints that are not set (RFC 8414)',
          'id_token_issuer': 'the issuer of the ID token of --openid, if it is not --issuer', 'username': "the user's name", **URLS}
 # The settings that are paths of files, each with what it has (RFC 8705, 2; RFC 7523, 2.2).

@@ -10,7 +10,7 @@ from typing import NamedTuple, Optional, Protocol
 
 
 class Store(Protocol):
-    """Where values are, each with its version: tools/shared_stores.py."""
+    """Where values are, each with its version: shared_stores.py."""
 
     def load(self, name: str) -> Optional[tuple[int, str]]:
         """The version of a name and what it has; None where that is not known."""

@@ -128,13 +128,18 @@ class Packages(stand_in.Case):
 
     @unittest.skipUnless(shutil.which('dpkg-deb'), 'there is no dpkg-deb here')
     def test_a_deb(self):
-        room = self.folder()
-        subprocess.run(['dpkg-deb', '-x', self.package('deb'), room], check=True)
+        room, path = self.folder(), self.package('deb')
+        subprocess.run(['dpkg-deb', '-x', path, room], check=True)
         for name in ('usr/bin/lifecrib', 'usr/share/man/man1/lifecrib.1.gz', 'usr/share/bash-completion/completions/lifecrib',
                      'usr/share/zsh/vendor-completions/_lifecrib', 'usr/share/doc/lifecrib/copyright'):
             self.assertTrue(os.path.exists(os.path.join(room, name)), name)
         for at, folders, _ in os.walk(room):
             self.assertTrue(all(os.stat(os.path.join(at, it)).st_mode & 0o777 == 0o755 for it in folders))
+        control = self.folder()
+        subprocess.run(['dpkg-deb', '-e', path, control], check=True)
+        for name in packages.SCRIPTS:
+            subprocess.run(['sh', '-n', os.path.join(control, name)], check=True)
+            self.assertEqual(os.stat(os.path.join(control, name)).st_mode & 0o777, 0o755)
         start = os.path.join(room, 'usr/bin/lifecrib')
         with open(start, encoding='utf-8') as f:
             text = f.read()
