@@ -5,7 +5,7 @@ import sys
 import time
 from typing import TYPE_CHECKING
 
-from . import answers, endings, git_credential, token_status, userinfo
+from . import answers, endings, git_credential, token_status
 from .endings import SIGN_IN, Stop
 from .kept_tokens import used
 from .settings import NEEDED, check_complete
@@ -42,6 +42,7 @@ def whoami(session: Session, params: Params) -> int:
     done = used(session, params)
     if done or not session.user:
         return done
+    from . import userinfo
     url, token = session.settings['userinfo_url'], answers.access_token_in(session.text)
     answers.put(userinfo.asked(url, token, given.timeout, session.user['sub']) + '\n')
     return 0
