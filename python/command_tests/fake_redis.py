@@ -1,7 +1,9 @@
-"""Stands in for the module redis, with values in the folder of FAKE_REDIS that several processes share; for the tests of a shared cache.
+"""Stands in for the module redis, with values in the folder of FAKE_REDIS that several processes share; for the tests
+of a shared cache.
 
-A file `faults` there says what comes of the next calls, a word a line: `lost` does what it is asked and raises, `gone` only raises, `no`
-is an error that the server answers, and `ok` does what it is asked. What is behind `then` holds for all later calls.
+A file `faults` there says what comes of the next calls, a word a line: `lost` does what it is asked and raises, `gone`
+only raises, `no` is an error that the server answers, and `ok` does what it is asked. What is behind `then` holds for
+all later calls.
 """
 import fcntl
 import json

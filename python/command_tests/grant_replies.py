@@ -1,5 +1,5 @@
-"""What a server replies to the exchange of a token (RFC 8693), to the assertion of another issuer (RFC 7523 and RFC 7522) and to a request that
-is pushed (RFC 9126), by the texts of these alone; for the tests of tools/oauth2."""
+"""What a server replies to the exchange of a token (RFC 8693), to the assertion of another issuer (RFC 7523 and RFC
+7522) and to a request that is pushed (RFC 9126), by the texts of these alone; for the tests of tools/oauth2."""
 import base64
 import collections
 import json
@@ -11,7 +11,8 @@ import xml.etree.ElementTree
 TYPE = 'urn:ietf:params:oauth:token-type:'
 GRANT = 'urn:ietf:params:oauth:grant-type:'
 SAML = '{urn:oasis:names:tc:SAML:2.0:assertion}'
-REDIRECT = re.compile(r'https://app\.example/cb|http://127\.0\.0\.1:\d+/')  # those that are registered; of this machine any port
+# Those that are registered; of this machine any port.
+REDIRECT = re.compile(r'https://app\.example/cb|http://127\.0\.0\.1:\d+/')
 LIFE = 60  # seconds, of what is pushed
 # RFC 3986, 4.3
 URI = re.compile(r"[A-Za-z][A-Za-z0-9+.-]*:(?:[A-Za-z0-9:/?\[\]@!$&'()*+,;=._~-]|%[0-9A-Fa-f]{2})*")
@@ -26,8 +27,8 @@ class Refused(Exception):
 
 
 class Replies:
-    """Replies to the last request of a stand_in.Server. .tokens has the types of the tokens that are good, .audiences those that it knows,
-    .pushed what was pushed, by its name, and .more members of each reply that is no error."""
+    """Replies to the last request of a stand_in.Server. .tokens has the types of the tokens that are good, .audiences
+    those that it knows, .pushed what was pushed, by its name, and .more members of each reply that is no error."""
 
     def __init__(self, server):
         self.server, self.audiences, self.pushed, self.more = server, ['api'], {}, {}
@@ -92,7 +93,8 @@ class Replies:
         return 201, {}, {'request_uri': name, 'expires_in': LIFE, **self.more}
 
     def back(self, url):
-        """Where a user is sent back to who opens the authorization URL and agrees: the parameters are those that were pushed (RFC 9126, 4)."""
+        """Where a user is sent back to who opens the authorization URL and agrees: the parameters are those that were
+        pushed (RFC 9126, 4)."""
         asked = dict(urllib.parse.parse_qsl(urllib.parse.urlsplit(url).query))
         if asked.keys() != {'client_id', 'request_uri'}:
             raise AssertionError('the URL has other parameters: ' + url)
@@ -136,17 +138,21 @@ def claims_of_saml(text):
     if found.tag != SAML + 'Assertion':
         raise Refused('invalid_grant')
     return {'iss': found.findtext(SAML + 'Issuer'), 'sub': found.findtext('%sSubject/%sNameID' % (SAML, SAML)),
-            'aud': found.findtext('%sConditions/%sAudienceRestriction/%sAudience' % (SAML, SAML, SAML)), 'exp': time.time() + 60}
+            'aud': found.findtext('%sConditions/%sAudienceRestriction/%sAudience' % (SAML, SAML, SAML)),
+            'exp': time.time() + 60}
 
 
 def jwt_of(**claims):
     """A JWT with these claims, and no right signature."""
-    parts = [base64.urlsafe_b64encode(json.dumps(it).encode()).decode().rstrip('=') for it in ({'alg': 'RS256'}, claims)]
+    parts = [base64.urlsafe_b64encode(json.dumps(it).encode()).decode().rstrip('=')
+             for it in ({'alg': 'RS256'}, claims)]
     return '.'.join([*parts, 'c2ln'])
 
 
 def saml_of(audience):
     """An assertion of SAML 2.0, on several lines."""
-    return ('<?xml version="1.0"?>\n<Assertion xmlns="urn:oasis:names:tc:SAML:2.0:assertion" Version="2.0">\n  <Issuer>https://idp.example'
-            '</Issuer>\n  <Subject><NameID>ann\u00e9</NameID></Subject>\n  <Conditions><AudienceRestriction><Audience>%s</Audience>'
+    return ('<?xml version="1.0"?>\n<Assertion xmlns="urn:oasis:names:tc:SAML:2.0:assertion" Version="2.0">\n  '
+            '<Issuer>https://idp.example'
+            '</Issuer>\n  <Subject><NameID>ann\u00e9</NameID></Subject>\n  '
+            '<Conditions><AudienceRestriction><Audience>%s</Audience>'
             '</AudienceRestriction></Conditions>\n</Assertion>\n' % audience)

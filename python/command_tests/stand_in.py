@@ -1,4 +1,5 @@
-"""A stand-in of the program, a server on this machine and runs of tools/oauth2 with both; for the tests of the command."""
+"""A stand-in of the program, a server on this machine and runs of tools/oauth2 with both; for the tests of the
+command."""
 import http.server
 import json
 import os
@@ -286,13 +287,14 @@ class Handler(http.server.BaseHTTPRequestHandler):
 
 
 class Server(http.server.ThreadingHTTPServer):
-    """Answers each POST by .reply, an object, a text, a triple with status and headers, or a function of the form; notes it in .asked, and
-    its pairs in .forms.
-    Answers each GET by the triple that .documents has for the path, or by 404; notes it in .looked_at."""
+    """Answers each POST by .reply, an object, a text, a triple with status and headers, or a function of the form;
+    notes it in .asked, and its pairs in .forms. Answers each GET by the triple that .documents has for the path, or by
+    404; notes it in .looked_at."""
     block_on_close = False
 
     def __init__(self, certificate=None, clients=None):
-        """Speaks TLS, if there is a file of a certificate; and asks for that of a client, if there is a file of those that it takes."""
+        """Speaks TLS, if there is a file of a certificate; and asks for that of a client, if there is a file of those
+        that it takes."""
         super().__init__(('127.0.0.1', 0), Handler)
         self.asked, self.forms, self.reply, self.url = [], [], OK, 'http%s://127.0.0.1:%d' % ('s' * bool(certificate), self.server_port)
         if certificate:
@@ -319,7 +321,8 @@ class Case(unittest.TestCase):
             f.write(PROGRAM % (sys.executable, self.notes))
         os.chmod(self.program, 0o700)
         self.server = self.serve()
-        self.env = {'PATH': os.environ['PATH'], 'HOME': '/none', 'OAUTH2_PROGRAM': self.program, 'OAUTH2_CLIENT_ID': 'aaa'}
+        self.env = {'PATH': os.environ['PATH'], 'HOME': '/none', 'OAUTH2_PROGRAM': self.program,
+                    'OAUTH2_CLIENT_ID': 'aaa'}
         for name in ('token', 'auth', 'device', 'introspection', 'revocation'):
             self.env['OAUTH2_%s_URL' % name.upper()] = '%s/%s' % (self.server.url, name)
 
@@ -375,7 +378,8 @@ class Case(unittest.TestCase):
 
 @unittest.skipUnless(repository.has_kit(), 'there is no kit here')
 class ByProgram:
-    """Has the tests of a Case run the program itself, compiled without proofs if there is no proved one, and not the stand-in."""
+    """Has the tests of a Case run the program itself, compiled without proofs if there is no proved one, and not the
+    stand-in."""
 
     def setUp(self):
         super().setUp()

@@ -8,7 +8,8 @@ from lifecrib_command.addresses import has_login, shown
 
 class Shown(unittest.TestCase):
     def test_no_password_is_shown(self):
-        for url in ('https://ann:ppp@h/x', 'https://ann:ppp/q@h/x', 'http://ann:ppp#q@h:1', '//ann:ppp@h', 'http://ann:ppp@[::1/',
+        for url in ('https://ann:ppp@h/x', 'https://ann:ppp/q@h/x', 'http://ann:ppp#q@h:1', '//ann:ppp@h',
+                    'http://ann:ppp@[::1/',
                     'http://ann:p@ppp@h/', 'http://ppp@h'):
             with self.subTest(url):
                 self.assertNotIn('ppp', shown(url))

@@ -21,7 +21,8 @@ class Answers(stand_in.Case):
         body = '{"access_token":"t1", "id_token" : "a.b",\n "n": [1.50, 1e400 , {"x": "a b"}], "token_type":"Bearer","\\u00e9": "\u009b"}'
         self.server.reply = body
         status, out, _ = self.run_tool('token')
-        self.assertEqual((status, out), (0, '{"access_token":"t1","token_type":"Bearer","id_token":"a.b","n":[1.50,1e400,{"x":"a b"}],'
+        self.assertEqual((status, out),
+                         (0, '{"access_token":"t1","token_type":"Bearer","id_token":"a.b","n":[1.50,1e400,{"x":"a b"}],'
                                             '"\\u00e9":"\\u009b"}\n'))
 
     def test_introspection_shows_what_the_server_says(self):
@@ -76,7 +77,8 @@ class Answers(stand_in.Case):
         command = {'apiVersion': 'client.authentication.k8s.io/v1', 'command': where.OAUTH2,
                    'args': ['token', '--output', 'exec-credential'], 'interactiveMode': 'Never'}
         cluster = {'server': server.url, 'certificate-authority': self.env['SSL_CERT_FILE']}
-        config = {'apiVersion': 'v1', 'kind': 'Config', 'current-context': 'x', 'clusters': [{'name': 'x', 'cluster': cluster}],
+        config = {'apiVersion': 'v1', 'kind': 'Config', 'current-context': 'x',
+                  'clusters': [{'name': 'x', 'cluster': cluster}],
                   'users': [{'name': 'x', 'user': {'exec': command}}],
                   'contexts': [{'name': 'x', 'context': {'cluster': 'x', 'user': 'x'}}]}
         path = os.path.join(self.room, 'kubeconfig')
@@ -127,7 +129,8 @@ class Answers(stand_in.Case):
 
 class Moments(unittest.TestCase):
     def test_each(self):
-        for seconds, text in ((0, '1970-01-01T00:00:00Z'), (1700000000, '2023-11-14T22:13:20Z'), (1 << 64, '9999-12-31T23:59:59Z'),
+        for seconds, text in ((0, '1970-01-01T00:00:00Z'), (1700000000, '2023-11-14T22:13:20Z'),
+                              (1 << 64, '9999-12-31T23:59:59Z'),
                               (-5, '1970-01-01T00:00:00Z')):
             self.assertEqual(moments.moment(seconds), text)
 

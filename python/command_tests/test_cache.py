@@ -106,7 +106,8 @@ class Cache(stand_in.Case):
         self.sign_in()
         self.assertEqual(self.token(command='password', OAUTH2_USERNAME='ann'), (0, 't1'))
         self.assertIn('--anew signs in anew', self.err)
-        self.assertEqual(self.token('--anew', command='password', OAUTH2_USERNAME='ann', OAUTH2_PASSWORD='p'), (0, 't2'))
+        self.assertEqual(self.token('--anew', command='password', OAUTH2_USERNAME='ann', OAUTH2_PASSWORD='p'),
+                         (0, 't2'))
         self.assertEqual(self.token(command='password', OAUTH2_USERNAME='bob'), (2, ''))
         self.assertIn('another --username ("ann")', self.err)
 
@@ -177,10 +178,12 @@ class Cache(stand_in.Case):
             self.assertTrue(os.path.exists(self.path))
             self.assertEqual(self.run_tool('revoke', '--cache', self.path, '--client-id', 'other')[0], 2)
             server.reply = {}
-            self.assertEqual(self.run_tool('revoke', '--cache', self.path, '--quiet', OAUTH2_CLIENT_ID=''), (0, 'null\n', ''))
+            self.assertEqual(self.run_tool('revoke', '--cache', self.path, '--quiet', OAUTH2_CLIENT_ID=''),
+                             (0, 'null\n', ''))
             self.assertEqual(server.asked[-1][1], form)
             self.assertFalse(os.path.exists(self.path))
-        self.assertEqual([it['params'].get('kind') for it in self.scripts() if it['command'] == 'revoke'][::4], ['refresh', 'access'])
+        self.assertEqual([it['params'].get('kind') for it in self.scripts() if it['command'] == 'revoke'][::4],
+                         ['refresh', 'access'])
 
     def test_two_runs_at_once_renew_once(self):
         self.sign_in()
@@ -204,7 +207,8 @@ class Cache(stand_in.Case):
     def test_the_token_of_another_is_refused_and_left(self):
         self.token('--scope', 'a', '--extra', 'x=y')
         before = self.kept()
-        for words, said in ((['--client-id', 'other'], 'another --client-id ("aaa")'), (['--scope', 'b'], 'for other scopes (a)'),
+        for words, said in ((['--client-id', 'other'], 'another --client-id ("aaa")'),
+                            (['--scope', 'b'], 'for other scopes (a)'),
                             (['--extra', 'x=z'], 'with other --extra (x)'),
                             (['--token-url', 'https://other.example/'], 'another --token-url')):
             self.assertEqual(self.token(*words), (2, ''))
@@ -229,7 +233,8 @@ class Cache(stand_in.Case):
     def test_a_member_of_another_kind_is_refused(self):
         self.token('--scope', 'a')
         before = self.kept()
-        for member in ({'scopes': [1]}, {'scopes': 'a'}, {'extra': [1]}, {'extra': [['a', 1]]}, {'answer': '{}'}, {'answer': '['},
+        for member in ({'scopes': [1]}, {'scopes': 'a'}, {'extra': [1]}, {'extra': [['a', 1]]}, {'answer': '{}'},
+                       {'answer': '['},
                        {'expires_at': '1'}, {'refresh_token': 1}, {'format': 'cache of tools/oauth2, 2'}, {'more': 1}):
             self.put(json.dumps({**before, **member}))
             self.assertEqual(self.token(), (2, ''), member)
@@ -297,7 +302,8 @@ class Whole(unittest.TestCase):
         self.addCleanup(case.doCleanups)
         case.token()
         before = case.kept()
-        with token_cache.File(case.path, 1) as cache, mock.patch.object(os, 'fsync', side_effect=OSError(28, 'no space')):
+        with token_cache.File(case.path, 1) as cache, mock.patch.object(os, 'fsync',
+                                                                        side_effect=OSError(28, 'no space')):
             self.assertRaises(OSError, cache.write, dict(cache.entry, answer='{}'))
         self.assertEqual(case.kept(), before)
         self.assertEqual(sorted(os.listdir(case.room)), ['cache', 'program', 'scripts'])
@@ -310,7 +316,8 @@ class Whole(unittest.TestCase):
         entry, file = {'answer': '{}'}, mock.MagicMock()
         opened = mock.Mock(path='/c', entry=None, **{'write.side_effect': OSError(28, 'no space')})
         file.__enter__.return_value = opened
-        with mock.patch.object(kept_tokens, 'entry_of', return_value=entry), mock.patch.object(kept_tokens, 'write') as write, \
+        with mock.patch.object(kept_tokens, 'entry_of',
+                               return_value=entry), mock.patch.object(kept_tokens, 'write') as write, \
                 mock.patch.object(cache, 'opened', return_value=file), mock.patch.object(kept_tokens, 'tell') as say:
             self.assertEqual(kept_tokens.keep(session, outcome), endings.NOT_KEPT)
         write.assert_called_once_with(session, '{}', None)

@@ -1,4 +1,5 @@
-"""Tests of `tools/oauth2 --issuer` over a stand-in of the program and a server on this machine: endpoints that no setting names."""
+"""Tests of `tools/oauth2 --issuer` over a stand-in of the program and a server on this machine: endpoints that no
+setting names."""
 import json
 import os
 import unittest
@@ -45,9 +46,11 @@ class Case(stand_in.Case):
 
 class Endpoints(Case):
     def test_each_command_by_its_issuer(self):
-        codes = {'device_code': 'd', 'user_code': 'U-1', 'verification_uri': 'https://as.example/d', 'expires_in': 60, 'interval': 0}
+        codes = {'device_code': 'd', 'user_code': 'U-1', 'verification_uri': 'https://as.example/d', 'expires_in': 60,
+                 'interval': 0}
         for words, env, wanted in ((['token'], {}, ['/token']),
-                                   (['introspect'], {'OAUTH2_TOKEN': 't'}, ['/introspection']), (['device'], {}, ['/device', '/token']),
+                                   (['introspect'], {'OAUTH2_TOKEN': 't'}, ['/introspection']),
+                                   (['device'], {}, ['/device', '/token']),
                                    (['password', '--username', 'ann'], {'OAUTH2_PASSWORD': 'p'}, ['/token']),
                                    (['refresh'], {'OAUTH2_REFRESH_TOKEN': 'r'}, ['/token'])):
             with self.subTest(words):
@@ -70,10 +73,13 @@ class Endpoints(Case):
     def test_what_is_sent_for_metadata(self):
         self.run_tool('token', OAUTH2_CLIENT_SECRET='bbb')
         (_, headers), = self.server.looked_at
-        self.assertEqual({name: value for name, value in headers.items() if name not in ('Host', 'Connection', 'Accept-Encoding')},
+        self.assertEqual({name: value for name,
+                          value in headers.items() if name not in ('Host', 'Connection', 'Accept-Encoding')},
                          {'Accept': 'application/json'})
-        self.assertEqual(self.scripts()[0], {'client': {'id': 'aaa'}, 'command': 'metadata', 'replies': [], 'result': 'json',
-                                             'params': {'issuer': self.issuer, 'well_known': 'oauth-authorization-server'}})
+        self.assertEqual(self.scripts()[0],
+                         {'client': {'id': 'aaa'}, 'command': 'metadata', 'replies': [], 'result': 'json',
+                                             'params': {'issuer': self.issuer,
+                                                        'well_known': 'oauth-authorization-server'}})
 
     def test_the_issuer_is_a_flag_a_variable_or_a_member(self):
         path = os.path.join(self.room, 'settings.json')
@@ -110,35 +116,43 @@ class Endpoints(Case):
         self.server.documents = {SECOND: (200, {}, {'issuer': 'https://other.example'})}
         status, out, err = self.run_tool('token')
         self.assertEqual((status, out), (6, ''))
-        self.assertIn('tools/oauth2: --issuer is "%s", and the metadata at %s name the issuer "https://other.example", so they are not used'
+        self.assertIn('tools/oauth2: --issuer is "%s", and the metadata at %s name the issuer '
+                      '"https://other.example", so they are not used'
                       % (self.issuer, self.issuer + SECOND), err)
         self.server.documents = {}
         said = ': server answers the request for metadata with status 404 (HTTP status 404)'
-        self.assertEqual(self.run_tool('token')[2], 'tools/oauth2: the endpoints of the issuer %s can not be discovered '
-                         '(is --issuer right?): %s%s; %s%s\n' % (self.issuer, self.issuer + FIRST, said, self.issuer + SECOND, said))
+        self.assertEqual(self.run_tool('token')[2],
+                         'tools/oauth2: the endpoints of the issuer %s can not be discovered '
+                         '(is --issuer right?): %s%s; %s%s\n'
+                         % (self.issuer, self.issuer + FIRST, said, self.issuer + SECOND, said))
         self.assertEqual(self.server.asked, [])
 
     def test_a_server_that_is_not_there(self):
         self.server.documents = {FIRST: (302, {'Location': 'https://x.example/y'}, '')}
         status, _, err = self.run_tool('token')
         self.assertEqual(status, 6)
-        self.assertIn('sends elsewhere to https://x.example/y (HTTP status 302), which is not followed: give the URL of the issuer', err)
+        self.assertIn('sends elsewhere to https://x.example/y (HTTP status 302), which is not followed: give the URL '
+                      'of the issuer', err)
         status, _, err = self.run_tool('token', '--issuer', 'http://127.0.0.1:1')
         self.assertEqual(status, 9)
-        self.assertEqual(err, 'tools/oauth2: the endpoints of the issuer http://127.0.0.1:1 can not be discovered (is --issuer right?): '
+        self.assertEqual(err,
+                         'tools/oauth2: the endpoints of the issuer http://127.0.0.1:1 can not be discovered (is '
+                         '--issuer right?): '
                               'GET http://127.0.0.1:1%s: Connection refused\n' % FIRST)
 
     def test_a_missing_member_is_named(self):
         self.publish(without=['device_authorization_endpoint'])
         status, _, err = self.run_tool('device')
         self.assertEqual(status, 6)
-        self.assertIn('the metadata of the issuer %s has no "device_authorization_endpoint": give --device-url, OAUTH2_DEVICE_URL'
+        self.assertIn('the metadata of the issuer %s has no "device_authorization_endpoint": give --device-url, '
+                      'OAUTH2_DEVICE_URL'
                       % self.issuer, err)
         self.assertEqual(self.server.asked, [])
 
     def test_an_endpoint_that_can_not_be_used(self):
         for member, url, said in (('token_endpoint', 'http://h.example/token', 'where secrets would go unencrypted'),
-                                  ('authorization_endpoint', 'http://h.example/auth', 'where secrets would go unencrypted'),
+                                  ('authorization_endpoint', 'http://h.example/auth',
+                                   'where secrets would go unencrypted'),
                                   ('token_endpoint', 'ftp://h/token', 'which is no URL')):
             self.publish(**{member: url})
             status, _, err = self.run_tool('login', '--redirect', 'https://app.example/cb')
@@ -171,7 +185,8 @@ class Issuers(Case):
         """How logins end whose redirects name no issuer, this one, another one, and two."""
         self.publish(**promises)
         this, other = (urllib.parse.urlencode({'iss': it}) for it in (self.issuer, 'https://other.example'))
-        return [self.logged_in(it)[0] for it in ('code=c', 'code=c&' + this, 'code=c&' + other, 'code=c&%s&%s' % (this, other))]
+        return [self.logged_in(it)[0]
+                for it in ('code=c', 'code=c&' + this, 'code=c&' + other, 'code=c&%s&%s' % (this, other))]
 
     def test_where_the_metadata_promise_it(self):
         self.assertEqual(self.ends(**PROMISE), [1, 0, 1, 1])
@@ -232,7 +247,8 @@ class Cache(Case):
         self.assertEqual(self.logged_in('code=c', '--cache', self.path)[0], 0)
         self.server.documents = {}
         self.assertEqual(self.token('--margin', '3600'), (0, 't2', 0))
-        status, out, _ = self.run_tool('login', '--cache', self.path, '--margin', '3600', '--redirect', 'https://app.example/cb')
+        status, out, _ = self.run_tool('login', '--cache', self.path, '--margin', '3600', '--redirect',
+                                       'https://app.example/cb')
         self.assertEqual((status, json.loads(out)['access_token']), (0, 't3'))
 
     def test_the_token_of_another_issuer_is_refused(self):

@@ -38,11 +38,13 @@ class Helper(stand_in.Case):
         self.assertAlmostEqual(int(ends.partition('password_expiry_utc=')[2]), time.time() + 3600, delta=60)
         self.assertEqual(self.helper('get', ASKED, '--user', 'x-access-token')[1][0], 'username=x-access-token')
         self.assertEqual(self.helper('get', 'protocol=https\nhost=git.example\nusername=ann\n')[1][0], 'username=ann')
-        self.assertEqual(self.helper('get', 'protocol=https\nhost=GIT.example\npath=a=b\nwwwauth[]=Basic\n')[1][1], 'password=t1')
+        self.assertEqual(self.helper('get', 'protocol=https\nhost=GIT.example\npath=a=b\nwwwauth[]=Basic\n')[1][1],
+                         'password=t1')
 
     def test_no_other_host_gets_it(self):
         self.signed_in()
-        for given in ('protocol=http\nhost=git.example\n', 'protocol=https\nhost=other.example\n', 'protocol=https\nhost=git.example:1\n',
+        for given in ('protocol=http\nhost=git.example\n', 'protocol=https\nhost=other.example\n',
+                      'protocol=https\nhost=git.example:1\n',
                       'host=git.example\n', '', 'protocol=https\nhost=git.example.evil.example\n'):
             self.assertEqual(self.helper('get', given), (0, []))
 
@@ -85,7 +87,8 @@ class Helper(stand_in.Case):
         env = {**self.env, 'HOME': self.room, 'GIT_TERMINAL_PROMPT': '0', 'GIT_CONFIG_NOSYSTEM': '1'}
 
         def git(operation, given):
-            return subprocess.run([*command, operation], input=given, env=env, cwd=self.room, capture_output=True, text=True, timeout=120)
+            return subprocess.run([*command, operation], input=given, env=env, cwd=self.room, capture_output=True,
+                                  text=True, timeout=120)
         lines = git('fill', ASKED).stdout.splitlines()
         self.assertEqual(lines[:4], ['protocol=https', 'host=git.example', 'username=oauth2', 'password=t1'])
         self.assertEqual(git('fill', ASKED.replace('git.', 'other.')).stdout, '')

@@ -1,5 +1,5 @@
-"""Tests of what tools/oauth2 sends beside the parameters of RFC 6749: a resource, and the client's own assertion; over a stand-in of the
-program and a server on this machine."""
+"""Tests of what tools/oauth2 sends beside the parameters of RFC 6749: a resource, and the client's own assertion; over
+a stand-in of the program and a server on this machine."""
 import json
 import os
 import unittest
@@ -10,7 +10,8 @@ from stand_in import OK
 
 A, B = 'https://a.example/api', 'urn:example:b'
 JWT, OTHER_JWT = 'aGVhZA.Y2xhaW1z.c2ln', 'aGVhZA.bW9yZQ.c2ln'
-CODES = {'device_code': 'd', 'user_code': 'U-1', 'verification_uri': 'https://as.example/d', 'expires_in': 60, 'interval': 0}
+CODES = {'device_code': 'd', 'user_code': 'U-1', 'verification_uri': 'https://as.example/d', 'expires_in': 60,
+         'interval': 0}
 REDIRECT = 'https://app.example/cb'
 
 
@@ -55,7 +56,8 @@ class ClientAssertions(Case):
 
     def test_each_command(self):
         server = self.by_tls()
-        for words, env in ((['token'], {}), (['refresh'], {'OAUTH2_REFRESH_TOKEN': 'r'}), (['introspect'], {'OAUTH2_TOKEN': 't'}),
+        for words, env in ((['token'], {}), (['refresh'], {'OAUTH2_REFRESH_TOKEN': 'r'}),
+                           (['introspect'], {'OAUTH2_TOKEN': 't'}),
                            (['password', '--username', 'ann'], {'OAUTH2_PASSWORD': 'p'})):
             self.server.forms = []
             self.server.reply = {**OK, 'active': True}
@@ -67,19 +69,23 @@ class ClientAssertions(Case):
     def test_a_login(self):
         self.assertEqual(self.logged_in(*self.words)[0][0], 0)
         self.assertEqual(self.assertions(), [JWT])
-        self.assertEqual([it['command'] for it in self.scripts() if 'client_assertion' in it['params']].count('authorize'), 0)
+        self.assertEqual([it['command'] for it in self.scripts() if
+                          'client_assertion' in it['params']].count('authorize'), 0)
 
     def test_it_is_read_anew_for_each_request(self):
         def reply(asked):
             self.file(OTHER_JWT if len(self.server.forms) % 2 else JWT)
-            return OK if len(self.server.forms) == 4 else (400, {}, {'error': 'authorization_pending'}) if 'device_code' in asked else CODES
+            return OK if len(self.server.forms) == 4 else (400, {},
+                                                           {'error':
+                                                            'authorization_pending'}) if 'device_code' in asked else CODES
         self.server.reply = reply
         self.assertEqual(self.run_tool('device', *self.words)[0], 0)
         self.assertEqual(self.assertions(), [JWT, OTHER_JWT, JWT, OTHER_JWT])
 
     def test_where_the_path_comes_from(self):
         settings = self.file(json.dumps({'client_assertion_file': self.path}), 'settings.json')
-        profile = self.file('[profile.a]\nclient_id = "a"\ntoken_url = "%s/token"\nclient_assertion_file = "secret"\n' % self.server.url, 'a.toml')
+        profile = self.file('[profile.a]\nclient_id = "a"\ntoken_url = "%s/token"\nclient_assertion_file = "secret"\n'
+                            % self.server.url, 'a.toml')
         for words, env in (([], {'OAUTH2_CLIENT_ASSERTION_FILE': self.path}), (['--config', settings], {}),
                            (['--config', profile, '--profile', 'a', '--cache', os.path.join(self.room, 'cache')], {})):
             self.server.forms = []

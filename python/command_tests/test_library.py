@@ -36,7 +36,8 @@ class InProcess(Case):
         self.server.reply = (400, {}, {'error': 'invalid_scope'})
         status, out, err = self.run_tool('token')
         self.assertEqual((status, out), (15, ''))
-        self.assertEqual(err, UNPROVED + 'tools/oauth2: Server returned error response: invalid_scope (HTTP status 400)\n')
+        self.assertEqual(err,
+                         UNPROVED + 'tools/oauth2: Server returned error response: invalid_scope (HTTP status 400)\n')
 
     def test_a_setting_that_it_refuses_is_named(self):
         status, _, err = self.run_tool('token', '--client-id', 'bad')
@@ -46,7 +47,8 @@ class InProcess(Case):
     def test_a_renewal(self):
         path = os.path.join(self.room, 'cache')
         self.server.reply = lambda asked: {**OK, 'access_token': 't%d' % len(self.server.asked), 'refresh_token': 'r'}
-        self.assertEqual([self.run_tool('token', '--cache', path, '--output', 'token', *more)[1] for more in ([], [], ['--margin', '9999'])],
+        self.assertEqual([self.run_tool('token', '--cache', path, '--output', 'token', *more)[1]
+                          for more in ([], [], ['--margin', '9999'])],
                          ['t1\n', 't1\n', 't2\n'])
         self.assertEqual(self.server.asked[-1][1]['grant_type'], 'refresh_token')
 
@@ -70,7 +72,8 @@ class InProcess(Case):
 
 class Loaded(stand_in.Case):
     """What a run loads that hands out a kept token."""
-    SLOW = {'asyncio', 'ctypes', 'dataclasses', 'email', 'hashlib', 'http', 'lifecrib', 'shutil', 'socket', 'ssl', 'subprocess', 'tempfile',
+    SLOW = {'asyncio', 'ctypes', 'dataclasses', 'email', 'hashlib', 'http', 'lifecrib', 'shutil', 'socket', 'ssl',
+            'subprocess', 'tempfile',
             'typing', 'urllib'}
 
     def test_a_kept_token_needs_few_modules(self):

@@ -56,7 +56,8 @@ class Endless(stand_in.Case):
                 status, out, err = self.run_tool('token', '--timeout', '1', '--token-url', url)
                 thread.join()
             self.assertEqual((status, out), (9, ''))
-            self.assertRegex(err, r'\Atools/oauth2: POST \S* \(--token-url\): no whole reply within 1 seconds \(--timeout\)\n\Z')
+            self.assertRegex(err,
+                             r'\Atools/oauth2: POST \S* \(--token-url\): no whole reply within 1 seconds \(--timeout\)\n\Z')
 
     def serve_slowly(self, server, head):
         """Sends a head, and then a letter now and then until the other side has had enough."""

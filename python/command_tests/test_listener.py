@@ -39,7 +39,8 @@ class Listener(stand_in.Case):
         status, headers, page = self.visit(redirect, '?x=1&code=a%2Fb&state=' + asked['state'])
         out, err = run.communicate(timeout=60)
         self.assertEqual((run.returncode, json.loads(out)), (0, stand_in.OK))
-        self.assertEqual((status, headers['Content-Type'], headers['Cache-Control']), (200, 'text/html; charset=utf-8', 'no-store'))
+        self.assertEqual((status, headers['Content-Type'], headers['Cache-Control']),
+                         (200, 'text/html; charset=utf-8', 'no-store'))
         self.assertIn('This page can be closed', page)
         self.assertNotIn('a%2Fb', page + err)
         scripts = {it['command']: it['params'] for it in self.scripts()}

@@ -1,4 +1,5 @@
-"""Tests of `tools/oauth2 login --openid` over a stand-in of the program and a server on this machine: ID tokens, and who has signed in."""
+"""Tests of `tools/oauth2 login --openid` over a stand-in of the program and a server on this machine: ID tokens, and
+who has signed in."""
 import base64
 import json
 import os
@@ -28,18 +29,20 @@ class Case(stand_in.Case):
     def reply(self, **claims):
         """A token response with an ID token of these claims, and others that are right."""
         now = int(time.time())
-        claims = {'iss': ISSUER, 'sub': 'u-1', 'aud': 'aaa', 'exp': now + 600, 'iat': now, 'nonce': self.asked.get('nonce'), **claims}
+        claims = {'iss': ISSUER, 'sub': 'u-1', 'aud': 'aaa', 'exp': now + 600, 'iat': now,
+                  'nonce': self.asked.get('nonce'), **claims}
         return {**OK, 'id_token': '%s.%s.c2ln' % (HEADER, part(claims))}
 
     def login(self, *words, reply=None, back='', claims=(), **env):
-        """The status, standard output and standard error of a login. The reply is a good one but for these claims, if none is given; back
-        has further parameters of the redirect."""
+        """The status, standard output and standard error of a login. The reply is a good one but for these claims, if
+        none is given; back has further parameters of the redirect."""
         run = self.start('login', *words, **env)
         for line in run.stderr:
             if line.startswith('http'):
                 self.asked = dict(urllib.parse.parse_qsl(urllib.parse.urlsplit(line.strip()).query))
                 self.server.reply = reply or self.reply(**dict(claims))
-                out, err = run.communicate('https://app.example/cb?code=c&state=%s%s\n' % (self.asked['state'], back), timeout=60)
+                out, err = run.communicate('https://app.example/cb?code=c&state=%s%s\n' % (self.asked['state'], back),
+                                           timeout=60)
                 return run.returncode, out, err
             self.said = line
         return run.wait(60), run.stdout.read(), self.said
@@ -79,7 +82,8 @@ class Login(Case):
                               'signed in as "u-1" at https://as.example\n')
         self.assertEqual(self.params('authorize')['scopes'], ['openid'])
         self.assertGreaterEqual(len(self.asked['nonce']), 22)
-        self.assertEqual(self.params('id_token'), {'id_token': self.server.reply['id_token'], 'access_token': 't1', 'issuer': ISSUER,
+        self.assertEqual(self.params('id_token'),
+                         {'id_token': self.server.reply['id_token'], 'access_token': 't1', 'issuer': ISSUER,
                                                    'nonce': self.asked['nonce'], 'leeway': 60})
         readings = next(it['readings'] for it in self.scripts() if it['command'] == 'id_token')
         self.assertTrue(len(readings) == 1 and abs(readings[0] - time.time()) < 60)
@@ -99,17 +103,22 @@ class Login(Case):
         self.assertEqual([it['command'] for it in self.scripts()], ['authorize', 'redirect', 'code', 'code'])
 
     def test_scopes(self):
-        for words, wanted in (['--scope', 'read'], ['openid', 'read']), (['--scope', 'read', '--scope', 'openid'], ['read', 'openid']):
+        for words, wanted in (['--scope', 'read'], ['openid', 'read']), (['--scope', 'read', '--scope', 'openid'],
+                                                                         ['read', 'openid']):
             self.login('--openid', *words)
-            self.assertEqual([it for it in self.scripts() if it['command'] == 'authorize'][-1]['params']['scopes'], wanted)
+            self.assertEqual([it for it in self.scripts() if it['command'] == 'authorize'][-1]['params']['scopes'],
+                             wanted)
 
     def test_rules_that_do_not_hold(self):
         now = int(time.time())
         for claims, said in (({'nonce': 'x'}, 'the nonce is another one; it does not belong to this login'),
-                             ({'iss': ISSUER + '/'}, 'the issuer is another one; it has to be https://as.example (--id-token-issuer)'),
+                             ({'iss': ISSUER + '/'},
+                              'the issuer is another one; it has to be https://as.example (--id-token-issuer)'),
                              ({'aud': 'bbb'}, 'the client is not in the audience; it is not for this client alone'),
-                             ({'exp': now - 120}, 'the token has expired; is the clock of this machine right? --leeway'),
-                             ({'iat': now + 100000}, 'the token was issued in the future; is the clock of this machine right?')):
+                             ({'exp': now - 120},
+                              'the token has expired; is the clock of this machine right? --leeway'),
+                             ({'iat': now + 100000},
+                              'the token was issued in the future; is the clock of this machine right?')):
             with self.subTest(said):
                 self.assertIn('tools/oauth2: the ID token is refused: ' + said, self.refused('--openid', claims=claims))
 
@@ -119,12 +128,14 @@ class Login(Case):
             self.assertEqual(f.read(), '')
         err = self.refused('--openid', reply={**OK, 'id_token': 'a.b'})
         self.assertIn('the ID token is refused: not three parts; nothing', err)
-        self.assertIn('the ID token is refused: it is no text', self.refused('--openid', reply={**OK, 'id_token': ['t1']}))
+        self.assertIn('the ID token is refused: it is no text',
+                      self.refused('--openid', reply={**OK, 'id_token': ['t1']}))
         self.assertIn('--algorithm says which', self.refused('--openid', '--algorithm', 'ES256'))
 
     def test_a_reply_without_an_id_token(self):
         for reply in OK, {**OK, 'id_token': None}:
-            self.assertIn('the server sent no ID token', self.refused('--openid', '--cache', self.path, reply=reply, status=8))
+            self.assertIn('the server sent no ID token',
+                          self.refused('--openid', '--cache', self.path, reply=reply, status=8))
         with open(self.path, encoding='utf-8') as f:
             self.assertEqual(f.read(), '')
 
@@ -132,19 +143,23 @@ class Login(Case):
         self.assertEqual(self.login('--openid', reply=(400, {}, {'error': 'invalid_grant'}))[:2], (12, ''))
 
     def test_the_issuer(self):
-        for one, said in ('https://y.example', 'https://y.example (--id-token-issuer)'), ('', 'https://x.example (--issuer)'):
-            err = self.refused('--openid', '--issuer', 'https://x.example', back='&iss=https://x.example', OAUTH2_ID_TOKEN_ISSUER=one)
+        for one, said in ('https://y.example',
+                          'https://y.example (--id-token-issuer)'), ('', 'https://x.example (--issuer)'):
+            err = self.refused('--openid', '--issuer', 'https://x.example', back='&iss=https://x.example',
+                               OAUTH2_ID_TOKEN_ISSUER=one)
             self.assertIn('it has to be ' + said, err)
 
     def test_flags(self):
-        self.assertEqual(self.login('--openid', '--max-age', '300', '--leeway', '0', '--algorithm', 'RS256', '--extra', 'a=b')[0], 0)
+        self.assertEqual(self.login('--openid', '--max-age', '300', '--leeway', '0', '--algorithm', 'RS256', '--extra',
+                                    'a=b')[0], 0)
         self.assertEqual((self.asked['max_age'], self.asked['a']), ('300', 'b'))
         params = self.params('id_token')
         self.assertEqual((params['max_age'], params['leeway'], params['algorithm']), (300, 0, 'RS256'))
         for words, env, said in ((['--max-age', '1'], {}, '--max-age goes with --openid'),
                                  (['--leeway', '1'], {}, '--leeway goes with --openid'),
                                  (['--algorithm', 'x'], {}, '--algorithm goes with --openid'),
-                                 (['--openid'], {'OAUTH2_ID_TOKEN_ISSUER': ''}, 'the issuer of the ID token is not set: give --issuer')):
+                                 (['--openid'], {'OAUTH2_ID_TOKEN_ISSUER': ''},
+                                  'the issuer of the ID token is not set: give --issuer')):
             status, out, err = self.login(*words, OAUTH2_PROGRAM='/none', **env)
             self.assertEqual((status, out), (2, ''))
             self.assertIn(said, err)
@@ -153,9 +168,11 @@ class Login(Case):
         with open(self.program, encoding='utf-8') as f:
             text = f.read()
         for edit, status, said in (("print('bad script')\n    sys.exit(2)", 2, 'the program does not take the script'),
-                                   ('sys.exit(3)', 3, 'ended with 3 and no answer'), ('sys.exit(0)', 125, 'gives no result of lifecrib (exit status 0)')):
+                                   ('sys.exit(3)', 3, 'ended with 3 and no answer'),
+                                   ('sys.exit(0)', 125, 'gives no result of lifecrib (exit status 0)')):
             with open(self.program, 'w', encoding='utf-8') as f:
-                f.write(text.replace("elif command == 'id_token':\n    id_token()", "elif command == 'id_token':\n    " + edit))
+                f.write(text.replace("elif command == 'id_token':\n    id_token()",
+                                     "elif command == 'id_token':\n    " + edit))
             found, out, err = self.login('--openid')
             self.assertEqual((found, out), (status, ''))
             self.assertIn(said, err)
@@ -205,13 +222,15 @@ class Cache(Case):
     def test_a_login_without_the_flag_keeps_no_user_of_an_earlier_one(self):
         self.login('--openid', '--cache', self.path)
         self.change(expires_at=0)
-        self.assertEqual(self.login('--scope', 'openid', '--cache', self.path, reply={**OK, 'access_token': 't2'})[0], 0)
+        self.assertEqual(self.login('--scope', 'openid', '--cache', self.path, reply={**OK, 'access_token': 't2'})[0],
+                         0)
         self.assertIsNone(self.kept()['user'])
 
     def test_files_of_earlier_versions(self):
         self.login('--scope', 'openid', '--cache', self.path)
         found = self.kept()
-        for user, is_ours in ({'iss': 'i', 'sub': 's'}, True), ({'iss': 'i'}, False), ({'iss': 'i', 'sub': 1}, False), ('x', False):
+        for user, is_ours in ({'iss': 'i', 'sub': 's'}, True), ({'iss': 'i'},
+                                                                False), ({'iss': 'i', 'sub': 1}, False), ('x', False):
             self.change(user=user)
             self.assertEqual(self.again()[0] == 0, is_ours)
         del found['user']
@@ -232,7 +251,8 @@ class Keys(Case):
         self.assertNotIn('Authorization', self.server.looked_at[0][1])
 
     def test_no_keys_no_check_of_the_signature(self):
-        for words, why in ((), 'give --jwks-url'), (('--algorithm', 'HS256', '--jwks-url', self.server.url), 'the algorithm has no public keys'):
+        for words, why in ((), 'give --jwks-url'), (('--algorithm', 'HS256', '--jwks-url', self.server.url),
+                                                    'the algorithm has no public keys'):
             with self.subTest(why):
                 err = self.login('--openid', *words)[2]
                 self.assertIn('the signature of the ID token is not checked: ' + why, err)

@@ -1,4 +1,5 @@
-"""Tests of `tools/oauth2 --profile` over a stand-in of the program and a server on this machine: settings and tokens by name."""
+"""Tests of `tools/oauth2 --profile` over a stand-in of the program and a server on this machine: settings and tokens by
+name."""
 import json
 import os
 import re
@@ -64,15 +65,18 @@ class Profiles(Case):
         self.server.reply = {**OK, 'refresh_token': 'r1'}
         words = ['password', '--profile', 'work', '--username', 'ann']
         self.assertEqual(self.run_tool(*words, OAUTH2_PASSWORD='p')[0], 0)
-        self.assertEqual(self.run_tool('token', '--profile', 'work', '--output', 'token', OAUTH2_PROGRAM='/none'), (0, 't1\n', ''))
+        self.assertEqual(self.run_tool('token', '--profile', 'work', '--output', 'token', OAUTH2_PROGRAM='/none'),
+                         (0, 't1\n', ''))
         self.server.reply = {**OK, 'access_token': 't2'}
-        self.assertEqual(self.run_tool('token', '--profile', 'work', '--output', 'token', '--margin', '3600')[:2], (0, 't2\n'))
+        self.assertEqual(self.run_tool('token', '--profile', 'work', '--output', 'token', '--margin', '3600')[:2],
+                         (0, 't2\n'))
         self.assertEqual([it[1]['grant_type'] for it in self.server.asked], ['password', 'refresh_token'])
         self.assertEqual(self.ids(), ['of-work'] * 4)
 
     def test_where_the_token_is(self):
         self.work()
-        for env, folder in ({}, self.tokens), ({'XDG_STATE_HOME': self.room + '/state'}, self.room + '/state/lifecrib'), (
+        for env, folder in ({}, self.tokens), ({'XDG_STATE_HOME': self.room + '/state'},
+                                               self.room + '/state/lifecrib'), (
                 {'XDG_STATE_HOME': 'not/absolute'}, self.tokens):
             self.assertEqual(self.run_tool('token', '--profile', 'work', **env)[0], 0)
             self.assertEqual(os.listdir(folder), ['work.token'])
@@ -92,10 +96,13 @@ class Profiles(Case):
         other = self.profiles('[profile.c]\nclient_id = "c"\n', os.path.join(self.room, 'other.toml'))
         plain = self.profiles('{"client_id": "plain"}', os.path.join(self.room, 'plain.json'))
         for words, env, client in (([], {}, 'a'), (['--profile', 'b'], {}, 'b'), ([], {'OAUTH2_PROFILE': 'b'}, 'b'),
-                                   (['--profile', 'a'], {'OAUTH2_PROFILE': 'b'}, 'a'), (['--client-id', 'flag'], {}, 'flag'),
-                                   ([], {'OAUTH2_CLIENT_ID': 'env'}, 'env'), (['--no-profile'], {'OAUTH2_CLIENT_ID': 'env'}, 'env'),
+                                   (['--profile', 'a'], {'OAUTH2_PROFILE': 'b'}, 'a'),
+                                   (['--client-id', 'flag'], {}, 'flag'),
+                                   ([], {'OAUTH2_CLIENT_ID': 'env'}, 'env'),
+                                   (['--no-profile'], {'OAUTH2_CLIENT_ID': 'env'}, 'env'),
                                    (['--config', other, '--profile', 'c'], {}, 'c'), (['--config', plain], {}, 'plain'),
-                                   ([], {'OAUTH2_CONFIG': plain}, 'plain'), (['--config', plain], {'OAUTH2_PROFILE': 'b'}, 'plain'),
+                                   ([], {'OAUTH2_CONFIG': plain}, 'plain'),
+                                   (['--config', plain], {'OAUTH2_PROFILE': 'b'}, 'plain'),
                                    (['--profile', 'b'], {'OAUTH2_CONFIG': plain}, 'b'), (['--config', path], {}, 'a')):
             with self.subTest(words=words, env=env):
                 words = ['token', '--token-url', self.server.url + '/token', '--anew', *words]
@@ -138,13 +145,17 @@ class Profiles(Case):
         self.assertTrue(os.path.exists(self.tokens + '/work.token'))
 
     def test_files_that_can_not_be_used(self):
-        for text, said in (('client_id = "a"', ', line 1: "client_id" is no setting here'), ('[profile.a]\nx = "y"', ', line 2: "x" is no'),
-                           ('\n[a]\n', ', line 2: a table has to be [profile.NAME]'), ('[profile.-]', ', line 1: the name of a profile'),
+        for text, said in (('client_id = "a"', ', line 1: "client_id" is no setting here'),
+                           ('[profile.a]\nx = "y"', ', line 2: "x" is no'),
+                           ('\n[a]\n', ', line 2: a table has to be [profile.NAME]'),
+                           ('[profile.-]', ', line 1: the name of a profile'),
                            ('[profile.a]\nscopes = "x"', ', line 2: "scopes" is not a list of texts'),
                            ('[profile.a]\nopenid = 1', ', line 2: "openid" is not true or false'),
-                           ('[profile.a]\nlisten = 70000', ', line 2: "listen" is no port'), ('default_profile = 1', ', line 1: "defaul'),
+                           ('[profile.a]\nlisten = 70000', ', line 2: "listen" is no port'),
+                           ('default_profile = 1', ', line 1: "defaul'),
                            ('[profile.a]\nlisten = true', ', line 2: "listen" is not a whole number'),
-                           ('[profile.a]\nsign_in = "x"', ', line 2: "sign_in" is none of login, device, password, token'),
+                           ('[profile.a]\nsign_in = "x"',
+                            ', line 2: "sign_in" is none of login, device, password, token'),
                            ('[profile.a]\n\nclient_id = aaa', ', line 3: a value has to be a text in ""'),
                            ('[profile.b]', ' has no profile "a": it has b'), ('', ' has no profile "a": it has none')):
             with self.subTest(text):
@@ -157,7 +168,8 @@ class Profiles(Case):
     def test_flags_that_do_not_go_together(self):
         plain = self.profiles('{}', os.path.join(self.room, 'plain.json'))
         other = self.profiles('[profile.c]\n', os.path.join(self.room, 'other.toml'))
-        for words, said in ((['--config', plain, '--profile', 'a'], '--profile names one of a .toml file, and --config is ' + plain),
+        for words, said in ((['--config', plain, '--profile', 'a'],
+                             '--profile names one of a .toml file, and --config is ' + plain),
                             (['--config', other], 'other.toml has no default_profile: give --profile')):
             status, _, err = self.run_tool('token', *words)
             self.assertEqual(status, 2)
@@ -165,7 +177,8 @@ class Profiles(Case):
 
     def test_a_secret_in_a_file_that_others_can_read(self):
         path = self.profiles('[profile.a]\nclient_secret = "s"\n', mode=0o644)
-        self.assertIn('%s holds a secret, and others can read it: chmod 600' % path, self.run_tool('token', '--profile', 'a')[2])
+        self.assertIn('%s holds a secret, and others can read it: chmod 600' % path,
+                      self.run_tool('token', '--profile', 'a')[2])
 
     def test_a_missing_setting_names_the_file(self):
         path = self.profiles('[profile.a]\nclient_id = "s"\n')
@@ -180,9 +193,13 @@ class Status(Case):
         status, out, err = self.run_tool('status', '--profile', 'work')
         self.assertEqual((status, err), (0, ''))
         rows = dict(it.split(': ', 1) for it in out.splitlines())
-        self.assertRegex(rows.pop('token'), r'\Ais good for 3[56]\d\d more seconds, until \d{4}-\d\d-\d\dT\d\d:\d\d:\d\dZ\Z')
-        self.assertEqual(rows, {'profile': 'work', 'file': self.tokens + '/work.token', 'user': '"ann"', 'client': 'of-work', 'scopes': 'a',
-                                'token endpoint': self.server.url + '/token', 'renewal': 'by a refresh token, at the next use'})
+        self.assertRegex(rows.pop('token'),
+                         r'\Ais good for 3[56]\d\d more seconds, until \d{4}-\d\d-\d\dT\d\d:\d\d:\d\dZ\Z')
+        self.assertEqual(rows,
+                         {'profile': 'work', 'file': self.tokens + '/work.token', 'user': '"ann"', 'client': 'of-work',
+                          'scopes': 'a',
+                                'token endpoint': self.server.url + '/token',
+                          'renewal': 'by a refresh token, at the next use'})
         status, out, _ = self.run_tool('status', '--profile', 'work', '--output', 'json')
         found = json.loads(out)
         self.assertEqual((status, found['profile'], found['username'], found['is_good'], found['can_be_renewed']),
@@ -249,9 +266,12 @@ class WhoAmI(OpenIdCase):
         self.assertIn('does not say who has signed in', err)
         os.unlink(self.path)
         self.signed_in()
-        for reply, status, said in (((401, {}, ''), 5, 'does not take the token'), ((500, {}, ''), 9, 'HTTP status 500'),
-                                    ((404, {}, ''), 1, 'HTTP status 404'), ((302, {'Location': 'https://x/'}, ''), 1, 'is not followed'),
-                                    ((200, {'Content-Type': 'application/jwt'}, 'a.b.c'), 1, 'is application/jwt and not a JSON object')):
+        for reply, status, said in (((401, {}, ''), 5, 'does not take the token'),
+                                    ((500, {}, ''), 9, 'HTTP status 500'),
+                                    ((404, {}, ''), 1, 'HTTP status 404'),
+                                    ((302, {'Location': 'https://x/'}, ''), 1, 'is not followed'),
+                                    ((200, {'Content-Type': 'application/jwt'}, 'a.b.c'), 1,
+                                     'is application/jwt and not a JSON object')):
             self.server.documents['/userinfo'] = reply
             found = self.whoami()
             self.assertEqual(found[:2], (status, ''))
@@ -293,7 +313,8 @@ class LogOut(Case):
 
     def test_a_token_that_can_not_be_revoked_is_forgotten(self):
         server = self.by_tls()
-        for reply, url, wanted, said in (((503, {}, ''), server.url, 9, 'HTTP status 503'), (None, 'https://127.0.0.1:1', 9, 'refused'),
+        for reply, url, wanted, said in (((503, {}, ''), server.url, 9, 'HTTP status 503'),
+                                         (None, 'https://127.0.0.1:1', 9, 'refused'),
                                          (None, '', 2, 'the revocation endpoint is not set')):
             self.signed_in()
             server.reply = reply
@@ -314,13 +335,17 @@ class EachOfBoth(unittest.TestCase):
                 (None, None, 0, []),
                 (no, None, 9, ['the refresh token of /f is not revoked: the server is gone', 'the file /f is removed']),
                 (None, full, 125, ['the refresh token of /f is revoked', '/f could not be removed']),
-                (no, full, 9, ['the refresh token of /f is not revoked: the server is gone', '/f could not be removed'])):
+                (no, full, 9,
+                 ['the refresh token of /f is not revoked: the server is gone', '/f could not be removed'])):
             session, cache = mock.MagicMock(), caches.FileCache('/f', 1)
             session.cache, opened = cache, mock.MagicMock()
             opened.__enter__.return_value, opened.__exit__.return_value = mock.Mock(entry=entry), False
-            with mock.patch.multiple(signing_out, kept_by=lambda _, kept: kept, note=mock.DEFAULT, why_not_ready=lambda _: None,
+            with mock.patch.multiple(signing_out, kept_by=lambda _, kept: kept, note=mock.DEFAULT,
+                                     why_not_ready=lambda _: None,
                                      why_not_revoked=lambda *_: not_revoked, why_not_removed=lambda *_: not_removed), \
-                    mock.patch.object(signing_out, 'tell') as tell, mock.patch.multiple(cache, read=mock.DEFAULT, opened=lambda: opened):
+                    mock.patch.object(signing_out,
+                                      'tell') as tell, mock.patch.multiple(cache, read=mock.DEFAULT,
+                                                                           opened=lambda: opened):
                 self.assertEqual(signing_out.logout(session, {}), status)
             self.assertEqual([it.args[0] for it in tell.call_args_list], said)
 

@@ -1,4 +1,5 @@
-"""Tests of `tools/oauth2 login --push` over a stand-in of the program and a server on this machine that judges each request by RFC 9126."""
+"""Tests of `tools/oauth2 login --push` over a stand-in of the program and a server on this machine that judges each
+request by RFC 9126."""
 import json
 import os
 import unittest
@@ -25,7 +26,9 @@ class Case(test_grants.Case):
     def publish(self, **more):
         """Puts the metadata of an issuer without the endpoints that are set already."""
         self.env['OAUTH2_ISSUER'] = self.server.url
-        self.server.documents = {FIRST: (200, {}, {'issuer': self.server.url, 'token_endpoint': self.server.url + '/token', **more})}
+        self.server.documents = {FIRST: (200, {},
+                                         {'issuer': self.server.url, 'token_endpoint': self.server.url + '/token',
+                                          **more})}
 
     def pushed_in(self, *words, **env):
         """How a login ends whose parameters are pushed: its status, its output, and what was pushed."""
@@ -43,7 +46,10 @@ class Case(test_grants.Case):
         for line in run.stderr:
             if line.startswith('http'):
                 state = dict(urllib.parse.parse_qsl(urllib.parse.urlsplit(line.strip()).query))['state']
-                run.communicate('%s?%s\n' % (REDIRECT, urllib.parse.urlencode({'code': 'c', 'state': state, 'iss': self.server.url})), timeout=60)
+                run.communicate('%s?%s\n'
+                                % (REDIRECT,
+                                   urllib.parse.urlencode({'code': 'c', 'state': state, 'iss': self.server.url})),
+                                timeout=60)
                 break
         return run.wait(60)
 
@@ -53,10 +59,12 @@ class Case(test_grants.Case):
 
 class Pushes(Case):
     def test_a_login(self):
-        status, out, pushed = self.pushed_in('--push-url', self.push_url, '--scope', 'x y', '--extra', 'foo=bar', '--resource', 'urn:a')
+        status, out, pushed = self.pushed_in('--push-url', self.push_url, '--scope', 'x y', '--extra', 'foo=bar',
+                                             '--resource', 'urn:a')
         self.assertEqual((status, json.loads(out)['access_token'], self.paths()), (0, 't1', ['/push', '/token']))
         found = dict(pushed)
-        self.assertEqual([found.pop(it) for it in ('response_type', 'client_id', 'redirect_uri', 'scope', 'foo', 'resource')],
+        self.assertEqual([found.pop(it)
+                          for it in ('response_type', 'client_id', 'redirect_uri', 'scope', 'foo', 'resource')],
                          ['code', 'aaa', REDIRECT, 'x y', 'bar', 'urn:a'])
         self.assertEqual({it for it in found if it not in ('code_challenge', 'code_challenge_method')}, {'state'})
 
@@ -75,7 +83,8 @@ class Pushes(Case):
         self.publish(**{PAR: self.push_url})
         self.assertEqual(self.pushed_in('--push')[0], 0)
         profile = self.file('[profile.a]\npush = true\nclient_id = "a"\n', 'a.toml')
-        self.assertEqual(self.pushed_in('--config', profile, '--profile', 'a', '--cache', os.path.join(self.room, 'cache'))[0], 0)
+        self.assertEqual(self.pushed_in('--config', profile, '--profile', 'a', '--cache',
+                                        os.path.join(self.room, 'cache'))[0], 0)
         self.assertEqual(self.paths(), ['/push', '/token'] * 2)
         self.assertEqual([it[0] for it in self.server.looked_at], [FIRST] * 2)
         self.assertEqual(self.plain(), 0)  # all endpoints are set, and none is asked for
@@ -92,7 +101,8 @@ class Pushes(Case):
                 self.assertEqual(self.plain(OAUTH2_TOKEN_URL=''), 0)
             self.assertEqual(self.paths(), wanted)
         self.publish(**{REQUIRES: True})
-        self.refused('has no "%s": give --push-url, OAUTH2_PUSH_URL' % PAR, 'login', '--redirect', REDIRECT, status=6, OAUTH2_TOKEN_URL='')
+        self.refused('has no "%s": give --push-url, OAUTH2_PUSH_URL' % PAR, 'login', '--redirect', REDIRECT, status=6,
+                     OAUTH2_TOKEN_URL='')
         self.assertEqual(self.pushed_in(OAUTH2_TOKEN_URL='', OAUTH2_PUSH_URL=self.push_url)[0], 0)
 
     def test_how_a_client_is_known(self):
@@ -119,7 +129,8 @@ class Pushes(Case):
         self.assertEqual((run.returncode, json.loads(out)['access_token']), (0, 't1'), err)
 
     def test_openid(self):
-        run = self.start('login', '--push-url', self.push_url, '--openid', '--id-token-issuer', 'https://as.example', '--redirect', REDIRECT)
+        run = self.start('login', '--push-url', self.push_url, '--openid', '--id-token-issuer', 'https://as.example',
+                         '--redirect', REDIRECT)
         for line in run.stderr:
             if line.startswith('http'):
                 found = dict(list(self.replies.pushed.values())[0])
@@ -132,15 +143,19 @@ class Pushes(Case):
         run = self.start('login', '--push-url', self.push_url, '--redirect', REDIRECT)
         self.assertIn(GOOD_FOR, run.stderr.readline())
         run.communicate('')
-        self.assertNotIn(GOOD_FOR, self.run_tool('login', '--push-url', self.push_url, '--redirect', REDIRECT, '--quiet')[2])
+        self.assertNotIn(GOOD_FOR,
+                         self.run_tool('login', '--push-url', self.push_url, '--redirect', REDIRECT, '--quiet')[2])
 
     def test_errors(self):
         words = ['login', '--push-url', self.push_url, '--redirect', REDIRECT]
         at = self.push_url + ' (--push-url)'
         for reply, status, said in (((400, {}, {'error': 'invalid_request'}), 10, 'invalid_request (HTTP status 400)'),
-                                    ((401, {}, {'error': 'invalid_client'}), 11, 'invalid_client (HTTP status 401); no secret was sent'),
-                                    ((200, {}, {'request_uri': 'urn:x', 'expires_in': 5}), 1, at + ': Failed to parse server response'),
-                                    ((429, {}, ''), 9, 'HTTP status 429'), ((404, {'Content-Type': 'text/html'}, '<p>'), 1, at + ': the reply')):
+                                    ((401, {}, {'error': 'invalid_client'}), 11,
+                                     'invalid_client (HTTP status 401); no secret was sent'),
+                                    ((200, {}, {'request_uri': 'urn:x', 'expires_in': 5}), 1,
+                                     at + ': Failed to parse server response'),
+                                    ((429, {}, ''), 9, 'HTTP status 429'),
+                                    ((404, {'Content-Type': 'text/html'}, '<p>'), 1, at + ': the reply')):
             self.server.reply = reply
             found = self.run_tool(*words)
             self.assertEqual(found[:2], (status, ''), found)
@@ -152,7 +167,8 @@ class Pushes(Case):
         self.refused('the endpoint to which the parameters of a login are pushed (RFC 9126) is not set: give --push-url', *words, '--push')
         self.refused('--push-url is "x", which is no URL', *words, '--push-url', 'x')
         self.refused('where secrets would go unencrypted', *words, '--push-url', 'http://as.example/push')
-        self.refused('--extra request_uri: the tool sends', *words, '--push-url', self.push_url, '--extra', 'request_uri=urn:x')
+        self.refused('--extra request_uri: the tool sends', *words, '--push-url', self.push_url, '--extra',
+                     'request_uri=urn:x')
         self.publish(**{PAR: self.push_url, REQUIRES: True})
         self.refused('URL has the parameter `request_uri`', *words, '--extra', 'request_uri=urn:x', OAUTH2_TOKEN_URL='')
         self.env['OAUTH2_ISSUER'] = ''
@@ -162,7 +178,8 @@ class Pushes(Case):
         self.refused('"push" is not true or false', 'login', '--config', profile, '--profile', 'a')
 
     def test_no_secret_is_shown(self):
-        run = self.start('login', '--push-url', self.push_url, '--redirect', REDIRECT, '--verbose', '--client-assertion-file', self.file(JWT))
+        run = self.start('login', '--push-url', self.push_url, '--redirect', REDIRECT, '--verbose',
+                         '--client-assertion-file', self.file(JWT))
         lines = []
         for line in run.stderr:
             lines.append(line)

@@ -8,7 +8,8 @@ import unittest
 
 import where
 
-# Notes each script. It takes no redirect but one of https and no issuer "bad", and ends that of a redirect with the event of the test.
+# Notes each script. It takes no redirect but one of https and no issuer "bad", and ends that of a redirect with the
+# event of the test.
 STAND_IN = '''#!%s
 import json, sys
 script = json.load(sys.stdin)
@@ -28,13 +29,15 @@ sys.exit(status)
 '''
 CODE = {'event': 'answer', 'answer': 'c'}
 BACK = 'https://app.example/cb?code=c&state=s'
-SETTINGS = {'OAUTH2_CLIENT_ID': 'aaa', 'OAUTH2_AUTH_URL': 'https://as.example/auth', 'OAUTH2_TOKEN_URL': 'https://as.example/token',
+SETTINGS = {'OAUTH2_CLIENT_ID': 'aaa', 'OAUTH2_AUTH_URL': 'https://as.example/auth',
+            'OAUTH2_TOKEN_URL': 'https://as.example/token',
             'OAUTH2_REDIRECT': 'https://app.example/cb'}
 
 
 class Login(unittest.TestCase):
     def login(self, event, status, *flags, redirect=BACK, **env):
-        """A login where the run of the redirect has this event and status: how it ended, and the scripts that were run."""
+        """A login where the run of the redirect has this event and status: how it ended, and the scripts that were
+        run."""
         with tempfile.TemporaryDirectory() as room:
             program, notes = os.path.join(room, 'program'), os.path.join(room, 'scripts')
             with open(program, 'w', encoding='utf-8') as f:
@@ -67,13 +70,16 @@ class Login(unittest.TestCase):
         for query, code, text, status, said in (
                 ('code=c&state=t', None, 'x', 1, 'has not the state of this login: do not use it'),
                 ('code=c&state={}&iss=i', None, 'x', 1, 'does not name the issuer'),
-                ('code=c&state={}', None, 'x', 1, 'does not name the issuer (--issuer) once: do not use it, and begin anew; or, if'),
+                ('code=c&state={}', None, 'x', 1,
+                 'does not name the issuer (--issuer) once: do not use it, and begin anew; or, if'),
                 ('state={}&iss=https://as.example', None, 'x', 1, 'has no code, or several: paste the whole address'),
-                ('state={}', 'access_denied', 'access_denied: no (see u)', 16, 'the server answers: access_denied: no (see u)'),
+                ('state={}', 'access_denied', 'access_denied: no (see u)', 16,
+                 'the server answers: access_denied: no (see u)'),
                 ('state={}', 'odd', 'odd', 1, 'the server answers: odd')):
             error = code and {'error': code, 'error_description': None, 'error_uri': None}
             event = {'event': 'fault', 'kind': 'refused_redirect', 'text': text, 'error': error, 'unread': None}
-            run, scripts = self.login(event, 1, '--issuer', 'https://as.example', redirect='https://app.example/cb?' + query)
+            run, scripts = self.login(event, 1, '--issuer', 'https://as.example',
+                                      redirect='https://app.example/cb?' + query)
             self.assertEqual((run.returncode, run.stdout), (status, ''))
             self.assertIn(said, run.stderr)
             self.assertEqual([it['command'] for it in scripts], ['authorize', 'redirect'])

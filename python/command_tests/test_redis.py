@@ -1,5 +1,5 @@
-"""Tests of `tools/oauth2 --cache redis://..` over the keeper itself, a stand-in of the program, one of Redis, and a server here; and over
-a real Redis where there is one."""
+"""Tests of `tools/oauth2 --cache redis://..` over the keeper itself, a stand-in of the program, one of Redis, and a
+server here; and over a real Redis where there is one."""
 import json
 import os
 import shutil
@@ -154,7 +154,8 @@ class Renewals(Case):
         self.assertEqual(self.grants(), ['password'])
         with open(os.path.join(self.store, 'settings'), encoding='utf-8') as f:
             settings = json.load(f)
-        self.assertEqual({it: settings[it] for it in ('host', 'port', 'db', 'password', 'socket_timeout', 'socket_connect_timeout')},
+        self.assertEqual({it: settings[it]
+                          for it in ('host', 'port', 'db', 'password', 'socket_timeout', 'socket_connect_timeout')},
                          {'host': 'cache.example', 'port': 6379, 'db': 3, 'password': None, 'socket_timeout': 30.0,
                           'socket_connect_timeout': 30.0})
 
@@ -186,17 +187,22 @@ class Renewals(Case):
         self.check_that_a_killed_run_leaves_a_mark()
         self.over()
         self.assertEqual(self.token('--timeout', '1'), (9, ''))
-        self.assertRegex(self.err, 'the token of redis://.* has ended and is not renewed: another run renews it since 20')
+        self.assertRegex(self.err,
+                         'the token of redis://.* has ended and is not renewed: another run renews it since 20')
         self.assertEqual(self.token('--timeout', '1', '--username', 'ann', command='password'), (9, ''))
         self.assertIn('--anew signs in anew', self.err)
         self.put('1', 'rest', self.value()[-1])
         self.marked(3600)
         self.change(expires_at=int(time.time()) + 30)
         self.assertEqual(self.token(), (0, 't1'))
-        self.assertRegex(self.err, 'but not renewed: .* did not finish, .*; sign in anew by tools/oauth2 password --cache redis://')
+        self.assertRegex(self.err,
+                         'but not renewed: .* did not finish, .*; sign in anew by tools/oauth2 password --cache '
+                         'redis://')
         self.over()
         self.assertEqual(self.token(), (5, ''))
-        self.assertRegex(self.err, 'another run began to renew it at 20.* and did not finish, so nobody knows whether the refresh token was '
+        self.assertRegex(self.err,
+                         'another run began to renew it at 20.* and did not finish, so nobody knows whether the '
+                         'refresh token was '
                                    r'used\): sign in anew by tools/oauth2 password --cache redis://cache.example:6379/3\?name=mail')
         status, out, _ = self.run_tool('status', '--cache', self.place)
         self.assertEqual(status, 5)
@@ -221,7 +227,8 @@ class Renewals(Case):
         self.sign_in()
         for reply, ends, wanted, said in (((401, {}, {'error': 'invalid_client'}), 0, 11, 'invalid_client'),
                                           ((400, {}, {'error': 'invalid_grant'}), 0, 5, 'sign in anew'),
-                                          ((400, {}, {'error': 'invalid_grant'}), 30, 0, 'not renewed: Server returned')):
+                                          ((400, {}, {'error': 'invalid_grant'}), 30, 0,
+                                           'not renewed: Server returned')):
             self.change(expires_at=int(time.time()) + ends)
             self.server.reply = reply
             self.assertEqual(self.token()[0], wanted)
@@ -263,11 +270,13 @@ class Renewals(Case):
         self.sign_in()
         self.meanwhile = lambda: self.faults('then', 'gone')
         self.assertEqual(self.token('--margin', '3600', '--timeout', '1'), (4, 't2'))
-        self.assertIn('did not say that it keeps the new token: the connection is gone, so this answer is not kept there', self.err)
+        self.assertIn('did not say that it keeps the new token: the connection is gone, so this answer is not kept '
+                      'there', self.err)
         folder = os.path.join(self.state, 'lifecrib')
         file, = os.listdir(folder)
         self.assertRegex(file, r'\Amail\.token\.rescued-')
-        self.assertIn('unless tools/oauth2 status shows it by then, give its refresh token to tools/oauth2 refresh --anew --cache redis://',
+        self.assertIn('unless tools/oauth2 status shows it by then, give its refresh token to tools/oauth2 refresh '
+                      '--anew --cache redis://',
                       self.err)
         with open(os.path.join(folder, file), encoding='utf-8') as f:
             refresh = json.load(f)['refresh_token']
@@ -280,10 +289,12 @@ class Renewals(Case):
     def test_replies_of_the_store_that_are_lost(self):
         self.sign_in()
         mark = ['ok'] * 4  # before it are two reads of the tool and two of the keeper
-        for words in ([*mark, 'lost'], [*mark, 'ok', 'lost'], ['ok', 'ok', 'gone'], ['ok', 'ok', 'ok', 'lost', 'lost', 'gone']):
+        for words in ([*mark, 'lost'], [*mark, 'ok', 'lost'], ['ok', 'ok', 'gone'],
+                      ['ok', 'ok', 'ok', 'lost', 'lost', 'gone']):
             count = self.count
             self.faults(*words)
-            self.assertEqual(self.token('--margin', '3600', '--timeout', '5'), (0, 't%d' % (count + 1)), (words, self.err))
+            self.assertEqual(self.token('--margin', '3600', '--timeout', '5'), (0, 't%d' % (count + 1)),
+                             (words, self.err))
             self.assertEqual(self.value()[1], 'rest')
 
     def test_a_mark_of_which_nothing_is_known(self):
@@ -309,7 +320,8 @@ class Renewals(Case):
         self.assertEqual(self.grants(), ['client_credentials'] * 3 + ['refresh_token', 'client_credentials'])
         self.assertEqual(self.token('--anew'), (0, 't5'))
         self.over()
-        self.server.reply = lambda asked: (503, {}, '') if asked['grant_type'] == 'refresh_token' else self.next_token(asked)
+        self.server.reply = lambda asked: (503, {},
+                                           '') if asked['grant_type'] == 'refresh_token' else self.next_token(asked)
         self.assertEqual(self.token(), (0, 't6'))
         self.assertEqual((self.value()[1], self.entry()['refresh_token']), ('rest', 'r6'))
 
@@ -324,7 +336,8 @@ class Others(Case):
         self.assertEqual((status, self.value()[:2]), (9, ['1', 'rest']))
         self.assertIn('%s stays, since its token is not revoked' % SHOWN, err)
         server.reply = {}
-        for command, out, said in (('revoke', 'null\n', 'the refresh token of %s is revoked, and it is kept no more' % SHOWN),
+        for command, out, said in (('revoke', 'null\n',
+                                    'the refresh token of %s is revoked, and it is kept no more' % SHOWN),
                                    ('logout', '', '%s keeps no token any more' % SHOWN)):
             token = self.entry()['refresh_token']
             status, found, err = self.run_tool(command, '--cache', self.place)
@@ -360,7 +373,8 @@ class Others(Case):
         for words in ['--client-id', 'other'], ['--scope', 'b']:
             self.assertEqual(self.token(*words), (2, ''))
             self.assertIn('%s keeps a token ' % SHOWN, self.err)
-        for words in ['1', 'text'], ['1', 'rest', '1:e30'], ['1', 'rest', '1:%%'], ['x', 'none'], ['1', 'mark', 'x', before[-1]]:
+        for words in ['1', 'text'], ['1', 'rest', '1:e30'], ['1', 'rest',
+                                                             '1:%%'], ['x', 'none'], ['1', 'mark', 'x', before[-1]]:
             self.put(*words)
             self.assertEqual(self.token()[0], 2)
             self.assertIn('has something that is no token of this tool', self.err)
@@ -373,7 +387,8 @@ class Others(Case):
                 self.assertEqual(self.token(command=command, OAUTH2_USERNAME='ann')[0], status)
             self.assertIn('%s can not be read: %s' % (SHOWN, said), self.err)
         self.faults('ok', 'ok', 'ok', 'ok', 'then', 'gone')
-        self.assertEqual(self.token('--username', 'ann', '--timeout', '1', command='password', OAUTH2_PASSWORD='p'), (4, 't1'))
+        self.assertEqual(self.token('--username', 'ann', '--timeout', '1', command='password', OAUTH2_PASSWORD='p'),
+                         (4, 't1'))
         self.assertIn('so this answer is not kept there', self.err)
 
     def test_passwords_are_not_shown(self):
@@ -395,7 +410,8 @@ class Others(Case):
         with open(config, 'w', encoding='utf-8') as f:
             f.write('[profile.work]\nclient_id = "w"\ncache = "rediss://cache.example"\n')
         self.env.update(OAUTH2_CLIENT_ID='', OAUTH2_CONFIG=config)
-        for words, name in ((['--profile', 'work'], 'work'), (['--profile', 'work', '--cache', 'redis://cache.example'], 'work'),
+        for words, name in ((['--profile', 'work'], 'work'),
+                            (['--profile', 'work', '--cache', 'redis://cache.example'], 'work'),
                             (['--no-profile', '--client-id', 'n', '--cache', 'redis://cache.example'], 'default')):
             self.assertEqual(self.run_tool('token', *words)[0], 0)
             self.assertEqual(self.value(name)[1], 'rest')
@@ -406,12 +422,15 @@ class Others(Case):
         self.assertEqual(self.run_tool('token', '--profile', 'work')[0], 2)
 
     def test_settings_that_break_what_it_rests_on(self):
-        for config, said in (({'appendonly': 'yes', 'appendfsync': 'everysec'}, '%s runs with appendfsync everysec: if it dies' % SHOWN),
-                             ({'appendonly': 'yes', 'appendfsync': 'always', 'maxmemory-policy': 'noeviction'}, None), (None, None)):
+        for config, said in (({'appendonly': 'yes', 'appendfsync': 'everysec'},
+                              '%s runs with appendfsync everysec: if it dies' % SHOWN),
+                             ({'appendonly': 'yes', 'appendfsync': 'always', 'maxmemory-policy': 'noeviction'}, None),
+                             (None, None)):
             env = {} if config is None else {'FAKE_REDIS_CONFIG': json.dumps(config)}
             words = ['--anew', '--quiet', '--username', 'ann']
             self.assertEqual(self.token(*words, command='password', OAUTH2_PASSWORD='p', **env)[0], 0)
-            self.assertEqual(self.err.partition(': if it dies')[0], 'tools/oauth2: ' + said.partition(': if')[0] if said else '')
+            self.assertEqual(self.err.partition(': if it dies')[0],
+                             'tools/oauth2: ' + said.partition(': if')[0] if said else '')
 
     def test_without_the_module(self):
         for path, status, said in ((self.room, 125, 'install python3-redis'),):
@@ -464,14 +483,17 @@ class Places(unittest.TestCase):
         self.assertEqual(shared_places.place_in('redis://:p@[::1]/').shown('x'), 'redis://[::1]:6379/0?name=x')
 
     def test_what_is_none(self):
-        for text in ('redis://', 'redis://h:0', 'redis://h:x', 'redis://h/a', 'redis://h?name=a b', 'redis://h?name=', 'redis://h?db=1',
-                     'redis://h?name=a&name=b', 'redis://h#a', 'redis://s3cret', 'redis://:s3cret@', 'file://', 'file://host/a',
+        for text in ('redis://', 'redis://h:0', 'redis://h:x', 'redis://h/a', 'redis://h?name=a b', 'redis://h?name=',
+                     'redis://h?db=1',
+                     'redis://h?name=a&name=b', 'redis://h#a', 'redis://s3cret', 'redis://:s3cret@', 'file://',
+                     'file://host/a',
                      'file:///a#b', 'file:///a?name=.x', 'file:///a?b=c'):
             if text != 'redis://s3cret':
                 with self.subTest(text), self.assertRaises(Stop) as raised:
                     shared_places.place_in(text)
                 self.assertNotIn('s3cret', str(raised.exception))
-        self.assertEqual([caches.is_shared(it) for it in ('file:///a', 'redis://h', 'REDISS://h', 'redis:h', 'a/redis://h', '', None)],
+        self.assertEqual([caches.is_shared(it)
+                          for it in ('file:///a', 'redis://h', 'REDISS://h', 'redis:h', 'a/redis://h', '', None)],
                          [True, True, True, False, False, False, False])
 
 
@@ -486,7 +508,8 @@ class Values(unittest.TestCase):
         self.assertEqual(shared_cache.value_of(3, 'none', 'x'), (3, None, None))
 
     def test_when_a_renewal_began(self):
-        for renewal, wanted in ((1700000000000 << shared_cache.RANDOM, '2023-11-14T22:13:20Z'), (2 ** 128 - 1, 'an unknown time')):
+        for renewal, wanted in ((1700000000000 << shared_cache.RANDOM, '2023-11-14T22:13:20Z'),
+                                (2 ** 128 - 1, 'an unknown time')):
             self.assertEqual(shared_cache.Mark(renewal, 1).since(), wanted)
 
 

@@ -62,13 +62,15 @@ class Case(stand_in.Case):
 
 
 def has_not_begun(status, err):
-    """Whether SIGINT met Python before it ran anything of the tool, as it does with "Fatal Python error: init_sys_streams"."""
+    """Whether SIGINT met Python before it ran anything of the tool, as it does with "Fatal Python error:
+    init_sys_streams"."""
     return status == 1 and 'KeyboardInterrupt' in err and 'oauth2' not in err
 
 
 class Interrupted(Case):
     def one(self, number, login, is_asked, after):
-        """Sends a signal so many seconds after a renewal has begun, or after the server has got it: how that ends, and the next one."""
+        """Sends a signal so many seconds after a renewal has begun, or after the server has got it: how that ends, and
+        the next one."""
         path = self.cache(login)
         with open(path, encoding='utf-8') as f:
             kept = f.read()
@@ -101,8 +103,10 @@ class Interrupted(Case):
 
     def test_a_signal_before_the_tool_has_begun(self):
         fatal = "Fatal Python error: init_sys_streams: can't initialize sys standard streams\n"
-        for status, err, wanted in ((1, fatal + 'KeyboardInterrupt\n', True), (1, 'File "/a/tools/oauth2", line 7\nKeyboardInterrupt\n', False),
-                                    (1, 'tools/oauth2: KeyboardInterrupt', False), (-2, fatal + 'KeyboardInterrupt\n', False),
+        for status, err, wanted in ((1, fatal + 'KeyboardInterrupt\n', True),
+                                    (1, 'File "/a/tools/oauth2", line 7\nKeyboardInterrupt\n', False),
+                                    (1, 'tools/oauth2: KeyboardInterrupt', False),
+                                    (-2, fatal + 'KeyboardInterrupt\n', False),
                                     (1, 'MemoryError\n', False)):
             self.assertEqual(has_not_begun(status, err), wanted)
 

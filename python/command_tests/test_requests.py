@@ -1,4 +1,5 @@
-"""Tests of what tools/oauth2 takes and sends, and how it ends, over a stand-in of the program and a server on this machine."""
+"""Tests of what tools/oauth2 takes and sends, and how it ends, over a stand-in of the program and a server on this
+machine."""
 import contextlib
 import json
 import os
@@ -44,7 +45,8 @@ class Statuses(stand_in.Case):
     def test_faults(self):
         for reply, status, said in (
                 ((401, {}, {'error': 'invalid_client'}), 11,
-                 'Server returned error response: invalid_client (HTTP status 401); no secret was sent: OAUTH2_CLIENT_SECRET'),
+                 'Server returned error response: invalid_client (HTTP status 401); no secret was sent: '
+                 'OAUTH2_CLIENT_SECRET'),
                 ((400, {}, {'error': 'odd: invalid_client'}), 1, 'odd'),
                 ((400, {}, {'error': 'invalid_grant', 'error_uri': 'u', 'trace': [1]}), 12,
                  'invalid_grant (HTTP status 400); the reply also has {"trace":[1]}\n'),
@@ -76,7 +78,8 @@ class Program(unittest.TestCase):
 
     def found(self, is_proved, unproved, has_kit=True, name=program.NAME, **env):
         """The program, and what was said."""
-        with mock.patch.object(program, 'is_proved', lambda _: is_proved), mock.patch.object(program, 'unproved', unproved), \
+        with mock.patch.object(program, 'is_proved',
+                               lambda _: is_proved), mock.patch.object(program, 'unproved', unproved), \
                 mock.patch.object(repository, 'has_kit', lambda: has_kit), mock.patch.object(endings, 'tell') as say, \
                 mock.patch.dict(os.environ, env):
             if not env:
@@ -91,7 +94,8 @@ class Program(unittest.TestCase):
                 self.assertEqual(self.found(True, None, name=name), (sys.executable, []))
 
     def test_one_that_is_not_proved_is_told_once(self):
-        for name, prove in (program.NAME, 'tools/prove '), (program.KEEPER, 'tools/prove oauth2_shared_keeper_program '):
+        for name, prove in (program.NAME, 'tools/prove '), (program.KEEPER,
+                                                            'tools/prove oauth2_shared_keeper_program '):
             for unproved in (lambda note, _: note() or '/p'), (lambda note, _: '/p'):
                 path, said = self.found(False, unproved, name=name)
                 self.assertEqual((path, len(said)), ('/p', 1))
@@ -112,7 +116,8 @@ class Program(unittest.TestCase):
     def test_the_library_of_this_checkout_is_taken_if_it_is_of_these_sources(self):
         library = _library.Library(_library.LIBRARY, lambda _: (0, b''))
         for is_proved in True, False:
-            with mock.patch.object(_library, 'library', lambda: library), mock.patch.object(c_library, 'is_proved', lambda: is_proved), \
+            with mock.patch.object(_library, 'library',
+                                   lambda: library), mock.patch.object(c_library, 'is_proved', lambda: is_proved), \
                     mock.patch.object(lifecrib_command, 'tools', where.TOOLS):
                 self.assertEqual(programs.of_package(), library if is_proved else None)
 
@@ -120,7 +125,8 @@ class Program(unittest.TestCase):
         def broken(*_):
             raise RuntimeError('src/main.rt: no')
         with mock.patch.object(program, 'kept_of', lambda _: '/none/oauth2_run.proved'):
-            for unproved, has_kit, said in ((lambda note, _: note(), False, 'there is no program here, and no kit to compile it'),
+            for unproved, has_kit, said in ((lambda note, _: note(), False,
+                                             'there is no program here, and no kit to compile it'),
                                             (broken, True, 'src/main.rt: no')):
                 with self.assertRaisesRegex(endings.Stop, said):
                     self.found(False, unproved, has_kit)
@@ -141,8 +147,10 @@ class Settings(stand_in.Case):
                 (['revoke', '--cache', ''], {}, 2, 'argument --cache: it has to name a file'),
                 (['token', '--client-secret-file', ''], {}, 2, 'argument --client-secret-file: it has to name a file'),
                 (['token', '--token-url', 'https://ann:sss@h/x'], {}, 2, '--token-url has a user or a password in it'),
-                (['token', '--token-url', 'https://ann:sss/x@h:9'], {}, 2, '--token-url has a user or a password in it'),
-                (['token', '--token-url', '', '--issuer', 'https://ann:sss@h'], {'OAUTH2_TOKEN_URL': ''}, 2, '--issuer has a user or a'),
+                (['token', '--token-url', 'https://ann:sss/x@h:9'], {}, 2,
+                 '--token-url has a user or a password in it'),
+                (['token', '--token-url', '', '--issuer', 'https://ann:sss@h'], {'OAUTH2_TOKEN_URL': ''}, 2,
+                 '--issuer has a user or a'),
                 (['password'], {}, 2, "the user's name is not set: give --username, OAUTH2_USERNAME"),
                 (['token'], {'OAUTH2_CLIENT_ID': ''}, 2, "the client's identifier is not set"),
                 (['token', '--timeout', '0'], {}, 2, '"0" is no number of seconds above 0'),
@@ -152,15 +160,19 @@ class Settings(stand_in.Case):
                 (['token'], {}, 2, 'OAUTH2_PROGRAM names /none, which is no program'),
                 (['token', '--client-secret=sss'], {}, 2, '--client-secret is no flag, since'),
                 (['token', '--client-sec', 'sss'], {}, 2, 'there is no flag --client-sec (tools/oauth2 token --help'),
-                (['--client-secret', 'sss', 'token'], {}, 2, 'give OAUTH2_CLIENT_SECRET, --client-secret-file FILE or --ask-secret'),
+                (['--client-secret', 'sss', 'token'], {}, 2,
+                 'give OAUTH2_CLIENT_SECRET, --client-secret-file FILE or --ask-secret'),
                 (['token', 'sss'], {}, 2, 'there is an argument that no flag takes'),
-                (['token', '--client-secret-file', '/none/sss'], {}, 2, 'the file of --client-secret-file can not be read: No such file'),
+                (['token', '--client-secret-file', '/none/sss'], {}, 2,
+                 'the file of --client-secret-file can not be read: No such file'),
                 (['token', '--client-secret-file', '/dev/null'], {}, 2, 'the file of --client-secret-file is empty'),
                 (['token', '--auth', 'post'], {}, 2, '--auth is "post": it has to be basic or body'),
-                (['token', '--extra', 'grant_type=x'], {}, 2, '--extra grant_type: the tool sends that parameter itself'),
+                (['token', '--extra', 'grant_type=x'], {}, 2,
+                 '--extra grant_type: the tool sends that parameter itself'),
                 (['token', '--config', '/none/x'], {}, 2, 'the file of settings /none/x does not exist'),
                 (['revoke'], {}, 2, '/revocation: revocation takes https alone, also on this machine'),
-                (['login', '--redirect', 'https://a.example/', '--auth-url', 'http://a.example/'], {}, 2, 'would go unencrypted')):
+                (['login', '--redirect', 'https://a.example/', '--auth-url', 'http://a.example/'], {}, 2,
+                 'would go unencrypted')):
             with self.subTest(said):
                 found = self.run_tool(*words, **{'OAUTH2_PROGRAM': '/none', **env})
                 self.assertEqual(found[:2], (status, ''))
@@ -181,8 +193,10 @@ class Settings(stand_in.Case):
 
     def test_a_file_of_settings_that_others_can_read_is_told(self):
         path = os.path.join(self.room, 'settings.json')
-        for text, said in (('{"client_secret":"s"}', 'others can read it'), ('{"secret":"s"}', '"secret" is no setting'),
-                           ('[]', 'has to hold one JSON object'), ('{', 'can not be read as JSON'), ('{"auth":1}', '"auth" is no text'),
+        for text, said in (('{"client_secret":"s"}', 'others can read it'),
+                           ('{"secret":"s"}', '"secret" is no setting'),
+                           ('[]', 'has to hold one JSON object'), ('{', 'can not be read as JSON'),
+                           ('{"auth":1}', '"auth" is no text'),
                            ('{"scopes":"a"}', '"scopes" is no list of texts')):
             with open(path, 'w', encoding='utf-8') as f:
                 f.write(text)
@@ -232,7 +246,8 @@ class Requests(stand_in.Case):
         self.server.reply = lambda _: waits.wait(20) and OK
         status, _, err = self.run_tool('token', '--timeout', '0.3')
         self.assertEqual(status, 9)
-        self.assertRegex(err, r'\Atools/oauth2: POST http:\S* \(--token-url\): no whole reply within 0.3 seconds \(--timeout\)\n\Z')
+        self.assertRegex(err,
+                         r'\Atools/oauth2: POST http:\S* \(--token-url\): no whole reply within 0.3 seconds \(--timeout\)\n\Z')
 
     def test_a_reply_that_is_cut_off(self):
         whole = json.dumps(OK)
@@ -249,7 +264,8 @@ class Requests(stand_in.Case):
         for url, status in (('http://127.0.0.1:1/', 9), ('https://as.invalid/', 9), (self.server.url + '/token', 9)):
             self.server.reply = (429, {}, '')
             self.assertEqual(self.run_tool('token', '--token-url', url)[0], status)
-        for reply, status in ((404, {}, ''), 1), ((503, {}, {'error': 'odd'}), 9), ((503, {}, {'error': 'server_error'}), 18):
+        for reply, status in ((404, {}, ''), 1), ((503, {}, {'error': 'odd'}),
+                                                  9), ((503, {}, {'error': 'server_error'}), 18):
             self.server.reply = reply
             self.assertEqual(self.run_tool('token')[0], status)
 
@@ -286,8 +302,10 @@ class Requests(stand_in.Case):
         empty, server = os.path.join(self.room, 'empty'), self.by_tls()
         open(empty, 'w').close()
         plain = self.server.url.replace('http:', 'https:')
-        for url, path, status, said in ((server.url, self.env['SSL_CERT_FILE'], 0, ''), (server.url, empty, 2, 'which has no certificates'),
-                                        (server.url, '/none', 2, 'SSL_CERT_FILE is /none, which can not be read: No such file'),
+        for url, path, status, said in ((server.url, self.env['SSL_CERT_FILE'], 0, ''),
+                                        (server.url, empty, 2, 'which has no certificates'),
+                                        (server.url, '/none', 2,
+                                         'SSL_CERT_FILE is /none, which can not be read: No such file'),
                                         (server.url, '', 1, 'not one that is trusted here'),
                                         (plain, '', 1, 'the server speaks no TLS at this port')):
             found = self.run_tool('token', '--token-url', url + '/token', SSL_CERT_FILE=path)
@@ -304,12 +322,14 @@ class Requests(stand_in.Case):
             self.assertNotIn('pp', err.replace('http', ''))
 
     def test_plain_http_on_this_machine_takes_no_proxy(self):
-        self.assertEqual(self.run_tool('token', HTTP_PROXY='http://127.0.0.1:1', HTTPS_PROXY='http://127.0.0.1:1')[0], 0)
+        self.assertEqual(self.run_tool('token', HTTP_PROXY='http://127.0.0.1:1', HTTPS_PROXY='http://127.0.0.1:1')[0],
+                         0)
 
 
 class Devices(stand_in.Case):
     def test_a_poll_simulates_no_more_than_its_replies_need(self):
-        codes = {'device_code': 'd', 'user_code': 'U-1', 'verification_uri': 'https://as.example/d', 'expires_in': 60, 'interval': 0}
+        codes = {'device_code': 'd', 'user_code': 'U-1', 'verification_uri': 'https://as.example/d', 'expires_in': 60,
+                 'interval': 0}
         replies = iter([codes, (400, {}, {'error': 'authorization_pending'}), OK])
         self.server.reply = lambda _: next(replies)
         status, out, err = self.run_tool('device')
@@ -319,7 +339,8 @@ class Devices(stand_in.Case):
         self.assertEqual(sorted({it['params']['max_polls'] for it in polls}), [2, 3, 4])
 
     def test_one_bad_poll_is_as_one_without_a_reply(self):
-        codes = {'device_code': 'd', 'user_code': 'U-1', 'verification_uri': 'https://as.example/d', 'expires_in': 60, 'interval': 0}
+        codes = {'device_code': 'd', 'user_code': 'U-1', 'verification_uri': 'https://as.example/d', 'expires_in': 60,
+                 'interval': 0}
         for bad in (500, {'Content-Type': 'text/html'}, '<p>'), (503, {}, {'error': 'temporarily_unavailable'}):
             replies = iter([codes, bad, bad, OK])
             self.server.reply = lambda _: next(replies)
@@ -329,24 +350,29 @@ class Devices(stand_in.Case):
             self.assertEqual(self.scripts()[-1]['replies'][:2], [{'fail': True}] * 2)
 
     def test_a_terminal_counts_down_on_one_line(self):
-        codes = {'device_code': 'd', 'user_code': 'U-1', 'verification_uri': 'https://as.example/d', 'expires_in': 60, 'interval': 1}
+        codes = {'device_code': 'd', 'user_code': 'U-1', 'verification_uri': 'https://as.example/d', 'expires_in': 60,
+                 'interval': 1}
         pending = (400, {}, {'error': 'authorization_pending'})
         replies = iter([codes, pending, pending, OK])
         self.server.reply = lambda _: next(replies)
         main, other = pty.openpty()
         self.addCleanup(os.close, main)
         words = [sys.executable, where.OAUTH2, 'device']
-        run = subprocess.run(words, env=self.env, stdin=subprocess.DEVNULL, stdout=subprocess.PIPE, stderr=other, timeout=60)
+        run = subprocess.run(words, env=self.env, stdin=subprocess.DEVNULL, stdout=subprocess.PIPE, stderr=other,
+                             timeout=60)
         os.close(other)
         shown = os.read(main, 10000).decode()
         self.assertEqual((run.returncode, json.loads(run.stdout)), (0, OK))
-        self.assertRegex(shown, r'https://as.example/d\r\nenter the code U-1: (60|5\d) seconds left\r +\renter the code U-1: 5\d seconds')
+        self.assertRegex(shown,
+                         r'https://as.example/d\r\nenter the code U-1: (60|5\d) seconds left\r +\renter the code U-1: 5\d seconds')
         self.assertTrue(shown.endswith('\r'), shown)
         self.assertEqual(shown.count('\n'), 2)
 
     def test_the_limit_of_polls_stays(self):
-        codes = {'device_code': 'd', 'user_code': 'U-1', 'verification_uri': 'https://as.example/d', 'expires_in': 60, 'interval': 0}
-        self.server.reply = lambda asked: (400, {}, {'error': 'authorization_pending'}) if 'device_code' in asked else codes
+        codes = {'device_code': 'd', 'user_code': 'U-1', 'verification_uri': 'https://as.example/d', 'expires_in': 60,
+                 'interval': 0}
+        self.server.reply = lambda asked: (400, {},
+                                           {'error': 'authorization_pending'}) if 'device_code' in asked else codes
         status, _, err = self.run_tool('device', '--max-polls', '2')
         self.assertEqual(status, 1)
         self.assertTrue(err.endswith('tools/oauth2: gave up after 2 requests (--max-polls)\n'), err)
@@ -354,11 +380,14 @@ class Devices(stand_in.Case):
 
 
     def test_giving_up_does_not_wait(self):
-        codes = {'device_code': 'd', 'user_code': 'U-1', 'verification_uri': 'https://as.example/d', 'expires_in': 600, 'interval': 60}
+        codes = {'device_code': 'd', 'user_code': 'U-1', 'verification_uri': 'https://as.example/d', 'expires_in': 600,
+                 'interval': 60}
         pending = 'authorization_pending'
-        for words, code, status, said in ((['--give-up', '2'], pending, 20, 'gave up: no answer within 2 seconds (--give-up)'),
+        for words, code, status, said in ((['--give-up', '2'], pending, 20,
+                                           'gave up: no answer within 2 seconds (--give-up)'),
                                           (['--max-polls', '1'], pending, 1, 'gave up after 1 request (--max-polls)'),
-                                          ([], 'expired_token', 20, 'Server returned error response: expired_token (HTTP status 400)')):
+                                          ([], 'expired_token', 20,
+                                           'Server returned error response: expired_token (HTTP status 400)')):
             self.server.reply = lambda asked: (400, {}, {'error': code}) if 'device_code' in asked else codes
             found = self.run_tool('device', *words)
             self.assertEqual(found[:2], (status, ''))
@@ -371,7 +400,8 @@ class Streams(stand_in.Case):
     def shell(self, line, **env):
         """The status, standard output and standard error of a shell's line, in which tool is the tool."""
         words = ['/bin/sh', '-c', line.replace('tool', "'%s' -S '%s'" % (sys.executable, where.OAUTH2))]
-        run = subprocess.run(words, env={**self.env, **env}, stdin=subprocess.DEVNULL, capture_output=True, text=True, timeout=60)
+        run = subprocess.run(words, env={**self.env, **env}, stdin=subprocess.DEVNULL, capture_output=True, text=True,
+                             timeout=60)
         return run.returncode, run.stdout, run.stderr
 
     def test_each(self):
@@ -382,7 +412,8 @@ class Streams(stand_in.Case):
         for line, status, out, err in (
                 ('tool token >&-', 125, '', 'tools/oauth2: %s\n' % closed),
                 ('tool token --ask-secret <&-', 2, '', 'tools/oauth2: %s\n' % no_secret),
-                ('tool token 2>/dev/full', 0, answer, ''), ('tool token --ask-secret 2>&-', 2, '', ''), ('tool token 2>&-', 0, answer, ''),
+                ('tool token 2>/dev/full', 0, answer, ''), ('tool token --ask-secret 2>&-', 2, '', ''),
+                ('tool token 2>&-', 0, answer, ''),
                 ('tool --help >/dev/full', 125, '', 'tools/oauth2: %s\n' % full)):
             with self.subTest(line):
                 self.server.asked = []
@@ -390,7 +421,8 @@ class Streams(stand_in.Case):
                 self.assertEqual(len(self.server.asked), 0 if status else 1)
 
     def test_signals(self):
-        self.addCleanup(signal.signal, signal.SIGINT, signal.signal(signal.SIGINT, signal.default_int_handler))  # not ignored
+        # Not ignored.
+        self.addCleanup(signal.signal, signal.SIGINT, signal.signal(signal.SIGINT, signal.default_int_handler))
         for number, status in (signal.SIGINT, 130), (signal.SIGTERM, 143):
             waits = threading.Event()
             self.server.reply = lambda _: waits.wait(20) and OK

@@ -22,9 +22,11 @@ def each_byte(text):
     return ''.join('%%%02x' % it for it in text.encode())
 
 
-WAYS = {'as it is': str, 'in a form': urllib.parse.quote_plus, 'in a path': urllib.parse.quote, 'twice': twice, 'each byte': each_byte,
+WAYS = {'as it is': str, 'in a form': urllib.parse.quote_plus, 'in a path': urllib.parse.quote, 'twice': twice,
+        'each byte': each_byte,
         'in lower case': lambda it: ''.join(c if c.isalnum() and c.isascii() else each_byte(c) for c in it),
-        'in JSON': lambda it: json.dumps(it)[1:-1], 'in JSON of UTF-8': lambda it: json.dumps(it, ensure_ascii=False)[1:-1],
+        'in JSON': lambda it: json.dumps(it)[1:-1],
+        'in JSON of UTF-8': lambda it: json.dumps(it, ensure_ascii=False)[1:-1],
         'in HTML': html.escape, 'a form in JSON': lambda it: json.dumps(urllib.parse.quote_plus(it))[1:-1],
         'JSON in a form': lambda it: urllib.parse.quote_plus(json.dumps(it)[1:-1])}
 

@@ -19,9 +19,12 @@ def page(name):
 
 class Table(unittest.TestCase):
     def test_the_page_has_each_server(self):
-        rows = dict(re.findall(r'(?m)^\| `(\w+)` \| [a-zU(].*? \| (.*?) ?\|$', page('TOOL.md').partition('## Servers by name')[2]
+        rows = dict(re.findall(r'(?m)^\| `(\w+)` \| [a-zU(].*? \| (.*?) ?\|$',
+                               page('TOOL.md').partition('## Servers by name')[2]
                                .partition('\n## ')[0]))
-        self.assertEqual(rows, {name: ', '.join('`%s`' % it for it in adapters) for name, (_, adapters) in servers.SERVERS.items()})
+        self.assertEqual(rows,
+                         {name: ', '.join('`%s`' % it for it in adapters) for name,
+                          (_, adapters) in servers.SERVERS.items()})
 
     def test_each_endpoint_is_one_and_each_adapter_is_known(self):
         known = set(re.findall(r'(?m)^\| `(\w+)` \| ', page('SCRIPT.md').partition('## The adapters of a client')[2]

@@ -36,13 +36,15 @@ class Servers(Case):
         self.assertEqual(self.token(server)[0], 1)
         config = self.file('settings.json', '{"cacert": "%s"}' % self.path)
         profile = self.file('x.toml', '[profile.a]\ncacert = "%s"\n' % os.path.relpath(self.path, self.room))
-        for words, env in ((['--cacert', self.path], {}), ([], {'OAUTH2_CACERT': self.path}), (['--config', config], {}),
+        for words, env in ((['--cacert', self.path], {}), ([], {'OAUTH2_CACERT': self.path}),
+                           (['--config', config], {}),
                            (['--config', profile, '--profile', 'a', '--cache', self.room + '/cache'], {})):
             self.assertEqual(self.token(server, *words, **env)[0], 0)
 
     @unittest.skipUnless(OPENSSL, 'there is no openssl here')
     def test_no_other_certificate_is_trusted_then(self):
-        self.openssl('req', '-x509', '-newkey', 'rsa:2048', '-nodes', '-subj', '/CN=other', '-keyout', 'key', '-out', 'other')
+        self.openssl('req', '-x509', '-newkey', 'rsa:2048', '-nodes', '-subj', '/CN=other', '-keyout', 'key', '-out',
+                     'other')
         status, _, err = self.token(self.serve(self.path), '--cacert', self.room + '/other', SSL_CERT_FILE=self.path)
         self.assertEqual(status, 1)
         self.assertIn("the server's certificate is not one that is trusted here (--cacert names others)", err)
@@ -52,7 +54,8 @@ class Servers(Case):
         for words, said in ((['--cacert', '/none/x'], '--cacert is /none/x, which can not be read: No such file'),
                             (['--cacert', empty], '--cacert is %s, which has no certificates' % empty),
                             (['--client-cert', '/none/x'], '--client-cert is /none/x, which can not be read'),
-                            (['--client-cert', self.path, '--client-key', '/none/x'], '--client-key is /none/x, which can not be read'),
+                            (['--client-cert', self.path, '--client-key', '/none/x'],
+                             '--client-key is /none/x, which can not be read'),
                             (['--client-cert', empty], 'there has to be a certificate and a key that is not encrypted'),
                             (['--client-key', self.path], '--client-key goes with --client-cert')):
             status, out, err = self.run_tool('token', *words, OAUTH2_PROGRAM='/none')
@@ -72,7 +75,8 @@ class Clients(Case):
         self.assertRegex(err, '--client-cert|reset')
         self.assertEqual(self.token(server, *trusts, '--client-cert', self.path), (0, stand_in_answer(), ''))
         key, _, certificate = CERTIFICATE.partition('-----BEGIN CERTIFICATE-----')
-        words = ['--client-cert', self.file('cert', '-----BEGIN CERTIFICATE-----' + certificate), '--client-key', self.file('key', key)]
+        words = ['--client-cert', self.file('cert', '-----BEGIN CERTIFICATE-----' + certificate), '--client-key',
+                 self.file('key', key)]
         self.assertEqual(self.token(server, *trusts, *words)[0], 0)
         self.assertEqual(self.token(server, *trusts, OAUTH2_CLIENT_CERT=words[1], OAUTH2_CLIENT_KEY=words[3])[0], 0)
         os.chmod(words[3], 0o644)
@@ -82,9 +86,11 @@ class Clients(Case):
 
     @unittest.skipUnless(OPENSSL, 'there is no openssl here')
     def test_a_certificate_that_an_authority_has_signed(self):
-        self.openssl('req', '-x509', '-newkey', 'rsa:2048', '-nodes', '-subj', '/CN=authority', '-keyout', 'ca.key', '-out', 'ca')
+        self.openssl('req', '-x509', '-newkey', 'rsa:2048', '-nodes', '-subj', '/CN=authority', '-keyout', 'ca.key',
+                     '-out', 'ca')
         self.openssl('req', '-newkey', 'rsa:2048', '-nodes', '-subj', '/CN=client', '-keyout', 'key', '-out', 'request')
-        self.openssl('x509', '-req', '-in', 'request', '-CA', 'ca', '-CAkey', 'ca.key', '-CAcreateserial', '-out', 'cert')
+        self.openssl('x509', '-req', '-in', 'request', '-CA', 'ca', '-CAkey', 'ca.key', '-CAcreateserial', '-out',
+                     'cert')
         self.openssl('pkey', '-in', 'key', '-aes256', '-passout', 'pass:x', '-out', 'encrypted')
         server = self.serve(self.path, os.path.join(self.room, 'ca'))
         words = ['--cacert', self.path, '--client-cert', self.room + '/cert', '--client-key']
@@ -99,7 +105,8 @@ class Clients(Case):
 
     def test_the_endpoints_where_the_certificate_is_shown(self):
         plain, server = self.serve(self.path), self.serve(self.path, self.path)
-        found = {'issuer': plain.url, 'token_endpoint': plain.url + '/token', 'mtls_endpoint_aliases': {'token_endpoint': server.url + '/mtls'}}
+        found = {'issuer': plain.url, 'token_endpoint': plain.url + '/token',
+                 'mtls_endpoint_aliases': {'token_endpoint': server.url + '/mtls'}}
         plain.documents['/.well-known/oauth-authorization-server'] = (200, {}, found)
         words = ['token', '--issuer', plain.url, '--cacert', self.path]
         self.assertEqual(self.run_tool(*words, OAUTH2_TOKEN_URL='')[0], 0)

@@ -32,8 +32,10 @@ class Verbose(stand_in.Case):
         self.assertEqual(status, 0)
         lines = [it for it in err.splitlines() if not it.startswith(('< Server: ', '< Date: '))]
         self.assertEqual(lines, [
-            '* %s, not encrypted' % self.server.url.partition('//')[2], '> POST %s/token' % self.server.url, '> Accept: application/json',
-            '> Connection: close', '> Content-Type: application/x-www-form-urlencoded', '> Authorization: Basic ***', '>',
+            '* %s, not encrypted' % self.server.url.partition('//')[2], '> POST %s/token' % self.server.url,
+            '> Accept: application/json',
+            '> Connection: close', '> Content-Type: application/x-www-form-urlencoded', '> Authorization: Basic ***',
+            '>',
             '> grant_type=client_credentials&scope=a+b', '< 200 OK', '< Content-Type: application/json', '<',
             '< {"access_token": "***", "token_type": "Bearer"}'])
 
@@ -43,8 +45,10 @@ class Verbose(stand_in.Case):
     def test_the_secrets_of_each_command(self):
         self.server.reply = {**TOKENS, 'active': True, 'nested': [{'refresh_token': 'deep'}]}
         got = ['acc/ess+1', 'ref resh&2', 'id.to.ken', 'deep']
-        for words, env in ((['password', '--username', 'ann'], {'OAUTH2_PASSWORD': 'pass word'}), (['refresh'], {'OAUTH2_REFRESH_TOKEN': 'o d'}),
-                           (['introspect'], {'OAUTH2_TOKEN': 'the+token'}), (['token', '--extra', 'client_assertion=j.w.t'], {}),
+        for words, env in ((['password', '--username', 'ann'], {'OAUTH2_PASSWORD': 'pass word'}),
+                           (['refresh'], {'OAUTH2_REFRESH_TOKEN': 'o d'}),
+                           (['introspect'], {'OAUTH2_TOKEN': 'the+token'}),
+                           (['token', '--extra', 'client_assertion=j.w.t'], {}),
                            (['token', '--extra', 'own=mine all'], {})):
             hides = [*got, *env.values(), 'j.w.t', 'mine all', 'cli ent']
             status, err = self.shown(*words, '--auth', 'body', hides=hides, OAUTH2_CLIENT_SECRET='cli ent', **env)
@@ -54,7 +58,8 @@ class Verbose(stand_in.Case):
 
     def test_a_device(self):
         self.server.reply = lambda asked: OK if 'device_code' in asked else {
-            'device_code': 'de/vice', 'user_code': 'U-1', 'verification_uri': 'https://as.example/d', 'expires_in': 60, 'interval': 0}
+            'device_code': 'de/vice', 'user_code': 'U-1', 'verification_uri': 'https://as.example/d', 'expires_in': 60,
+            'interval': 0}
         status, err = self.shown('device', hides=['de/vice', '"t1"'])
         self.assertEqual((status, err.count('> POST ')), (0, 2))
 
@@ -63,9 +68,11 @@ class Verbose(stand_in.Case):
         login = base64.b64encode(('aaa:' + urllib.parse.quote_plus(secret)).encode()).decode()
         for way in WAYS.values():
             said = 'secret [%s] password [%s] header [%s]' % (way(secret), way(password), way(login))
-            for body, kind in ((json.dumps({'error': 'x', 'error_description': said}), 'application/json'), ('<p>%s' % said, 'text/html')):
+            for body, kind in ((json.dumps({'error': 'x', 'error_description': said}), 'application/json'),
+                               ('<p>%s' % said, 'text/html')):
                 self.server.reply = (400, {'Content-Type': kind, 'X-Echo': way(secret).replace('\n', '')}, body)
-                _, err = self.shown('password', '--username', 'ann', OAUTH2_PASSWORD=password, OAUTH2_CLIENT_SECRET=secret)
+                _, err = self.shown('password', '--username', 'ann', OAUTH2_PASSWORD=password,
+                                    OAUTH2_CLIENT_SECRET=secret)
                 shown = ''.join(it for it in err.splitlines() if it.startswith('<'))
                 self.assertIn('secret [***] password [***] header [***]', shown)
                 self.assertIn('X-Echo: ***', shown)
@@ -98,7 +105,8 @@ class Verbose(stand_in.Case):
         run = self.start('login', '--redirect', 'https://app.example/cb', '--verbose')
         url = next(it for it in run.stderr if it.startswith('http'))
         state = dict(urllib.parse.parse_qsl(urllib.parse.urlsplit(url).query))['state'].strip()
-        err = run.communicate('https://app.example/cb?code=the%%2Fcode&state=%s&x=y&iss=https://as.example\n' % state, timeout=120)[1]
+        err = run.communicate('https://app.example/cb?code=the%%2Fcode&state=%s&x=y&iss=https://as.example\n' % state,
+                              timeout=120)[1]
         self.assertEqual(run.returncode, 0)
         verifier = next(it['params']['verifier'] for it in self.scripts() if it['command'] == 'authorize')
         for secret in 'the/code', 'the%2Fcode', verifier, state:

@@ -1,4 +1,5 @@
-"""Tests of `tools/oauth2 verify-token` over a stand-in of the program and a server on this machine: JWT access tokens, and whose keys."""
+"""Tests of `tools/oauth2 verify-token` over a stand-in of the program and a server on this machine: JWT access tokens,
+and whose keys."""
 import base64
 import json
 import time
@@ -23,10 +24,12 @@ class Tests(stand_in.Case):
             200, {}, {'issuer': self.issuer, 'jwks_uri': self.issuer + '/keys'})
 
     def token(self, **claims):
-        return '.'.join((part({'typ': 'at+jwt', 'alg': 'RS256'}), part({'iss': self.issuer, 'aud': 'api', 'exp': int(time.time()) + 600, **claims}), 'c2ln'))
+        return '.'.join((part({'typ': 'at+jwt', 'alg': 'RS256'}),
+                         part({'iss': self.issuer, 'aud': 'api', 'exp': int(time.time()) + 600, **claims}), 'c2ln'))
 
     def verify(self, *words, token, **env):
-        return self.run_tool('verify-token', '--issuer', self.issuer, '--audience', 'api', *words, given=token + '\n', **env)
+        return self.run_tool('verify-token', '--issuer', self.issuer, '--audience', 'api', *words, given=token + '\n',
+                             **env)
 
     def test_by_the_keys_of_the_metadata_or_of_a_url(self):
         token = self.token(sub='u-1')
@@ -34,7 +37,8 @@ class Tests(stand_in.Case):
             status, out, err = self.verify(*words, token=token)
             self.assertEqual((status, json.loads(out)['sub'], err), (0, 'u-1', ''))
         script = self.scripts()[-1]
-        self.assertEqual(script['params'], {'issuer': self.issuer, 'audience': 'api', 'keys': KEYS, 'leeway': 60, 'access_token': token})
+        self.assertEqual(script['params'],
+                         {'issuer': self.issuer, 'audience': 'api', 'keys': KEYS, 'leeway': 60, 'access_token': token})
         self.assertEqual(script['client'], {'id': 'api'})
         self.assertLess(abs(script['readings'][0] - time.time()), 60)
         self.assertEqual(self.server.asked, [])
@@ -47,7 +51,8 @@ class Tests(stand_in.Case):
         self.assertEqual(self.scripts()[-1]['params']['algorithm'], 'ES256')
 
     def test_what_is_refused(self):
-        for claims, said in (({'iss': 'https://other'}, 'it has to be ' + self.issuer), ({'aud': 'b'}, 'it has to have "api" (--audience)'),
+        for claims, said in (({'iss': 'https://other'}, 'it has to be ' + self.issuer),
+                             ({'aud': 'b'}, 'it has to have "api" (--audience)'),
                              ({'exp': 1}, 'is the clock of this machine right?')):
             status, out, err = self.verify(token=self.token(**claims))
             self.assertEqual((status, out), (7, ''))
@@ -66,7 +71,8 @@ class Tests(stand_in.Case):
         self.assertEqual(self.verify(token=self.token())[:2], (6, ''))
 
     def test_what_has_to_be_given(self):
-        for words, said in ((('--audience', 'api'), 'the issuer of the token is not set'), (('--issuer', self.issuer), '--audience')):
+        for words, said in ((('--audience', 'api'), 'the issuer of the token is not set'),
+                            (('--issuer', self.issuer), '--audience')):
             status, out, err = self.run_tool('verify-token', *words, given='t\n')
             self.assertEqual((status, out), (2, ''))
             self.assertIn(said, err)

@@ -21,7 +21,8 @@ def params_of(session: Session, keys: Any) -> dict[str, Any]:
     """The parameters of the command `access_token`, with the token, which is asked for."""
     given, settings = session.given, session.settings
     found = {'issuer': settings['issuer'], 'audience': given.audience, 'keys': keys, 'algorithm': given.algorithm,
-             'leeway': LEEWAY if given.leeway is None else given.leeway, 'access_token': asked('OAUTH2_TOKEN', 'The token')}
+             'leeway': LEEWAY if given.leeway is None else given.leeway,
+             'access_token': asked('OAUTH2_TOKEN', 'The token')}
     return {name: value for name, value in found.items() if value is not None}
 
 
@@ -32,7 +33,8 @@ def verify(session: Session) -> int:
     url = session.settings['jwks_url']
     params = params_of(session, openid.keys_at(url, session.where(url), session.given.timeout, 'no token is read'))
     now = int(time.time())
-    run = ran({'client': {'id': session.given.audience}, 'command': 'access_token', 'params': params, 'readings': [now]})
+    run = ran({'client': {'id': session.given.audience}, 'command': 'access_token', 'params': params,
+               'readings': [now]})
     fault = fault_in(run)
     if fault:
         advice = advice_of(fault, params, now)

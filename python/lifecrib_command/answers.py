@@ -22,8 +22,10 @@ EXPIRES = 'expires_at'  # the member that --expires adds
 
 
 def members_in(text: str) -> Members:
-    """The members of a JSON object in order, each name with its value as the text writes it. ValueError if it is no object."""
-    decoder = json.JSONDecoder(parse_int=len, parse_float=len, parse_constant=no_number)  # what a number is worth is not needed
+    """The members of a JSON object in order, each name with its value as the text writes it. ValueError if it is no
+    object."""
+    # What a number is worth is not needed.
+    decoder = json.JSONDecoder(parse_int=len, parse_float=len, parse_constant=no_number)
     space = re.compile(r'[ \t\r\n]*')
     found: Members = []
 
@@ -113,7 +115,8 @@ def token_in(text: str, is_bearer: bool = True) -> str:
     if not all('!' <= it <= '~' for it in token):
         raise Stop('the access token has a character that no header may have: take it from --output json')
     if is_bearer and str(kind).lower() != 'bearer':
-        raise Stop('the token is of the type "%s", and only for "bearer" this tool knows the header: take it from --output json' % kind)
+        raise Stop('the token is of the type "%s", and only for "bearer" this tool knows the header: take it from '
+                   '--output json' % kind)
     return token
 
 
@@ -150,5 +153,6 @@ def write(text: str, output: str, is_secret: bool, ends: Optional[int] = None) -
     """Writes an answer to standard output, where a terminal gets a warning before a secret."""
     line = in_form(text, output, ends)
     if is_secret and os.isatty(1):
-        endings.tell('what follows is secret: whoever has it can use it; clear the terminal after use (--show writes it without this line)')
+        endings.tell('what follows is secret: whoever has it can use it; clear the terminal after use (--show writes '
+                     'it without this line)')
     put(line + '\n')

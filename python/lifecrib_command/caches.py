@@ -28,8 +28,8 @@ if TYPE_CHECKING:  # typing takes a while to load
             """Drops it: what that was, if it may be another token."""
 
     class Cache(Protocol):
-        """Where a token is kept. name is what messages call it, kind the word for that in a status, other what to do where it has something
-        else, and removed and it_is_removed what is said once it is dropped."""
+        """Where a token is kept. name is what messages call it, kind the word for that in a status, other what to do
+        where it has something else, and removed and it_is_removed what is said once it is dropped."""
 
         name: str
         kind: str
@@ -98,8 +98,8 @@ if TYPE_CHECKING:  # typing takes a while to load
             """Whether the refresh token is as good as before, since the server said no or was not asked."""
 
         def in_place_of(self, kept: Entry, is_over: bool) -> Optional[Entry]:
-            """The token that the client itself gets in the place of one that another run did not renew; None where a user has to sign
-            in."""
+            """The token that the client itself gets in the place of one that another run did not renew; None where a
+            user has to sign in."""
 
 
 SHARED = ('redis', 'rediss', 'file')  # the schemes of places that runs of many machines, or of one, share
@@ -115,7 +115,8 @@ def is_shared(text: Optional[str]) -> bool:
 class Held:
     """What came of a renewal: the token that there is, None where there is none."""
 
-    def __init__(self, entry: Optional[Entry], *, is_good: bool = False, is_new: bool = False, not_kept: Optional[str] = None,
+    def __init__(self, entry: Optional[Entry], *, is_good: bool = False, is_new: bool = False,
+                 not_kept: Optional[str] = None,
                  stop: Optional[Stop] = None, is_over: bool = False, is_harmless: bool = False) -> None:
         self.entry = entry
         self.is_good = is_good  # it needs no renewal

@@ -78,14 +78,17 @@ def device(session: Session, params: Params) -> Outcome:
 def check_given_up(given: Any, outcome: Outcome) -> None:
     """Stops where a poll ended by a limit, and not by what the server says."""
     if outcome.fault and outcome.is_undecided():
-        raise Stop('gave up after %d request%s (--max-polls)' % (given.max_polls, 's' if given.max_polls > 1 else ''), FAULT)
+        raise Stop('gave up after %d request%s (--max-polls)' % (given.max_polls, 's' if given.max_polls > 1 else ''),
+                   FAULT)
     expired = 'expired_token'
     if outcome.fault and conversation.code_of(outcome.fault) == expired and faults.error_in(outcome) != expired:
         limit = 'gave up: no answer within %s seconds (--give-up)' % given.give_up
-        raise Stop('the device code has expired: begin anew' if given.give_up is None else limit, endings.OF_CODE[expired])
+        raise Stop('the device code has expired: begin anew' if given.give_up is None else limit,
+                   endings.OF_CODE[expired])
 
 
 # What runs each command that makes one request of the library, or a login.
 COMMANDS: Mapping[str, Callable[[Session, Params], Outcome]] = {
-    'login': logins.login, 'token': token, 'password': password, 'refresh': refresh, 'exchange': exchange, 'assertion': assertion,
+    'login': logins.login, 'token': token, 'password': password, 'refresh': refresh, 'exchange': exchange,
+    'assertion': assertion,
     'device': device, 'introspect': introspect, 'revoke': revoke}

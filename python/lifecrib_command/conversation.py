@@ -1,4 +1,5 @@
-"""How a script is run until its answer is there: each request that it shows is sent, and its reply put into the script."""
+"""How a script is run until its answer is there: each request that it shows is sent, and its reply put into the
+script."""
 from __future__ import annotations
 
 import time
@@ -16,14 +17,16 @@ Script = Mapping[str, Any]
 Fault = Mapping[str, Any]
 LAST_READING = 253402207200  # that a script may have
 ENDS = ('answer', 'fault')  # the events that are last
-UNDECIDED = ('authorization_pending', 'slow_down')  # what a server says of a device whose user has not decided (RFC 8628, 3.5)
+# What a server says of a device whose user has not decided (RFC 8628, 3.5).
+UNDECIDED = ('authorization_pending', 'slow_down')
 
 
 class Outcome(NamedTuple):
     """What came of a command.
 
-    reply is the last one as the script has it, url where its request went, and asked_at when. note says what the run does not know of it:
-    why there is no reply, or where that sends to. may_retry is whether another try may have another result.
+    reply is the last one as the script has it, url where its request went, and asked_at when. note says what the run
+    does not know of it: why there is no reply, or where that sends to. may_retry is whether another try may have
+    another result.
     """
 
     run: Run
@@ -51,7 +54,8 @@ class Outcome(NamedTuple):
         """Whether a device was asked for as often as was allowed, and its user has not decided."""
         reply = self.run.reply() if self.run.exchanges and self.run.exchanges[-1]['reply'] else None
         said = reply['json'] if reply else {'error': UNDECIDED[0]}
-        return self.fault is not None and self.fault['kind'] == 'other_error' and isinstance(said, dict) and said.get('error') in UNDECIDED
+        is_said = isinstance(said, dict) and said.get('error') in UNDECIDED
+        return is_said and self.fault is not None and bool(self.fault['kind'] == 'other_error')
 
 
 def fault_in(run: Run) -> Optional[Fault]:
@@ -88,11 +92,13 @@ class Refused(Stop):
         part, _, name = self.member.partition('.')
         what = '"%s" of the %s' % (name, part) if name else 'script'
         why = ' (%s)' % bad.why if bad.why else ''
-        super().__init__('the program does not take the %s%s: docs/SCRIPT.md says what it may be' % (what, why), BAD_SETTING)
+        super().__init__('the program does not take the %s%s: docs/SCRIPT.md says what it may be' % (what, why),
+                         BAD_SETTING)
 
 
 def next_of(run: Run, replies: int, sleeps: int) -> Mapping[str, Any]:
-    """The first event that has to be done, where so many requests have replies and so many sleeps are over; else the last one."""
+    """The first event that has to be done, where so many requests have replies and so many sleeps are over; else the
+    last one."""
     for event in run.events:
         if event['event'] == 'exchange':
             replies -= 1
@@ -120,11 +126,12 @@ def sleep_until(end: float) -> None:
 class Conversation:
     """A script whose requests are sent.
 
-    limit is how many seconds a reply may take. renewal is told of what is sent, if that is a refresh token, and fresh gives the parameters
-    that may have changed since the last request.
+    limit is how many seconds a reply may take. renewal is told of what is sent, if that is a refresh token, and fresh
+    gives the parameters that may have changed since the last request.
     """
 
-    def __init__(self, script: Script, limit: float, renewal: Optional[Renewal], fresh: Callable[[], Mapping[str, Any]]) -> None:
+    def __init__(self, script: Script, limit: float, renewal: Optional[Renewal],
+                 fresh: Callable[[], Mapping[str, Any]]) -> None:
         self.script, self.limit, self.renewal, self.fresh = dict(script, replies=[]), limit, renewal, fresh
         self.sleeps = 0
         self.url: Optional[str] = None
@@ -179,7 +186,8 @@ class Conversation:
 
 
 def of_poll(request: Request, got: Reply) -> Reply:
-    """What a poll makes of a reply: one of a server that is in trouble is as none, so that the next request comes later (RFC 8628, 3.5)."""
+    """What a poll makes of a reply: one of a server that is in trouble is as none, so that the next request comes later
+    (RFC 8628, 3.5)."""
     status: int = (got.reply or {}).get('status', 0)
     if status not in RETRIED:
         return got

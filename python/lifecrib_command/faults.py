@@ -1,4 +1,5 @@
-"""Why a command has no answer, as one line, and with which status it ends then: by the kind of the fault, and not by its text."""
+"""Why a command has no answer, as one line, and with which status it ends then: by the kind of the fault, and not by
+its text."""
 from __future__ import annotations
 
 import json
@@ -11,7 +12,8 @@ from .endings import FAULT, TRY_AGAIN
 OF_AN_ERROR = ('error', 'error_description', 'error_uri')  # what the text of an error response has
 NO_OBJECT = ('NotJson', 'NotObject')  # the causes of a body that has no JSON object
 AT_ALL = ('error_response', 'out_of_memory')  # the faults that count also where the server sends elsewhere
-NO_SECRET = ('no secret was sent: OAUTH2_CLIENT_SECRET, --client-secret-file or --ask-secret gives one, and --client-assertion-file an '
+NO_SECRET = ('no secret was sent: OAUTH2_CLIENT_SECRET, --client-secret-file or --ask-secret gives one, and '
+             '--client-assertion-file an '
              'assertion')
 IS_URL = 'is the URL that of the endpoint?'
 
@@ -37,7 +39,8 @@ def is_of_type(fault: Fault, reply: Mapping[str, Any]) -> bool:
 def text_of(fault: Fault) -> str:
     """What the library says of a fault, and of a body that can't be read where and why."""
     unread = fault['unread']
-    return '%s %s %s' % (fault['text'], json.dumps(unread['member'], ensure_ascii=False), unread['cause']) if unread else str(fault['text'])
+    return '%s %s %s' % (fault['text'], json.dumps(unread['member'], ensure_ascii=False),
+                         unread['cause']) if unread else str(fault['text'])
 
 
 def of(outcome: Outcome, where: str = '', hint: str = IS_URL, has_secret: bool = True) -> tuple[str, int]:

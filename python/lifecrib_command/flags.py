@@ -19,62 +19,85 @@ OF_KEPT = ('status', 'whoami', 'logout', 'git-credential')
 GIVES_NO_TOKEN = ('introspect', 'revoke', 'verify-token', *OF_KEPT)
 KEEPS_NONE = ('exchange', 'assertion')  # the commands that give a token and keep none
 # The one place to which a further parameter goes, of a command that has several.
-EXTRA_GOES = {'login': ', of the authorization request alone', 'device': ', of the first request alone, which asks for the code'}
+EXTRA_GOES = {'login': ', of the authorization request alone',
+              'device': ', of the first request alone, which asks for the code'}
 MORE = 'tools/oauth2 --help says where settings and secrets come from, and what the exit status means.'
 STDIN = '%s, or a line of standard input that a terminal does not show.'
 # Each command: what it does, more of that, and an example.
 ABOUT = {
     'login': ('sends the user to the authorization URL and exchanges the code that comes back',
-              'Prints the URL. Then it reads the address that the browser is sent back to, as a line of standard input that a terminal\n'
-              'does not show; or with --listen it waits for the browser on this machine, at the path of --redirect (RFC 8252, 7.3).\n'
-              'It goes on only if the program reads a code from that address: its state has to be the one that was sent, and with\n'
-              '--issuer it has to name that issuer. If metadata were asked for and do not promise the name, it may be left out.\n'
+              'Prints the URL. Then it reads the address that the browser is sent back to, as a line of standard '
+              'input that a terminal\n'
+              'does not show; or with --listen it waits for the browser on this machine, at the path of --redirect '
+              '(RFC 8252, 7.3).\n'
+              'It goes on only if the program reads a code from that address: its state has to be the one that was '
+              'sent, and with\n'
+              '--issuer it has to name that issuer. If metadata were asked for and do not promise the name, it may be '
+              'left out.\n'
               'With --openid the server has to send an ID token, which the program checks.\n'
-              'With --push the program sends the parameters to the server first, so that the URL does not have them (RFC 9126).',
-              'tools/oauth2 login --client-id aaa --auth-url https://as.example/authorize --token-url https://as.example/token \\\n'
+              'With --push the program sends the parameters to the server first, so that the URL does not have them '
+              '(RFC 9126).',
+              'tools/oauth2 login --client-id aaa --auth-url https://as.example/authorize --token-url '
+              'https://as.example/token \\\n'
               '    --redirect http://127.0.0.1/back --listen --scope openid'),
     'token': ('asks for a token for the client itself, by its client credentials',
-              'With --cache it prints the token that the file keeps, renewed where that is needed, whatever command has put it there.',
+              'With --cache it prints the token that the file keeps, renewed where that is needed, whatever command '
+              'has put it there.',
               'tools/oauth2 token --client-id aaa --ask-secret --token-url https://as.example/token --output token'),
     'password': ("exchanges a user's name and password", 'The password is ' + STDIN % 'OAUTH2_PASSWORD',
                  'tools/oauth2 password --client-id aaa --token-url https://as.example/token --username ann'),
-    'refresh': ('exchanges a refresh token', 'The refresh token is the one of --cache, OAUTH2_REFRESH_TOKEN' + STDIN % '',
+    'refresh': ('exchanges a refresh token',
+                'The refresh token is the one of --cache, OAUTH2_REFRESH_TOKEN' + STDIN % '',
                 'tools/oauth2 refresh --client-id aaa --token-url https://as.example/token'),
     'exchange': ('exchanges a token for another one',
                  'The token that is exchanged is the one of --subject-token-file, OAUTH2_SUBJECT_TOKEN%s\n'
-                 "With --actor-token-type the token of who acts for the subject goes with it: that of --actor-token-file,\n"
+                 "With --actor-token-type the token of who acts for the subject goes with it: that of "
+                 "--actor-token-file,\n"
                  'OAUTH2_ACTOR_TOKEN%s\n'
                  'A type is one of %s, or another URI.' % (STDIN % '', STDIN % '', ', '.join(grants.TYPES)),
-                 'tools/oauth2 exchange --client-id aaa --ask-secret --token-url https://as.example/token --audience https://api.example'),
+                 'tools/oauth2 exchange --client-id aaa --ask-secret --token-url https://as.example/token --audience '
+                 'https://api.example'),
     'assertion': ('exchanges an assertion of another issuer',
                   'The assertion is the one of --assertion-file, OAUTH2_ASSERTION' + STDIN % '' + '\n'
                   'It is a JWT, or with --kind saml2 the XML of a SAML 2.0 assertion, which is encoded here.',
-                  'tools/oauth2 assertion --client-id aaa --token-url https://as.example/token --assertion-file account.jwt'),
-    'device': ('signs in on another device', 'Prints the code and where to enter it, then asks until the server answers.',
-               'tools/oauth2 device --client-id aaa --device-url https://as.example/device --token-url https://as.example/token'),
+                  'tools/oauth2 assertion --client-id aaa --token-url https://as.example/token --assertion-file '
+                  'account.jwt'),
+    'device': ('signs in on another device',
+               'Prints the code and where to enter it, then asks until the server answers.',
+               'tools/oauth2 device --client-id aaa --device-url https://as.example/device --token-url '
+               'https://as.example/token'),
     'introspect': ('asks about a token', 'The token is ' + STDIN % 'OAUTH2_TOKEN',
-                   'tools/oauth2 introspect --client-id aaa --ask-secret --introspection-url https://as.example/introspect'),
+                   'tools/oauth2 introspect --client-id aaa --ask-secret --introspection-url '
+                   'https://as.example/introspect'),
     'revoke': ('revokes a token', 'The token is the one of --cache, OAUTH2_TOKEN' + STDIN % '' + '\n'
-               'With --cache the refresh token of the file is revoked, or its access token if it has no other; then the file is removed.',
+               'With --cache the refresh token of the file is revoked, or its access token if it has no other; then '
+               'the file is removed.',
                'tools/oauth2 revoke --cache ~/.token --revocation-url https://as.example/revoke'),
     'verify-token': ('checks a JWT access token as a resource server does',
-                     'The token is ' + STDIN % 'OAUTH2_TOKEN' + ' Its signature is checked by the keys of --jwks-url, or\n'
-                     'those of the metadata of --issuer. Prints what an introspection would say of it. What is accepted is one of this '
-                     'issuer\nfor this audience that has not expired (RFC 9068, 4); whether it was revoked only the issuer knows.',
+                     'The token is ' + STDIN % 'OAUTH2_TOKEN' +
+                     ' Its signature is checked by the keys of --jwks-url, or\n'
+                     'those of the metadata of --issuer. Prints what an introspection would say of it. What is '
+                     'accepted is one of this '
+                     'issuer\nfor this audience that has not expired (RFC 9068, 4); whether it was revoked only the '
+                     'issuer knows.',
                      'tools/oauth2 verify-token --issuer https://as.example --audience https://api.example'),
     'status': ('says whose token is kept, from which server, and until when it is good',
-               'No secret is shown, and no request is made. The exit status is 5 if a user has to sign in for a good token.',
+               'No secret is shown, and no request is made. The exit status is 5 if a user has to sign in for a good '
+               'token.',
                'tools/oauth2 status --profile work'),
     'whoami': ('asks the UserInfo endpoint about the user who has signed in',
-               'The token is the kept one of a login with --openid, renewed where that is needed. The answer is shown if its "sub" is\n'
+               'The token is the kept one of a login with --openid, renewed where that is needed. The answer is shown '
+               'if its "sub" is\n'
                'that of the ID token (OpenID Connect Core 1.0, 5.3.2).',
                'tools/oauth2 whoami --profile work'),
     'logout': ('revokes the kept token, and removes the file',
-               'The refresh token is revoked, or the access token if there is no other. The file is removed also if the server could not\n'
+               'The refresh token is revoked, or the access token if there is no other. The file is removed also if '
+               'the server could not\n'
                'be asked or said no, and standard error says so.',
                'tools/oauth2 logout --profile work'),
     'git-credential': ('gives git the kept token as a password',
-                       'git runs it and adds what it wants: get, store or erase. It answers for --host alone, over https. A token that a\n'
+                       'git runs it and adds what it wants: get, store or erase. It answers for --host alone, over '
+                       'https. A token that a\n'
                        'server has refused (erase) is renewed at the next use.',
                        "git config --global credential.https://git.example.helper \\\n"
                        "    '!tools/oauth2 git-credential --profile work --host git.example'"),
@@ -120,10 +143,13 @@ def port_of(text: str) -> int:
 
 
 def add_for_all(it: argparse.ArgumentParser, name: str) -> None:
-    it.set_defaults(cache=None, extra=None, resource=None, openid=False, push=False, anew=False, ask_secret=False, client_secret_file=None)
+    it.set_defaults(cache=None, extra=None, resource=None, openid=False, push=False, anew=False, ask_secret=False,
+                    client_secret_file=None)
     it.add_argument('--profile', metavar='NAME', help='the profile whose settings are used, and whose token is kept')
-    it.add_argument('--no-profile', action='store_true', help='use no profile, also if the file of profiles names a default one')
-    it.add_argument('--config', type=file_of, metavar='FILE', help='the file of settings: JSON, or profiles if it ends in .toml')
+    it.add_argument('--no-profile', action='store_true',
+                    help='use no profile, also if the file of profiles names a default one')
+    it.add_argument('--config', type=file_of, metavar='FILE',
+                    help='the file of settings: JSON, or profiles if it ends in .toml')
     it.add_argument('--quiet', action='store_true',
                     help='leave out the notes on standard error: only errors, warnings, and what the user has to do')
 
@@ -148,7 +174,8 @@ def add_for_requests(it: argparse.ArgumentParser, name: str) -> None:
 
 
 def add_for_replies(it: argparse.ArgumentParser) -> None:
-    it.add_argument('--timeout', type=seconds_of, default=30, metavar='SECONDS', help='how long a reply may take (%(default)s)')
+    it.add_argument('--timeout', type=seconds_of, default=30, metavar='SECONDS',
+                    help='how long a reply may take (%(default)s)')
 
 
 def add_for_tokens(it: argparse.ArgumentParser) -> None:
@@ -164,7 +191,8 @@ def add_for_tokens(it: argparse.ArgumentParser) -> None:
 
 def add_for_caches(it: argparse.ArgumentParser) -> None:
     it.add_argument('--cache', type=file_of, metavar='FILE',
-                    help='keep the token in this file, or at redis://HOST[:PORT][/DB] or file:///FOLDER, and use the one that is there '
+                    help='keep the token in this file, or at redis://HOST[:PORT][/DB] or file:///FOLDER, and use the '
+                         'one that is there '
                          'while good')
     add_for_renewals(it)
     it.add_argument('--anew', action='store_true', help='ask for a token whatever --cache has, and keep the new one')
@@ -182,12 +210,15 @@ def add_for_kept(it: argparse.ArgumentParser, name: str) -> None:
     it.add_argument('--cache', type=file_of, metavar='FILE',
                     help='the file or the redis://HOST that keeps the token (else that of the profile)')
     if name == 'status':
-        it.add_argument('--output', choices=('text', 'json'), default='text', help='lines for people, or one line of JSON (%(default)s)')
+        it.add_argument('--output', choices=('text', 'json'), default='text',
+                        help='lines for people, or one line of JSON (%(default)s)')
     if name in ('whoami', 'git-credential'):
         add_for_renewals(it)
     if name == 'git-credential':
-        it.add_argument('--host', action='append', required=True, help='a host for which the token is; may be given again')
-        it.add_argument('--user', default='oauth2', metavar='NAME', help='the name that goes with the token (%(default)s)')
+        it.add_argument('--host', action='append', required=True,
+                        help='a host for which the token is; may be given again')
+        it.add_argument('--user', default='oauth2', metavar='NAME',
+                        help='the name that goes with the token (%(default)s)')
         it.add_argument('operation', help='what git wants: get, store or erase; others do nothing')
 
 
@@ -195,16 +226,21 @@ def add_for_one(it: argparse.ArgumentParser, name: str) -> None:
     if name == 'login':
         it.add_argument('--listen', type=port_of, metavar='PORT', nargs='?', const=0,
                         help='receive the redirect at this port of this machine; 0, or no PORT, takes a free one')
-        it.add_argument('--wait', type=seconds_of, default=600, metavar='SECONDS', help='how long --listen waits (%(default)s)')
+        it.add_argument('--wait', type=seconds_of, default=600, metavar='SECONDS',
+                        help='how long --listen waits (%(default)s)')
         it.add_argument('--no-browser', action='store_true', help='open no browser with --listen')
         it.add_argument('--push', action='store_true',
-                        help='send the parameters to the server before the user goes there (RFC 9126), as --push-url does')
-        it.add_argument('--openid', action='store_true', help='ask for an ID token (OpenID Connect), check it, and name the user')
+                        help='send the parameters to the server before the user goes there (RFC 9126), as --push-url '
+                             'does')
+        it.add_argument('--openid', action='store_true',
+                        help='ask for an ID token (OpenID Connect), check it, and name the user')
         it.add_argument('--max-age', type=whole_from(0), metavar='SECONDS',
-                        help='with --openid: how long ago the user may have signed in (--cache then signs in anew, too)')
+                        help='with --openid: how long ago the user may have signed in (--cache then signs in anew, '
+                             'too)')
         it.add_argument('--leeway', type=whole_from(0), metavar='SECONDS',
                         help="with --openid: how far this clock and the server's may differ (%d)" % LEEWAY)
-        it.add_argument('--algorithm', help='with --openid: the algorithm of the ID token that is registered (else any but none)')
+        it.add_argument('--algorithm',
+                        help='with --openid: the algorithm of the ID token that is registered (else any but none)')
     if name == 'exchange':
         add_for_exchange(it)
     if name == 'assertion':
@@ -213,7 +249,8 @@ def add_for_one(it: argparse.ArgumentParser, name: str) -> None:
     if name == 'introspect':
         it.add_argument('--hint', help='what the token is, as access_token')
     if name == 'verify-token':
-        it.add_argument('--audience', required=True, metavar='NAME', help='the resource server, as the issuer names it in "aud"')
+        it.add_argument('--audience', required=True, metavar='NAME',
+                        help='the resource server, as the issuer names it in "aud"')
         it.add_argument('--algorithm', help='the algorithm with which the issuer signs access tokens (RS256)')
         it.add_argument('--leeway', type=whole_from(0), metavar='SECONDS',
                         help="how far this clock and the issuer's may differ (%d)" % LEEWAY)
@@ -222,18 +259,24 @@ def add_for_one(it: argparse.ArgumentParser, name: str) -> None:
         it.add_argument('--cache', type=file_of, metavar='FILE',
                         help='revoke the token of this file, or of redis://HOST, and remove it there')
     if name == 'device':
-        it.add_argument('--max-polls', type=whole_from(1), default=1000, metavar='N', help='how often to ask at most (%(default)s)')
-        it.add_argument('--give-up', type=whole_from(0), metavar='SECONDS', help='when to give up (else as the server says)')
+        it.add_argument('--max-polls', type=whole_from(1), default=1000, metavar='N',
+                        help='how often to ask at most (%(default)s)')
+        it.add_argument('--give-up', type=whole_from(0), metavar='SECONDS',
+                        help='when to give up (else as the server says)')
         it.add_argument('--cap', type=whole_from(0), metavar='SECONDS',
                         help='a request without a reply doubles the wait before the next one, up to this (10)')
 
 
 def add_for_exchange(it: argparse.ArgumentParser) -> None:
     default = grants.type_of('access_token')
-    it.add_argument('--subject-token-file', type=file_of, metavar='FILE', help='a file with the token that is exchanged')
-    it.add_argument('--subject-token-type', type=grants.type_of, metavar='TYPE', default=default, help='what that token is (access_token)')
-    it.add_argument('--actor-token-file', type=file_of, metavar='FILE', help='a file with the token of who acts for the subject')
-    it.add_argument('--actor-token-type', type=grants.type_of, metavar='TYPE', help='what that token is; without this flag there is none')
+    it.add_argument('--subject-token-file', type=file_of, metavar='FILE',
+                    help='a file with the token that is exchanged')
+    it.add_argument('--subject-token-type', type=grants.type_of, metavar='TYPE', default=default,
+                    help='what that token is (access_token)')
+    it.add_argument('--actor-token-file', type=file_of, metavar='FILE',
+                    help='a file with the token of who acts for the subject')
+    it.add_argument('--actor-token-type', type=grants.type_of, metavar='TYPE',
+                    help='what that token is; without this flag there is none')
     it.add_argument('--requested-token-type', type=grants.type_of, metavar='TYPE',
                     help='what the new token is to be (else as the server says)')
     it.add_argument('--audience', action='append', metavar='NAME',
@@ -313,7 +356,8 @@ def in_package(text: str) -> str:
 
 
 def parsed(words: Sequence[str], doc: str) -> tuple[argparse.ArgumentParser, argparse.Namespace, list[str]]:
-    """The parser of a command, its flags, and what no flag takes. Of the parsers only that of the command is made, if that comes first."""
+    """The parser of a command, its flags, and what no flag takes. Of the parsers only that of the command is made, if
+    that comes first."""
     if words and words[0] in ABOUT:
         name = words[0]
         it: argparse.ArgumentParser = Parser(prog='%s %s' % (endings.command, name), **looks_of(name))

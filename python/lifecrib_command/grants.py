@@ -1,5 +1,5 @@
-"""What is sent beside the parameters of RFC 6749: the URI of a resource (RFC 8707), a JWT of the client (RFC 7523, 2.2), the
-tokens of an exchange (RFC 8693), and the assertions of other issuers (RFC 7523, 2.1, and RFC 7522, 2.1)."""
+"""What is sent beside the parameters of RFC 6749: the URI of a resource (RFC 8707), a JWT of the client (RFC 7523,
+2.2), the tokens of an exchange (RFC 8693), and the assertions of other issuers (RFC 7523, 2.1, and RFC 7522, 2.1)."""
 from __future__ import annotations
 
 import argparse
@@ -63,18 +63,21 @@ def of_client(path: Optional[str], command: str) -> Params:
 
 def of_exchange(given: argparse.Namespace) -> Params:
     """The parameters of RFC 8693, 2.1, but for those that other commands have too."""
-    found = {'subject_token': token_of(given.subject_token_file, 'subject'), 'subject_token_type': given.subject_token_type}
+    found = {'subject_token': token_of(given.subject_token_file, 'subject'),
+             'subject_token_type': given.subject_token_type}
     if given.actor_token_type:
         found.update(actor_token=token_of(given.actor_token_file, 'actor'), actor_token_type=given.actor_token_type)
     elif os.environ.get('OAUTH2_ACTOR_TOKEN'):
-        raise Stop('OAUTH2_ACTOR_TOKEN has a token, and --actor-token-type does not say of which type it is', BAD_SETTING)
+        raise Stop('OAUTH2_ACTOR_TOKEN has a token, and --actor-token-type does not say of which type it is',
+                   BAD_SETTING)
     if given.requested_token_type:
         found['requested_token_type'] = given.requested_token_type
     return {**found, 'audience': given.audience} if given.audience else found
 
 
 def token_of(path: Optional[str], whose: str) -> str:
-    """The token of the subject or of the actor: that of a file, else of the environment, else a line of standard input."""
+    """The token of the subject or of the actor: that of a file, else of the environment, else a line of standard
+    input."""
     if not path:
         return asked('OAUTH2_%s_TOKEN' % whose.upper(), "The %s's token" % whose)
     text = secret_in(path, '--%s-token-file' % whose)
@@ -83,25 +86,30 @@ def token_of(path: Optional[str], whose: str) -> str:
 
 
 def check_issued(given: argparse.Namespace, issued: str) -> None:
-    """Says if the server has issued a token of another type than the one that was asked for, as it may (RFC 8693, 2.2.1)."""
+    """Says if the server has issued a token of another type than the one that was asked for, as it may (RFC 8693,
+    2.2.1)."""
     if given.requested_token_type not in (None, issued):
-        tell('the token is of the type %s, and not of the type %s' % (type_shown(issued), type_shown(given.requested_token_type)))
+        tell('the token is of the type %s, and not of the type %s'
+             % (type_shown(issued), type_shown(given.requested_token_type)))
 
 
 # The assertion of another issuer
 
 
 def of_assertion(given: argparse.Namespace) -> Params:
-    """The assertion by which a token is asked for. What is neither a JWT nor XML is not sent: it may be the key by mistake."""
+    """The assertion by which a token is asked for. What is neither a JWT nor XML is not sent: it may be the key by
+    mistake."""
     text = assertion_of(given)
     wire_log.secrets.add(text)
     if not (JWT.fullmatch(text) if given.kind == 'jwt' else text.lstrip('\ufeff \t\r\n').startswith('<')):
-        raise Stop('the assertion is no %s, so it is not sent' % {'jwt': 'JWT', 'saml2': 'XML'}[given.kind], BAD_SETTING)
+        raise Stop('the assertion is no %s, so it is not sent' % {'jwt': 'JWT', 'saml2': 'XML'}[given.kind],
+                   BAD_SETTING)
     return {'kind': given.kind, 'assertion': text}
 
 
 def assertion_of(given: argparse.Namespace) -> str:
-    """The assertion: that of a file, else of the environment, else of standard input. XML there may have several lines."""
+    """The assertion: that of a file, else of the environment, else of standard input. XML there may have several
+    lines."""
     if given.assertion_file:
         return secret_in(given.assertion_file, '--assertion-file')
     if given.kind == 'jwt' or os.environ.get('OAUTH2_ASSERTION') or sys.stdin.isatty():

@@ -24,9 +24,12 @@ RETRIED = (429, *range(500, 600))  # the HTTP statuses of a server that another 
 FAILED: Mapping[str, Any] = {'fail': True}  # a request without a reply, as a script has it
 NOT_TAKEN = "the server does not take the client's certificate (--client-cert)"
 # What a server says about the client's certificate, by the names of OpenSSL for the alerts of TLS (RFC 8446, 6.2).
-NO_CERTIFICATE = {'TLSV13_ALERT_CERTIFICATE_REQUIRED': "the server asks for the client's certificate: give --client-cert",
-                  **dict.fromkeys(('TLSV1_ALERT_UNKNOWN_CA', 'SSLV3_ALERT_BAD_CERTIFICATE', 'SSLV3_ALERT_CERTIFICATE_UNKNOWN',
-                                   'SSLV3_ALERT_CERTIFICATE_EXPIRED', 'SSLV3_ALERT_UNSUPPORTED_CERTIFICATE'), NOT_TAKEN)}
+NO_CERTIFICATE = {'TLSV13_ALERT_CERTIFICATE_REQUIRED':
+                  "the server asks for the client's certificate: give --client-cert",
+                  **dict.fromkeys(('TLSV1_ALERT_UNKNOWN_CA', 'SSLV3_ALERT_BAD_CERTIFICATE',
+                                   'SSLV3_ALERT_CERTIFICATE_UNKNOWN',
+                                   'SSLV3_ALERT_CERTIFICATE_EXPIRED', 'SSLV3_ALERT_UNSUPPORTED_CERTIFICATE'),
+                                  NOT_TAKEN)}
 Connection = http.client.HTTPConnection
 
 
@@ -39,8 +42,8 @@ class Unanswered(Exception):
 
 
 class Reply(NamedTuple):
-    """What the script says of a request, its reply or that it failed; what the user should know of that; and whether another try may have
-    another result, as where the network was at fault."""
+    """What the script says of a request, its reply or that it failed; what the user should know of that; and whether
+    another try may have another result, as where the network was at fault."""
 
     reply: Optional[Mapping[str, Any]]
     note: Optional[str] = None
@@ -56,7 +59,8 @@ def get(url: str, authorization: Optional[str] = None) -> Request:
 
 
 def reply_to(request: Request, limit: float, renewal: Optional[Renewal] = None) -> Reply:
-    """The Reply to a request that is sent now. limit is how many seconds it may take; renewal is told of one that has a refresh token."""
+    """The Reply to a request that is sent now. limit is how many seconds it may take; renewal is told of one that has a
+    refresh token."""
     try:
         return sent(request, limit, renewal)
     except (TimeoutError, socket.timeout):
@@ -76,11 +80,13 @@ def why_of(error: Exception) -> str:
 
 def why_no_tls(error: ssl.SSLError) -> str:
     if isinstance(error, ssl.SSLCertVerificationError):
-        return "the server's certificate is not one that is trusted here (--cacert names others): %s" % error.verify_message
+        return ("the server's certificate is not one that is trusted here (--cacert names others): %s"
+                % error.verify_message)
     if error.reason in NO_CERTIFICATE:
         return NO_CERTIFICATE[error.reason]
     if isinstance(error, ssl.SSLEOFError):
-        return 'the server has closed the connection; it may want a certificate of the client, or another one (--client-cert)'
+        return ('the server has closed the connection; it may want a certificate of the client, or another one '
+                '(--client-cert)')
     if error.reason in ('WRONG_VERSION_NUMBER', 'HTTP_REQUEST', 'RECORD_LAYER_FAILURE'):
         return 'the server speaks no TLS at this port, so it is not one for https'
     return 'no TLS connection: %s' % (error.reason or why_of(error)).replace('_', ' ').lower()
@@ -91,7 +97,8 @@ def out_of_time(limit: float) -> str:
 
 
 def connection_to(target: urllib.parse.SplitResult, limit: float) -> Connection:
-    """A connection to the server of a URL, as the standard library reads the environment: direct, or by the proxy for it."""
+    """A connection to the server of a URL, as the standard library reads the environment: direct, or by the proxy for
+    it."""
     hostname = target.hostname or ''
     if target.scheme == 'http' and hostname in LOOPBACK:
         return connected(http.client.HTTPConnection(hostname, target.port, timeout=limit))
@@ -135,7 +142,8 @@ def connected(connection: Connection, proxy: str = '') -> Connection:
 
 
 def sent(request: Request, limit: float, renewal: Optional[Renewal]) -> Reply:
-    """A reply, which has to be there in so many seconds: the look-up of the server's name and the connection are in them."""
+    """A reply, which has to be there in so many seconds: the look-up of the server's name and the connection are in
+    them."""
     target, begun = urllib.parse.urlsplit(request.url), time.monotonic()
     connection = in_time(lambda: connection_to(target, limit), limit)
     lent: socket.socket = connection.sock  # which the connection lets go once there is a reply

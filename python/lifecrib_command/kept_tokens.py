@@ -25,7 +25,8 @@ SIGNS_IN_BY_USER = tuple(it for it in SIGNS_IN if it != 'token')  # the commands
 
 
 def cached(session: Session, params: Params) -> int:
-    """Runs a command with --cache: its exit status. Where no user has to sign in, one run asks, and the others wait for its token."""
+    """Runs a command with --cache: its exit status. Where no user has to sign in, one run asks, and the others wait for
+    its token."""
     given, cache = session.given, session.cache
     kept = None if given.anew else cache.read()
     if kept:
@@ -46,13 +47,15 @@ def cached(session: Session, params: Params) -> int:
 
 
 def handed_out(session: Session, kept: Entry) -> Optional[int]:
-    """Writes a kept token that is good: the exit status; None where it has to be renewed. Stops where it is that of something else."""
+    """Writes a kept token that is good: the exit status; None where it has to be renewed. Stops where it is that of
+    something else."""
     check_fits(session, kept)
     return write_good(session, kept) if is_good(session, kept) else None
 
 
 def check_may_ask(given: argparse.Namespace) -> None:
-    """Stops where the client would ask for a token of its own, and the profile says that a user has to sign in for one."""
+    """Stops where the client would ask for a token of its own, and the profile says that a user has to sign in for
+    one."""
     sign_in = given.keeps_for.members.get('sign_in') if given.keeps_for else None
     if given.command == 'token' and sign_in not in (None, 'token'):
         raise Stop('the profile "%s" has no token yet: sign in by %s %s %s'
@@ -63,7 +66,8 @@ def used(session: Session, params: Params) -> int:
     """Gets the kept token, renewed where it has to be, for a command that uses it itself: the exit status."""
     kept, name = session.cache.read(), session.cache.name
     if not kept:
-        raise Stop('there is no token in %s: sign in first, by %s login %s' % (name, endings.command, session.given.place), SIGN_IN)
+        raise Stop('there is no token in %s: sign in first, by %s login %s'
+                   % (name, endings.command, session.given.place), SIGN_IN)
     done = handed_out(session, kept)
     if done is None:
         done = renewed(session, params, kept)
@@ -152,14 +156,15 @@ class Asking:
         return not self.is_used
 
     def in_place_of(self, kept: Entry, is_over: bool) -> Optional[Entry]:
-        if kept['command'] != 'token' or self.session.given.command == 'refresh' or kept['refresh_token'] and not is_over:
+        is_renewed = self.session.given.command == 'refresh' or kept['refresh_token'] and not is_over
+        if kept['command'] != 'token' or is_renewed:
             return None
         return self.of_client(params_of(kept))
 
 
 def renewed(session: Session, params: Params, kept: Optional[Entry]) -> Optional[int]:
-    """Writes the token of the cache, renewed where it has to be: the exit status. None where the command itself has to ask for one. kept
-    is what was there before."""
+    """Writes the token of the cache, renewed where it has to be: the exit status. None where the command itself has to
+    ask for one. kept is what was there before."""
     given, asking = session.given, Asking(session, params, kept)
     try:
         held = session.cache.renewed(asking)
@@ -178,7 +183,8 @@ def renewed(session: Session, params: Params, kept: Optional[Entry]) -> Optional
 
 
 def not_renewed(session: Session, held: Held, kept: Entry, asking: Asking) -> Optional[int]:
-    """Writes what there is where a kept token is not renewed: the exit status. None where a user can sign in anew now."""
+    """Writes what there is where a kept token is not renewed: the exit status. None where a user can sign in anew
+    now."""
     command, outcome, is_over = session.given.command, asking.outcome, asking.is_over or held.is_over
     why = 'it has no refresh token'
     if held.stop:
@@ -190,7 +196,8 @@ def not_renewed(session: Session, held: Held, kept: Entry, asking: Asking) -> Op
     now, name = int(time.time()), session.cache.name
     then = 'sign in anew by %s %s %s' % (endings.command, kept['command'], session.given.place)
     if now < kept['expires_at'] and command != 'refresh':
-        return write_old(session, kept, '%s; %s' % (why, then) if held.is_over else why, is_warning=not held.is_harmless)
+        return write_old(session, kept, '%s; %s' % (why, then) if held.is_over else why,
+                         is_warning=not held.is_harmless)
     how = token_cache.how_long(kept, now) if now < kept['expires_at'] else token_cache.how_ended(kept)
     if is_over and (held.stop or command != 'refresh'):
         raise Stop('the token of %s %s and can not be renewed (%s): %s' % (name, how, why, then), SIGN_IN)
@@ -205,8 +212,8 @@ def not_renewed(session: Session, held: Held, kept: Entry, asking: Asking) -> Op
 
 def is_good(session: Session, kept: Entry) -> bool:
     """Whether a kept token is handed out as it is."""
-    given = session.given
-    return not session.cache.mark and given.command != 'refresh' and token_cache.is_good(kept, int(time.time()), given.margin)
+    given, now = session.given, int(time.time())
+    return not session.cache.mark and given.command != 'refresh' and token_cache.is_good(kept, now, given.margin)
 
 
 def check_fits(session: Session, kept: Entry) -> None:
@@ -241,7 +248,8 @@ def scopes_asked(settings: Mapping[str, Any], kept: Entry) -> set[str]:
 def raise_differing(session: Session, kept: Entry, names: Iterable[str], more: str = '') -> None:
     """Stops where the cache keeps the token of something else by one of these names."""
     for name in names:
-        raise Stop('%s keeps a token %s: %s%s' % (session.cache.name, other(kept, name), session.cache.other, more), BAD_SETTING)
+        raise Stop('%s keeps a token %s: %s%s' % (session.cache.name, other(kept, name), session.cache.other, more),
+                   BAD_SETTING)
 
 
 def other(kept: Entry, name: str) -> str:
@@ -261,7 +269,8 @@ def other(kept: Entry, name: str) -> str:
 def entry_of(session: Session, outcome: Outcome, before: Optional[Entry] = None) -> Entry:
     """What a cache keeps of an answer. before is what is renewed, if anything is."""
     given, settings = session.given, session.settings
-    how = {name: settings[name] for name in ('client_id', 'server', 'issuer', 'token_url', 'auth', 'username', 'scopes')}
+    how = {name: settings[name]
+           for name in ('client_id', 'server', 'issuer', 'token_url', 'auth', 'username', 'scopes')}
     how.update(command=given.command, extra=given.extra or [], resource=given.resource or [], user=session.user)
     if before:
         session.user = before['user']

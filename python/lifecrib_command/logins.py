@@ -16,10 +16,12 @@ if TYPE_CHECKING:
 
 # Why a redirect gives no code, and what is to be done.
 NO_URL = 'that is no URL: paste the whole address that the browser was sent to'
-NO_STATE = 'the redirect URL has no state, so it is not the whole address: paste all that the browser shows, and begin anew'
+NO_STATE = ('the redirect URL has no state, so it is not the whole address: paste all that the browser shows, and '
+            'begin anew')
 OTHER_STATE = 'the redirect URL has not the state of this login: do not use it, and begin anew'
 OTHER_ISSUER = 'the redirect URL does not name the issuer (--issuer) once: do not use it, and begin anew'
-NO_ISSUER = OTHER_ISSUER + '; or, if this server never sends "iss", leave --issuer out (with --openid: give --id-token-issuer)'
+NO_ISSUER = OTHER_ISSUER + ('; or, if this server never sends "iss", leave --issuer out (with --openid: give '
+                            '--id-token-issuer)')
 NO_CODE = 'the redirect URL has no code, or several: paste the whole address that the browser was sent to'
 
 

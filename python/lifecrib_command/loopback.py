@@ -21,14 +21,16 @@ PAGE = b'''<!doctype html><meta charset="utf-8"><title>Back to the terminal</tit
 <p>The answer of the sign-in has arrived. The terminal says whether it was taken. This page can be closed.
 '''
 OTHER_PAGE = b'''<!doctype html><meta charset="utf-8"><title>Another sign-in</title>
-<p>This is not the answer of the sign-in for which the terminal waits. It was not taken, and the terminal goes on waiting.
+<p>This is not the answer of the sign-in for which the terminal waits. It was not taken, and
+the terminal goes on waiting.
 '''
 HEADERS = {'Content-Type': 'text/html; charset=utf-8', 'Cache-Control': 'no-store', 'Referrer-Policy': 'no-referrer',
            'Content-Security-Policy': "default-src 'none'", 'Connection': 'close'}
 
 
 class Visit:
-    """A request for the path of the redirect. Once it is judged, .is_ours says whether it is of the login that waits."""
+    """A request for the path of the redirect. Once it is judged, .is_ours says whether it is of the login that
+    waits."""
 
     def __init__(self, path: str) -> None:
         self.path, self.is_ours, self.judged, self.answered = path, False, threading.Event(), threading.Event()
@@ -85,7 +87,8 @@ class Listener:
     def __init__(self, redirect: str, port: int) -> None:
         url = urllib.parse.urlsplit(redirect)
         if url.scheme != 'http' or url.hostname not in LOOPBACK or url.fragment or '@' in url.netloc:
-            raise Stop('--listen waits on this machine, so the redirect has to be as http://127.0.0.1/path, and not %s' % redirect,
+            raise Stop('--listen waits on this machine, so the redirect has to be as http://127.0.0.1/path, and not %s'
+                       % redirect,
                        BAD_SETTING)
         self.found: queue.Queue[Visit] = queue.Queue()
         self.servers: list[Server] = []
@@ -95,7 +98,8 @@ class Listener:
                 self.servers.append(Server(address, port, path, self.found))
             except OSError as error:
                 if not self.servers:
-                    raise Stop('%s can not be listened at, port %d: %s; --listen 0 takes a free one' % (address, port, error.strerror))
+                    raise Stop('%s can not be listened at, port %d: %s; --listen 0 takes a free one'
+                               % (address, port, error.strerror))
             port = self.servers[0].server_address[1]
         host = '[::1]' if url.hostname == '::1' else url.hostname
         self.base = 'http://%s:%d' % (host, port)
@@ -138,9 +142,12 @@ OPEN = 'import sys, webbrowser; sys.exit(not webbrowser.open(sys.argv[1]))'
 
 
 def open_browser(url: str) -> None:
-    """Opens a URL in a browser, where the environment has one, and tells where that fails. What that writes is not shown."""
-    if url.startswith(('https://', 'http://')) and any(os.environ.get(it) for it in ('BROWSER', 'DISPLAY', 'WAYLAND_DISPLAY')):
-        env = {name: value for name, value in os.environ.items() if not name.startswith('OAUTH2_')}  # no secret goes to the browser
+    """Opens a URL in a browser, where the environment has one, and tells where that fails. What that writes is not
+    shown."""
+    if url.startswith(('https://', 'http://')) and any(os.environ.get(it)
+                                                       for it in ('BROWSER', 'DISPLAY', 'WAYLAND_DISPLAY')):
+        # No secret goes to the browser.
+        env = {name: value for name, value in os.environ.items() if not name.startswith('OAUTH2_')}
         run = subprocess.Popen([sys.executable, '-c', OPEN, url], env=env, start_new_session=True,
                                stdin=subprocess.DEVNULL, stdout=subprocess.DEVNULL, stderr=subprocess.DEVNULL)
 

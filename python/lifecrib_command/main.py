@@ -36,8 +36,8 @@ def renewal_of(given: argparse.Namespace, cache: Optional[Cache]) -> renewal.Ren
     if not cache or cache.kind == 'file':
         return renewal.Renewal(beside)
     name = endings.command
-    back = 'unless %s status shows it by then, give its refresh token to %s refresh --anew %s' % (name, name, given.place)
-    return renewal.Renewal(beside, back)
+    back = 'unless %s status shows it by then, give its refresh token to %s refresh --anew %s'
+    return renewal.Renewal(beside, back % (name, name, given.place))
 
 
 def answer(given: argparse.Namespace) -> int:
@@ -98,7 +98,8 @@ def ran(session: Session, params: Params) -> int:
 
 
 def fill_streams() -> None:
-    """Puts the null device where a standard stream is closed, so that no other file gets its number. Stops without standard output."""
+    """Puts the null device where a standard stream is closed, so that no other file gets its number. Stops without
+    standard output."""
     for number in range(3):
         try:
             os.fstat(number)

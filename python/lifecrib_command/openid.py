@@ -36,7 +36,8 @@ def text_in(outcome: Outcome) -> str:
     """The ID token of a token response. Stops where there is none."""
     value = dict(answers.others((outcome.reply or {})['body'], ())).get('id_token', 'null')
     if value == 'null':
-        raise Stop('the server sent no ID token: is it one of OpenID Connect, and may this client have the scope openid? '
+        raise Stop('the server sent no ID token: is it one of OpenID Connect, and may this client have the scope '
+                   'openid? '
                    + LEFT_OUT, NO_ID_TOKEN)
     if not value.startswith('"'):
         raise Stop('the ID token is refused: it is no text; ' + LEFT_OUT, REFUSED_TOKEN)
@@ -44,25 +45,28 @@ def text_in(outcome: Outcome) -> str:
 
 
 def keys_of(session: Session) -> Any:
-    """The issuer's keys, as JSON, by which the signature is checked; None where nothing says where they are, or for a client with a secret
-    key of its own (10.1)."""
+    """The issuer's keys, as JSON, by which the signature is checked; None where nothing says where they are, or for a
+    client with a secret key of its own (10.1)."""
     settings, issuer = session.settings, issuer_of(session.settings)[0]
     url, label = settings['jwks_url'], flag_of('jwks_url')
     if not url and session.metadata and session.metadata['issuer'] == issuer:
         url, label = session.metadata.get('jwks_uri'), '"jwks_uri" in the metadata of the issuer'
     if not url or (session.given.algorithm or '').startswith('HS'):
-        note('the signature of the ID token is not checked: %s' % ('give --jwks-url' if not url else 'the algorithm has no public keys'))
+        note('the signature of the ID token is not checked: %s'
+             % ('give --jwks-url' if not url else 'the algorithm has no public keys'))
         return None
     return keys_at(url, label, session.given.timeout, LEFT_OUT)
 
 
 def keys_at(url: str, label: str, timeout: float, then: str) -> Any:
-    """The keys at a URL, as JSON. Stops where there are none: the label says which URL it is, and then what comes of it."""
+    """The keys at a URL, as JSON. Stops where there are none: the label says which URL it is, and then what comes of
+    it."""
     check_url('jwks_url', url, label, NOT_DISCOVERED)
     got = reply_to(get(url), timeout)
     reply = got.reply or {}
     if got.note or reply['status'] != 200:
-        raise Stop("the issuer's keys can not be had: %s; %s" % (got.note or '%s: HTTP status %d' % (url, reply['status']), then),
+        raise Stop("the issuer's keys can not be had: %s; %s"
+                   % (got.note or '%s: HTTP status %d' % (url, reply['status']), then),
                    TRY_AGAIN if got.may_retry else NOT_DISCOVERED)
     try:
         return json.loads(reply['body'])
@@ -71,10 +75,13 @@ def keys_at(url: str, label: str, timeout: float, then: str) -> Any:
 
 
 def user_of(session: Session, outcome: Outcome, nonce: str) -> dict[str, str]:
-    """Who has signed in, by the ID token of a token response: its issuer and subject. Stops where the library refuses it."""
+    """Who has signed in, by the ID token of a token response: its issuer and subject. Stops where the library refuses
+    it."""
     given, (issuer, name) = session.given, issuer_of(session.settings)
-    params = {'id_token': text_in(outcome), 'access_token': outcome.answer['access_token'], 'issuer': issuer, 'nonce': nonce,
-              'leeway': LEEWAY if given.leeway is None else given.leeway, 'max_age': given.max_age, 'algorithm': given.algorithm,
+    params = {'id_token': text_in(outcome), 'access_token': outcome.answer['access_token'], 'issuer': issuer,
+              'nonce': nonce,
+              'leeway': LEEWAY if given.leeway is None else given.leeway, 'max_age': given.max_age,
+              'algorithm': given.algorithm,
               'keys': keys_of(session)}
     now = int(time.time())
     run = session.ran('id_token', {it: value for it, value in params.items() if value is not None}, readings=[now])
@@ -82,7 +89,8 @@ def user_of(session: Session, outcome: Outcome, nonce: str) -> dict[str, str]:
     if not fault:
         return {it: run.last['answer']['claims'][it] for it in ('iss', 'sub')}
     advice = advice_of(session, fault, params, now, '%s (%s)' % (issuer, flag_of(name)))
-    raise Stop('; '.join(it for it in ('the ID token is refused: ' + fault['text'], advice, LEFT_OUT) if it), REFUSED_TOKEN)
+    raise Stop('; '.join(it for it in ('the ID token is refused: ' + fault['text'], advice, LEFT_OUT) if it),
+               REFUSED_TOKEN)
 
 
 def advice_of(session: Session, fault: Fault, params: Mapping[str, Any], now: int, issuer: str) -> Optional[str]:

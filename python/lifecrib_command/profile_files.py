@@ -29,7 +29,8 @@ def profiles_in(path: str) -> tuple[Optional[str], dict[str, dict[str, Any]]]:
         found = {name_of(it): members_of(it, os.path.dirname(path)) for it in tables}
     except toml_subset.Fault as fault:
         raise Stop('%s, line %d: %s' % (path, fault.line, fault.why), BAD_SETTING)
-    if any('client_secret' in it or '@' in it.get('cache', '') for it in found.values()) and mode & (stat.S_IRGRP | stat.S_IROTH):
+    if any('client_secret' in it or '@' in it.get('cache', '')
+           for it in found.values()) and mode & (stat.S_IRGRP | stat.S_IROTH):
         tell('%s holds a secret, and others can read it: chmod 600 %s' % (path, path))
     return default, found
 
@@ -84,7 +85,8 @@ def members_of(table: toml_subset.Table, folder: str) -> dict[str, Any]:
             raise toml_subset.Fault(line, '"listen" is no port: it is 0 to 65535')
         found[name] = value
         if name == 'cache' and not is_shared(str(value)):
-            raise toml_subset.Fault(line, '"cache" is no shared place: it has to be redis://HOST[:PORT][/DB][?name=NAME] '
+            raise toml_subset.Fault(line,
+                                    '"cache" is no shared place: it has to be redis://HOST[:PORT][/DB][?name=NAME] '
                                           'or file:///FOLDER[?name=NAME]')
         if name in PATHS:
             found[name] = os.path.join(folder, os.path.expanduser(str(value)))

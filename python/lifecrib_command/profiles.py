@@ -110,7 +110,8 @@ def of_place(given: argparse.Namespace, profile: Optional[Profile]) -> None:
     from . import shared_places
     place = shared_places.place_in(given.cache)
     if place.password:
-        tell('all users of this machine can see its processes with their flags, so with the password in --cache: %s has it instead'
+        tell('all users of this machine can see its processes with their flags, so with the password in --cache: %s '
+             'has it instead'
              % shared_places.VARIABLE)
     given.place = '--cache ' + place.shown(place.name or given.cache_name)
     if profile:

@@ -1,4 +1,5 @@
-"""What runs the scripts: the library of the package, in this process, or else a program; and the keeper of shared tokens, a program."""
+"""What runs the scripts: the library of the package, in this process, or else a program; and the keeper of shared
+tokens, a program."""
 from __future__ import annotations
 
 import functools
@@ -17,7 +18,8 @@ from .endings import BAD_SETTING, Stop
 
 NAME, KEEPER = 'oauth2_run', 'oauth2_shared_keeper_program'
 CALLED = {NAME: 'program', KEEPER: 'keeper'}  # what a line calls each
-PACKAGE = os.path.dirname(os.path.abspath(__file__))  # which has the programs of a package, with the record of each proved one
+# The folder that has the programs of a package, with the record of each proved one.
+PACKAGE = os.path.dirname(os.path.abspath(__file__))
 
 
 def variable_of(name: str) -> str:
@@ -53,8 +55,8 @@ def of_checkout() -> Any:
 
 @functools.lru_cache(maxsize=None)
 def library() -> Library:
-    """What runs scripts: the program of OAUTH2_PROGRAM, else what the package lifecrib has, else the program of the checkout. A line says
-    if it is not proved."""
+    """What runs scripts: the program of OAUTH2_PROGRAM, else what the package lifecrib has, else the program of the
+    checkout. A line says if it is not proved."""
     path = named(NAME)
     if path:
         return by_program(path)
@@ -88,7 +90,8 @@ def called(path: str) -> str:
 
 
 def path_of(name: str) -> str:
-    """The program: the one that the environment names, else that of the package or of the checkout. A line says if it is not proved."""
+    """The program: the one that the environment names, else that of the package or of the checkout. A line says if it
+    is not proved."""
     path = named(name)
     if path:
         return path
@@ -96,7 +99,8 @@ def path_of(name: str) -> str:
         return str(of_checkout().path_of(name))
     path = os.path.join(PACKAGE, name)
     if not os.path.exists(path):
-        raise Stop('this package has no %s%s' % (CALLED[name], ', which --cache redis:// needs' if name == KEEPER else ''))
+        raise Stop('this package has no %s%s'
+                   % (CALLED[name], ', which --cache redis:// needs' if name == KEEPER else ''))
     if not is_proved(path):
         endings.note('the %s that runs here is not proved' % CALLED[name])
     return path
@@ -117,4 +121,5 @@ def about_library() -> str:
         return str(stop)
     if found:
         return 'proved ' + called(found.path) if is_proved(found.path) else called(found.path) + ' without proofs'
-    return 'proved program' if lifecrib_command.tools and of_checkout().program.is_proved() else 'program without proofs'
+    is_one = bool(lifecrib_command.tools and of_checkout().program.is_proved())
+    return 'proved program' if is_one else 'program without proofs'

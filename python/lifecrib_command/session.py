@@ -86,8 +86,8 @@ class Session:
         return Stop(*self.fault_of(outcome))
 
     def prepare(self, command: Optional[str] = None) -> None:
-        """Looks for the library and the endpoints, and asks for the client's secret if that has to be: before any other secret, and before
-        a file is locked."""
+        """Looks for the library and the endpoints, and asks for the client's secret if that has to be: before any other
+        secret, and before a file is locked."""
         from . import programs
         programs.library()
         self.client(command or self.given.command)

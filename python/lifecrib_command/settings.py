@@ -17,34 +17,45 @@ if TYPE_CHECKING:  # typing takes a while to load
 
 LEEWAY = 60  # seconds that two clocks may differ, unless --leeway says otherwise
 LOOPBACK = ('localhost', '127.0.0.1', '::1')
-URLS = {'auth_url': 'the authorization endpoint', 'token_url': 'the token endpoint', 'device_url': 'the device authorization endpoint',
+URLS = {'auth_url': 'the authorization endpoint', 'token_url': 'the token endpoint',
+        'device_url': 'the device authorization endpoint',
         'introspection_url': 'the introspection endpoint', 'revocation_url': 'the revocation endpoint',
-        'userinfo_url': 'the UserInfo endpoint', 'push_url': 'the endpoint to which the parameters of a login are pushed (RFC 9126)',
+        'userinfo_url': 'the UserInfo endpoint',
+        'push_url': 'the endpoint to which the parameters of a login are pushed (RFC 9126)',
         'jwks_url': 'where the issuer has its keys (RFC 7517)',
         'redirect': 'where the server sends the user back (with --listen: http://127.0.0.1/ if not given)'}
-# The member of an issuer's metadata that has each endpoint (RFC 8414, 2; RFC 8628, 4; RFC 9126, 5; OpenID Connect Discovery 1.0, 3).
-ENDPOINTS = {'auth_url': 'authorization_endpoint', 'token_url': 'token_endpoint', 'device_url': 'device_authorization_endpoint',
+# The member of an issuer's metadata that has each endpoint (RFC 8414, 2; RFC 8628, 4; RFC 9126, 5; OpenID Connect
+# Discovery 1.0, 3).
+ENDPOINTS = {'auth_url': 'authorization_endpoint', 'token_url': 'token_endpoint',
+             'device_url': 'device_authorization_endpoint',
              'introspection_url': 'introspection_endpoint', 'revocation_url': 'revocation_endpoint',
-             'userinfo_url': 'userinfo_endpoint', 'jwks_url': 'jwks_uri', 'push_url': 'pushed_authorization_request_endpoint'}
+             'userinfo_url': 'userinfo_endpoint', 'jwks_url': 'jwks_uri',
+             'push_url': 'pushed_authorization_request_endpoint'}
 # The settings that are texts, each with what it is.
 TEXTS = {'client_id': "the client's identifier",
          'server': 'a server that the tool knows, with its endpoints: %s' % ', '.join(servers.SERVERS),
          'auth': 'where the secret goes: basic (a header; the default) or body',
          'issuer': 'the issuer, whose metadata names the endpoints that are not set (RFC 8414)',
-         'id_token_issuer': 'the issuer of the ID token of --openid, if it is not --issuer', 'username': "the user's name", **URLS}
+         'id_token_issuer': 'the issuer of the ID token of --openid, if it is not --issuer',
+         'username': "the user's name", **URLS}
 # The settings that are paths of files, each with what it has (RFC 8705, 2; RFC 7523, 2.2).
 FILES = {'cacert': 'a file with the certificates of the authorities that are trusted; no others are',
          'client_cert': "a file with the client's certificate, which servers get that ask for one",
          'client_key': 'the file with the key of that certificate, if it is another one',
-         'client_assertion_file': 'a file with a JWT that stands for the client in place of a secret; it is read anew for each request'}
+         'client_assertion_file':
+         'a file with a JWT that stands for the client in place of a secret; it is read anew for each request'}
 OF_TLS = ('cacert', 'client_cert', 'client_key')
-NEEDED = {'login': ('auth_url', 'token_url', 'redirect'), 'token': ('token_url',), 'password': ('token_url', 'username'),
-          'refresh': ('token_url',), 'exchange': ('token_url',), 'assertion': ('token_url',), 'device': ('device_url', 'token_url'),
-          'introspect': ('introspection_url',), 'revoke': ('revocation_url',), 'logout': ('revocation_url',), 'whoami': ('userinfo_url',),
+NEEDED = {'login': ('auth_url', 'token_url', 'redirect'), 'token': ('token_url',),
+          'password': ('token_url', 'username'),
+          'refresh': ('token_url',), 'exchange': ('token_url',), 'assertion': ('token_url',),
+          'device': ('device_url', 'token_url'),
+          'introspect': ('introspection_url',), 'revoke': ('revocation_url',), 'logout': ('revocation_url',),
+          'whoami': ('userinfo_url',),
           'status': (), 'git-credential': (), 'verify-token': ('jwks_url',)}
 WITHOUT_CLIENT = ('verify-token',)  # the commands for which no client is registered
 # Those that only some commands take, each with the commands that take it and can do without it.
-OPTIONAL = {'username': (), 'id_token_issuer': ('login',), **dict.fromkeys(URLS, ()), 'jwks_url': ('login',), 'push_url': ('login',)}
+OPTIONAL = {'username': (), 'id_token_issuer': ('login',), **dict.fromkeys(URLS, ()), 'jwks_url': ('login',),
+            'push_url': ('login',)}
 
 
 def takes(command: str, name: str) -> bool:
@@ -60,17 +71,21 @@ def flag_of(name: str) -> str:
 
 # The flags that a user may look for, and what there is in their place: a flag is in the list of processes.
 OF_CLIENT = 'OAUTH2_CLIENT_SECRET, --client-secret-file FILE or --ask-secret'
-NO_FLAGS = {'--client-secret': OF_CLIENT, '--secret': OF_CLIENT, '--password': 'OAUTH2_PASSWORD or a line of standard input',
-            '--token': 'OAUTH2_TOKEN or a line of standard input', '--refresh-token': 'OAUTH2_REFRESH_TOKEN or a line of standard input',
+NO_FLAGS = {'--client-secret': OF_CLIENT, '--secret': OF_CLIENT,
+            '--password': 'OAUTH2_PASSWORD or a line of standard input',
+            '--token': 'OAUTH2_TOKEN or a line of standard input',
+            '--refresh-token': 'OAUTH2_REFRESH_TOKEN or a line of standard input',
             '--client-assertion': '--client-assertion-file FILE',
             **{'--%s-token' % it: 'OAUTH2_%s_TOKEN, --%s-token-file FILE or a line of standard input' % (it.upper(), it)
                for it in ('subject', 'actor')},
             '--assertion': 'OAUTH2_ASSERTION, --assertion-file FILE or standard input'}
 # What each command sends itself, so that --extra may not: no parameter may come twice (RFC 6749, 3.1 and 3.2).
 TO_TOKEN = ('grant_type', 'client_secret')
-SENT = {'login': ('response_type', 'client_id', 'redirect_uri', 'state', 'code_challenge', 'code_challenge_method'), 'token': TO_TOKEN,
+SENT = {'login': ('response_type', 'client_id', 'redirect_uri', 'state', 'code_challenge', 'code_challenge_method'),
+        'token': TO_TOKEN,
         'password': (*TO_TOKEN, 'username', 'password'), 'refresh': (*TO_TOKEN, 'refresh_token'), 'device': TO_TOKEN,
-        'exchange': (*TO_TOKEN, 'client_id', 'scope', 'subject_token', 'subject_token_type', 'actor_token', 'actor_token_type',
+        'exchange': (*TO_TOKEN, 'client_id', 'scope', 'subject_token', 'subject_token_type', 'actor_token',
+                     'actor_token_type',
                      'requested_token_type'),
         'assertion': (*TO_TOKEN, 'client_id', 'scope', 'assertion'),
         'introspect': ('client_secret', 'token'), 'revoke': ('client_secret', 'token', 'token_type_hint'),
@@ -81,7 +96,8 @@ OF_FLAGS = ('max_age', 'resource', 'audience')
 
 
 def settings_of(given: argparse.Namespace, kept: Mapping[str, Any]) -> Settings:
-    """The settings by name, from flags, environment and file; where those lack one, as the cache has kept it for the same issuer."""
+    """The settings by name, from flags, environment and file; where those lack one, as the cache has kept it for the
+    same issuer."""
     path, found = of_file(given)
     for name in (*TEXTS, *FILES, 'client_secret'):
         found[name] = getattr(given, name, None) or os.environ.get('OAUTH2_' + name.upper()) or found.get(name)
@@ -137,7 +153,8 @@ def is_of_profiles(path: str) -> bool:
 
 
 def secret_in(path: str, label: str) -> str:
-    """The secret that a file has, as one that is mounted. Its path is not shown, since it may be the secret by mistake."""
+    """The secret that a file has, as one that is mounted. Its path is not shown, since it may be the secret by
+    mistake."""
     try:
         with open(path, encoding='utf-8', newline='') as f:
             text = f.read()
@@ -190,12 +207,13 @@ def check_complete(given: argparse.Namespace, found: Mapping[str, Any], path: Op
                      % (path, endings.command, given.place))
         file = given.of_profile.path if given.of_profile else 'the file that --config names'
         raise Stop('%s%s is not set: give %s, OAUTH2_%s, or "%s" in %s%s'
-                   % (first, TEXTS[name].partition(' (with')[0], flag_of(name), name.upper(), name, file, OR.get(name, '')), BAD_SETTING)
+                   % (first, TEXTS[name].partition(' (with')[0], flag_of(name), name.upper(), name, file,
+                      OR.get(name, '')), BAD_SETTING)
 
 
 def check(given: argparse.Namespace, found: Mapping[str, Any], own: set[str]) -> None:
-    """Stops at a setting of a command that can't be used. own has the names of those that are given; the others come from a table, or from
-    a cache, where they were checked before."""
+    """Stops at a setting of a command that can't be used. own has the names of those that are given; the others come
+    from a table, or from a cache, where they were checked before."""
     needed = needed_of(given, found)
     names = [*needed, 'issuer'] if any(not found[it] for it in needed) else needed
     for name in names:
@@ -203,8 +221,10 @@ def check(given: argparse.Namespace, found: Mapping[str, Any], own: set[str]) ->
             check_url(name, found[name], flag_of(name))
     if found['auth'] not in (None, 'basic', 'body'):
         raise Stop('--auth is "%s": it has to be basic or body' % found['auth'], BAD_SETTING)
-    if given.command not in WITHOUT_CLIENT and found['client_assertion_file'] and (found['client_secret'] or given.ask_secret):
-        raise Stop('there are a secret of the client and --client-assertion-file: a client shows one of both (RFC 6749, 2.3), so leave the '
+    has_secret = bool(found['client_secret'] or given.ask_secret)
+    if given.command not in WITHOUT_CLIENT and found['client_assertion_file'] and has_secret:
+        raise Stop('there are a secret of the client and --client-assertion-file: a client shows one of both (RFC '
+                   '6749, 2.3), so leave the '
                    'other out', BAD_SETTING)
     for name, _ in given.extra or ():
         if name in sent_by(given, found):
@@ -230,12 +250,14 @@ def check_openid(found: Settings) -> None:
     if 'openid' not in found['scopes']:
         found['scopes'] = ['openid', *found['scopes']]
     if not (found['issuer'] or found['id_token_issuer']):
-        raise Stop('the issuer of the ID token is not set: give --issuer; or --id-token-issuer, if no endpoint is to be discovered',
+        raise Stop('the issuer of the ID token is not set: give --issuer; or --id-token-issuer, if no endpoint is to '
+                   'be discovered',
                    BAD_SETTING)
 
 
 def check_url(name: str, text: str, label: str, status: int = BAD_SETTING) -> None:
-    """Stops at a text that is no URL, or one of an endpoint to which a secret would go unencrypted. The label says which text it is."""
+    """Stops at a text that is no URL, or one of an endpoint to which a secret would go unencrypted. The label says
+    which text it is."""
     import urllib.parse
 
     from .addresses import has_login
@@ -249,9 +271,11 @@ def check_url(name: str, text: str, label: str, status: int = BAD_SETTING) -> No
     if has_login(text):
         raise Stop('%s has a user or a password in it, which is not sent: leave it out' % label, status)
     if not is_url or name != 'redirect' and scheme not in ('https', 'http'):
-        raise Stop('%s is "%s", which is no URL: it has to be whole, as https://server.example/path' % (label, text), status)
+        raise Stop('%s is "%s", which is no URL: it has to be whole, as https://server.example/path' % (label, text),
+                   status)
     if scheme == 'http' and hostname not in LOOPBACK and name != 'redirect':
-        raise Stop('%s is %s, where secrets would go unencrypted: give an https URL (http is taken for this machine alone)'
+        raise Stop('%s is %s, where secrets would go unencrypted: give an https URL (http is taken for this machine '
+                   'alone)'
                    % (label, text), status)
     if scheme == 'http' and name in ('revocation_url', ENDPOINTS['revocation_url']):
         raise Stop('%s is %s: revocation takes https alone, also on this machine' % (label, text), status)
@@ -272,7 +296,8 @@ def read_file(path: str) -> Settings:
         raise Stop('%s has to hold one JSON object, as {"client_id": "..", "token_url": ".."}' % path, BAD_SETTING)
     unknown = found.keys() - TEXTS.keys() - FILES.keys() - {'client_secret', 'scopes'}
     if unknown:
-        raise Stop('%s: "%s" is no setting: there are client_secret, scopes, %s' % (path, sorted(unknown)[0], ', '.join((*TEXTS, *FILES))),
+        raise Stop('%s: "%s" is no setting: there are client_secret, scopes, %s'
+                   % (path, sorted(unknown)[0], ', '.join((*TEXTS, *FILES))),
                    BAD_SETTING)
     if 'client_secret' in found and mode & (stat.S_IRGRP | stat.S_IROTH):
         tell('%s holds a secret, and others can read it: chmod 600 %s' % (path, path))

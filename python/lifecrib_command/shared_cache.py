@@ -1,11 +1,12 @@
 """A cache that many machines share: a token in a store of values with versions, which the proved keeper renews.
 
-Before a refresh token is sent, the token is marked in the store, so that no other run sends it. What becomes of the mark:
+Before a refresh token is sent, the token is marked in the store, so that no other run sends it. What becomes of the
+mark:
 
 - The new token takes its place.
 - If the server said no, or nothing was sent, the old token takes its place again.
-- If no answer came, or the run was killed, nobody knows whether the refresh token was used. The mark stays. The old token is handed out
-  while it is good, and then a user signs in anew.
+- If no answer came, or the run was killed, nobody knows whether the refresh token was used. The mark stays. The old
+  token is handed out while it is good, and then a user signs in anew.
 """
 from __future__ import annotations
 
@@ -77,14 +78,16 @@ def entry_of(token: str, name: str) -> Entry:
     """What a token of the keeper is. Stops at one that is none of this tool."""
     text = token.partition(':')[2]
     with contextlib.suppress(binascii.Error, UnicodeError, Stop):
-        entry: Optional[Entry] = token_cache.entry_in(base64.b64decode(text + '=' * (-len(text) % 4), b'-_', True).decode(), name)
+        entry: Optional[Entry] = token_cache.entry_in(base64.b64decode(text + '=' * (-len(text) % 4), b'-_',
+                                                                       True).decode(), name)
         if entry:
             return entry
     stop_at_other(name)
 
 
 def stop_at_other(name: str) -> NoReturn:
-    raise Stop('%s has something that is no token of this tool, so it is left as it is: %s' % (name, SharedCache.other), BAD_SETTING)
+    raise Stop('%s has something that is no token of this tool, so it is left as it is: %s' % (name, SharedCache.other),
+               BAD_SETTING)
 
 
 def value_of(version: int, text: str, name: str) -> Value:
@@ -110,7 +113,8 @@ class NotRenewable(Exception):
 class Renewing(shared_keeper.Keeper):
     """The keeper of a run: it ends in time, and gets ready before it marks the token."""
 
-    def __init__(self, path: str, cache: 'SharedCache', settings: shared_keeper.Settings, asking: Optional[Asking] = None) -> None:
+    def __init__(self, path: str, cache: 'SharedCache', settings: shared_keeper.Settings,
+                 asking: Optional[Asking] = None) -> None:
         super().__init__(path, cache.store, settings, is_alone=True)
         self.path, self.cache, self.asking = path, cache, asking
         self.end = time.monotonic() + cache.limit
@@ -210,7 +214,8 @@ class SharedCache:
         if isinstance(self.store.fault, ValueError):
             stop_at_other(self.name)
         if found is None:
-            raise Stop('%s can not be read: %s' % (self.name, self.why()), BAD_SETTING if self.store.is_refused() else TRY_AGAIN)
+            raise Stop('%s can not be read: %s' % (self.name, self.why()),
+                       BAD_SETTING if self.store.is_refused() else TRY_AGAIN)
         value = value_of(found[0], found[1], self.name)
         self.mark = None if value.renewal is None else Mark(value.renewal, value.version)
         return value
@@ -285,7 +290,8 @@ class SharedCache:
         return self.begun(asking)
 
     def if_unkept(self, _: Asking, _keeper: Renewing, _number: str, _version: str, token: str) -> Held:
-        entry, why = entry_of(token, self.name), self.why() if self.store.fault else 'a user has signed in or out meanwhile'
+        entry, why = entry_of(token,
+                              self.name), self.why() if self.store.fault else 'a user has signed in or out meanwhile'
         with contextlib.suppress(Stop):
             if self.read() == entry:
                 return Held(entry, is_new=True)
@@ -304,13 +310,16 @@ class SharedCache:
             return Held(entry, stop=Stop(why, SIGN_IN if is_over else TRY_AGAIN), is_over=is_over)
         told = keeper.told('answer %s %d %s' % (self.key, mark.version, token))[0]
         if told not in ('done', 'refused'):  # refused: a user has signed in or out meanwhile
-            return Held(entry, stop=Stop('%s; and the mark of this run may stand: %s' % (said, self.not_done(told)), TRY_AGAIN))
+            return Held(entry,
+                        stop=Stop('%s; and the mark of this run may stand: %s' % (said, self.not_done(told)),
+                                  TRY_AGAIN))
         if stop:
             raise stop
         return Held(entry)
 
     def if_unclear(self, _: Asking, keeper: Renewing, number: str, version: str, token: str) -> Held:
-        """This run sent nothing, so its mark is taken off, where it shows by now. That of another run at this version stays."""
+        """This run sent nothing, so its mark is taken off, where it shows by now. That of another run at this version
+        stays."""
         why = 'it is not known whether %s took the mark of this run (%s), so nothing was sent' % (self.name, self.why())
         with contextlib.suppress(Stop):
             if self.value().renewal == int(number):
@@ -353,12 +362,14 @@ class SharedCache:
     def stop_at(self, mark: Mark) -> Stop:
         """What is said of the mark of another run."""
         if self.is_old(mark):
-            return Stop('another run began to renew it at %s and did not finish, so nobody knows whether the refresh token was used'
+            return Stop('another run began to renew it at %s and did not finish, so nobody knows whether the refresh '
+                        'token was used'
                         % mark.since(), SIGN_IN)
         return Stop('another run renews it since %s' % mark.since(), TRY_AGAIN)
 
     def stop_at_others(self) -> Stop:
-        return Stop('other runs renew it, and this one had no turn within %g seconds (--timeout)' % self.limit, TRY_AGAIN)
+        return Stop('other runs renew it, and this one had no turn within %g seconds (--timeout)' % self.limit,
+                    TRY_AGAIN)
 
     def stop_at_end(self) -> Stop:
         return Stop('%s has had as many values as it can have: %s' % (self.name, self.other), BAD_SETTING)
@@ -459,6 +470,7 @@ def on_redis(place: shared_places.Place, key: str, limit: float) -> SharedCache:
     try:
         store = shared_stores.RedisStore(limit, **settings)
     except ImportError:
-        raise Stop('--cache redis:// needs the module redis, which %s does not have: install python3-redis and run the tool by '
+        raise Stop('--cache redis:// needs the module redis, which %s does not have: install python3-redis and run '
+                   'the tool by '
                    '/usr/bin/python3, or pip install redis' % sys.executable)
     return SharedCache(store, key, name, limit)

@@ -1,5 +1,5 @@
-"""The proved keeper of a token that many processes share, the program oauth2_shared_keeper_program, and what it asks: for the tools beside
-this file."""
+"""The proved keeper of a token that many processes share, the program oauth2_shared_keeper_program, and what it asks:
+for the tools beside this file."""
 from __future__ import annotations
 
 import secrets
@@ -39,7 +39,8 @@ class Keeper:
     def __init__(self, path: str, store: Store, settings: Settings, is_alone: bool = False) -> None:
         self.store = store
         no_variables: dict[str, str] = {}
-        self.run = subprocess.Popen([path], stdin=subprocess.PIPE, stdout=subprocess.PIPE, env=no_variables, text=True, bufsize=1,
+        self.run = subprocess.Popen([path], stdin=subprocess.PIPE, stdout=subprocess.PIPE, env=no_variables, text=True,
+                                    bufsize=1,
                                     stderr=subprocess.DEVNULL if is_alone else None, start_new_session=is_alone)
         self.say('settings %d %d %d %d %d %d' % settings)
 

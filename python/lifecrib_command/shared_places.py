@@ -63,22 +63,27 @@ def place_in(text: str, label: str = '--cache') -> Union[Place, Folder]:
     except ValueError:
         refuse(label)
     names = [value for name, value in pairs if name == 'name']
+    is_more = bool(url.fragment) or len(names) != len(pairs) or len(names) > 1
     if url.scheme == FOLDER:
-        if url.netloc or not url.path.startswith('/') or url.fragment or len(names) != len(pairs) or len(names) > 1:
-            raise Stop('%s is no folder that this tool can use: it has to be file:///FOLDER[?name=NAME]' % label, BAD_SETTING)
+        if url.netloc or not url.path.startswith('/') or is_more:
+            raise Stop('%s is no folder that this tool can use: it has to be file:///FOLDER[?name=NAME]' % label,
+                       BAD_SETTING)
         check_name(names, label)
         return Folder(urllib.parse.unquote(url.path), names[0] if names else None)
-    if not url.hostname or port == 0 or url.fragment or len(names) != len(pairs) or len(names) > 1 or not re.fullmatch('[0-9]{0,6}', db):
+    if not url.hostname or port == 0 or is_more or not re.fullmatch('[0-9]{0,6}', db):
         refuse(label)
     check_name(names, label)
     login = [None if it is None else urllib.parse.unquote(it) for it in (url.username, url.password)]
-    return Place(url.scheme, url.hostname, port or 6379, int(db or 0), login[0] or None, login[1], names[0] if names else None)
+    return Place(url.scheme, url.hostname, port or 6379, int(db or 0), login[0] or None, login[1],
+                 names[0] if names else None)
 
 
 def check_name(names: list[str], label: str) -> None:
     if names and not NAME.fullmatch(names[0]):
-        raise Stop('the name of %s begins with a letter or a digit, and has 100 letters, digits, "_" and "-" at most' % label, BAD_SETTING)
+        raise Stop('the name of %s begins with a letter or a digit, and has 100 letters, digits, "_" and "-" at most'
+                   % label, BAD_SETTING)
 
 
 def refuse(label: str) -> NoReturn:
-    raise Stop('%s is no place on Redis that this tool can use: it has to be redis://HOST[:PORT][/DB][?name=NAME]' % label, BAD_SETTING)
+    raise Stop('%s is no place on Redis that this tool can use: it has to be redis://HOST[:PORT][/DB][?name=NAME]'
+               % label, BAD_SETTING)

@@ -1,16 +1,17 @@
-"""Stores for tokens that many processes share, each as `oauth2_shared_keeper` wants one: a value under a name, with a version, which is
-replaced only over the version that is stored, in one step; for --cache and tools/try-shared-keepers.
+"""Stores for tokens that many processes share, each as `oauth2_shared_keeper` wants one: a value under a name, with a
+version, which is replaced only over the version that is stored, in one step; for --cache and tools/try-shared-keepers.
 
-A value is a version and a text without line ends; a name that has none is version 0 and the text 'none'. `load` returns both, and `replace`
-whether it did what it was asked; None is silence, where it is not known, and .fault says why. Both stores can keep a history of all values
-of a name.
+A value is a version and a text without line ends; a name that has none is version 0 and the text 'none'. `load` returns
+both, and `replace` whether it did what it was asked; None is silence, where it is not known, and .fault says why. Both
+stores can keep a history of all values of a name.
 
-What a store rests on: a version names one value for ever. A RedisStore keeps that where the server runs with `appendonly yes` and
-`appendfsync always`, with `maxmemory-policy noeviction`, and without replicas that can be promoted. With `appendfsync everysec`, or with
-snapshots alone, a server that dies loses what it said to have done, and gives the versions of it a second time; so does a replica that is
-promoted, also in a cluster, since replication is asynchronous. After that, log in anew under another name. No key may have a time to live.
-A FileStore keeps it on a local file system: it writes another file, syncs it, renames it, and syncs the folder. Over a network file
-system it is only as good as that one's locks and renames.
+What a store rests on: a version names one value for ever. A RedisStore keeps that where the server runs with
+`appendonly yes` and `appendfsync always`, with `maxmemory-policy noeviction`, and without replicas that can be
+promoted. With `appendfsync everysec`, or with snapshots alone, a server that dies loses what it said to have done, and
+gives the versions of it a second time; so does a replica that is promoted, also in a cluster, since replication is
+asynchronous. After that, log in anew under another name. No key may have a time to live. A FileStore keeps it on a
+local file system: it writes another file, syncs it, renames it, and syncs the folder. Over a network file system it is
+only as good as that one's locks and renames.
 """
 from __future__ import annotations
 
@@ -53,10 +54,11 @@ def line_of(version: int, text: str) -> str:
 
 
 class RedisStore:
-    """A store on Redis, by the module redis (Debian's python3-redis), which is loaded here. Nothing is sent twice by itself.
+    """A store on Redis, by the module redis (Debian's python3-redis), which is loaded here. Nothing is sent twice by
+    itself.
 
-    seconds is how long a call may take, with the look-up of the server's name. The settings are those of the module: host, port, db,
-    username, password, ssl.
+    seconds is how long a call may take, with the look-up of the server's name. The settings are those of the module:
+    host, port, db, username, password, ssl.
     """
 
     def __init__(self, seconds: float = 5, history: bool = False, prefix: str = 'lifecrib:', **settings: Any) -> None:
@@ -68,7 +70,8 @@ class RedisStore:
         self.answers = (redis.ResponseError, redis.AuthenticationError)
         self.fault: Optional[Exception] = None
         never = redis.retry.Retry(redis.backoff.NoBackoff(), 0)
-        self.client: Any = redis.Redis(socket_timeout=seconds, socket_connect_timeout=seconds, retry_on_timeout=False, retry=never,
+        self.client: Any = redis.Redis(socket_timeout=seconds, socket_connect_timeout=seconds, retry_on_timeout=False,
+                                       retry=never,
                                   decode_responses=True, **settings)
 
     def is_refused(self) -> bool:

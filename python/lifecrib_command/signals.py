@@ -1,7 +1,7 @@
 """How a signal ends the command: at once, or once nothing is left half done.
 
-A thread waits for the signals and ends the process, so nothing of theirs runs in the middle of what the other threads do. What may not be
-cut there holds the lock.
+A thread waits for the signals and ends the process, so nothing of theirs runs in the middle of what the other threads
+do. What may not be cut there holds the lock.
 """
 from __future__ import annotations
 

@@ -42,7 +42,8 @@ def remove(session: Session, params: Params, cache: Opened) -> None:
         outcome = revoked(session, params, token_of(dropped), kind_of(dropped))
         if outcome.fault:
             said, status = session.fault_of(outcome)
-            raise Stop('another run had put a new token into %s, which is dropped and not revoked: %s' % (session.cache.name, said), status)
+            raise Stop('another run had put a new token into %s, which is dropped and not revoked: %s'
+                       % (session.cache.name, said), status)
 
 
 def kind_of(kept: Entry) -> str:
@@ -60,7 +61,8 @@ def kept_by(session: Session, kept: Optional[Entry]) -> Entry:
     if not kept:
         raise Stop('%s keeps no token, so there is nothing to revoke' % session.cache.name, BAD_SETTING)
     settings = session.settings
-    raise_differing(session, kept, [it for it in ('client_id', 'issuer') if settings[it] and kept[it] not in (None, settings[it])])
+    raise_differing(session, kept,
+                    [it for it in ('client_id', 'issuer') if settings[it] and kept[it] not in (None, settings[it])])
     return kept
 
 

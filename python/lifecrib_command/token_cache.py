@@ -18,14 +18,17 @@ if TYPE_CHECKING:  # typing takes a while to load
 SPARE = 1 << 14  # bytes that a new file may have beyond twice those of the old one
 FORMAT = 'cache of tools/oauth2, 1'
 NO_TEXT = type(None)
-# What the file has: of which request the token came, when, until when it is good, the reply, the refresh token that is newest, and who
-# signed in by an ID token that was checked.
+# What the file has: of which request the token came, when, until when it is good, the reply, the refresh token that is
+# newest, and who signed in by an ID token that was checked.
 TYPES: Mapping[str, Any] = {
-    'command': str, 'client_id': str, 'server': (str, NO_TEXT), 'issuer': (str, NO_TEXT), 'token_url': str, 'auth': (str, NO_TEXT),
-    'username': (str, NO_TEXT), 'scopes': list, 'extra': list, 'resource': list, 'obtained_at': int, 'expires_at': int, 'answer': str,
+    'command': str, 'client_id': str, 'server': (str, NO_TEXT), 'issuer': (str, NO_TEXT), 'token_url': str,
+    'auth': (str, NO_TEXT),
+    'username': (str, NO_TEXT), 'scopes': list, 'extra': list, 'resource': list, 'obtained_at': int, 'expires_at': int,
+    'answer': str,
     'refresh_token': (str, NO_TEXT), 'user': (dict, NO_TEXT)}
 
-OF_EARLIER: Entry = {'server': None, 'issuer': None, 'user': None, 'resource': []}  # what the files of earlier versions do not have
+# What the files of earlier versions do not have.
+OF_EARLIER: Entry = {'server': None, 'issuer': None, 'user': None, 'resource': []}
 
 
 def entry_in(text: str, path: str) -> Optional[Entry]:
@@ -38,7 +41,8 @@ def entry_in(text: str, path: str) -> Optional[Entry]:
     except (ValueError, KeyError, TypeError, AttributeError, RecursionError):
         is_ours = False
     if not is_ours:
-        raise Stop('%s is no cache of this tool, so it is left as it is: name another file by --cache' % path, BAD_SETTING)
+        raise Stop('%s is no cache of this tool, so it is left as it is: name another file by --cache' % path,
+                   BAD_SETTING)
     return found
 
 
@@ -77,13 +81,15 @@ def told(path: str) -> Iterator[None]:
     try:
         yield
     except UnicodeDecodeError:
-        raise Stop('%s is no cache of this tool, so it is left as it is: name another file by --cache' % path, BAD_SETTING)
+        raise Stop('%s is no cache of this tool, so it is left as it is: name another file by --cache' % path,
+                   BAD_SETTING)
     except OSError as error:
         raise Stop('%s can not be used as a cache: %s' % (path, error.strerror), status_at(error))
 
 
 def read(path: str) -> Optional[Entry]:
-    """What a cache keeps now, without waiting for other runs, which put a new file in its place; None where there is no file yet."""
+    """What a cache keeps now, without waiting for other runs, which put a new file in its place; None where there is no
+    file yet."""
     path = os.path.realpath(path)
     with told(path):
         try:
@@ -95,8 +101,8 @@ def read(path: str) -> Optional[Entry]:
 
 
 class File:
-    """The file while this process alone has it, as a context. What is kept is .entry, or None. limit is how many seconds it may be waited
-    for."""
+    """The file while this process alone has it, as a context. What is kept is .entry, or None. limit is how many
+    seconds it may be waited for."""
 
     def __init__(self, path: str, limit: float) -> None:
         self.path, self.limit = os.path.realpath(path), limit
@@ -168,7 +174,8 @@ class File:
         try:
             self.reserve()
         except OSError as error:
-            raise NotAsked('there is no room for a new token beside %s (%s), so nothing was sent' % (self.path, error.strerror),
+            raise NotAsked('there is no room for a new token beside %s (%s), so nothing was sent'
+                           % (self.path, error.strerror),
                            status_at(error))
 
     def reserve(self) -> IO[bytes]:
@@ -207,7 +214,8 @@ class File:
         finally:
             self.drop()
         self.entry = entry
-        with contextlib.suppress(OSError):  # so that the new file is the one that a sudden end of the machine leaves, where that can be
+        # So that the new file is the one that a sudden end of the machine leaves, where that can be.
+        with contextlib.suppress(OSError):
             at = os.open(os.path.dirname(self.path), os.O_RDONLY)
             try:
                 os.fsync(at)
@@ -226,8 +234,8 @@ def is_good(entry: Entry, now: int, margin: int) -> bool:
 
 
 def entry_of(text: str, asked_at: int, life: int, before: Optional[Entry], how: Mapping[str, Any]) -> Entry:
-    """What is kept of an answer: its token ends life seconds after its request, where it doesn't say. A refresh token of before stays, if
-    it has no other."""
+    """What is kept of an answer: its token ends life seconds after its request, where it doesn't say. A refresh token
+    of before stays, if it has no other."""
     seconds, refresh = answers.member(text, 'expires_in'), answers.member(text, 'refresh_token')
     if before and not refresh:
         refresh = before['refresh_token']

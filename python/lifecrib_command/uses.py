@@ -1,4 +1,5 @@
-"""The commands that are about a token that is kept, and get none from a server but to renew it: `status`, `whoami`, `git-credential`."""
+"""The commands that are about a token that is kept, and get none from a server but to renew it: `status`, `whoami`,
+`git-credential`."""
 from __future__ import annotations
 
 import sys
@@ -18,11 +19,13 @@ if TYPE_CHECKING:
 
 
 def show_status(given: argparse.Namespace, cache: Cache) -> int:
-    """Writes what is kept, without a secret: the exit status, which is that of a need to sign in where no token can be had."""
+    """Writes what is kept, without a secret: the exit status, which is that of a need to sign in where no token can be
+    had."""
     kept, now = cache.read(), int(time.time())
     name = given.keeps_for.name if given.keeps_for else None
     if not kept:
-        raise Stop('there is no token in %s: sign in by %s login %s' % (cache.name, endings.command, given.place), SIGN_IN)
+        raise Stop('there is no token in %s: sign in by %s login %s' % (cache.name, endings.command, given.place),
+                   SIGN_IN)
     if given.output == 'json':
         answers.put(token_status.in_json(kept, name, cache, now) + '\n')
     else:
@@ -34,7 +37,8 @@ def whoami(session: Session, params: Params) -> int:
     """Asks the UserInfo endpoint about the user of the kept token, and writes the answer: the exit status."""
     given, kept = session.given, session.cache.read()
     if kept and not kept['user']:
-        raise Stop('%s does not say who has signed in, so no answer could be compared with it: sign in by %s login --openid %s'
+        raise Stop('%s does not say who has signed in, so no answer could be compared with it: sign in by %s login '
+                   '--openid %s'
                    % (session.cache.name, endings.command, given.place), SIGN_IN)
     if kept:
         check_complete(given, session.settings)

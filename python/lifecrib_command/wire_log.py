@@ -64,7 +64,8 @@ def received(status: int, reason: str, headers: Iterable[tuple[str, str]], body:
 
 
 def redirect(url: str) -> None:
-    """Shows the redirect that has come back: of its parameters only those that say who has answered, and which error."""
+    """Shows the redirect that has come back: of its parameters only those that say who has answered, and which
+    error."""
     if is_on:
         place, mark, query = url.partition('?')
         pairs = [it.partition('=')[::2] for it in query.partition('#')[0].split('&')]
