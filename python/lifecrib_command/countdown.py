@@ -5,8 +5,7 @@ import os
 import time
 from typing import Callable
 
-from . import conversation
-from . import endings
+from . import conversation, endings
 
 
 def sleep_of(code: str, seconds: float) -> Callable[[float], None]:

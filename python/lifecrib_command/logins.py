@@ -60,7 +60,8 @@ class Back:
 
     def is_ours(self, redirect: str) -> bool:
         """Whether a redirect is of this login, or of another one, for which a listener does not end."""
-        return values_in(redirect, 'state') == [self.state]
+        found = values_in(redirect, 'state')
+        return len(found) == 1 and secrets.compare_digest(found[0].encode('utf-8', 'replace'), self.state.encode())
 
     def params(self, redirect: str) -> Params:
         issuer = self.session.settings['issuer']

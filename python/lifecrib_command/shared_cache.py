@@ -21,15 +21,7 @@ import time
 from types import TracebackType
 from typing import TYPE_CHECKING, Any, Callable, NamedTuple, NoReturn, Optional, Union
 
-from . import answers
-from . import programs
-from . import profiles
-from . import shared_places
-from . import renewal
-from . import shared_keeper
-from . import shared_stores
-from . import token_cache
-from . import wire_log
+from . import answers, profiles, programs, renewal, shared_keeper, shared_places, shared_stores, token_cache, wire_log
 from .caches import Held, NotKept
 from .endings import BAD_SETTING, SIGN_IN, TRY_AGAIN, Stop, note, tell
 from .moments import moment
