@@ -122,7 +122,8 @@ class Json(unittest.TestCase):
 class Names(unittest.TestCase):
     def test_what_is_used_is_loaded_then(self):
         told = 'import lifecrib, sys; print(sorted(it for it in ("ssl", "asyncio", "ctypes") if it in sys.modules)); '
-        for more, wanted in (('', '[]'), ('lifecrib.Token; lifecrib.run_script; ', '[]'), ('lifecrib.Client; ', "['asyncio', 'ssl']")):
+        for more, wanted in (('', '[]'), ('lifecrib.Token; lifecrib.run_script; ', '[]'),
+                             ('lifecrib.Client; ', "['asyncio', 'ssl']")):
             run = subprocess.run([sys.executable, '-B', '-c', told.replace('; print', '; %sprint' % more)], cwd=PACKAGE,
                                  capture_output=True, text=True)
             self.assertEqual(run.stdout.strip(), wanted, run.stderr)

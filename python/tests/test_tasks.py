@@ -149,7 +149,8 @@ class Lines(unittest.TestCase):
             self.assertLessEqual(own, min(others), task)
 
     def test_no_line_is_long(self):
-        for at, _, names in os.walk(os.path.dirname(HERE)):
+        for at, folders, names in os.walk(os.path.dirname(HERE)):
+            folders[:] = [it for it in folders if it != 'command_tests']
             for name in names:
                 if name.endswith(('.py', '.md', '.toml')):
                     with open(os.path.join(at, name)) as f:
