@@ -24,6 +24,10 @@ module _ {A F : Type 0} where
   abbrev pub reading_after : List (List ℕ) → (Members → Reading A) → (Data → Reading F) → Data → Reading (F × A)
   reading_after names row extra d = read_then (members_of_object d) (λ ms. Ok joined ⊛ extra (object (others names ms)) ⊛ row ms)
 
+-- a JSON value, read as it is
+abbrev pub as_it_is : Data → Reading Data
+as_it_is d = Ok d
+
 -- both parts, as contracts see them
 abbrev pub both_seen : {V A E F : Type 0} → (V → A) → (E → F) → V × E → A × F
 both_seen f g v = (f v.0, g v.1)

@@ -8,10 +8,13 @@ mod member_pair;
 mod objects;
 mod rows;
 
-pub use kinds::{Needed, Optional, OptionalFlag, OptionalNumber, OptionalText, OptionalTextList};
-pub use member::{Member, MemberKind};
+pub use kinds::{
+    Needed, NeededTexts, Optional, OptionalFlag, OptionalNumber, OptionalText, OptionalTextList,
+};
+pub use member::{Member, MemberKind, ReadKind};
 pub use member_pair::{MemberPair, PairKind};
 pub use objects::{
-    object_of, object_with, read_body_with, read_object, read_value_after, read_value_with,
+    object_of, object_with, read_body_with, read_object, read_value_after, read_value_and_others,
+    read_value_with,
 };
 pub use rows::{Rows, WriteRows};

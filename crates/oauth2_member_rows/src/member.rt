@@ -11,9 +11,9 @@ use serde_json::{Map, Value};
 use std::alloc::{AllocError, Global};
 use std::marker::PhantomData;
 
-/// How the value of a member is read and written.
-pub trait MemberKind {
-    ghost use Rattle.std.specs.Prelude.{◌≡◌, ℕ, List, Option, Ok, IfOk, option_map};
+/// How the value of a member is read.
+pub trait ReadKind {
+    ghost use Rattle.std.specs.Prelude.{ℕ, List, Option, option_map};
     ghost use Rattle.serde_json.specs.Data.{Data};
     ghost use Rattle.serde_json.specs.View.{view};
     ghost use Rattle.oauth2_json.specs.Reading.{Reading, ReadsAs};
@@ -29,28 +29,35 @@ pub trait MemberKind {
     /// What the member of a name is read as. A fault has that name.
     ghost reading: { List ℕ → Option Data → Reading Meaning };
 
+    /// Reads the member `name`. A fault has that name.
+    fn read(alloc: Global, name: &str, found: Option<Value>) -> Result<Self::Value, ReadError>
+        ensures { ReadsAs meaning result (reading name.now (option_map view found)) };
+}
+
+/// How the value of a member is read and written.
+pub trait MemberKind: ReadKind {
+    ghost use Rattle.std.specs.Prelude.{◌≡◌, ℕ, List, Option, Ok, IfOk, option_map};
+    ghost use Rattle.serde_json.specs.Data.{Data};
+    ghost use Rattle.serde_json.specs.View.{view};
+
     /// What a value is written as; `None` is not written.
     ghost written: { Self.Value → Option Data };
 
     /// The condition under which what is written reads back.
     ghost IsKept: { Self.Value → Type 0 };
 
-    /// Reads the member `name`. A fault has that name.
-    fn read(alloc: Global, name: &str, found: Option<Value>) -> Result<Self::Value, ReadError>
-        ensures { ReadsAs meaning result (reading name.now (option_map view found)) };
-
     /// The JSON value of a member; `None` is not written. An error means out of memory.
     fn write(alloc: Global, value: &Self::Value) -> Result<Option<Value>, AllocError>
         ensures { IfOk result (λ v. option_map view v ≡ written value.now) };
 
     ghost reads_back: { (name : List ℕ) (x : Self.Value)
-        → IsKept x → reading name (written x) ≡ Ok (meaning x) };
+        → IsKept x → Self.reading name (written x) ≡ Ok (Self.meaning x) };
 }
 
 /// A row: the name of a member, and its kind `K`.
 pub struct Member<K>(pub &'static str, pub PhantomData<K>);
 
-impl<K: MemberKind> Rows for Member<K> {
+impl<K: ReadKind> Rows for Member<K> {
     type Values = K::Value;
 
     ghost Meaning = { K.Meaning };
@@ -61,16 +68,7 @@ impl<K: MemberKind> Rows for Member<K> {
 
     ghost reading = { λ m ms. K.reading m.0.now (get_member m.0.now ms) };
 
-    ghost written = { λ m v. (m.0.now, K.written v) ∷ [] };
-
-    ghost IsKept = { K.IsKept };
-
     ghost depends = { λ m. member_depends (K.reading m.0.now) m.0.now };
-
-    ghost named = { λ m v. refl };
-
-    ghost reads_back = { λ m v ms held kept. member_back (K.reading m.0.now) (K.written v)
-        (K.meaning v) m.0.now ms held (K.reads_back m.0.now v kept) };
 
     fn read(&self, alloc: Global, object: &mut Object<'_>) -> Result<K::Value, ReadError> {
         let found = object.take(self.0);
@@ -84,6 +82,15 @@ impl<K: MemberKind> Rows for Member<K> {
 
 impl<K: MemberKind> WriteRows<&K::Value> for Member<K> {
     ghost values_of = { λ v. v.now };
+
+    ghost written = { λ m v. (m.0.now, K.written v) ∷ [] };
+
+    ghost IsKept = { K.IsKept };
+
+    ghost named = { λ m v. refl };
+
+    ghost reads_back = { λ m v ms held kept. member_back (K.reading m.0.now) (K.written v)
+        (K.meaning v) m.0.now ms held (K.reads_back m.0.now v kept) };
 
     fn put(
         &self,

@@ -75,17 +75,7 @@ impl<K: PairKind> Rows for MemberPair<K> {
     ghost reading = { λ m ms. K.reading m.0.now m.1.now
         (get_member m.0.now ms) (get_member m.1.now ms) };
 
-    ghost written = { λ m v. (m.0.now, K.written v) ∷ (m.1.now, K.written_other v) ∷ [] };
-
-    ghost IsKept = { K.IsKept };
-
     ghost depends = { λ m. members_depend (K.reading m.0.now m.1.now) m.0.now m.1.now };
-
-    ghost named = { λ m v. refl };
-
-    ghost reads_back = { λ m v ms held kept. members_back (K.reading m.0.now m.1.now)
-        (K.written v) (K.written_other v) (K.meaning v) m.0.now m.1.now ms held
-        (K.reads_back m.0.now m.1.now v kept) };
 
     fn read(&self, alloc: Global, object: &mut Object<'_>) -> Result<K::Value, ReadError> {
         let found = object.take(self.0);
@@ -101,6 +91,16 @@ impl<K: PairKind> Rows for MemberPair<K> {
 
 impl<K: PairKind> WriteRows<&K::Value> for MemberPair<K> {
     ghost values_of = { λ v. v.now };
+
+    ghost written = { λ m v. (m.0.now, K.written v) ∷ (m.1.now, K.written_other v) ∷ [] };
+
+    ghost IsKept = { K.IsKept };
+
+    ghost named = { λ m v. refl };
+
+    ghost reads_back = { λ m v ms held kept. members_back (K.reading m.0.now m.1.now)
+        (K.written v) (K.written_other v) (K.meaning v) m.0.now m.1.now ms held
+        (K.reads_back m.0.now m.1.now v kept) };
 
     fn put(
         &self,

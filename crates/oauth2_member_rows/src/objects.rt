@@ -9,7 +9,7 @@ ghost use Rattle.oauth2_json.specs.Reading.{ReadsAs};
 ghost use Rattle.oauth2_json.specs.Writing.{WritesAs};
 ghost use Rattle.oauth2_body_members.specs.Object.{object_members};
 ghost use Rattle.oauth2_member_rows.specs.Rows.{are_distinct};
-ghost use Rattle.oauth2_member_rows.specs.Objects.{object_reading, row_with, reading_with};
+ghost use Rattle.oauth2_member_rows.specs.Objects.{as_it_is, object_reading, row_with, reading_with};
 ghost use Rattle.oauth2_member_rows.specs.Objects.{reading_after, both_seen, writing_with};
 
 use crate::rows::{Rows, WriteRows};
@@ -43,6 +43,22 @@ pub fn object_of<V, R: WriteRows<V>>(
     let mut members = Map::new(alloc);
     rows.put(alloc, values, &mut members)?;
     Ok(Value::Object(members))
+}
+
+/// Reads an object by its rows, and returns its other members as an object.
+pub fn read_value_and_others<R: Rows>(
+    rows: &R,
+    alloc: Global,
+    value: Value,
+) -> Result<(R::Values, Value), ReadError>
+    requires { are_distinct (R.names rows.now) ≡ true }
+    ensures { ReadsAs (both_seen R.meaning view) result
+        (reading_with (R.names rows.now) (R.reading rows.now) as_it_is (view value)) }
+{
+    let mut all = Object::of_value(alloc, value)?;
+    let values = rows.read(alloc, &mut all)?;
+    let others = all.into_value(alloc)?;
+    Ok((values, others))
 }
 
 /// Reads an object by its rows, and its other members as an `E`.

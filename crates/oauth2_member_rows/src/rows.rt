@@ -12,13 +12,12 @@ use std::alloc::{AllocError, Global};
 
 /// The members of a type: what they are called, and how they are read.
 pub trait Rows {
-    ghost use Rattle.std.specs.Prelude.{◌≡◌, ◌++◌, ℕ, List, map, true, Ok, IfOk};
+    ghost use Rattle.std.specs.Prelude.{◌≡◌, ◌++◌, ℕ, List, map, true, IfOk};
     ghost use Rattle.serde_json.specs.Data.{Members};
     ghost use Rattle.oauth2_json.specs.Reading.{Reading, ReadsAs};
     ghost use Rattle.oauth2_json.specs.Members.{others};
-    ghost use Rattle.oauth2_json.specs.Puts.{Row, names as names_of_rows};
     ghost use Rattle.oauth2_body_members.specs.Object.{object_members};
-    ghost use Rattle.oauth2_member_rows.specs.Rows.{are_distinct, Agree, Holds};
+    ghost use Rattle.oauth2_member_rows.specs.Rows.{are_distinct, Agree};
 
     /// What is read: a value for each row, as nested pairs.
     type Values: Drop;
@@ -34,12 +33,6 @@ pub trait Rows {
     /// What the members of an object are read as. Of several faults, the first row's is told.
     ghost reading: { Self → Members → Reading Meaning };
 
-    /// What is written: for each name its value, or `None` if the member is not written.
-    ghost written: { Self → Self.Values → List Row };
-
-    /// The condition under which what is written reads back.
-    ghost IsKept: { Self.Values → Type 0 };
-
     /// Takes the members out of an object, and reads them.
     fn read(&self, alloc: Global, object: &mut Object<'_>) -> Result<Self::Values, ReadError>
         requires { are_distinct (names self.now) ≡ true }
@@ -54,21 +47,24 @@ pub trait Rows {
 
     ghost depends: { (rows : Self) (a b : Members)
         → Agree (names rows) a b → reading rows a ≡ reading rows b };
-
-    ghost named: { (rows : Self) (v : Self.Values) → names_of_rows (written rows v) ≡ names rows };
-
-    ghost reads_back: { (rows : Self) (v : Self.Values) (ms : Members)
-        → Holds (written rows v) ms → IsKept v → reading rows ms ≡ Ok (meaning v) };
 }
 
 /// The members of a type, written from `V`: references to the values, as nested pairs.
 pub trait WriteRows<V>: Rows {
-    ghost use Rattle.std.specs.Prelude.{◌≡◌, IfOk};
+    ghost use Rattle.std.specs.Prelude.{◌≡◌, List, Ok, IfOk};
+    ghost use Rattle.serde_json.specs.Data.{Members};
     ghost use Rattle.serde_json.specs.View.{members_view};
-    ghost use Rattle.oauth2_json.specs.Puts.{put_all};
+    ghost use Rattle.oauth2_json.specs.Puts.{Row, names as names_of_rows, put_all};
+    ghost use Rattle.oauth2_member_rows.specs.Rows.{Holds};
 
     /// The values that are referred to.
     ghost values_of: { V → Self.Values };
+
+    /// What is written: for each name its value, or `None` if the member is not written.
+    ghost written: { Self → Self.Values → List Row };
+
+    /// The condition under which what is written reads back.
+    ghost IsKept: { Self.Values → Type 0 };
 
     /// Puts the members into an object.
     fn put(
@@ -78,8 +74,14 @@ pub trait WriteRows<V>: Rows {
         members: &mut Map<String, Value>,
     ) -> Result<(), AllocError>
         ensures { IfOk result (λ _. members_view members.new.entries
-            ≡ put_all (Self.written self.now (values_of values))
+            ≡ put_all (written self.now (values_of values))
             (members_view members.old.entries)) };
+
+    ghost named: { (rows : Self) (v : Self.Values)
+        → names_of_rows (written rows v) ≡ Self.names rows };
+
+    ghost reads_back: { (rows : Self) (v : Self.Values) (ms : Members)
+        → Holds (written rows v) ms → IsKept v → Self.reading rows ms ≡ Ok (Self.meaning v) };
 }
 
 /// No rows.
@@ -94,15 +96,7 @@ impl Rows for () {
 
     ghost reading = { λ _ ms. Ok tt };
 
-    ghost written = { λ _ v. [] };
-
-    ghost IsKept = { λ _. Unit {0} };
-
     ghost depends = { λ _ a b _. refl };
-
-    ghost named = { λ _ v. refl };
-
-    ghost reads_back = { λ _ v ms _ _. refl };
 
     fn read(&self, _alloc: Global, _object: &mut Object<'_>) -> Result<(), ReadError> {
         Ok(())
@@ -115,6 +109,14 @@ impl Rows for () {
 
 impl WriteRows<()> for () {
     ghost values_of = { λ v. v };
+
+    ghost written = { λ _ v. [] };
+
+    ghost IsKept = { λ _. Unit {0} };
+
+    ghost named = { λ _ v. refl };
+
+    ghost reads_back = { λ _ v ms _ _. refl };
 
     fn put(
         &self,
@@ -138,19 +140,8 @@ impl<A: Rows, B: Rows> Rows for (A, B) {
 
     ghost reading = { λ s ms. Ok joined ⊛ A.reading s.0 ms ⊛ B.reading s.1 ms };
 
-    ghost written = { λ s v. A.written s.0 v.0 ++ B.written s.1 v.1 };
-
-    ghost IsKept = { λ v. A.IsKept v.0 × B.IsKept v.1 };
-
     ghost depends = { λ s a b h. pair_depends (A.names s.0) (B.names s.1) (A.reading s.0)
         (B.reading s.1) a b (A.depends s.0 a b) (B.depends s.1 a b) h };
-
-    ghost named = { λ s v. pair_named (A.written s.0 v.0) (B.written s.1 v.1)
-        (A.names s.0) (B.names s.1) (A.named s.0 v.0) (B.named s.1 v.1) };
-
-    ghost reads_back = { λ s v ms held kept. pair_back (A.reading s.0) (B.reading s.1)
-        (A.written s.0 v.0) (B.written s.1 v.1) (A.meaning v.0) (B.meaning v.1) ms held
-        (λ h. A.reads_back s.0 v.0 ms h kept.0) (λ h. B.reads_back s.1 v.1 ms h kept.1) };
 
     fn read(
         &self,
@@ -170,6 +161,17 @@ impl<A: Rows, B: Rows> Rows for (A, B) {
 
 impl<A: WriteRows<V>, B: WriteRows<W>, V: Drop, W: Drop> WriteRows<(V, W)> for (A, B) {
     ghost values_of = { λ v. (A.values_of v.0, B.values_of v.1) };
+
+    ghost written = { λ s v. A.written s.0 v.0 ++ B.written s.1 v.1 };
+
+    ghost IsKept = { λ v. A.IsKept v.0 × B.IsKept v.1 };
+
+    ghost named = { λ s v. pair_named (A.written s.0 v.0) (B.written s.1 v.1)
+        (A.names s.0) (B.names s.1) (A.named s.0 v.0) (B.named s.1 v.1) };
+
+    ghost reads_back = { λ s v ms held kept. pair_back (A.reading s.0) (B.reading s.1)
+        (A.written s.0 v.0) (B.written s.1 v.1) (A.meaning v.0) (B.meaning v.1) ms held
+        (λ h. A.reads_back s.0 v.0 ms h kept.0) (λ h. B.reads_back s.1 v.1 ms h kept.1) };
 
     fn put(
         &self,

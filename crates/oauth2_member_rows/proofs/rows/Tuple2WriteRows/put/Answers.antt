@@ -6,7 +6,7 @@ use Rattle.oauth2_member_rows.proofs.rows.Tuple2WriteRows.put.Goals as goal
 
 pub returns : goal.returns
 returns g c =
-    let first = g.A.Rows.written c.args.self.now.0 (g.A.WriteRows.values_of c.args.values.0) in
-    let second = g.B.Rows.written c.args.self.now.1 (g.B.WriteRows.values_of c.args.values.1) in
+    let first = g.A.WriteRows.written c.args.self.now.0 (g.A.WriteRows.values_of c.args.values.0) in
+    let second = g.B.WriteRows.written c.args.self.now.1 (g.B.WriteRows.values_of c.args.values.1) in
     let both = ap (put_all first) c.in_ok-put.ensures ∙ sym (put_all-append first second (members_view c.args.members.now.entries)) in
     subst (λ ms. IfOk c.put-2.result (λ _. members_view c.put-2.new.members.entries ≡ ms)) both c.put-2.ensures
