@@ -9,7 +9,7 @@ use Rattle.oauth2_body_members.specs.Table.{Table, ◌▸◌, end, Builder, name
 use Rattle.oauth2_body_members.specs.private.Groups.{Meanings, uncurried}
 use Rattle.oauth2_member_rows.specs.Rows.{are_distinct, Agree, joined}
 use Rattle.oauth2_member_rows.specs.private.RowLaws.{agree_parts}
-use Rattle.oauth2_member_rows.specs.Objects.{object_reading, reading_after}
+use Rattle.oauth2_member_rows.specs.Objects.{as_it_is, object_reading, row_with, reading_with, reading_after}
 use Rattle.oauth2_member_rows.proofs.Names.{left_agrees}
 
 -- what each row reads to, as nested pairs
@@ -107,3 +107,55 @@ module _ {S R F : Type 0} (X : Type 0) (s : Table S) (make : Builder s F) (t : T
   pub after_errs : (d : Data) (e : ReadError) → ErrsAs e (reading_after (names_of t) (pairs_reading t) own d) → ErrsAs e (object_reading both d)
   after_errs d errors.Memory h = tt
   after_errs d (errors.Fault fault) h = sym (both_of (members_of_object d)) ∙ ap (λ r. Ok whole ⊛ r) h
+
+-- ---- a table next to the members that have no row in it
+
+module _ {R : Type 0} (X : Type 0) (t : Table R) (f : Builder t (Members → X)) where
+  abbrev with_rest : Members → Reading X
+  with_rest ms = table_reading t (Ok f) ms ⊛ Ok (others (names_of t) ms)
+
+  -- what was read, and the object of the other members
+  pub record Beside (d : Data) (m : Meanings t) (o : Data) : Type 0 where
+    pub members : Members
+    pub is : o ≡ object members
+    pub reads : object_reading with_rest d ≡ Ok (uncurried {X = Members → X} t f m members)
+
+  both_parts : (a m : Meanings t) (d o : Data) → ◌≡◌ {A = Reading (Meanings t × Data)} (Ok (a, d)) (Ok (m, o)) → (◌≡◌ {A = Reading (Meanings t)} (Ok a) (Ok m)) × (d ≡ o)
+  both_parts a m d o h =
+      let pair : ◌≡◌ {A = Meanings t × Data} (a, d) (m, o) = cc h in
+      (ap (λ v. Ok v.0) pair, ap (λ v. v.1) pair)
+
+  rest_of : (r : Reading (Meanings t)) (m : Meanings t) (ms : Members) (o : Data) → Ok joined ⊛ r ⊛ Ok (object ms) ≡ Ok (m, o) → (r ≡ Ok m) × (object ms ≡ o)
+  rest_of (Err e) m ms o h = cc h
+  rest_of (Ok a) m ms o h = both_parts a m (object ms) o h
+
+  rest_errs : (r : Reading (Meanings t)) (e : ReadError) (ms : Members) → ErrsAs e (Ok joined ⊛ r ⊛ Ok (object ms)) → ErrsAs e (Ok (uncurried {X = Members → X} t f) ⊛ r ⊛ Ok ms)
+  rest_errs r errors.Memory ms h = tt
+  rest_errs (Err fault) (errors.Fault told) ms h = cc h
+  rest_errs (Ok a) (errors.Fault told) ms h = cc h
+
+  beside_rows : (d : Data) (ms : Members) (m : Meanings t) (o : Data) → members_of_object d ≡ Ok ms → row_with (names_of t) (pairs_reading t) as_it_is ms ≡ Ok (m, o) → Beside d m o
+  beside_rows d ms m o is h =
+      let p = rest_of (pairs_reading t ms) m (others (names_of t) ms) o h in
+      let read : table_reading t (Ok f) ms ≡ Ok (uncurried {X = Members → X} t f m) = sym (built t f ms) ∙ ap (λ r. Ok (uncurried {X = Members → X} t f) ⊛ r) p.0 in
+      record { members = others (names_of t) ms; is = sym p.1; reads = rw (is, read) refl }
+
+  beside_of : (d : Data) (r : Reading Members) (m : Meanings t) (o : Data) → members_of_object d ≡ r → read_then r (row_with (names_of t) (pairs_reading t) as_it_is) ≡ Ok (m, o) → Beside d m o
+  beside_of d (Err e) m o is h = cc h
+  beside_of d (Ok ms) m o is h = beside_rows d ms m o is h
+
+  -- what an object reads to
+  pub beside_built : (d : Data) (m : Meanings t) (o : Data) → reading_with (names_of t) (pairs_reading t) as_it_is d ≡ Ok (m, o) → Beside d m o
+  beside_built d m o h = beside_of d (members_of_object d) m o refl h
+
+  fault_of_rows : (e : ReadError) (ms : Members) → ErrsAs e (row_with (names_of t) (pairs_reading t) as_it_is ms) → ErrsAs e (with_rest ms)
+  fault_of_rows e ms h = rw (← built t f ms) (rest_errs (pairs_reading t ms) e (others (names_of t) ms) h)
+
+  fault_of_all : (e : ReadError) (r : Reading Members) → ErrsAs e (read_then r (row_with (names_of t) (pairs_reading t) as_it_is)) → ErrsAs e (read_then r with_rest)
+  fault_of_all errors.Memory (Err fault) h = tt
+  fault_of_all (errors.Fault told) (Err fault) h = cc h
+  fault_of_all e (Ok ms) h = fault_of_rows e ms h
+
+  -- and its fault
+  pub beside_errs : (d : Data) (e : ReadError) → ErrsAs e (reading_with (names_of t) (pairs_reading t) as_it_is d) → ErrsAs e (object_reading with_rest d)
+  beside_errs d e h = fault_of_all e (members_of_object d) h
