@@ -134,6 +134,34 @@ static void put(const void *bytes, size_t count) {
         stop("standard output cannot be written");
 }
 
+#ifdef TEXTS
+typedef void text_call(uint8_t *output, size_t output_length, size_t *length);
+
+// A text that a call gives, which has to put it as the header says. It is written with its length before it.
+static void put_text(text_call *call) {
+    uint8_t none;
+    size_t length = 7, again = 7;
+    call(&none, 0, &length);
+    for (size_t size = length ? length - 1 : 0; size <= length + 100; size++) {
+        uint8_t *output = room_of(size);
+        size_t taken = length <= size ? length : 0;
+        asked = 0, is_counting = 1;
+        call(output, size, &again);
+        is_counting = 0;
+        if (asked)
+            stop("a text takes memory");
+        if (again != length || !is_filler(output + taken, size - taken))
+            stop("a text is not put as the header says");
+        if (size == length) {
+            uint64_t shown = length;
+            put(&shown, sizeof shown);
+            put(output, length);
+        }
+        free(output);
+    }
+}
+#endif
+
 static void put_result(int32_t status, const uint8_t *result, uint64_t length) {
     put(&status, sizeof status);
     put(&length, sizeof length);
@@ -262,6 +290,10 @@ int main(int count, char **words) {
     long number = count > 2 ? atol(words[2]) : 0;
     size_t most = 0;
     all = read_scripts(&all_count);
+#ifdef TEXTS
+    if (!strcmp(what, "texts"))
+        put_text(lifecrib_version), put_text(lifecrib_kinds);
+#endif
     for (size_t at = 0; at < all_count; at++) {
         struct script *it = &all[at];
         if (!strcmp(what, "stack")) {

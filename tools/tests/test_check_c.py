@@ -9,6 +9,8 @@ import unittest
 
 import tool
 
+sys.path.insert(0, tool.TOOLS)
+
 LIBRARY = '''
 #include <stdlib.h>
 #include <string.h>
@@ -26,6 +28,15 @@ int32_t lifecrib_run(const uint8_t *script, size_t script_length, uint8_t *outpu
     return 2;
 }
 '''
+TEXTS = LIBRARY + '''
+static void put(const char *text, uint8_t *output, size_t output_length, size_t *length) {
+    *length = strlen(text);
+    if (*length <= output_length) memcpy(output, text, *length);
+}
+
+void lifecrib_version(uint8_t *output, size_t output_length, size_t *length) { put("%s", output, output_length, length); }
+void lifecrib_kinds(uint8_t *output, size_t output_length, size_t *length) { put("%s", output, output_length, length); }
+''' % (tool.load('version.py').VERSION, ''.join(it + '\\n' for it in tool.load('check-c').shown_kinds()))
 PROGRAM = '#!/bin/sh\ncat > /dev/null\necho bad script\nexit 2\n'
 
 
@@ -45,8 +56,9 @@ class CheckC(unittest.TestCase):
 
     def run_tool(self, part, old='', new=''):
         """The status and the lines of a part with the stand-in, in which one text is another."""
-        self.assertIn(old, LIBRARY)
-        source, built = self.written('library.c', LIBRARY.replace(old, new, 1) if old else LIBRARY), os.path.join(self.room, 'library.o')
+        library = TEXTS if part == 'texts' else LIBRARY
+        self.assertIn(old, library)
+        source, built = self.written('library.c', library.replace(old, new, 1) if old else library), os.path.join(self.room, 'library.o')
         subprocess.run(['cc', '-O1', '-I', os.path.join(os.path.dirname(tool.TOOLS), 'c'), '-c', source, '-o', built], check=True)
         archive = os.path.join(self.room, 'liblibrary.a')
         subprocess.run(['ar', 'rc', archive, built], check=True)
@@ -57,6 +69,8 @@ class CheckC(unittest.TestCase):
 
     def test_what_is_right(self):
         self.assertEqual(self.run_tool('same'), (0, 'same     60 scripts, 0 with a result as JSON; 60 end with 2\n1 passed, 0 failed\n'))
+        status, said = self.run_tool('texts')
+        self.assertEqual((status, said[-19:]), (0, '1 passed, 0 failed\n'), said)
         status, said = self.run_tool('memory')
         self.assertEqual((status, said[-19:]), (0, '1 passed, 0 failed\n'), said)
         self.assertIn(' wrote nothing', said)
@@ -67,6 +81,9 @@ class CheckC(unittest.TestCase):
                 ('same', 'memcpy(output, result, *length)', 'memcpy(output, result, output_length > *length ? *length + 1 : *length)',
                  'as the header says'),
                 ('same', 'if (*length <= output_length) ', 'if (output_length && *length > output_length) output[0] = 1; else ', 'as the header says'),
+                ('texts', 'bad_push\\n', '', 'where'),
+                ('texts', '*length = strlen(text);', '*length = strlen(text); void *volatile room = malloc(1); free(room);', 'a text takes memory'),
+                ('texts', 'memcpy(output, text, *length)', 'strcpy((char *)output, text)', 'as the header says'),
                 ('memory', 'free(result);', '', 'a call keeps memory'),
                 ('memory', 'return 3', 'return 2', 'FAILED'),
                 ('memory', 'if (!result) return 3;', 'if (!result) { output[0] = 1; return 3; }', 'as the header says')):
