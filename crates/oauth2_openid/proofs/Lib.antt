@@ -1,4 +1,3 @@
-pub mod Rows
 pub mod Encoded
 pub mod Dots
 pub mod Parts

@@ -3,16 +3,13 @@
 ghost use Rattle.std.specs.Prelude.{◌≡◌, option_copied, option_map, string_bytes};
 ghost use Rattle.oauth2_openid.specs.Token.{Header, WithOthers, with_others};
 ghost use Rattle.serde_json.specs.View.{view};
-ghost use Rattle.oauth2_json.specs.Reading.{ReadsAs};
-ghost use Rattle.oauth2_body_members.specs.Object.{object_members};
 ghost use Rattle.oauth2_openid.specs.Reading.{header_reading};
-ghost use Rattle.oauth2_openid.specs.private.Rows.{header_in_turn};
 
-use oauth2_body_members::Object;
 use oauth2_json::{FromJson, ReadError};
+use oauth2_member_rows::{Member, Needed, Optional, read_value_and_others};
 use serde_json::Value;
 use std::alloc::Global;
-use std::marker::Model;
+use std::marker::{Model, PhantomData};
 
 /// The header of an ID token: the algorithm and the key of the signature.
 #[derive(Drop)]
@@ -20,6 +17,12 @@ pub struct IdTokenHeader {
     pub(crate) algorithm: String,
     pub(crate) key_id: Option<String>,
 }
+
+// The members of a header.
+const ROWS: (Member<Needed<String>>, (Member<Optional<String>>, ())) = (
+    Member("alg", PhantomData),
+    (Member("kid", PhantomData), ()),
+);
 
 // The header, and the object of its other members.
 #[derive(Drop)]
@@ -67,19 +70,8 @@ impl FromJson for WholeHeader {
     ghost reading = { header_reading };
 
     fn from_json(alloc: Global, value: Value) -> Result<WholeHeader, ReadError> {
-        let members = Object::of_value(alloc, value)?;
-        from_members(alloc, members)
+        let ((algorithm, (key_id, ())), others) = read_value_and_others(&ROWS, alloc, value)?;
+        let header = IdTokenHeader { algorithm, key_id };
+        Ok(WholeHeader { header, others })
     }
-}
-
-fn from_members(alloc: Global, mut members: Object<'_>) -> Result<WholeHeader, ReadError>
-    ensures { ReadsAs (λ h. with_others h.header (view h.others)) result
-        (header_in_turn (object_members members.entry)) }
-{
-    let header = IdTokenHeader {
-        algorithm: members.needed(alloc, "alg")?,
-        key_id: members.optional(alloc, "kid")?,
-    };
-    let others = members.into_value(alloc)?;
-    Ok(WholeHeader { header, others })
 }

@@ -1,22 +1,20 @@
 //! Claims that no rule needs. If one cannot be read, that is no error: its value is kept among the
 //! other claims.
 
-ghost use Rattle.std.specs.Prelude.{◌≡◌, Ok, Some, IfOk, map, option_map, string_bytes};
-ghost use Rattle.serde_json.specs.Data.{array};
-ghost use Rattle.serde_json.specs.Find.{get_member};
+ghost use Rattle.std.specs.Prelude.{◌≡◌, ℕ, ℤ, List, Option, Ok, Some, IfOk};
+ghost use Rattle.std.specs.Prelude.{map, option_map, string_bytes};
+ghost use Rattle.serde_json.specs.Data.{Data, array};
 ghost use Rattle.serde_json.specs.View.{view, items_view};
-ghost use Rattle.oauth2_json.specs.Members.{without};
 ghost use Rattle.oauth2_json.specs.Reading.{ReadsAs};
 ghost use Rattle.oauth2_json.specs.Values.{text, text_list};
-ghost use Rattle.oauth2_body_members.specs.Object.{object_members};
 ghost use Rattle.oauth2_openid.specs.Times.{time};
 ghost use Rattle.oauth2_openid.specs.Reading.{unneeded};
 ghost use Rattle.oauth2_openid.specs.private.Left.{are_texts, put_back};
 
 use crate::time::moment_of;
 use jiff::Timestamp;
-use oauth2_body_members::Object;
 use oauth2_json::{ReadError, members};
+use oauth2_member_rows::ReadKind;
 use serde_json::Value;
 use std::alloc::{AllocError, Global};
 
@@ -27,61 +25,93 @@ pub(crate) struct Unneeded<T: Drop> {
     pub(crate) left: Option<Value>,
 }
 
-// Takes a claim that is a text out of the members.
-pub(crate) fn take_text(members: &mut Object<'_>, name: &str) -> Unneeded<String>
-    ensures read { (option_map string_bytes result.said, option_map view result.left)
-        ≡ unneeded text (get_member name.now (object_members members.old)) }
-    ensures rest { object_members members.new ≡ without name.now (object_members members.old) }
-{
-    let (said, left) = match members.take(name) {
-        None => (None, None),
-        Some(Value::Null) => (None, None),
-        Some(Value::String(text)) => (Some(text), None),
-        Some(other) => (None, Some(other)),
-    };
-    Unneeded { said, left }
+// A text, if the member is one.
+pub(crate) struct UnneededText;
+
+impl ReadKind for UnneededText {
+    type Value = Unneeded<String>;
+
+    ghost Meaning = { Option (List ℕ) × Option Data };
+
+    ghost meaning = { λ u. (option_map string_bytes u.said, option_map view u.left) };
+
+    ghost reading = { λ name found. Ok (unneeded text found) };
+
+    fn read(
+        _alloc: Global,
+        _name: &str,
+        found: Option<Value>,
+    ) -> Result<Unneeded<String>, ReadError> {
+        let (said, left) = match found {
+            None => (None, None),
+            Some(Value::Null) => (None, None),
+            Some(Value::String(text)) => (Some(text), None),
+            Some(other) => (None, Some(other)),
+        };
+        Ok(Unneeded { said, left })
+    }
 }
 
-// Takes a claim that is a time out of the members.
-pub(crate) fn take_time(members: &mut Object<'_>, name: &str) -> Unneeded<Timestamp>
-    ensures read { (option_map (λ t. t.nanosecond) result.said, option_map view result.left)
-        ≡ unneeded time (get_member name.now (object_members members.old)) }
-    ensures rest { object_members members.new ≡ without name.now (object_members members.old) }
-{
-    let (said, left) = match members.take(name) {
-        None => (None, None),
-        Some(Value::Null) => (None, None),
-        Some(Value::Number(number)) => match moment_of(&number) {
-            Some(at) => (Some(at), None),
-            None => (None, Some(Value::Number(number))),
-        },
-        Some(other) => (None, Some(other)),
-    };
-    Unneeded { said, left }
+// A time, if the member is one.
+pub(crate) struct UnneededTime;
+
+impl ReadKind for UnneededTime {
+    type Value = Unneeded<Timestamp>;
+
+    ghost Meaning = { Option ℤ × Option Data };
+
+    ghost meaning = { λ u. (option_map (λ t. t.nanosecond) u.said, option_map view u.left) };
+
+    ghost reading = { λ name found. Ok (unneeded time found) };
+
+    fn read(
+        _alloc: Global,
+        _name: &str,
+        found: Option<Value>,
+    ) -> Result<Unneeded<Timestamp>, ReadError> {
+        let (said, left) = match found {
+            None => (None, None),
+            Some(Value::Null) => (None, None),
+            Some(Value::Number(number)) => match moment_of(&number) {
+                Some(at) => (Some(at), None),
+                None => (None, Some(Value::Number(number))),
+            },
+            Some(other) => (None, Some(other)),
+        };
+        Ok(Unneeded { said, left })
+    }
 }
 
-// Takes a claim that is a list of texts out of the members.
-pub(crate) fn take_texts(
-    alloc: Global,
-    members: &mut Object<'_>,
-    name: &str,
-) -> Result<Unneeded<Vec<String>>, ReadError>
-    ensures read { ReadsAs
-        (λ u. (option_map (λ list. map string_bytes list.items) u.said, option_map view u.left))
-        result (Ok (unneeded text_list (get_member name.now (object_members members.old)))) }
-    ensures rest { object_members members.new ≡ without name.now (object_members members.old) }
-{
-    match members.take(name) {
-        Some(Value::Array(items)) => texts_of(alloc, name, items),
-        None => Ok(Unneeded {
-            said: None,
-            left: None,
-        }),
-        Some(Value::Null) => Ok(Unneeded {
-            said: None,
-            left: None,
-        }),
-        left => Ok(Unneeded { said: None, left }),
+// A list of texts, if the member is one.
+pub(crate) struct UnneededTexts;
+
+impl ReadKind for UnneededTexts {
+    type Value = Unneeded<Vec<String>>;
+
+    ghost Meaning = { Option (List (List ℕ)) × Option Data };
+
+    ghost meaning = { λ u.
+        (option_map (λ list. map string_bytes list.items) u.said, option_map view u.left) };
+
+    ghost reading = { λ name found. Ok (unneeded text_list found) };
+
+    fn read(
+        alloc: Global,
+        name: &str,
+        found: Option<Value>,
+    ) -> Result<Unneeded<Vec<String>>, ReadError> {
+        match found {
+            Some(Value::Array(items)) => texts_of(alloc, name, items),
+            None => Ok(Unneeded {
+                said: None,
+                left: None,
+            }),
+            Some(Value::Null) => Ok(Unneeded {
+                said: None,
+                left: None,
+            }),
+            left => Ok(Unneeded { said: None, left }),
+        }
     }
 }
 
