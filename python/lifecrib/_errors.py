@@ -68,7 +68,8 @@ class UnreadReply(LifecribError):
 
 
 class OtherError(LifecribError):
-    """The reply has another Content-Type, or no body; or the polls of a device have come to their limit."""
+    """The reply has another Content-Type, or no body; the polls of a device have come to their limit; or a login
+    with OpenID Connect got no Bearer token."""
 
     kind = 'other_error'
 
@@ -80,13 +81,13 @@ class OutOfMemory(LifecribError, MemoryError):
 
 
 class RefusedRedirect(LifecribError):
-    """A redirect has another state, another issuer, an error or no code; or a server redirects a request."""
+    """The redirect of a login has another state, another issuer, an error or no code."""
 
     kind = 'refused_redirect'
 
 
 class OtherStatus(LifecribError):
-    """A request for metadata has a reply with another status than 200."""
+    """A request for metadata has a reply with another status than 200, such as that of a redirect."""
 
     kind = 'other_status'
 

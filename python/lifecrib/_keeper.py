@@ -17,7 +17,7 @@ class KeeperState(Generic[S]):
     failed after that, if one did: so the library knows all that decides."""
 
     def __init__(self, client: S, token: Optional[Token] = None, *, scopes: Texts = (), margin: int = 60,
-                 life: int = 300, retry_after: Optional[int] = None, on_token: Optional[Callable[[Token], Any]] = None,
+                 life: int = 3600, retry_after: Optional[int] = None, on_token: Optional[Callable[[Token], Any]] = None,
                  extra: Pairs = (), resource: Texts = (), client_assertion: Optional[str] = None) -> None:
         self.client, self._is_of_a_user = client, token is not None
         self._params: dict[str, Any] = {

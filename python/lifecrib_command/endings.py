@@ -13,7 +13,7 @@ if TYPE_CHECKING:  # typing takes a while to load
 NO_ANSWER, FAULT, BAD_SETTING, NO_MEMORY, NOT_KEPT = 125, 1, 2, 3, 4
 SIGN_IN, NOT_DISCOVERED, REFUSED_TOKEN, NO_ID_TOKEN, TRY_AGAIN = 5, 6, 7, 8, 9
 # The status of each error code that a standard names: RFC 6749, 5.2 and 4.1.2.1; RFC 8628, 3.5; RFC 7009, 2.2.1; RFC
-# 8707, 2.
+# 8693, 2.2.2 and RFC 8707, 2.
 OF_CODE = {'invalid_request': 10, 'invalid_client': 11, 'invalid_grant': 12, 'unauthorized_client': 13,
            'unsupported_grant_type': 14,
            'invalid_scope': 15, 'access_denied': 16, 'unsupported_response_type': 17, 'server_error': 18,

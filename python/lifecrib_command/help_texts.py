@@ -5,8 +5,8 @@
     token           asks for a token for the client itself, by its client credentials (RFC 6749, 4.4)
     password        exchanges a user's name and password (RFC 6749, 4.3)
     refresh         exchanges a refresh token (RFC 6749, 6)
-   exchange        exchanges a token for another one (RFC 8693)
-   assertion       exchanges an assertion of another issuer: a JWT (RFC 7523, 2.1) or one of SAML (RFC 7522, 2.1)
+    exchange        exchanges a token for another one (RFC 8693)
+    assertion       exchanges an assertion of another issuer: a JWT (RFC 7523, 2.1) or one of SAML (RFC 7522, 2.1)
     device          signs in on another device (RFC 8628)
     introspect      asks about a token (RFC 7662)
     revoke          revokes a token (RFC 7009)
@@ -29,9 +29,9 @@ asked first, and where that has no metadata, the place of OpenID Connect Discove
 
 The client, its endpoints and the scopes are settings. Each comes from its flag, else from the environment, else from
 the JSON file that --config or OAUTH2_CONFIG names: the flag --token-url is OAUTH2_TOKEN_URL and the member
-"token_url". The variables are OAUTH2_ and one of CLIENT_ID, AUTH, ISSUER, ID_TOKEN_ISSUER, USERNAME, AUTH_URL,
-TOKEN_URL, DEVICE_URL, INTROSPECTION_URL, REVOCATION_URL, PUSH_URL, USERINFO_URL, REDIRECT, CACERT, CLIENT_CERT,
-CLIENT_KEY, CLIENT_ASSERTION_FILE, and SCOPE or SCOPES. Other flags have neither.
+"token_url". The variables are OAUTH2_ and one of CLIENT_ID, AUTH, ISSUER, SERVER, ID_TOKEN_ISSUER, USERNAME,
+AUTH_URL, TOKEN_URL, DEVICE_URL, INTROSPECTION_URL, REVOCATION_URL, PUSH_URL, USERINFO_URL, JWKS_URL, REDIRECT,
+CACERT, CLIENT_CERT, CLIENT_KEY, CLIENT_ASSERTION_FILE, and SCOPE or SCOPES. Other flags have neither.
 
 A profile has settings under a name: the table [profile.NAME] of the file lifecrib/config.toml in $XDG_CONFIG_HOME, or
 else ~/.config. --profile or OAUTH2_PROFILE names it, or the key default_profile of the file. Its token is kept in the
@@ -58,7 +58,7 @@ kept.
 
 Scripts are run by the program that OAUTH2_PROGRAM names, else in this process by the library of the package lifecrib,
 or that which LIFECRIB_LIBRARY names. In a checkout without a library it is the program that tools/prove or
-`tools/test --proved` has built; if there is none, it is compiled without proofs, which takes a few minutes, once for
+`tools/test --proved` has built; if there is none, it is compiled without proofs, which takes about a minute, once for
 a checkout. A line on standard error says if what runs is not proved.
 
 Standard output has the answer as one line: the whole reply as JSON, or as --output says; of revoke, null. status
