@@ -8,24 +8,27 @@ use Rattle.eddsa_signatures.specs.Curve.{coefficient, Point, affine}
 abbrev pub little_endian : List ℕ → ℕ
 little_endian octets = number (reverse octets)
 
--- y of the point, and x_0, the lowest bit of its x, which is the highest bit of the octets (step 1)
+-- y of the point: the number that the octets are, without its highest bit (step 1)
 abbrev pub y_of : List ℕ → ℕ
 y_of octets = little_endian octets % 2 ^ 255
 
+-- x_0, the lowest bit of the x of the point: the highest bit of the octets (step 1)
 abbrev pub x_0_of : List ℕ → ℕ
 x_0_of octets = little_endian octets / 2 ^ 255 % 2
 
--- u and v: x ^ 2 is u / v by the equation of the curve (step 2)
+-- u: x ^ 2 is u / v by the equation of the curve (step 2)
 abbrev pub u_of : ℕ → ℕ
 u_of y = minus (times y y) 1
 
+-- v of that quotient (step 2)
 abbrev pub v_of : ℕ → ℕ
 v_of y = plus (times coefficient (times y y)) 1
 
--- the exponents (p - 5) / 8 and (p - 1) / 4
+-- the exponent (p - 5) / 8
 unfoldable pub root_exponent : ℕ
 root_exponent = (prime - 5) / 8
 
+-- the exponent (p - 1) / 4
 unfoldable pub quarter_exponent : ℕ
 quarter_exponent = (prime - 1) / 4
 
@@ -46,15 +49,17 @@ with_bit x_0 x =
     if nat_eq x 0 && nat_eq x_0 1 then None
     else (if nat_eq (x % 2) x_0 then Some x else Some (minus 0 x))
 
--- the point with this y, if x is found in each step
+-- the point with this y, and with this x if one was found
 abbrev pub with_x : ℕ → Option ℕ → Option Point
 with_x y None = None
 with_x y (Some x) = Some (affine x y)
 
+-- the point with this y, and with the root whose lowest bit is x_0, if a root was found
 abbrev pub with_root : ℕ → ℕ → Option ℕ → Option Point
 with_root x_0 y None = None
 with_root x_0 y (Some x) = with_x y (with_bit x_0 x)
 
+-- the point with this y whose x has the lowest bit x_0, if there is one (steps 2 to 4)
 abbrev pub point_at : ℕ → ℕ → Option Point
 point_at x_0 y = with_root x_0 y (root_by (u_of y) (v_of y) (candidate (u_of y) (v_of y)))
 

@@ -11,6 +11,7 @@ use Rattle.oauth2_key_source.specs.declared.url_error.KeySetUrlError.TheVariants
 use Rattle.oauth2_key_source.specs.declared.verify_error.VerifyError.{VerifyError}
 use Rattle.oauth2_key_source.specs.declared.verify_error.VerifyError.TheVariants.{Keys, Signature}
 
+-- why a text is no URL of a key set
 abbrev pub url_error_text : KeySetUrlError → List ℕ
 url_error_text NotUrl = codes "URL of the keys is not a URL"
 url_error_text NotHttps = codes "URL of the keys is not an https URL"

@@ -49,6 +49,7 @@ abbrev pub is_key_set_type : List ℕ → Bool
 is_key_set_type value =
     bytes_eq (map to_ascii_lowercase (take 24 value)) (codes "application/jwk-set+json") && ends_the_type (drop 24 value)
 
+-- whether a Content-Type is one of a key set
 abbrev pub names_key_set : Option (List ℕ) → Bool
 names_key_set None = false
 names_key_set (Some value) = is_key_set_type value

@@ -32,11 +32,12 @@ pub record Source : Type 0 where
 
 -- ---- the clock
 
--- a moment that is after that of a call was told by a clock that has been set back since: it counts
--- as that of the call
+-- the earlier of two moments: if the kept moment is after that of the call, the clock was set back, and
+-- that of the call counts
 abbrev pub earlier : ℤ → ℤ → ℤ
 earlier now moment = if int_lt now moment then now else moment
 
+-- the kept set, which was got at the moment of the call at the latest
 abbrev pub aged : ℤ → KeptKeys → KeptKeys
 aged now kept = record kept { got_at = earlier now kept.got_at }
 
@@ -54,6 +55,7 @@ abbrev pub is_named : List ℕ → Option (List ℕ) → Bool
 is_named key_id None = false
 is_named key_id (Some name) = bytes_eq name key_id
 
+-- the name of a key, if it has one (RFC 7517, 4.5)
 abbrev pub name_of : ListedKey → Option (List ℕ)
 name_of (Usable key) = key.key_id
 name_of (Unusable key) = key.key_id
@@ -63,6 +65,7 @@ abbrev pub has_key : List ℕ → List ListedKey → Bool
 has_key key_id [] = false
 has_key key_id (key ∷ keys) = is_named key_id (name_of key) || has_key key_id keys
 
+-- one of the keys has the name that is asked for, if one is
 abbrev pub knows : Option (List ℕ) → List ListedKey → Bool
 knows None keys = true
 knows (Some key_id) keys = has_key key_id keys
@@ -93,10 +96,11 @@ is_given source now = is_fresh source.lifetime now source.kept || (source.uses_o
 
 -- ---- a call
 
--- what is kept after a request: at a fault the old set
+-- the source after a request at this moment that brought these keys
 abbrev pub renewed : Source → ℤ → List ListedKey → Source
 renewed source now keys = record source { kept = Some (record { keys = keys; got_at = now }); asked_at = Some now }
 
+-- the source after a request at this moment that brought no keys
 abbrev pub asked : Source → ℤ → Source
 asked source now = record source { asked_at = Some now }
 

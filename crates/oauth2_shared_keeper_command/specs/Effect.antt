@@ -42,6 +42,7 @@ end_events tokens keeper step.End = stepped keeper (codes "over") ∷ []
 
 -- ---- effects
 
+-- what a step does at the store
 pub record Effect : Type 0 where
   -- the text of the step
   pub text : List ℕ

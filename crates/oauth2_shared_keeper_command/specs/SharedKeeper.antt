@@ -42,10 +42,12 @@ says events = record { events = events; status = status.Answered }
 abbrev pub after_effect : Standing → ℕ → Renewal → Effect → Standing
 after_effect s keeper renewal effect = with_renewal (record s { stored = effect.stored }) keeper (turned renewal effect.told)
 
+-- the events of that: the step, and the end of the renewal, if this ends it
 abbrev pub effect_output : Standing → ℕ → Renewal → Effect → Output
 effect_output s keeper renewal effect =
     says (stepped keeper effect.text ∷ end_events s.tokens keeper (turn_of renewal effect.told).step)
 
+-- a run goes on so after that
 abbrev pub IsEffect : Standing → ℕ → Renewal → Effect → Output → Standing → Type 0
 IsEffect s keeper renewal effect o kept = (o ≡ effect_output s keeper renewal effect) × (kept ≡ after_effect s keeper renewal effect)
 

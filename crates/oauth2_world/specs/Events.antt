@@ -56,14 +56,17 @@ abbrev pub members_of : ErrorMembers → ErrorParts (List ℕ)
 members_of m =
     parts_of_error (string_bytes m.error) (option_map string_bytes m.description) (option_map string_bytes m.uri)
 
+-- what a fault says beside its text: the error response, or why the body was not read
 abbrev pub details_of : StoredDetails → Details
 details_of details.None = none
 details_of (details.Refused m) = refused (members_of m)
 details_of (details.Unread f) = unread (fault_of f)
 
+-- a fault: its kind, its text and what it says beside that
 abbrev pub fault_seen : StoredFault → Fault
 fault_seen f = record { kind = f.kind; text = string_bytes f.text; details = details_of f.details }
 
+-- an event
 abbrev pub event_of : StoredEvent → Event
 event_of (stored.Exchange request reply) = exchanged (view_of request) (option_map (λ r. view_of_http_reply (http_reply_view r)) reply)
 event_of (stored.Sleep duration) = slept (as_nanos duration)
