@@ -6,12 +6,10 @@ use Rattle.oauth2_json.specs.Body.{body_reading}
 use Rattle.oauth2_json.specs.Reading.{Reading}
 use Rattle.oauth2_openid.specs.declared.read_error.TokenPart.{TokenPart}
 use Rattle.oauth2_openid.specs.declared.read_error.TokenPart.TheVariants as part
-use Rattle.oauth2_openid.specs.declared.id_token.IdToken.{IdToken}
 use Rattle.oauth2_openid.specs.declared.read_error.IdTokenReadError.{IdTokenReadError}
 use Rattle.oauth2_openid.specs.declared.read_error.IdTokenReadError.TheVariants as errors
-use Rattle.oauth2_openid.specs.Seen.{token_of}
-use Rattle.oauth2_openid.specs.Token.{Header, WithOthers, DecodedToken, Parts, TokenFault, TokenReading, TokenErrsAs, TokenReadsAs, not_three_parts, not_base64, bytes_of}
-use Rattle.oauth2_openid.specs.Reading.{header_reading, claims_reading, token_then, bytes_part, of_part, json_part, parts_reading}
+use Rattle.oauth2_openid.specs.Token.{Header, WithOthers, Parts, TokenFault, TokenReading, TokenErrsAs, TokenReadsAs, not_three_parts, not_base64, bytes_of}
+use Rattle.oauth2_openid.specs.Reading.{header_reading, token_then, bytes_part, of_part, json_part, parts_reading}
 
 abbrev fault_in : {A : Type 0} → TokenReading A → TokenFault
 fault_in (Ok a) = not_base64 part.Header
@@ -34,22 +32,22 @@ json_part_has_parts reading which encoded =
     then_parts (bytes_part which (bytes_of encoded)) (λ bytes. of_part which (body_reading reading bytes))
     (bytes_parts which (bytes_of encoded)) (λ bytes. of_parts which (body_reading reading bytes))
 
-pub has_parts : (p : Parts) → parts_reading (Some p) ≢ Err not_three_parts
-has_parts p =
-    then_parts (json_part header_reading part.Header p.header) _ (json_part_has_parts header_reading part.Header p.header)
-    (λ h. then_parts (json_part claims_reading part.Payload p.payload) _ (json_part_has_parts claims_reading part.Payload p.payload)
-    (λ c. then_parts (bytes_part part.Signature (bytes_of p.signature)) _ (bytes_parts part.Signature (bytes_of p.signature)) (λ s. λ is. absurd (cc))))
+-- and so for the whole token, whatever its claims are
+module _ {C : Type 0} (reading : Data → Reading C) (p : Parts) where
+  pub has_parts : parts_reading reading (Some p) ≢ Err not_three_parts
+  has_parts =
+      then_parts (json_part header_reading part.Header p.header) _ (json_part_has_parts header_reading part.Header p.header)
+      (λ h. then_parts (json_part reading part.Payload p.payload) _ (json_part_has_parts reading part.Payload p.payload)
+      (λ c. then_parts (bytes_part part.Signature (bytes_of p.signature)) _ (bytes_parts part.Signature (bytes_of p.signature)) (λ s. λ is. absurd (cc))))
 
--- ---- the error of a part
-
--- an error of the payload is told where the header read
-pub in_claims : (p : Parts) (h : WithOthers Header) (e : IdTokenReadError) → json_part header_reading part.Header p.header ≡ Ok h → TokenErrsAs e (json_part claims_reading part.Payload p.payload) → TokenErrsAs e (parts_reading (Some p))
-in_claims p h errors.NotThreeParts read is = absurd (json_part_has_parts claims_reading part.Payload p.payload is)
-in_claims p h (errors.NotBase64 which) read is = rw (read, is) refl
-in_claims p h (errors.Fault which fault) read is = rw (read, is) refl
-in_claims p h errors.Memory read is = has_parts p
+  -- an error of the payload is told where the header read
+  pub in_claims : (h : WithOthers Header) (e : IdTokenReadError) → json_part header_reading part.Header p.header ≡ Ok h → TokenErrsAs e (json_part reading part.Payload p.payload) → TokenErrsAs e (parts_reading reading (Some p))
+  in_claims h errors.NotThreeParts read is = absurd (json_part_has_parts reading part.Payload p.payload is)
+  in_claims h (errors.NotBase64 which) read is = rw (read, is) refl
+  in_claims h (errors.Fault which fault) read is = rw (read, is) refl
+  in_claims h errors.Memory read is = has_parts
 
 -- the error that is handed on
-pub told : (r : Result IdToken IdTokenReadError) (e : IdTokenReadError) (expected : TokenReading DecodedToken) → IsErrAnd r (λ given. given ≡ e) → TokenErrsAs e expected → TokenReadsAs token_of r expected
-told (Ok token) e expected h errs = absurd h
-told (Err given) e expected h errs = rw h errs
+pub told : {T M : Type 0} (seen : T → M) (r : Result T IdTokenReadError) (e : IdTokenReadError) (expected : TokenReading M) → IsErrAnd r (λ given. given ≡ e) → TokenErrsAs e expected → TokenReadsAs seen r expected
+told seen (Ok token) e expected h errs = absurd h
+told seen (Err given) e expected h errs = rw h errs

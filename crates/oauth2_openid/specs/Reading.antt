@@ -13,7 +13,7 @@ use Rattle.oauth2_openid.specs.declared.read_error.TokenPart.{TokenPart}
 use Rattle.oauth2_openid.specs.declared.read_error.TokenPart.TheVariants as part
 use Rattle.oauth2_openid.specs.Claims.{Claims, claims}
 use Rattle.oauth2_openid.specs.Times.{time}
-use Rattle.oauth2_openid.specs.Token.{Header, header, WithOthers, with_others, DecodedToken, decoded_token, Parts, three_parts, signed_text, bytes_of, TokenReading, not_three_parts, not_base64, at_fault}
+use Rattle.oauth2_openid.specs.Token.{Header, header, WithOthers, with_others, DecodedCompactToken, decoded_compact_token, DecodedToken, Parts, three_parts, signed_text, bytes_of, TokenReading, not_three_parts, not_base64, at_fault}
 
 -- the header from its members: if several are wrong, the first of these rows is reported
 abbrev pub header_row : Members → Reading (WithOthers Header)
@@ -103,15 +103,16 @@ abbrev pub json_part : {M : Type 0} → (Data → Reading M) → TokenPart → L
 json_part reading which encoded =
     token_then (bytes_part which (bytes_of encoded)) (λ bytes. of_part which (body_reading reading bytes))
 
--- the token from its three parts: if several are wrong, the first is reported
-abbrev pub parts_reading : Option Parts → TokenReading DecodedToken
-parts_reading None = Err not_three_parts
-parts_reading (Some p) =
+-- the token from its three parts, its claims by this reading: if several parts are wrong, the first
+-- is reported
+abbrev pub parts_reading : {C : Type 0} → (Data → Reading C) → Option Parts → TokenReading (DecodedCompactToken C)
+parts_reading reading None = Err not_three_parts
+parts_reading reading (Some p) =
     token_then (json_part header_reading part.Header p.header) (λ h.
-    token_then (json_part claims_reading part.Payload p.payload) (λ c.
+    token_then (json_part reading part.Payload p.payload) (λ c.
     token_then (bytes_part part.Signature (bytes_of p.signature)) (λ s.
-    Ok (decoded_token (signed_text p) h c s))))
+    Ok (decoded_compact_token (signed_text p) h c s))))
 
 -- the ID token that a text in compact form holds, or why it holds none (RFC 7515, 7.1)
 abbrev pub compact_token_reading : List ℕ → TokenReading DecodedToken
-compact_token_reading encoded = parts_reading (three_parts encoded)
+compact_token_reading encoded = parts_reading claims_reading (three_parts encoded)

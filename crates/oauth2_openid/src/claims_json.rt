@@ -7,7 +7,7 @@ ghost use Rattle.oauth2_openid.specs.Reading.{claims_reading};
 
 use crate::claims::IdTokenClaims;
 use crate::nonce::Nonce;
-use crate::time::Time;
+use crate::numeric_date::NumericDate;
 use crate::unneeded::{UnneededText, UnneededTexts, UnneededTime, put_back};
 use oauth2_json::{FromJson, ReadError};
 use oauth2_member_rows::{Member, Needed, NeededTexts, Optional, read_value_and_others};
@@ -22,7 +22,10 @@ type ClaimRows = (
         Member<Needed<String>>,
         (
             Member<NeededTexts>,
-            (Member<Needed<Time>>, (Member<Needed<Time>>, LoginRows)),
+            (
+                Member<Needed<NumericDate>>,
+                (Member<Needed<NumericDate>>, LoginRows),
+            ),
         ),
     ),
 );

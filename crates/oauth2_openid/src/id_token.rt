@@ -1,9 +1,9 @@
 //! An ID token as it was read.
 
-ghost use Rattle.std.specs.Prelude.{◌≡◌, ◌↔◌, ◌∷◌, ◌++◌, IfOk, IsOk, Some, codes, option_copied};
+ghost use Rattle.std.specs.Prelude.{◌≡◌, ◌↔◌, IfOk, IsOk, Some, codes, option_copied};
 ghost use Rattle.std.specs.Fmt.{DisplaysOnOk, WritesStyledOnOk};
 ghost use Rattle.serde_json.specs.View.{view};
-ghost use Rattle.oauth2_openid.specs.Token.{TokenReadsAs, compact_of, token_parts};
+ghost use Rattle.oauth2_openid.specs.Token.{TokenReadsAs, compact_of};
 ghost use Rattle.oauth2_openid.specs.Seen.{token_of};
 ghost use Rattle.oauth2_openid.specs.TokenRules.{
   algorithm_rule,
@@ -13,18 +13,18 @@ ghost use Rattle.oauth2_openid.specs.TokenRules.{
   token_checked,
   Holds,
 };
-ghost use Rattle.oauth2_openid.specs.Reading.{json_part, parts_reading, compact_token_reading};
+ghost use Rattle.oauth2_openid.specs.Reading.{compact_token_reading};
 
 use crate::access_token_hash::{AccessTokenHash, check_hash};
 use crate::claims::IdTokenClaims;
 use crate::claims_error::ClaimsError;
 use crate::claims_json::AllClaims;
-use crate::compact::{Encoded, decode_part, three_parts};
+use crate::compact::Encoded;
+use crate::compact_token::CompactToken;
 use crate::expected::Expected;
-use crate::header::{IdTokenHeader, WholeHeader};
-use crate::read_error::{IdTokenReadError, TokenPart};
+use crate::header::IdTokenHeader;
+use crate::read_error::IdTokenReadError;
 use jiff::Timestamp;
-use oauth2_json::{FromJson, ReadError};
 use oauth2_types::AccessToken;
 use oauth2_types::display::write_display;
 use serde_json::Value;
@@ -41,25 +41,7 @@ use std::fmt;
 /// `oauth2_keys` does that, and so can any library, over `signed_part` and `signature`.
 #[derive(Drop)]
 pub struct IdToken {
-    header: WholeHeader,
-    claims: AllClaims,
-    signed_part: String,
-    signature: Vec<u8>,
-}
-
-// Decodes a part of the token, and reads its JSON.
-#[tactic(auto, using(crate::proofs::Parts::json_part_has_parts))]
-fn read_part<T: FromJson>(alloc: Global, part: TokenPart, text: &str) -> Result<T, IdTokenReadError>
-    ensures { TokenReadsAs T.meaning result (json_part T.reading part text.now) }
-{
-    let Some(bytes) = decode_part(alloc, text)? else {
-        return Err(IdTokenReadError::NotBase64(part));
-    };
-    match T::from_body(alloc, bytes.as_slice()) {
-        Ok(read) => Ok(read),
-        Err(ReadError::Fault(fault)) => Err(IdTokenReadError::Fault(part, fault)),
-        Err(ReadError::Memory) => Err(IdTokenReadError::Memory),
-    }
+    token: CompactToken<AllClaims>,
 }
 
 impl IdToken {
@@ -69,38 +51,8 @@ impl IdToken {
         // No byte of the text is lost.
         ensures compact { IfOk result (λ t. text.now ≡ compact_of (token_of t)) }
     {
-        match three_parts(text) {
-            Some((header, payload, signature)) => {
-                IdToken::from_parts(alloc, header, payload, signature)
-            }
-            None => Err(IdTokenReadError::NotThreeParts),
-        }
-    }
-
-    #[tactic(auto, using(crate::proofs::Parts::has_parts))]
-    fn from_parts(
-        alloc: Global,
-        header: &str,
-        payload: &str,
-        signature: &str,
-    ) -> Result<IdToken, IdTokenReadError>
-        ensures read { TokenReadsAs token_of result
-            (parts_reading (Some (token_parts header.now payload.now signature.now))) }
-        ensures compact { IfOk result
-            (λ t. (header.now ++ (46 ∷ payload.now)) ++ (46 ∷ signature.now)
-            ≡ compact_of (token_of t)) }
-    {
-        let signed_part = format!(in alloc; "{header}.{payload}")?;
-        let header = read_part::<WholeHeader>(alloc, TokenPart::Header, header)?;
-        let claims = read_part::<AllClaims>(alloc, TokenPart::Payload, payload)?;
-        let Some(signature) = decode_part(alloc, signature)? else {
-            return Err(IdTokenReadError::NotBase64(TokenPart::Signature));
-        };
         Ok(IdToken {
-            header,
-            claims,
-            signed_part,
-            signature,
+            token: CompactToken::from_text(alloc, text)?,
         })
     }
 
@@ -108,21 +60,21 @@ impl IdToken {
     pub fn header(&self) -> &IdTokenHeader
         ensures { result.now ≡ (token_of self.now).header.own }
     {
-        &self.header.header
+        self.token.header()
     }
 
     /// The claims.
     pub fn claims(&self) -> &IdTokenClaims
         ensures { result.now ≡ (token_of self.now).claims.own }
     {
-        &self.claims.claims
+        &self.token.claims().claims
     }
 
     /// The object of the header's members that `IdTokenHeader` has no method for.
     pub fn other_header_members(&self) -> &Value
         ensures { view result.now ≡ (token_of self.now).header.others }
     {
-        &self.header.others
+        self.token.other_header_members()
     }
 
     /// The object of the claims that `IdTokenClaims` has no method for. `auth_time`, `acr` and
@@ -130,21 +82,21 @@ impl IdToken {
     pub fn other_claims(&self) -> &Value
         ensures { view result.now ≡ (token_of self.now).claims.others }
     {
-        &self.claims.others
+        &self.token.claims().others
     }
 
     /// The text that the signature is over.
     pub fn signed_part(&self) -> &str
         ensures { result.now ≡ (token_of self.now).signed }
     {
-        self.signed_part.as_str()
+        self.token.signed_part()
     }
 
     /// The bytes of the signature; empty for a token without one.
     pub fn signature(&self) -> &[u8]
         ensures { result.now ≡ (token_of self.now).signature }
     {
-        self.signature.as_slice()
+        self.token.signature()
     }
 
     /// Checks each rule of 3.1.3.7 at the moment `now`, and the hash of the access token that came
@@ -175,11 +127,11 @@ impl IdToken {
     {
         self.check_algorithm(expected)?;
         self.check_critical()?;
-        self.claims.claims.check(expected, self.tenant(), now)?;
+        self.claims().check(expected, self.tenant(), now)?;
         check_hash(
-            self.header.header.algorithm(),
+            self.header().algorithm(),
             access_token.secret().as_bytes(),
-            self.claims.claims.access_token_hash(),
+            self.claims().access_token_hash(),
         )
     }
 
@@ -187,13 +139,13 @@ impl IdToken {
     fn tenant(&self) -> Option<&str>
         ensures { option_copied result ≡ tenant_of (token_of self.now).claims.others }
     {
-        self.claims.others.get("tid").and_then(Value::as_str)
+        self.other_claims().get("tid").and_then(Value::as_str)
     }
 
     fn check_algorithm(&self, expected: &Expected) -> Result<(), ClaimsError>
         ensures { result ≡ algorithm_rule expected.now (token_of self.now).header.own }
     {
-        let algorithm = self.header.header.algorithm();
+        let algorithm = self.header().algorithm();
         match &expected.algorithm {
             Some(registered) => if algorithm == registered.as_str() {
                 Ok(())
@@ -211,7 +163,7 @@ impl IdToken {
     fn check_critical(&self) -> Result<(), ClaimsError>
         ensures { result ≡ critical_rule (token_of self.now).header }
     {
-        if self.header.others.get("crit").is_none() {
+        if self.other_header_members().get("crit").is_none() {
             Ok(())
         } else {
             Err(ClaimsError::CriticalExtension)
@@ -234,9 +186,9 @@ impl fmt::Display for IdToken {
 
     fn fmt<W: fmt::Write>(&self, f: &mut fmt::Formatter<W>) -> fmt::Result {
         let signature = Encoded {
-            bytes: self.signature.as_slice(),
+            bytes: self.signature(),
         };
-        write_display(f, format_args!("{}.{}", self.signed_part, signature))
+        write_display(f, format_args!("{}.{}", self.signed_part(), signature))
     }
 }
 

@@ -11,7 +11,7 @@ ghost use Rattle.oauth2_openid.specs.Times.{time};
 ghost use Rattle.oauth2_openid.specs.Reading.{unneeded};
 ghost use Rattle.oauth2_openid.specs.private.Left.{are_texts, put_back};
 
-use crate::time::moment_of;
+use crate::numeric_date::moment_of;
 use jiff::Timestamp;
 use oauth2_json::{ReadError, members};
 use oauth2_member_rows::ReadKind;

@@ -13,21 +13,22 @@ use serde_json::{Number, Value};
 use std::alloc::Global;
 use std::time::Duration;
 
-// A time claim: a number of seconds, whole or not.
+/// A time as a JSON number of seconds since 1970-01-01T00:00:00Z, whole or not (RFC 7519, section
+/// 2), read to the nearest nanosecond.
 #[derive(Drop)]
-pub(crate) struct Time(pub(crate) Timestamp);
+pub struct NumericDate(pub Timestamp);
 
-impl FromJson for Time {
+impl FromJson for NumericDate {
     ghost Meaning = { ℤ };
 
     ghost meaning = { λ t. t.0.nanosecond };
 
     ghost reading = { time };
 
-    fn from_json(alloc: Global, value: Value) -> Result<Time, ReadError> {
+    fn from_json(alloc: Global, value: Value) -> Result<NumericDate, ReadError> {
         match value {
             Value::Number(number) => match moment_of(&number) {
-                Some(at) => Ok(Time(at)),
+                Some(at) => Ok(NumericDate(at)),
                 None => Err(ReadError::whole(alloc, ParseCause::OutOfRange)),
             },
             _ => Err(ReadError::whole(alloc, ParseCause::WrongType)),

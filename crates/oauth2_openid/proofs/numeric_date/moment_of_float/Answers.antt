@@ -3,7 +3,7 @@ use mir.Syntax.{w128}
 use mir.Val.{to_z, of_z}
 use Rattle.jiff_core.proofs.SignedLemmas.{back_small, signed_arith}
 use Rattle.oauth2_openid.proofs.Times.{not_nan, unfitting, before_1970, after_1970}
-use Rattle.oauth2_openid.proofs.time.moment_of_float.Goals as goal
+use Rattle.oauth2_openid.proofs.numeric_date.moment_of_float.Goals as goal
 
 pub is_sign_negative-requires : goal.is_sign_negative-requires
 is_sign_negative-requires c = not_nan c.args.seconds c.in-Some.ensures.0
