@@ -1,8 +1,8 @@
 -- A list of texts is read, and another list is left.
-use Rattle.std.proofs.Common.{◌≡◌, ℕ, List, [], ◌∷◌, Bool, true, false, true≢false, Option, Some, None, Ok, Err, refl, sym}
-use Rattle.serde_json.specs.Data.{Data, null, boolean, number, string, array, object, Items, no_items, item}
+use Rattle.std.proofs.Common.{◌≡◌, ℕ, List, [], ◌∷◌, true, false, true≢false, Some, None, Ok, Err, refl, sym}
+use Rattle.serde_json.specs.Data.{null, boolean, number, string, array, object, Items, no_items, item}
 use Rattle.oauth2_json.specs.Members.{optional_member}
-use Rattle.oauth2_json.specs.Reading.{Reading, Fault, ErrsAs, fault_of}
+use Rattle.oauth2_json.specs.Reading.{Reading, Fault, ErrsAs}
 use Rattle.oauth2_json.specs.Values.{each_text, text_list}
 use Rattle.oauth2_json.specs.declared.read.ReadError.{ReadError}
 use Rattle.oauth2_json.specs.declared.read.ReadError.TheVariants as errors

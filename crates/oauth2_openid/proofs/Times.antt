@@ -1,9 +1,9 @@
 -- A double that counts seconds, and the moment that it names.
-use Rattle.std.proofs.Common.{◌≡◌, ◌≢◌, ℕ, ◌*◌, ◌≤◌, ◌<◌, ℤ, pos, neg_ℤ, int_lt, ◌^◌, Bool, true, false, not, ◌&&◌, ◌||◌, T, Option, None, Ok, Err, refl, sym, ap, ◌∙◌, arith}
+use Rattle.std.proofs.Common.{◌≡◌, ℕ, ◌*◌, ◌≤◌, ℤ, pos, neg_ℤ, int_lt, ◌^◌, Bool, true, false, not, ◌&&◌, ◌||◌, T, Option, None, refl, sym, ap, ◌∙◌, arith}
 use borrow.Author.Tests.{ltb-false}
 use lib.Dec.{ltb, eqb}
 use lib.Ieee.{lt, le, eq, is_nan, up, down}
-use lib.Ieee.Nearest.{closest, closest_mono}
+use lib.Ieee.Nearest.{closest_mono}
 use lib.Ieee.Fits.{down_pos}
 use Rattle.std.specs.Result.{result_ok}
 use Rattle.std.specs.Duration.{FitsDurationSecs, nanos_of_secs}
