@@ -1,3 +1,1 @@
-pub mod Parts
-pub mod Rows
 pub mod RuleLaws

@@ -4,4 +4,3 @@ pub mod Seen
 pub mod Rules
 pub mod Sessions
 pub mod ErrorTexts
-pub mod private

@@ -1,7 +1,7 @@
 -- A logout token (OpenID Connect Back-Channel Logout 1.0, 2.4).
 use Rattle.std.specs.Prelude.{ℕ, ℤ, List, [], Option, Some, None}
 use Rattle.oauth2_openid.specs.Claims.{claims}
-use Rattle.oauth2_openid.specs.Token.{Header, WithOthers, with_others, DecodedToken, decoded_token}
+use Rattle.oauth2_openid.specs.Token.{Header, WithOthers, with_others, DecodedCompactToken, decoded_compact_token, DecodedToken, decoded_token}
 
 -- 2.4: the claims `iss`, `sub`, `aud`, `iat`, `exp`, `jti` and `sid`; times are in nanoseconds since
 -- 1970-01-01T00:00:00Z. The claim `events` is among the other claims.
@@ -20,15 +20,12 @@ logout_claims i s a t e j d =
     record { issuer = i; subject = s; audience = a; issued_at = t; expires_at = e; token_id = j; session_id = d }
 
 -- a logout token: its header, its claims, the text that is signed, and the bytes of the signature
-pub record DecodedLogoutToken : Type 0 where
-  pub header : WithOthers Header
-  pub claims : WithOthers LogoutClaims
-  pub signed : List ℕ
-  pub signature : List ℕ
+abbrev pub DecodedLogoutToken : Type 0
+DecodedLogoutToken = DecodedCompactToken (WithOthers LogoutClaims)
 
 -- `DecodedLogoutToken` from the signed text, the header, the claims and the bytes of the signature
 abbrev pub decoded_logout_token : List ℕ → WithOthers Header → WithOthers LogoutClaims → List ℕ → DecodedLogoutToken
-decoded_logout_token t h c s = record { header = h; claims = c; signed = t; signature = s }
+decoded_logout_token t h c s = decoded_compact_token t h c s
 
 -- the subject of an ID token, which has to have one: an empty text if the logout token has none
 abbrev pub subject_or_empty : Option (List ℕ) → List ℕ

@@ -1,16 +1,15 @@
 -- How a text is read as a logout token (OpenID Connect Back-Channel Logout 1.0, 2.4; RFC 7515).
-use Rattle.std.specs.Prelude.{ℕ, List, Option, Some, None, Ok, Err, codes, option_map}
+use Rattle.std.specs.Prelude.{ℕ, List, Some, Ok, codes, option_map}
 use Rattle.serde_json.specs.Data.{Data, Members, string, array, object}
 use Rattle.oauth2_json.specs.Members.{members_of_object, needed_member, optional_member, others}
 use Rattle.oauth2_json.specs.Reading.{Reading, read_then, ◌⊛◌}
 use Rattle.oauth2_json.specs.Values.{text, texts, text_items}
 use Rattle.oauth2_body_members.specs.Table.{Table, column, ◌▸◌, end, Builder, names_of, table_reading}
 use Rattle.oauth2_times.specs.Instants.{second_data}
-use Rattle.oauth2_openid.specs.declared.read_error.TokenPart.TheVariants as part
-use Rattle.oauth2_openid.specs.Reading.{header_reading, token_then, bytes_part, json_part}
+use Rattle.oauth2_openid.specs.Reading.{parts_reading}
 use Rattle.oauth2_openid.specs.Times.{time}
-use Rattle.oauth2_openid.specs.Token.{WithOthers, with_others, Parts, three_parts, signed_text, bytes_of, TokenReading, not_three_parts}
-use Rattle.oauth2_logout_tokens.specs.LogoutToken.{LogoutClaims, logout_claims, DecodedLogoutToken, decoded_logout_token}
+use Rattle.oauth2_openid.specs.Token.{WithOthers, with_others, three_parts, TokenReading}
+use Rattle.oauth2_logout_tokens.specs.LogoutToken.{LogoutClaims, logout_claims, DecodedLogoutToken}
 
 -- 2.4: for each claim its name, how it is read, and how it is shown as JSON
 abbrev pub logout_table : Table LogoutClaims
@@ -40,15 +39,6 @@ claims_row ms = table_reading logout_table (Ok claims_with) ms ⊛ Ok (others lo
 abbrev pub claims_reading : Data → Reading (WithOthers LogoutClaims)
 claims_reading d = read_then (members_of_object d) claims_row
 
--- the token from its three parts: if several are wrong, the first is reported
-abbrev pub parts_reading : Option Parts → TokenReading DecodedLogoutToken
-parts_reading None = Err not_three_parts
-parts_reading (Some p) =
-    token_then (json_part header_reading part.Header p.header) (λ h.
-    token_then (json_part claims_reading part.Payload p.payload) (λ c.
-    token_then (bytes_part part.Signature (bytes_of p.signature)) (λ s.
-    Ok (decoded_logout_token (signed_text p) h c s))))
-
 -- the logout token that a text in compact form holds, or why it holds none (RFC 7515, 7.1)
 abbrev pub logout_token_reading : List ℕ → TokenReading DecodedLogoutToken
-logout_token_reading encoded = parts_reading (three_parts encoded)
+logout_token_reading encoded = parts_reading claims_reading (three_parts encoded)

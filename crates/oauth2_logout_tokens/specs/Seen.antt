@@ -1,18 +1,14 @@
 -- A logout token, and a verified one, as contracts see them.
-use Rattle.std.specs.Prelude.{string_bytes}
 use Rattle.serde_json.specs.View.{view}
+use Rattle.oauth2_openid.specs.Seen.{compact_token_of}
 use Rattle.oauth2_openid.specs.Token.{with_others}
 use Rattle.oauth2_logout_tokens.specs.declared.logout_token.LogoutToken.{LogoutToken}
 use Rattle.oauth2_logout_tokens.specs.declared.verified.VerifiedLogoutToken.{VerifiedLogoutToken}
-use Rattle.oauth2_logout_tokens.specs.LogoutToken.{DecodedLogoutToken, decoded_logout_token}
+use Rattle.oauth2_logout_tokens.specs.LogoutToken.{DecodedLogoutToken}
 
 -- the logout token that a `LogoutToken` holds, its texts as bytes
 abbrev pub logout_token_of : LogoutToken → DecodedLogoutToken
-logout_token_of t =
-    decoded_logout_token (string_bytes t.signed_part)
-    (with_others t.header.header (view t.header.others))
-    (with_others t.claims.claims (view t.claims.others))
-    t.signature.items
+logout_token_of t = compact_token_of (λ c. with_others c.claims (view c.others)) t.token
 
 -- the logout token that a `VerifiedLogoutToken` holds
 abbrev pub verified_token_of : VerifiedLogoutToken → DecodedLogoutToken

@@ -1,32 +1,17 @@
 //! The claims of a logout token (OpenID Connect Back-Channel Logout 1.0, section 2.4).
 
-ghost use Rattle.std.specs.Prelude.{◌≡◌, IfOk, map, option_map, string_bytes};
-ghost use Rattle.serde_json.specs.Find.{get_member};
 ghost use Rattle.serde_json.specs.View.{view};
-ghost use Rattle.oauth2_json.specs.Reading.{ReadsAs};
-ghost use Rattle.oauth2_json.specs.Members.{needed_member, others, without};
-ghost use Rattle.oauth2_body_members.specs.Object.{object_members};
-ghost use Rattle.oauth2_body_members.specs.Table.{names_of};
-ghost use Rattle.oauth2_body_members.specs.private.Groups.{quadruple, triple};
-ghost use Rattle.oauth2_openid.specs.Times.{time};
 ghost use Rattle.oauth2_openid.specs.Token.{WithOthers, with_others};
 ghost use Rattle.oauth2_logout_tokens.specs.LogoutToken.{LogoutClaims};
 ghost use Rattle.oauth2_logout_tokens.specs.Reading.{claims_reading};
-ghost use Rattle.oauth2_logout_tokens.specs.private.Rows.{
-  claims_in_turn,
-  event_reading,
-  event_table,
-  parties_reading,
-  parties_table,
-};
 
-use crate::time::Time;
 use jiff::Timestamp;
-use oauth2_body_members::Object;
 use oauth2_json::{FromJson, ReadError};
+use oauth2_member_rows::{Member, Needed, NeededTexts, Optional, read_value_and_others};
+use oauth2_openid::NumericDate;
 use serde_json::Value;
 use std::alloc::Global;
-use std::marker::Model;
+use std::marker::{Model, PhantomData};
 
 // The claims of a logout token except `events`, which is kept as JSON among the other claims.
 #[derive(Drop)]
@@ -58,21 +43,35 @@ impl Model for LogoutTokenClaims {
 }
 
 // Who issued the token, about whom, and for whom.
-#[derive(Drop)]
-struct Parties {
-    issuer: String,
-    subject: Option<String>,
-    audience: Vec<String>,
-}
+type ClaimRows = (
+    Member<Needed<String>>,
+    (Member<Optional<String>>, (Member<NeededTexts>, EventRows)),
+);
 
 // When the token counts, its identifier, and the session.
-#[derive(Drop)]
-struct LogoutEvent {
-    issued_at: Timestamp,
-    expires_at: Timestamp,
-    token_id: String,
-    session_id: Option<String>,
-}
+type EventRows = (
+    Member<Needed<NumericDate>>,
+    (
+        Member<Needed<NumericDate>>,
+        (Member<Needed<String>>, (Member<Optional<String>>, ())),
+    ),
+);
+
+const ROWS: ClaimRows = (
+    Member("iss", PhantomData),
+    (
+        Member("sub", PhantomData),
+        (Member("aud", PhantomData), EVENT_ROWS),
+    ),
+);
+
+const EVENT_ROWS: EventRows = (
+    Member("iat", PhantomData),
+    (
+        Member("exp", PhantomData),
+        (Member("jti", PhantomData), (Member("sid", PhantomData), ())),
+    ),
+);
 
 // The claims, and the object of the other claims.
 #[derive(Drop)]
@@ -89,68 +88,18 @@ impl FromJson for AllClaims {
     ghost reading = { claims_reading };
 
     fn from_json(alloc: Global, value: Value) -> Result<AllClaims, ReadError> {
-        let members = Object::of_value(alloc, value)?;
-        from_members(alloc, members)
+        let (read, others) = read_value_and_others(&ROWS, alloc, value)?;
+        let (issuer, (subject, (audience, (issued_at, (expires_at, identifiers))))) = read;
+        let (token_id, (session_id, ())) = identifiers;
+        let claims = LogoutTokenClaims {
+            issuer,
+            subject,
+            audience,
+            issued_at: issued_at.0,
+            expires_at: expires_at.0,
+            token_id,
+            session_id,
+        };
+        Ok(AllClaims { claims, others })
     }
-}
-
-#[tactic(auto, unfolding(crate::specs::private::Rows::parties_reading))]
-fn take_parties(alloc: Global, members: &mut Object<'_>) -> Result<Parties, ReadError>
-    ensures read { ReadsAs (λ p. triple (string_bytes p.issuer) (option_map string_bytes p.subject)
-        (map string_bytes p.audience.items))
-        result (parties_reading (object_members members.old)) }
-    ensures rest { IfOk result (λ _. object_members members.new
-        ≡ others (names_of parties_table) (object_members members.old)) }
-{
-    Ok(Parties {
-        issuer: members.needed(alloc, "iss")?,
-        subject: members.optional(alloc, "sub")?,
-        audience: members.needed_texts(alloc, "aud")?,
-    })
-}
-
-// Takes a time that has to be present out of the members.
-fn needed_time(alloc: Global, members: &mut Object<'_>, name: &str) -> Result<Timestamp, ReadError>
-    ensures read { ReadsAs (λ t. t.nanosecond) result
-        (needed_member time name.now (get_member name.now (object_members members.old))) }
-    ensures rest { object_members members.new ≡ without name.now (object_members members.old) }
-{
-    let Time(at) = members.needed::<Time>(alloc, name)?;
-    Ok(at)
-}
-
-#[tactic(auto, unfolding(crate::specs::private::Rows::event_reading))]
-fn take_event(alloc: Global, members: &mut Object<'_>) -> Result<LogoutEvent, ReadError>
-    ensures read { ReadsAs (λ e. quadruple e.issued_at.nanosecond e.expires_at.nanosecond
-        (string_bytes e.token_id) (option_map string_bytes e.session_id))
-        result (event_reading (object_members members.old)) }
-    ensures rest { IfOk result (λ _. object_members members.new
-        ≡ others (names_of event_table) (object_members members.old)) }
-{
-    Ok(LogoutEvent {
-        issued_at: needed_time(alloc, members, "iat")?,
-        expires_at: needed_time(alloc, members, "exp")?,
-        token_id: members.needed(alloc, "jti")?,
-        session_id: members.optional(alloc, "sid")?,
-    })
-}
-
-// Takes the claims out of the members, group by group; the other members are kept as an object.
-fn from_members(alloc: Global, mut members: Object<'_>) -> Result<AllClaims, ReadError>
-    ensures { ReadsAs (λ c. with_others c.claims (view c.others)) result
-        (claims_in_turn (object_members members.entry)) }
-{
-    let parties = take_parties(alloc, &mut members)?;
-    let event = take_event(alloc, &mut members)?;
-    let others = members.into_value(alloc)?;
-    let claims = LogoutTokenClaims {
-        issuer: parties.issuer,
-        subject: parties.subject,
-        audience: parties.audience,
-        issued_at: event.issued_at,
-        expires_at: event.expires_at,
-        token_id: event.token_id,
-        session_id: event.session_id,
-    };
-    Ok(AllClaims { claims, others })
 }

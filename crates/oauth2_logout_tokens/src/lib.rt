@@ -5,12 +5,9 @@
 
 mod check;
 mod claims;
-mod compact;
 mod expected;
 mod fault;
-mod header;
 mod logout_token;
-mod time;
 mod type_rule;
 mod verified;
 

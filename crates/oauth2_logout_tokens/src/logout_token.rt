@@ -3,18 +3,14 @@
 ghost use Rattle.std.specs.Prelude.{◌≡◌, Some, codes, map, option_copied, string_bytes};
 ghost use Rattle.std.specs.Fmt.{DisplaysOnOk, WritesStyledOnOk};
 ghost use Rattle.serde_json.specs.View.{view};
-ghost use Rattle.oauth2_openid.specs.Reading.{json_part};
-ghost use Rattle.oauth2_openid.specs.Token.{TokenReadsAs, token_parts};
-ghost use Rattle.oauth2_logout_tokens.specs.Reading.{logout_token_reading, parts_reading};
+ghost use Rattle.oauth2_openid.specs.Token.{TokenReadsAs};
+ghost use Rattle.oauth2_logout_tokens.specs.Reading.{logout_token_reading};
 ghost use Rattle.oauth2_logout_tokens.specs.Seen.{logout_token_of};
 ghost use Rattle.oauth2_logout_tokens.specs.Sessions.{agrees, is_of};
 
 use crate::claims::AllClaims;
-use crate::compact::{decode_part, three_parts};
-use crate::header::WholeHeader;
 use jiff::Timestamp;
-use oauth2_json::{FromJson, ReadError};
-use oauth2_openid::{IdTokenReadError, TokenPart};
+use oauth2_openid::{CompactToken, IdTokenReadError};
 use serde_json::Value;
 use std::alloc::Global;
 use std::fmt;
@@ -31,29 +27,7 @@ pub type LogoutTokenReadError = IdTokenReadError;
 /// returns.
 #[derive(Drop)]
 pub struct LogoutToken {
-    pub(crate) header: WholeHeader,
-    pub(crate) claims: AllClaims,
-    pub(crate) signed_part: String,
-    pub(crate) signature: Vec<u8>,
-}
-
-// Decodes a part of the token, and reads its JSON.
-#[tactic(auto, using(oauth2_openid::proofs::Parts::json_part_has_parts))]
-fn read_part<T: FromJson>(
-    alloc: Global,
-    part: TokenPart,
-    text: &str,
-) -> Result<T, LogoutTokenReadError>
-    ensures { TokenReadsAs T.meaning result (json_part T.reading part text.now) }
-{
-    let Some(bytes) = decode_part(alloc, text)? else {
-        return Err(IdTokenReadError::NotBase64(part));
-    };
-    match T::from_body(alloc, bytes.as_slice()) {
-        Ok(read) => Ok(read),
-        Err(ReadError::Fault(fault)) => Err(IdTokenReadError::Fault(part, fault)),
-        Err(ReadError::Memory) => Err(IdTokenReadError::Memory),
-    }
+    token: CompactToken<AllClaims>,
 }
 
 impl LogoutToken {
@@ -62,35 +36,8 @@ impl LogoutToken {
     pub fn from_text(alloc: Global, text: &str) -> Result<LogoutToken, LogoutTokenReadError>
         ensures { TokenReadsAs logout_token_of result (logout_token_reading text.now) }
     {
-        match three_parts(text) {
-            Some((header, payload, signature)) => {
-                LogoutToken::from_parts(alloc, header, payload, signature)
-            }
-            None => Err(IdTokenReadError::NotThreeParts),
-        }
-    }
-
-    #[tactic(auto, using(crate::proofs::Parts::has_parts))]
-    fn from_parts(
-        alloc: Global,
-        header: &str,
-        payload: &str,
-        signature: &str,
-    ) -> Result<LogoutToken, LogoutTokenReadError>
-        ensures { TokenReadsAs logout_token_of result
-            (parts_reading (Some (token_parts header.now payload.now signature.now))) }
-    {
-        let signed_part = format!(in alloc; "{header}.{payload}")?;
-        let header = read_part::<WholeHeader>(alloc, TokenPart::Header, header)?;
-        let claims = read_part::<AllClaims>(alloc, TokenPart::Payload, payload)?;
-        let Some(signature) = decode_part(alloc, signature)? else {
-            return Err(IdTokenReadError::NotBase64(TokenPart::Signature));
-        };
         Ok(LogoutToken {
-            header,
-            claims,
-            signed_part,
-            signature,
+            token: CompactToken::from_text(alloc, text)?,
         })
     }
 
@@ -98,52 +45,49 @@ impl LogoutToken {
     pub fn algorithm(&self) -> &str
         ensures { result.now ≡ (logout_token_of self.now).header.own.algorithm }
     {
-        self.header.header.algorithm.as_str()
+        self.token.header().algorithm()
     }
 
     /// The identifier of the key that made the signature (`kid`).
     pub fn key_id(&self) -> Option<&str>
         ensures { option_copied result ≡ (logout_token_of self.now).header.own.key_id }
     {
-        match &self.header.header.key_id {
-            Some(key_id) => Some(key_id.as_str()),
-            None => None,
-        }
+        self.token.header().key_id()
     }
 
     /// The object of the header's other members, such as `typ`.
     pub fn other_header_members(&self) -> &Value
         ensures { view result.now ≡ (logout_token_of self.now).header.others }
     {
-        &self.header.others
+        self.token.other_header_members()
     }
 
     /// The text that the signature is over.
     pub fn signed_part(&self) -> &str
         ensures { result.now ≡ (logout_token_of self.now).signed }
     {
-        self.signed_part.as_str()
+        self.token.signed_part()
     }
 
     /// The bytes of the signature; empty for a token without one.
     pub fn signature(&self) -> &[u8]
         ensures { result.now ≡ (logout_token_of self.now).signature }
     {
-        self.signature.as_slice()
+        self.token.signature()
     }
 
     /// Who issued the token (`iss`).
     pub fn issuer(&self) -> &str
         ensures { result.now ≡ (logout_token_of self.now).claims.own.issuer }
     {
-        self.claims.claims.issuer.as_str()
+        self.token.claims().claims.issuer.as_str()
     }
 
     /// The user whose sessions end (`sub`); `None` if only `session_id` says which session ends.
     pub fn subject(&self) -> Option<&str>
         ensures { option_copied result ≡ (logout_token_of self.now).claims.own.subject }
     {
-        match &self.claims.claims.subject {
+        match &self.token.claims().claims.subject {
             Some(subject) => Some(subject.as_str()),
             None => None,
         }
@@ -153,21 +97,21 @@ impl LogoutToken {
     pub fn audience(&self) -> &[String]
         ensures { map string_bytes result.now ≡ (logout_token_of self.now).claims.own.audience }
     {
-        self.claims.claims.audience.as_slice()
+        self.token.claims().claims.audience.as_slice()
     }
 
     /// When the token was issued (`iat`).
     pub fn issued_at(&self) -> Timestamp
         ensures { result.nanosecond ≡ (logout_token_of self.now).claims.own.issued_at }
     {
-        self.claims.claims.issued_at
+        self.token.claims().claims.issued_at
     }
 
     /// The moment from which on the token must not be accepted (`exp`).
     pub fn expires_at(&self) -> Timestamp
         ensures { result.nanosecond ≡ (logout_token_of self.now).claims.own.expires_at }
     {
-        self.claims.claims.expires_at
+        self.token.claims().claims.expires_at
     }
 
     /// The identifier of the token, which its issuer gives to no other token (`jti`). A client that
@@ -175,7 +119,7 @@ impl LogoutToken {
     pub fn token_id(&self) -> &str
         ensures { result.now ≡ (logout_token_of self.now).claims.own.token_id }
     {
-        self.claims.claims.token_id.as_str()
+        self.token.claims().claims.token_id.as_str()
     }
 
     /// The session that ends (`sid`), as the ID tokens of that session name it; `None` if all
@@ -183,7 +127,7 @@ impl LogoutToken {
     pub fn session_id(&self) -> Option<&str>
         ensures { option_copied result ≡ (logout_token_of self.now).claims.own.session_id }
     {
-        match &self.claims.claims.session_id {
+        match &self.token.claims().claims.session_id {
             Some(session_id) => Some(session_id.as_str()),
             None => None,
         }
@@ -194,7 +138,7 @@ impl LogoutToken {
     pub fn other_claims(&self) -> &Value
         ensures { view result.now ≡ (logout_token_of self.now).claims.others }
     {
-        &self.claims.others
+        &self.token.claims().others
     }
 
     /// Whether the token ends a session whose ID token is by the same issuer, and has this `sub`

@@ -1,10 +1,17 @@
-use Rattle.std.proofs.Common.{subst}
+use Rattle.std.proofs.lemmas.Result.{err_from_is_err_and}
 use Rattle.serde_json.specs.View.{view}
-use Rattle.oauth2_json.specs.Reading.{ReadsAs}
-use Rattle.oauth2_body_members.specs.Object.{object_members}
-use Rattle.oauth2_openid.specs.Token.{with_others}
-use Rattle.oauth2_logout_tokens.proofs.Rows.{claims_read_in_turn}
+use Rattle.oauth2_member_rows.proofs.Tables.{beside_built, beside_errs}
+use Rattle.oauth2_openid.specs.Token.{WithOthers}
+use Rattle.oauth2_logout_tokens.specs.LogoutToken.{LogoutClaims}
+use Rattle.oauth2_logout_tokens.specs.Reading.{logout_table, claims_with}
 use Rattle.oauth2_logout_tokens.proofs.claims.AllClaimsFromJson.from_json.Goals as goal
 
+pub returns-in_err-read : goal.returns-in_err-read
+returns-in_err-read c =
+    let p = err_from_is_err_and c.from_residual.result c.from_residual.ensures.1 in
+    rw (p.1, p.2) (beside_errs (WithOthers LogoutClaims) logout_table claims_with (view c.args.value) c.in_err-read.field-0.0 c.in_err-read.ensures)
+
 pub returns : goal.returns
-returns c = subst (ReadsAs (λ t. with_others t.claims (view t.others)) c.from_members.result) (claims_read_in_turn (view c.args.value) (object_members c.in_ok-members.members) c.in_ok-members.ensures) c.from_members.ensures
+returns c =
+    let told = beside_built (WithOthers LogoutClaims) logout_table claims_with (view c.args.value) _ _ c.in_ok-read.ensures in
+    rw told.is told.reads
