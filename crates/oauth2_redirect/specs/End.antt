@@ -1,5 +1,5 @@
 -- The end of a login.
-use Rattle.std.specs.Prelude.{◌≡◌, ℕ, ◌⊎◌, List, codes, Option, Some, None, Result, Ok, Err}
+use Rattle.std.specs.Prelude.{◌≡◌, ℕ, ◌⊎◌, List, codes, Option, Some, None, Result, Ok, Err, IfOk, false}
 use Rattle.serde_json.specs.Data.{Data}
 use Rattle.url.specs.Parts.{serialize}
 use Rattle.oauth2_json.specs.Reading.{Reading}
@@ -15,10 +15,12 @@ use Rattle.oauth2_requests.specs.Code.{CodeRequest, code_configuration}
 use Rattle.oauth2.specs.CodeFlow.{flow_exchange}
 use Rattle.oauth2.specs.Settings.{Settings}
 use Rattle.oauth2_redirect.specs.declared.redirect.RedirectError.{RedirectError}
+use Rattle.oauth2_redirect.specs.declared.redirect.RedirectError.TheVariants.{OtherState, Memory}
 use Rattle.oauth2_redirect.specs.declared.login_error.LoginError.{LoginError}
 use Rattle.oauth2_redirect.specs.declared.login_error.LoginError.TheVariants.{Redirect, Token}
 use Rattle.oauth2_redirect.specs.Login.{LoginView}
-use Rattle.oauth2_redirect.specs.Redirect.{RedirectErrorView, ShowsRedirectError, redirect_error_text}
+use Rattle.oauth2_redirect.specs.Query.{sole_text}
+use Rattle.oauth2_redirect.specs.Redirect.{IssuerExpectation, MayWantMemory, RedirectErrorView, ShowsRedirectError, answer, is_state, redirect_error_text}
 
 -- the text that `Display` writes of an error, where `text` is that of the server's error
 abbrev pub login_error_text : {RE T : Type 0} → (T → Option (List ℕ)) → LoginError RE T → Option (List ℕ)
@@ -73,3 +75,30 @@ module _ {D A T E RE C : Type 0} where
       ((code : List ℕ) × (told ≡ Ok code) × (outcome : Result D (RequestTokenError RE T)) × (result ≡ of_exchange outcome)
       × ExchangesCode meaning error_meaning reading error_reading step client login code before outcome after)
       ⊎ ((error : RedirectError) × (result ≡ Err (Redirect error login)) × ShowsRedirectError error told × (after ≡ before))
+
+  -- what a redirect with these parameters makes of a login, and of the HTTP client
+  pub record FinishesLogin (meaning : D → A) (error_meaning : T → E)
+      (reading : Data → Reading A) (error_reading : Data → Reading E)
+      (is_ready : C → Type 0) (step : C → HttpRequest → Result HttpResponse RE → C → Type 0)
+      (client : Settings) (login : LoginView) (issuer : IssuerExpectation) (pairs : List Pair)
+      (before : C) (result : Result D (LoginError RE T)) (after : C) : Type 0 where
+    -- the login ends as the redirect's answer says
+    pub end : EndsLogin meaning error_meaning reading error_reading step client login
+        (answer login.state issuer pairs) before result after
+    -- a token is one for the redirect's code
+    pub token : IfOk result (λ token. (code : List ℕ) × (answer login.state issuer pairs ≡ Ok code)
+        × ExchangesCode meaning error_meaning reading error_reading step client login code
+        before (Ok token) after)
+    -- without a code nothing is sent
+    pub no_code : (why : RedirectErrorView) → answer login.state issuer pairs ≡ Err why → after ≡ before
+    -- and so nothing is sent for another state
+    pub other_state : is_state login.state (sole_text (codes "state") pairs) ≡ false → after ≡ before
+    -- the login in an error is this login
+    pub given_back : (error : RedirectError) (kept : LoginView)
+        → result ≡ Err (Redirect error kept) → kept ≡ login
+    -- memory runs out only where reading the redirect may want some
+    pub memory : result ≡ Err (Redirect Memory login) → MayWantMemory login.state issuer pairs
+    -- a redirect without a state, or with several, is refused without an allocation
+    pub no_state : sole_text (codes "state") pairs ≡ None → result ≡ Err (Redirect OtherState login)
+    -- the HTTP client may be called again
+    pub ready : is_ready after

@@ -1,28 +1,21 @@
 //! A login by an authorization code, from its start to its token (RFC 6749, section 4.1; RFC 7636).
 
 ghost use Rattle.std.specs.Fmt.{DisplaysOnOk, WritesStyledOnOk};
-ghost use Rattle.std.specs.Prelude.{◌≡◌, ℕ, List, Ok, Err, Some, None, IfOk, false, codes};
+ghost use Rattle.std.specs.Prelude.{◌≡◌, Ok, Some, IfOk, codes};
 ghost use Rattle.rand_core.specs.Stream.{Stream};
 ghost use Rattle.oauth2_types.specs.Pkce.{IsRandomText};
 ghost use Rattle.oauth2_urls.specs.Addressed.{Addressed};
 ghost use Rattle.oauth2_form.specs.Pairs.{form};
 ghost use Rattle.oauth2_form.specs.Query.{query_form};
 ghost use Rattle.oauth2.specs.CodeFlow.{flow_authorization};
-ghost use Rattle.oauth2_redirect.specs.Query.{sole_text};
-ghost use Rattle.oauth2_redirect.specs.Redirect.{
-  MayWantMemory,
-  RedirectErrorView,
-  answer,
-  is_state,
-  issuer_expectation,
-};
-ghost use Rattle.oauth2_redirect.specs.End.{EndsLogin, ExchangesCode, login_exchange};
+ghost use Rattle.oauth2_redirect.specs.Redirect.{issuer_expectation};
+ghost use Rattle.oauth2_redirect.specs.End.{EndsLogin, ExchangesCode, FinishesLogin, login_exchange};
 ghost use Rattle.oauth2_redirect.specs.Login.{LoginView, login_view_of};
 
 use crate::issuer::ExpectedIssuer;
 use crate::login_error::LoginError;
 use crate::login_request::LoginRequest;
-use crate::redirect::{RedirectError, read_redirect_query};
+use crate::redirect::read_redirect_query;
 use oauth2::{Client, EndpointSet, EndpointState};
 use oauth2_codes::ErrorResponse;
 use oauth2_replies::TokenResponse;
@@ -128,31 +121,9 @@ impl Login {
         I: EndpointState,
         R: EndpointState,
         requires { C.is_ready http_client.old }
-        ensures end { EndsLogin TR.meaning TE.meaning TR.reading TE.reading C.step client.now self
-            (answer self.state (issuer_expectation issuer.entry) (query_form redirect.now))
+        ensures { FinishesLogin TR.meaning TE.meaning TR.reading TE.reading C.is_ready C.step
+            client.now self (issuer_expectation issuer.entry) (query_form redirect.now)
             http_client.old result http_client.new }
-        ensures token { IfOk result (λ token. (code : List ℕ)
-            × (answer self.state (issuer_expectation issuer.entry) (query_form redirect.now)
-            ≡ Ok code)
-            × ExchangesCode TR.meaning TE.meaning TR.reading TE.reading C.step client.now self code
-            http_client.old (Ok token) http_client.new) }
-
-        // Without a code nothing is sent, and so nothing is sent for another state.
-        ensures no_code { (why : RedirectErrorView)
-            → answer self.state (issuer_expectation issuer.entry) (query_form redirect.now)
-            ≡ Err why
-            → http_client.new ≡ http_client.old }
-        ensures other_state { let state = sole_text (codes "state") (query_form redirect.now) in
-            is_state self.state state ≡ false → http_client.new ≡ http_client.old }
-        ensures given_back { (error : _) (login : LoginView)
-            → result ≡ Err (LoginError.Redirect error login) → login ≡ self }
-        ensures memory { result ≡ Err (LoginError.Redirect RedirectError.Memory self)
-            → MayWantMemory self.state (issuer_expectation issuer.entry) (query_form redirect.now) }
-
-        // A redirect without a state, or with several, is refused without an allocation.
-        ensures no_state { sole_text (codes "state") (query_form redirect.now) ≡ None
-            → result ≡ Err (LoginError.Redirect RedirectError.OtherState self) }
-        ensures ready { C.is_ready http_client.new }
     {
         let query = redirect.query().unwrap_or("");
         self.finish_query(alloc, client, http_client, query, issuer)
@@ -176,29 +147,9 @@ impl Login {
         I: EndpointState,
         R: EndpointState,
         requires { C.is_ready http_client.old }
-        ensures end { EndsLogin TR.meaning TE.meaning TR.reading TE.reading C.step client.now self
-            (answer self.state (issuer_expectation issuer.entry) (form query.now))
+        ensures { FinishesLogin TR.meaning TE.meaning TR.reading TE.reading C.is_ready C.step
+            client.now self (issuer_expectation issuer.entry) (form query.now)
             http_client.old result http_client.new }
-        ensures token { IfOk result (λ token. (code : List ℕ)
-            × (answer self.state (issuer_expectation issuer.entry) (form query.now) ≡ Ok code)
-            × ExchangesCode TR.meaning TE.meaning TR.reading TE.reading C.step client.now self code
-            http_client.old (Ok token) http_client.new) }
-
-        // Without a code nothing is sent, and so nothing is sent for another state.
-        ensures no_code { (why : RedirectErrorView)
-            → answer self.state (issuer_expectation issuer.entry) (form query.now) ≡ Err why
-            → http_client.new ≡ http_client.old }
-        ensures other_state { let state = sole_text (codes "state") (form query.now) in
-            is_state self.state state ≡ false → http_client.new ≡ http_client.old }
-        ensures given_back { (error : _) (login : LoginView)
-            → result ≡ Err (LoginError.Redirect error login) → login ≡ self }
-        ensures memory { result ≡ Err (LoginError.Redirect RedirectError.Memory self)
-            → MayWantMemory self.state (issuer_expectation issuer.entry) (form query.now) }
-
-        // A redirect without a state, or with several, is refused without an allocation.
-        ensures no_state { sole_text (codes "state") (form query.now) ≡ None
-            → result ≡ Err (LoginError.Redirect RedirectError.OtherState self) }
-        ensures ready { C.is_ready http_client.new }
     {
         match read_redirect_query(alloc, query, &self.state, issuer) {
             Ok(code) => self.exchange_for_login(alloc, client, http_client, code),
