@@ -1,17 +1,20 @@
 -- The end of a login with OpenID Connect (Core 1.0, 3.1.3).
-use Rattle.std.specs.Prelude.{◌≡◌, ℕ, ℤ, ◌⊎◌, List, ◌++◌, codes, map, Option, Some, None, IsSome, option_map, Result, Ok, Err}
+use Rattle.std.specs.Prelude.{◌≡◌, ℕ, ℤ, ◌⊎◌, List, ◌++◌, codes, map, Option, Some, None, IsSome, option_map, Result, Ok, Err, IfOk, false}
 use Rattle.std.specs.Char.{to_ascii_lowercase}
 use Rattle.jiff.specs.Types.{Timestamp}
 use Rattle.serde_json.specs.Data.{Data}
 use Rattle.oauth2_json.specs.Reading.{Reading, fault_of}
 use Rattle.oauth2_wire.specs.Request.{HttpRequest}
 use Rattle.oauth2_wire.specs.Reply.{HttpResponse}
+use Rattle.oauth2_form.specs.Pairs.{Pair}
 use Rattle.oauth2.specs.Settings.{Settings}
 use Rattle.oauth2_wire.specs.declared.error.RequestTokenError.{RequestTokenError}
 use Rattle.oauth2_wire.specs.Display.{fault_text}
 use Rattle.oauth2_redirect.specs.declared.redirect.RedirectError.{RedirectError}
+use Rattle.oauth2_redirect.specs.declared.redirect.RedirectError.TheVariants as redirect
 use Rattle.oauth2_redirect.specs.End.{ExchangesCode}
-use Rattle.oauth2_redirect.specs.Redirect.{RedirectErrorView, ShowsRedirectError, redirect_error_text}
+use Rattle.oauth2_redirect.specs.Query.{sole_text}
+use Rattle.oauth2_redirect.specs.Redirect.{MayWantMemory, RedirectErrorView, ShowsRedirectError, answer, is_state, redirect_error_text}
 use Rattle.oauth2_openid.specs.declared.read_error.IdTokenReadError.{IdTokenReadError}
 use Rattle.oauth2_openid.specs.declared.read_error.IdTokenReadError.TheVariants as read
 use Rattle.oauth2_openid.specs.Claims.{Expectation}
@@ -19,11 +22,12 @@ use Rattle.oauth2_openid.specs.ErrorTexts.{claims_error_text, id_token_read_erro
 use Rattle.oauth2_openid.specs.Reading.{compact_token_reading}
 use Rattle.oauth2_openid.specs.Seen.{token_of}
 use Rattle.oauth2_openid.specs.Token.{DecodedToken, TokenFault, TokenReading, not_three_parts, not_base64, at_fault}
-use Rattle.oauth2_openid.specs.TokenRules.{token_checked}
+use Rattle.oauth2_openid.specs.TokenRules.{Holds, token_checked}
 use Rattle.oauth2_openid_login.specs.declared.login_end.OpenIdLoginEnd.{OpenIdLoginEnd}
 use Rattle.oauth2_openid_login.specs.declared.login_error.OpenIdLoginError.{OpenIdLoginError}
 use Rattle.oauth2_openid_login.specs.declared.login_error.OpenIdLoginError.TheVariants.{Redirect, Token, OtherTokenType, NoIdToken, Read, Claims, Memory}
 use Rattle.oauth2_openid_login.specs.Login.{OpenIdKept}
+use Rattle.oauth2_openid_login.specs.Provider.{Provider, expected_of, redirect_issuer}
 
 -- the text that `Display` writes of an error, where `text` is that of the server's error
 abbrev pub openid_login_error_text : {RE T : Type 0} → (T → Option (List ℕ)) → OpenIdLoginError RE T → Option (List ℕ)
@@ -104,3 +108,39 @@ module _ {D A T E RE C : Type 0} where
       ⊎ ((code : List ℕ) × (told ≡ Ok code) × (error : RequestTokenError RE T) × (result ≡ Err (Token error))
       × ExchangesCode meaning error_meaning reading error_reading step client login.login code before (Err error) after)
       ⊎ ((error : RedirectError) × (result ≡ Err (Redirect error login)) × ShowsRedirectError error told × (after ≡ before))
+
+  -- what a redirect with these parameters makes of a login at this provider, and of the HTTP client
+  pub record FinishesOpenIdLogin (meaning : D → A) (error_meaning : T → E)
+      (reading : Data → Reading A) (error_reading : Data → Reading E)
+      (is_ready : C → Type 0) (step : C → HttpRequest → Result HttpResponse RE → C → Type 0)
+      (access_token : D → List ℕ) (token_type : D → List ℕ) (id_token : D → Option (List ℕ))
+      (client : Settings) (login : OpenIdKept) (provider : Provider)
+      (ToldByClock : Timestamp → Type 0) (pairs : List Pair)
+      (before : C) (result : Result (OpenIdLoginEnd D) (OpenIdLoginError RE T)) (after : C)
+      : Type 0 where
+    -- the login ends as the redirect's answer says
+    pub end : EndsOpenIdLogin meaning error_meaning reading error_reading step
+        access_token token_type id_token client login (expected_of provider client login)
+        ToldByClock (answer login.login.state (redirect_issuer provider) pairs) before result after
+    -- in short: each rule holds at a time that the clock returned
+    pub rules : IfOk result (λ end. (now : Timestamp) × ToldByClock now
+        × Holds (expected_of provider client login) (access_token end.token_response)
+        now.nanosecond (token_of end.id_token))
+    -- without a code nothing is sent
+    pub no_code : (why : RedirectErrorView)
+        → answer login.login.state (redirect_issuer provider) pairs ≡ Err why → after ≡ before
+    -- and so nothing is sent for another state
+    pub other_state : is_state login.login.state (sole_text (codes "state") pairs) ≡ false
+        → after ≡ before
+    -- the login in an error is this login, and nothing is sent: what the ID token is checked against
+    -- is made before the request, so this holds if memory runs out there too
+    pub given_back : (error : RedirectError) (kept : OpenIdKept)
+        → result ≡ Err (Redirect error kept) → (kept ≡ login) × (after ≡ before)
+    -- memory runs out before the request only where reading the redirect may want some
+    pub memory : result ≡ Err (Redirect redirect.Memory login)
+        → MayWantMemory login.login.state (redirect_issuer provider) pairs
+    -- a redirect without a state, or with several, is refused without an allocation
+    pub no_state : sole_text (codes "state") pairs ≡ None
+        → result ≡ Err (Redirect redirect.OtherState login)
+    -- the HTTP client may be called again
+    pub ready : is_ready after

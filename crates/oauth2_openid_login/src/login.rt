@@ -3,9 +3,7 @@
 ghost use Rattle.std.specs.Prelude.{
   ◌≡◌,
   ◌↔◌,
-  ℕ,
   ℤ,
-  List,
   Ok,
   Err,
   Some,
@@ -13,7 +11,6 @@ ghost use Rattle.std.specs.Prelude.{
   IfOk,
   IfErr,
   IsTrue,
-  false,
   codes,
 };
 ghost use Rattle.std.specs.Fmt.{DisplaysOnOk, WritesStyledOnOk};
@@ -24,29 +21,20 @@ ghost use Rattle.jiff.specs.Types.{Timestamp};
 ghost use Rattle.oauth2_form.specs.Pairs.{form};
 ghost use Rattle.oauth2_form.specs.Query.{query_form};
 ghost use Rattle.oauth2_redirect.specs.Query.{sole_text};
-ghost use Rattle.oauth2_redirect.specs.Redirect.{
-  MayWantMemory,
-  RedirectErrorView,
-  ShowsRedirectError,
-  answer,
-  is_state,
-};
+ghost use Rattle.oauth2_redirect.specs.Redirect.{MayWantMemory, ShowsRedirectError, answer};
 ghost use Rattle.oauth2_openid.specs.Seen.{token_of};
 ghost use Rattle.oauth2_openid.specs.TokenRules.{Holds};
 ghost use Rattle.oauth2_openid.specs.Claims.{Expectation};
 ghost use Rattle.oauth2_openid_login.specs.End.{
   EndsOpenIdLogin,
+  FinishesOpenIdLogin,
   IsBearer,
   Judges,
   JudgesIdToken,
   id_token_reading,
 };
-ghost use Rattle.oauth2_openid_login.specs.Login.{OpenIdKept, openid_kept};
-ghost use Rattle.oauth2_openid_login.specs.Provider.{
-  expected_of,
-  login_expectation,
-  redirect_issuer,
-};
+ghost use Rattle.oauth2_openid_login.specs.Login.{openid_kept};
+ghost use Rattle.oauth2_openid_login.specs.Provider.{login_expectation, redirect_issuer};
 ghost use Rattle.oauth2_openid_login.specs.Start.{openid_authorization};
 ghost use Rattle.oauth2_openid_login.specs.private.Told.{told_as};
 
@@ -160,38 +148,9 @@ impl OpenIdLogin {
         K: FnOnce() -> Timestamp + Drop,
         requires client { C.is_ready http_client.old }
         requires clock { K.IsAlwaysCallable clock }
-        ensures end { EndsOpenIdLogin TR.meaning TE.meaning TR.reading TE.reading C.step
-            TR.access_token TR.token_type_text TR.id_token client.now self
-            (expected_of provider.now client.now self) (K.post clock)
-            (answer self.login.state (redirect_issuer provider.now) (query_form redirect.now))
-            http_client.old result http_client.new }
-
-        // In short: each rule holds at a time that the clock returned.
-        ensures rules { IfOk result (λ end. (now : Timestamp) × K.post clock now
-            × Holds (expected_of provider.now client.now self)
-            (TR.access_token end.token_response) now.nanosecond (token_of end.id_token)) }
-
-        // Without a code nothing is sent, and so nothing is sent for another state.
-        ensures no_code { (why : RedirectErrorView)
-            → answer self.login.state (redirect_issuer provider.now) (query_form redirect.now)
-            ≡ Err why
-            → http_client.new ≡ http_client.old }
-        ensures other_state { let state = sole_text (codes "state") (query_form redirect.now) in
-            is_state self.login.state state ≡ false → http_client.new ≡ http_client.old }
-
-        // What the token is checked against is made first: if memory runs out there, nothing is
-        // sent.
-        ensures given_back { (error : _) (login : OpenIdKept)
-            → result ≡ Err (OpenIdLoginError.Redirect error login)
-            → (login ≡ self) × (http_client.new ≡ http_client.old) }
-        ensures memory { result ≡ Err (OpenIdLoginError.Redirect RedirectError.Memory self)
-            → MayWantMemory self.login.state (redirect_issuer provider.now)
-            (query_form redirect.now) }
-
-        // A redirect without a state, or with several, is refused without an allocation.
-        ensures no_state { sole_text (codes "state") (query_form redirect.now) ≡ None
-            → result ≡ Err (OpenIdLoginError.Redirect RedirectError.OtherState self) }
-        ensures ready { C.is_ready http_client.new }
+        ensures { FinishesOpenIdLogin TR.meaning TE.meaning TR.reading TE.reading C.is_ready C.step
+            TR.access_token TR.token_type_text TR.id_token client.now self provider.now
+            (K.post clock) (query_form redirect.now) http_client.old result http_client.new }
     {
         let query = query_of(redirect);
         self.finish_query(alloc, client, http_client, query, provider, clock)
@@ -218,37 +177,9 @@ impl OpenIdLogin {
         K: FnOnce() -> Timestamp + Drop,
         requires client { C.is_ready http_client.old }
         requires clock { K.IsAlwaysCallable clock }
-        ensures end { EndsOpenIdLogin TR.meaning TE.meaning TR.reading TE.reading C.step
-            TR.access_token TR.token_type_text TR.id_token client.now self
-            (expected_of provider.now client.now self) (K.post clock)
-            (answer self.login.state (redirect_issuer provider.now) (form query.now))
-            http_client.old result http_client.new }
-
-        // In short: each rule holds at a time that the clock returned.
-        ensures rules { IfOk result (λ end. (now : Timestamp) × K.post clock now
-            × Holds (expected_of provider.now client.now self)
-            (TR.access_token end.token_response) now.nanosecond (token_of end.id_token)) }
-
-        // Without a code nothing is sent, and so nothing is sent for another state.
-        ensures no_code { (why : RedirectErrorView)
-            → answer self.login.state (redirect_issuer provider.now) (form query.now)
-            ≡ Err why
-            → http_client.new ≡ http_client.old }
-        ensures other_state { let state = sole_text (codes "state") (form query.now) in
-            is_state self.login.state state ≡ false → http_client.new ≡ http_client.old }
-
-        // What the token is checked against is made first: if memory runs out there, nothing is
-        // sent.
-        ensures given_back { (error : _) (login : OpenIdKept)
-            → result ≡ Err (OpenIdLoginError.Redirect error login)
-            → (login ≡ self) × (http_client.new ≡ http_client.old) }
-        ensures memory { result ≡ Err (OpenIdLoginError.Redirect RedirectError.Memory self)
-            → MayWantMemory self.login.state (redirect_issuer provider.now) (form query.now) }
-
-        // A redirect without a state, or with several, is refused without an allocation.
-        ensures no_state { sole_text (codes "state") (form query.now) ≡ None
-            → result ≡ Err (OpenIdLoginError.Redirect RedirectError.OtherState self) }
-        ensures ready { C.is_ready http_client.new }
+        ensures { FinishesOpenIdLogin TR.meaning TE.meaning TR.reading TE.reading C.is_ready C.step
+            TR.access_token TR.token_type_text TR.id_token client.now self provider.now
+            (K.post clock) (form query.now) http_client.old result http_client.new }
     {
         match self.code_of(alloc, client.client_id(), query, provider) {
             Ok((code, expected)) => {
