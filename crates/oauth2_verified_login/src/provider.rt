@@ -1,27 +1,10 @@
 //! A provider whose ID tokens are verified, and the end of a login at it.
 
-ghost use Rattle.std.specs.Prelude.{
-  ◌≡◌,
-  ℕ,
-  List,
-  Ok,
-  Err,
-  None,
-  IfOk,
-  false,
-  codes,
-};
-ghost use Rattle.jiff.specs.Types.{Timestamp};
+ghost use Rattle.std.specs.Prelude.{◌≡◌, Ok, Err, IfOk};
 ghost use Rattle.oauth2_form.specs.Pairs.{form};
 ghost use Rattle.oauth2_form.specs.Query.{query_form};
-ghost use Rattle.oauth2_redirect.specs.Query.{sole_text};
-ghost use Rattle.oauth2_redirect.specs.Redirect.{MayWantMemory, RedirectErrorView, answer, is_state};
 ghost use Rattle.oauth2_openid.specs.Seen.{token_of};
-ghost use Rattle.oauth2_openid.specs.TokenRules.{Holds};
-ghost use Rattle.oauth2_openid_login.specs.End.{EndsOpenIdLogin};
-ghost use Rattle.oauth2_openid_login.specs.Login.{OpenIdKept};
-ghost use Rattle.oauth2_openid_login.specs.Provider.{expected_of, redirect_issuer};
-ghost use Rattle.oauth2_verified_login.specs.End.{before_signature};
+ghost use Rattle.oauth2_verified_login.specs.End.{FinishesVerifiedLogin, before_signature};
 ghost use Rattle.oauth2_verified_login.specs.Provider.{verifying};
 ghost use Rattle.oauth2_verified_login.specs.Signature.{IsSignatureRefusal, IsSigned, check_of};
 
@@ -34,7 +17,6 @@ use oauth2_codes::ErrorResponse;
 use oauth2_openid_login::{
     HasIdToken, OpenIdLogin, OpenIdLoginEnd, OpenIdLoginError, OpenIdProvider,
 };
-use oauth2_redirect::RedirectError;
 use oauth2_wire::SyncHttpClient;
 use std::alloc::Global;
 use std::marker::Model;
@@ -91,51 +73,9 @@ impl<'a> VerifiedProvider<'a> {
         K: FnOnce() -> Timestamp + Drop,
         requires client { C.is_ready http_client.old }
         requires clock { K.IsAlwaysCallable clock }
-
-        // Apart from the signature, the login ends as an `OpenIdLogin` does.
-        ensures end { EndsOpenIdLogin TR.meaning TE.meaning TR.reading TE.reading C.step
-            TR.access_token TR.token_type_text TR.id_token client.now login
-            (expected_of self.now.provider client.now login) (K.post clock)
-            (answer login.login.state (redirect_issuer self.now.provider)
-            (query_form redirect.now))
-            http_client.old (before_signature result) http_client.new }
-
-        // In short: each rule holds at a time that the clock returned, and the token is signed.
-        ensures verified { IfOk result (λ end. (now : Timestamp) × K.post clock now
-            × Holds (expected_of self.now.provider client.now login)
-            (TR.access_token end.token_response) now.nanosecond (token_of end.id_token)
-            × IsSigned self.now.check (token_of end.id_token)) }
-
-        // If the signature is refused, each other rule holds.
-        ensures unverified { (unverified : _)
-            → result ≡ Err (VerifiedLoginError.Signature unverified)
-            → (now : Timestamp) × K.post clock now
-            × Holds (expected_of self.now.provider client.now login)
-            (TR.access_token unverified.end.token_response) now.nanosecond
-            (token_of unverified.end.id_token)
-            × IsSignatureRefusal self.now.check (token_of unverified.end.id_token)
-            unverified.error }
-
-        // Without a code nothing is sent, and so nothing is sent for another state.
-        ensures no_code { (why : RedirectErrorView)
-            → answer login.login.state (redirect_issuer self.now.provider)
-            (query_form redirect.now) ≡ Err why
-            → http_client.new ≡ http_client.old }
-        ensures other_state { let state = sole_text (codes "state") (query_form redirect.now) in
-            is_state login.login.state state ≡ false → http_client.new ≡ http_client.old }
-        ensures given_back { (error : _) (kept : OpenIdKept)
-            → result ≡ Err (VerifiedLoginError.Login (OpenIdLoginError.Redirect error kept))
-            → (kept ≡ login) × (http_client.new ≡ http_client.old) }
-        ensures memory { result ≡ Err (VerifiedLoginError.Login
-            (OpenIdLoginError.Redirect RedirectError.Memory login))
-            → MayWantMemory login.login.state (redirect_issuer self.now.provider)
-            (query_form redirect.now) }
-
-        // A redirect without a state, or with several, is refused without an allocation.
-        ensures no_state { sole_text (codes "state") (query_form redirect.now) ≡ None
-            → result ≡ Err (VerifiedLoginError.Login
-            (OpenIdLoginError.Redirect RedirectError.OtherState login)) }
-        ensures ready { C.is_ready http_client.new }
+        ensures { FinishesVerifiedLogin TR.meaning TE.meaning TR.reading TE.reading C.is_ready
+            C.step TR.access_token TR.token_type_text TR.id_token client.now login self.now
+            (K.post clock) (query_form redirect.now) http_client.old result http_client.new }
     {
         let ended = login.finish(alloc, client, http_client, redirect, &self.provider, clock);
         verified_end(ended, self.check)
@@ -162,50 +102,9 @@ impl<'a> VerifiedProvider<'a> {
         K: FnOnce() -> Timestamp + Drop,
         requires client { C.is_ready http_client.old }
         requires clock { K.IsAlwaysCallable clock }
-
-        // Apart from the signature, the login ends as an `OpenIdLogin` does.
-        ensures end { EndsOpenIdLogin TR.meaning TE.meaning TR.reading TE.reading C.step
-            TR.access_token TR.token_type_text TR.id_token client.now login
-            (expected_of self.now.provider client.now login) (K.post clock)
-            (answer login.login.state (redirect_issuer self.now.provider) (form query.now))
-            http_client.old (before_signature result) http_client.new }
-
-        // In short: each rule holds at a time that the clock returned, and the token is signed.
-        ensures verified { IfOk result (λ end. (now : Timestamp) × K.post clock now
-            × Holds (expected_of self.now.provider client.now login)
-            (TR.access_token end.token_response) now.nanosecond (token_of end.id_token)
-            × IsSigned self.now.check (token_of end.id_token)) }
-
-        // If the signature is refused, each other rule holds.
-        ensures unverified { (unverified : _)
-            → result ≡ Err (VerifiedLoginError.Signature unverified)
-            → (now : Timestamp) × K.post clock now
-            × Holds (expected_of self.now.provider client.now login)
-            (TR.access_token unverified.end.token_response) now.nanosecond
-            (token_of unverified.end.id_token)
-            × IsSignatureRefusal self.now.check (token_of unverified.end.id_token)
-            unverified.error }
-
-        // Without a code nothing is sent, and so nothing is sent for another state.
-        ensures no_code { (why : RedirectErrorView)
-            → answer login.login.state (redirect_issuer self.now.provider) (form query.now)
-            ≡ Err why
-            → http_client.new ≡ http_client.old }
-        ensures other_state { let state = sole_text (codes "state") (form query.now) in
-            is_state login.login.state state ≡ false → http_client.new ≡ http_client.old }
-        ensures given_back { (error : _) (kept : OpenIdKept)
-            → result ≡ Err (VerifiedLoginError.Login (OpenIdLoginError.Redirect error kept))
-            → (kept ≡ login) × (http_client.new ≡ http_client.old) }
-        ensures memory { result ≡ Err (VerifiedLoginError.Login
-            (OpenIdLoginError.Redirect RedirectError.Memory login))
-            → MayWantMemory login.login.state (redirect_issuer self.now.provider)
-            (form query.now) }
-
-        // A redirect without a state, or with several, is refused without an allocation.
-        ensures no_state { sole_text (codes "state") (form query.now) ≡ None
-            → result ≡ Err (VerifiedLoginError.Login
-            (OpenIdLoginError.Redirect RedirectError.OtherState login)) }
-        ensures ready { C.is_ready http_client.new }
+        ensures { FinishesVerifiedLogin TR.meaning TE.meaning TR.reading TE.reading C.is_ready
+            C.step TR.access_token TR.token_type_text TR.id_token client.now login self.now
+            (K.post clock) (form query.now) http_client.old result http_client.new }
     {
         let ended = login.finish_query(alloc, client, http_client, query, &self.provider, clock);
         verified_end(ended, self.check)
