@@ -31,7 +31,7 @@ ghost use Rattle.oauth2_openid.specs.TokenRules.{Holds, token_checked};
 ghost use Rattle.oauth2_openid_login.specs.End.{fault_told, id_token_reading};
 ghost use Rattle.oauth2_openid_login.specs.Login.{OpenIdKept};
 ghost use Rattle.oauth2_openid_login.specs.Provider.{expected_of, redirect_issuer};
-ghost use Rattle.oauth2_callers.specs.Login.{IsAnsweredBy, openid_pairs};
+ghost use Rattle.oauth2_callers.specs.Login.{GetsResponse, openid_pairs};
 
 use jiff::Timestamp;
 use oauth2::basic::BasicErrorResponse;
@@ -94,53 +94,39 @@ pub fn finish_login<C: SyncHttpClient, K: FnOnce() -> Timestamp + Drop>(
     requires clock { K.IsAlwaysCallable clock }
     ensures other_state { let state = sole_text (codes "state") (query_form redirect.now) in
         is_state login.login.state state ≡ false → http_client.new ≡ http_client.old }
-    ensures user { IfOk result (λ end. (code : List ℕ)
-        × (answer login.login.state (redirect_issuer provider.now) (query_form redirect.now)
-        ≡ Ok code)
-        × (response : ⟦<OpenIdTokenResponse as FromJson>⟧.Meaning)
-        × IsAnsweredBy ⟦<OpenIdTokenResponse as FromJson>⟧.reading
-        ⟦<BasicErrorResponse as FromJson>⟧.reading C.step
-        client.now login.login code http_client.old response http_client.new
-        × (id_token_reading response.extra_fields.value ≡ Some (Ok (token_of end.id_token)))
+    ensures user { IfOk result (λ end. GetsResponse ⟦<OpenIdTokenResponse as FromJson>⟧.reading
+        ⟦<BasicErrorResponse as FromJson>⟧.reading C.step client.now login provider.now
+        (query_form redirect.now) http_client.old http_client.new
+        (λ response. (id_token_reading response.extra_fields.value
+        ≡ Some (Ok (token_of end.id_token)))
         × (now : Timestamp) × K.post clock now
         × Holds (expected_of provider.now client.now login) response.access_token now.nanosecond
-        (token_of end.id_token)) }
-    ensures no_id_token { result ≡ Err OpenIdLoginError.NoIdToken → (code : List ℕ)
-        × (answer login.login.state (redirect_issuer provider.now) (query_form redirect.now)
-        ≡ Ok code)
-        × (response : ⟦<OpenIdTokenResponse as FromJson>⟧.Meaning)
-        × IsAnsweredBy ⟦<OpenIdTokenResponse as FromJson>⟧.reading
-        ⟦<BasicErrorResponse as FromJson>⟧.reading C.step
-        client.now login.login code http_client.old response http_client.new
-        × (response.extra_fields.value ≡ None) }
-    ensures rule { (error : _) → result ≡ Err (OpenIdLoginError.Claims error) → (code : List ℕ)
-        × (answer login.login.state (redirect_issuer provider.now) (query_form redirect.now)
-        ≡ Ok code)
-        × (response : ⟦<OpenIdTokenResponse as FromJson>⟧.Meaning)
-        × IsAnsweredBy ⟦<OpenIdTokenResponse as FromJson>⟧.reading
-        ⟦<BasicErrorResponse as FromJson>⟧.reading C.step
-        client.now login.login code http_client.old response http_client.new
-        × (token : DecodedToken) × (id_token_reading response.extra_fields.value ≡ Some (Ok token))
+        (token_of end.id_token))) }
+    ensures no_id_token { result ≡ Err OpenIdLoginError.NoIdToken
+        → GetsResponse ⟦<OpenIdTokenResponse as FromJson>⟧.reading
+        ⟦<BasicErrorResponse as FromJson>⟧.reading C.step client.now login provider.now
+        (query_form redirect.now) http_client.old http_client.new
+        (λ response. response.extra_fields.value ≡ None) }
+    ensures rule { (error : _) → result ≡ Err (OpenIdLoginError.Claims error)
+        → GetsResponse ⟦<OpenIdTokenResponse as FromJson>⟧.reading
+        ⟦<BasicErrorResponse as FromJson>⟧.reading C.step client.now login provider.now
+        (query_form redirect.now) http_client.old http_client.new
+        (λ response. (token : DecodedToken)
+        × (id_token_reading response.extra_fields.value ≡ Some (Ok token))
         × (now : Timestamp) × K.post clock now
         × (token_checked (expected_of provider.now client.now login) response.access_token
-        now.nanosecond token ≡ Err error) }
-    ensures unread { (error : _) → result ≡ Err (OpenIdLoginError.Read error) → (code : List ℕ)
-        × (answer login.login.state (redirect_issuer provider.now) (query_form redirect.now)
-        ≡ Ok code)
-        × (response : ⟦<OpenIdTokenResponse as FromJson>⟧.Meaning)
-        × IsAnsweredBy ⟦<OpenIdTokenResponse as FromJson>⟧.reading
-        ⟦<BasicErrorResponse as FromJson>⟧.reading C.step
-        client.now login.login code http_client.old response http_client.new
-        × (fault : TokenFault) × (fault_told error ≡ Some fault)
-        × (id_token_reading response.extra_fields.value ≡ Some (Err fault)) }
-    ensures memory { result ≡ Err OpenIdLoginError.Memory → (code : List ℕ)
-        × (answer login.login.state (redirect_issuer provider.now) (query_form redirect.now)
-        ≡ Ok code)
-        × (response : ⟦<OpenIdTokenResponse as FromJson>⟧.Meaning)
-        × IsAnsweredBy ⟦<OpenIdTokenResponse as FromJson>⟧.reading
-        ⟦<BasicErrorResponse as FromJson>⟧.reading C.step
-        client.now login.login code http_client.old response http_client.new
-        × IsSome response.extra_fields.value }
+        now.nanosecond token ≡ Err error)) }
+    ensures unread { (error : _) → result ≡ Err (OpenIdLoginError.Read error)
+        → GetsResponse ⟦<OpenIdTokenResponse as FromJson>⟧.reading
+        ⟦<BasicErrorResponse as FromJson>⟧.reading C.step client.now login provider.now
+        (query_form redirect.now) http_client.old http_client.new
+        (λ response. (fault : TokenFault) × (fault_told error ≡ Some fault)
+        × (id_token_reading response.extra_fields.value ≡ Some (Err fault))) }
+    ensures memory { result ≡ Err OpenIdLoginError.Memory
+        → GetsResponse ⟦<OpenIdTokenResponse as FromJson>⟧.reading
+        ⟦<BasicErrorResponse as FromJson>⟧.reading C.step client.now login provider.now
+        (query_form redirect.now) http_client.old http_client.new
+        (λ response. IsSome response.extra_fields.value) }
     ensures given_back { (error : _) (kept : OpenIdKept)
         → result ≡ Err (OpenIdLoginError.Redirect error kept)
         → (kept ≡ login) × (http_client.new ≡ http_client.old) }

@@ -12,7 +12,7 @@ returns-clause-user g c = IfOk-from_each _ c.finish.result (λ end is.
             let answered = IsAnsweredBy-from_ExchangesCode _ _ g.C.SyncHttpClient.step c.args.client.now c.args.login.login h.0 (Ok h.2) h.3 in
             let judged = rw is at j.1 in
             let rules = rw is at c.finish.ensures.rules in
-            (h.0, h.1, _, answered, ap id_token_reading (seen_as_itself h.2.extra_fields.value) ∙ judged.1, rules.0, rules.1, rw judged.0 at rules.2)
+            (h.0, h.1, _, answered, (ap id_token_reading (seen_as_itself h.2.extra_fields.value) ∙ judged.1, rules.0, rules.1, rw judged.0 at rules.2))
         | inr j ↦ absurd (cc)
       ]
       | inr other ↦ elim other [ inl h ↦ absurd (cc) | inr h ↦ absurd (cc) ]
@@ -38,7 +38,7 @@ returns-clause-rule g c = λ error broken.
         | inl j ↦
             let answered = IsAnsweredBy-from_ExchangesCode _ _ g.C.SyncHttpClient.step c.args.client.now c.args.login.login h.0 (Ok h.2) h.3 in
             let judged = rw broken at j.1 in
-            (h.0, h.1, _, answered, judged.0, ap id_token_reading (seen_as_itself h.2.extra_fields.value) ∙ judged.1, h.4, h.5, judged.2)
+            (h.0, h.1, _, answered, (judged.0, ap id_token_reading (seen_as_itself h.2.extra_fields.value) ∙ judged.1, h.4, h.5, judged.2))
         | inr j ↦ absurd (cc)
       ]
       | inr other ↦ elim other [ inl h ↦ absurd (cc) | inr h ↦ absurd (cc) ]
@@ -51,7 +51,7 @@ returns-clause-unread g c = λ error unread.
         | inl j ↦
             let answered = IsAnsweredBy-from_ExchangesCode _ _ g.C.SyncHttpClient.step c.args.client.now c.args.login.login h.0 (Ok h.2) h.3 in
             let judged = rw unread at j.1 in
-            (h.0, h.1, _, answered, judged.0, judged.1, ap id_token_reading (seen_as_itself h.2.extra_fields.value) ∙ judged.2)
+            (h.0, h.1, _, answered, (judged.0, judged.1, ap id_token_reading (seen_as_itself h.2.extra_fields.value) ∙ judged.2))
         | inr j ↦ absurd (cc)
       ]
       | inr other ↦ elim other [ inl h ↦ absurd (cc) | inr h ↦ absurd (cc) ]
