@@ -5,7 +5,8 @@ use Rattle.oauth2_script.specs.declared.form.ResultForm.{ResultForm}
 use Rattle.oauth2_script.specs.declared.form.ResultForm.TheVariants.{Lines, Json}
 use Rattle.oauth2_wire.specs.Reply.{ReplyView}
 use Rattle.oauth2_wire.specs.Request.{RequestView}
-use Rattle.oauth2_script.specs.Fault.{Fault as ScriptFault, cause_word}
+use Rattle.oauth2_script.specs.Fault.{Fault as ScriptFault}
+use Rattle.oauth2_script_values.specs.Cause.{cause_word}
 use Rattle.oauth2_world.specs.Events.{Event, exchanged, slept, sent_to, answered, failed, waits, stepped, bad_script}
 use Rattle.oauth2_world.specs.Quotation.{quotation}
 use Rattle.oauth2_results.specs.FaultJson.{fault_json}

@@ -1,4 +1,2 @@
 pub mod Parts
-pub mod Inputs
-pub mod Fields
 pub mod Refusals

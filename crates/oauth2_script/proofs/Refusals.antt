@@ -4,10 +4,10 @@ use Rattle.std.specs.Prelude.{IsErrAnd, is_some}
 use Rattle.serde_json.specs.Data.{Data}
 use Rattle.oauth2_script.specs.Client.{Client}
 use Rattle.oauth2_script.specs.Script.{once_authenticated, twice_authenticated}
-use Rattle.oauth2_script.specs.Reading.{Reading, ◌>>=◌}
-use Rattle.oauth2_script.specs.Gives.{TellsPartError, Gives}
-use Rattle.oauth2_script.specs.declared.part_error.PartError.{PartError}
-use Rattle.oauth2_script.specs.declared.part_error.PartError.TheVariants as errors
+use Rattle.oauth2_script_values.specs.Reading.{Reading, ◌>>=◌}
+use Rattle.oauth2_script_values.specs.Gives.{TellsPartError, Gives}
+use Rattle.oauth2_script_values.specs.declared.part_error.PartError.{PartError}
+use Rattle.oauth2_script_values.specs.declared.part_error.PartError.TheVariants as errors
 
 -- what is refused stays refused when more is read
 pub Refuses-then : {A B : Type 0} (e : PartError) (o : Reading A) (f : A → Reading B) → TellsPartError e o → TellsPartError e (o >>= f)

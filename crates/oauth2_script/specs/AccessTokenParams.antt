@@ -1,8 +1,8 @@
 -- The parameters of the command `access_token`.
 use Rattle.std.specs.Prelude.{ℕ, List, Option, Ok, unwrap_or, codes}
 use Rattle.serde_json.specs.Data.{Data}
-use Rattle.oauth2_script.specs.Reading.{Reading, ◌>>=◌}
-use Rattle.oauth2_script.specs.Part.{needed_part, present_part, any_value, duration, text}
+use Rattle.oauth2_script_values.specs.Reading.{Reading, ◌>>=◌}
+use Rattle.oauth2_script_values.specs.Part.{needed_part, present_part, any_value, duration, text}
 
 -- the parameters of the check of a JWT access token at a resource server (RFC 9068, 4); the leeway
 -- in nanoseconds

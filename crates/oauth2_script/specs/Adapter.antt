@@ -4,8 +4,8 @@ use Rattle.std.specs.Str.{bytes_eq}
 use Rattle.serde_json.specs.Data.{Data}
 use Rattle.oauth2_script.specs.declared.adapter.Adapter.{Adapter}
 use Rattle.oauth2_script.specs.declared.adapter.Adapter.TheVariants.{CommasInScopes, ErrorsAtStatus200, FormBodies, NumbersAsTexts, OtherMediaTypes}
-use Rattle.oauth2_script.specs.Reading.{Reading}
-use Rattle.oauth2_script.specs.Part.{word}
+use Rattle.oauth2_script_values.specs.Reading.{Reading}
+use Rattle.oauth2_script_values.specs.Part.{word}
 
 -- the adapter of this name; `None` for other texts
 unfoldable pub adapter_of : List ℕ → Option Adapter

@@ -2,8 +2,8 @@
 use Rattle.std.specs.Prelude.{ℕ, List, Option, Some, None, Ok, if◌then◌else◌, codes}
 use Rattle.std.specs.Str.{bytes_eq}
 use Rattle.serde_json.specs.Data.{Data}
-use Rattle.oauth2_script.specs.Reading.{Reading, ◌>>=◌}
-use Rattle.oauth2_script.specs.Part.{list_part, needed_part, text, word}
+use Rattle.oauth2_script_values.specs.Reading.{Reading, ◌>>=◌}
+use Rattle.oauth2_script_values.specs.Part.{list_part, needed_part, text, word}
 use Rattle.oauth2_script.specs.Sent.{sent_params}
 use Rattle.oauth2_script.specs.declared.assertion_params.AssertionKind.{AssertionKind}
 use Rattle.oauth2_script.specs.declared.assertion_params.AssertionKind.TheVariants.{Jwt, Saml2}

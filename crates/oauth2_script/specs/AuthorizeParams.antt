@@ -3,8 +3,8 @@ use Rattle.std.specs.Prelude.{ℕ, List, Option, Ok, codes}
 use Rattle.serde_json.specs.Data.{Data}
 use Rattle.oauth2_types.specs.Pkce.{Challenge}
 use Rattle.oauth2_urls.specs.Addressed.{Addressed}
-use Rattle.oauth2_script.specs.Reading.{Reading, ◌>>=◌}
-use Rattle.oauth2_script.specs.Part.{list_part, needed_part, present_part, address, challenge_part, text}
+use Rattle.oauth2_script_values.specs.Reading.{Reading, ◌>>=◌}
+use Rattle.oauth2_script_values.specs.Part.{list_part, needed_part, present_part, address, challenge_part, text}
 use Rattle.oauth2_script.specs.Sent.{resources_and_extra}
 
 -- the parameters of an authorization URL (RFC 6749, 4.1.1; RFC 7636, 4.3); the nonce is that of

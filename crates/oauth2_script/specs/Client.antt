@@ -1,17 +1,17 @@
 -- The client of a script.
-use Rattle.std.specs.Prelude.{ℕ, List, Option, Some, None, Ok, unwrap_or, if◌then◌else◌, codes}
-use Rattle.std.specs.Str.{bytes_eq}
+use Rattle.std.specs.Prelude.{ℕ, List, Option, Ok, unwrap_or, codes}
 use Rattle.serde_json.specs.Data.{Data}
 use Rattle.url.specs.Parts.{Parts}
 use Rattle.oauth2_urls.specs.Addressed.{Addressed}
 use Rattle.oauth2_wire.specs.declared.request.AuthType.{AuthType}
-use Rattle.oauth2_wire.specs.declared.request.AuthType.TheVariants.{BasicAuth, RequestBody}
+use Rattle.oauth2_wire.specs.declared.request.AuthType.TheVariants.{BasicAuth}
 use Rattle.oauth2_wire.specs.declared.content_type.ReplyRule.{ReplyRule}
-use Rattle.oauth2_wire.specs.declared.content_type.ReplyRule.TheVariants.{Prefix, MediaType}
+use Rattle.oauth2_wire.specs.declared.content_type.ReplyRule.TheVariants.{Prefix}
 use Rattle.oauth2_script.specs.Adapter.{adapter}
 use Rattle.oauth2_script.specs.declared.adapter.Adapter.{Adapter}
-use Rattle.oauth2_script.specs.Reading.{Reading, ◌>>=◌}
-use Rattle.oauth2_script.specs.Part.{list_part, needed_part, present_part, address, an_object, text, url_part, word}
+use Rattle.oauth2_script_values.specs.Reading.{Reading, ◌>>=◌}
+use Rattle.oauth2_script_values.specs.Part.{list_part, needed_part, present_part, address, an_object, text, url_part}
+use Rattle.oauth2_script_values.specs.Words.{auth_type_part, reply_rule_part}
 
 -- the endpoints of the client that the script sets: members `auth_url`, `token_url` and so on;
 -- `push_url` is the pushed authorization request endpoint (RFC 9126, 2)
@@ -32,26 +32,6 @@ pub record Client : Type 0 where
   pub redirect : Option Addressed
   pub endpoints : ClientEndpoints
   pub adapters : List Adapter
-
--- where the client sends its secret (RFC 6749, 2.3.1): `basic` or `body`; `None` for other texts
-unfoldable pub auth_type_of : List ℕ → Option AuthType
-auth_type_of text =
-    if bytes_eq text (codes "basic") then Some BasicAuth
-    else (if bytes_eq text (codes "body") then Some RequestBody else None)
-
--- the value of the member `auth`: the text `basic` or `body`
-abbrev pub auth_type_part : Data → Reading AuthType
-auth_type_part d = word auth_type_of d
-
--- which Content-Type a success may have: `prefix` or `media_type`; `None` for other texts
-unfoldable pub reply_rule_of : List ℕ → Option ReplyRule
-reply_rule_of text =
-    if bytes_eq text (codes "prefix") then Some Prefix
-    else (if bytes_eq text (codes "media_type") then Some MediaType else None)
-
--- the value of the member `reply_rule`: the text `prefix` or `media_type`
-abbrev pub reply_rule_part : Data → Reading ReplyRule
-reply_rule_part d = word reply_rule_of d
 
 -- reads the endpoints from the object `client`: each may be absent, or has to be a URL
 unfoldable pub endpoints : Data → Reading ClientEndpoints

@@ -2,8 +2,8 @@
 use Rattle.std.specs.Prelude.{ℕ, List, Option, Ok, codes}
 use Rattle.serde_json.specs.Data.{Data}
 use Rattle.oauth2_urls.specs.Addressed.{Addressed}
-use Rattle.oauth2_script.specs.Reading.{Reading, ◌>>=◌}
-use Rattle.oauth2_script.specs.Part.{needed_part, present_part, address, text, verifier}
+use Rattle.oauth2_script_values.specs.Reading.{Reading, ◌>>=◌}
+use Rattle.oauth2_script_values.specs.Part.{needed_part, present_part, address, text, verifier}
 use Rattle.oauth2_script.specs.Sent.{sent_params}
 
 -- the code, the code verifier, the redirect URI and the further parameters of a request (RFC 6749,

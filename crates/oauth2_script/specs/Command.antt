@@ -2,9 +2,9 @@
 use Rattle.std.specs.Prelude.{ℕ, List, if◌then◌else◌, codes}
 use Rattle.std.specs.Str.{bytes_eq}
 use Rattle.serde_json.specs.Data.{Data}
-use Rattle.oauth2_script.specs.Reading.{Reading, map_read, bad_member}
-use Rattle.oauth2_script.specs.Part.{of_params}
-use Rattle.oauth2_script.specs.declared.script_cause.ScriptCause.TheVariants.{UnknownWord}
+use Rattle.oauth2_script_values.specs.Reading.{Reading, map_read, bad_member}
+use Rattle.oauth2_script_values.specs.Part.{of_params}
+use Rattle.oauth2_script_values.specs.declared.script_cause.ScriptCause.TheVariants.{UnknownWord}
 use Rattle.oauth2_script.specs.AccessTokenParams.{AccessTokenParams, access_token_params}
 use Rattle.oauth2_script.specs.AuthorizeParams.{AuthorizeParams, authorize_params}
 use Rattle.oauth2_script.specs.ClientCredentialsParams.{ClientCredentialsParams, client_credentials_params}

@@ -1,8 +1,8 @@
 -- The parameters of the command `device_authorization`.
 use Rattle.std.specs.Prelude.{ℕ, List, Ok, codes}
 use Rattle.serde_json.specs.Data.{Data}
-use Rattle.oauth2_script.specs.Reading.{Reading, ◌>>=◌}
-use Rattle.oauth2_script.specs.Part.{list_part, text}
+use Rattle.oauth2_script_values.specs.Reading.{Reading, ◌>>=◌}
+use Rattle.oauth2_script_values.specs.Part.{list_part, text}
 use Rattle.oauth2_script.specs.Sent.{sent_params}
 
 -- the scopes and the further parameters of a device authorization request (RFC 8628, 3.1)

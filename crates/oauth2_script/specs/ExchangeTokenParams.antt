@@ -1,9 +1,10 @@
 -- The parameters of the command `exchange_token`.
 use Rattle.std.specs.Prelude.{ℕ, List, Option, Some, None, Ok, codes}
 use Rattle.serde_json.specs.Data.{Data}
-use Rattle.oauth2_script.specs.Reading.{Reading, ◌>>=◌, bad_member}
-use Rattle.oauth2_script.specs.Part.{list_part, needed_part, present_part, text, uri}
-use Rattle.oauth2_script.specs.declared.script_cause.ScriptCause.TheVariants.{Missing}
+use Rattle.oauth2_script_values.specs.Reading.{Reading, ◌>>=◌, bad_member}
+use Rattle.oauth2_script_values.specs.Part.{list_part, needed_part, present_part, text}
+use Rattle.oauth2_script.specs.Uri.{uri}
+use Rattle.oauth2_script_values.specs.declared.script_cause.ScriptCause.TheVariants.{Missing}
 use Rattle.oauth2_script.specs.Sent.{asserted_extra}
 
 -- a token and the identifier of its type, a URI (RFC 8693, 3)

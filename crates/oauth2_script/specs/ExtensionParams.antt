@@ -1,8 +1,9 @@
 -- The parameters of the command `extension`.
 use Rattle.std.specs.Prelude.{ℕ, List, Ok, codes}
 use Rattle.serde_json.specs.Data.{Data}
-use Rattle.oauth2_script.specs.Reading.{Reading, ◌>>=◌}
-use Rattle.oauth2_script.specs.Part.{list_part, needed_part, text, uri}
+use Rattle.oauth2_script_values.specs.Reading.{Reading, ◌>>=◌}
+use Rattle.oauth2_script_values.specs.Part.{list_part, needed_part, text}
+use Rattle.oauth2_script.specs.Uri.{uri}
 use Rattle.oauth2_script.specs.Sent.{sent_params}
 
 -- the grant type, which is a URI, the scopes and the further parameters of a request (RFC 6749, 4.5)

@@ -2,9 +2,9 @@
 use Rattle.std.specs.Prelude.{ℕ, List, Option, Some, None, Ok, Err, if◌then◌else◌, codes}
 use Rattle.std.specs.Str.{bytes_eq}
 use Rattle.serde_json.specs.Data.{Data}
-use Rattle.oauth2_script.specs.Json.{json_in}
-use Rattle.oauth2_script.specs.Reading.{Reading, ◌>>=◌}
-use Rattle.oauth2_script.specs.Part.{needed_part, word}
+use Rattle.oauth2_script_values.specs.Json.{json_in}
+use Rattle.oauth2_script_values.specs.Reading.{Reading, ◌>>=◌}
+use Rattle.oauth2_script_values.specs.Part.{needed_part, word}
 use Rattle.oauth2_script.specs.declared.form.ResultForm.{ResultForm}
 use Rattle.oauth2_script.specs.declared.form.ResultForm.TheVariants.{Lines, Json}
 

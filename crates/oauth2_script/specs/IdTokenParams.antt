@@ -1,9 +1,9 @@
 -- The parameters of the command `id_token`.
 use Rattle.std.specs.Prelude.{ℕ, List, Option, Ok, unwrap_or, codes}
 use Rattle.serde_json.specs.Data.{Data, null, boolean, number, string, array, object}
-use Rattle.oauth2_script.specs.Reading.{Reading, ◌>>=◌, map_read, bad}
-use Rattle.oauth2_script.specs.Part.{list_part, needed_part, present_part, any_value, duration, each_item, text}
-use Rattle.oauth2_script.specs.declared.script_cause.ScriptCause.TheVariants.{WrongType}
+use Rattle.oauth2_script_values.specs.Reading.{Reading, ◌>>=◌, map_read, bad}
+use Rattle.oauth2_script_values.specs.Part.{list_part, needed_part, present_part, any_value, duration, each_item, text}
+use Rattle.oauth2_script_values.specs.declared.script_cause.ScriptCause.TheVariants.{WrongType}
 
 -- the issuers that are expected: one; any of a list; or a text that goes before the name of the
 -- tenant (claim `tid`) and a text that goes after it

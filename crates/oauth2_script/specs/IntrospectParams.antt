@@ -1,8 +1,8 @@
 -- The parameters of the command `introspect`.
 use Rattle.std.specs.Prelude.{ℕ, List, Option, Ok, codes}
 use Rattle.serde_json.specs.Data.{Data}
-use Rattle.oauth2_script.specs.Reading.{Reading, ◌>>=◌}
-use Rattle.oauth2_script.specs.Part.{needed_part, present_part, text}
+use Rattle.oauth2_script_values.specs.Reading.{Reading, ◌>>=◌}
+use Rattle.oauth2_script_values.specs.Part.{needed_part, present_part, text}
 use Rattle.oauth2_script.specs.Sent.{asserted_extra}
 
 -- the token, its type hint and the further parameters of an introspection request (RFC 7662, 2.1)

@@ -1,8 +1,8 @@
 -- The parameters of the command `keeper`.
 use Rattle.std.specs.Prelude.{ℕ, List, Option, Ok, codes}
 use Rattle.serde_json.specs.Data.{Data}
-use Rattle.oauth2_script.specs.Reading.{Reading, ◌>>=◌}
-use Rattle.oauth2_script.specs.Part.{list_part, needed_part, present_part, duration, text}
+use Rattle.oauth2_script_values.specs.Reading.{Reading, ◌>>=◌}
+use Rattle.oauth2_script_values.specs.Part.{list_part, needed_part, present_part, duration, text}
 use Rattle.oauth2_script.specs.Sent.{sent_params}
 
 -- the parameters of a new keeper; lengths of time in nanoseconds

@@ -1,7 +1,5 @@
-pub mod Reading
+pub mod Uri
 pub mod Fault
-pub mod Json
-pub mod Part
 pub mod Sent
 pub mod Gives
 pub mod Form

@@ -1,8 +1,8 @@
 -- The parameters of the command `password`.
 use Rattle.std.specs.Prelude.{ℕ, List, Ok, codes}
 use Rattle.serde_json.specs.Data.{Data}
-use Rattle.oauth2_script.specs.Reading.{Reading, ◌>>=◌}
-use Rattle.oauth2_script.specs.Part.{list_part, needed_part, text}
+use Rattle.oauth2_script_values.specs.Reading.{Reading, ◌>>=◌}
+use Rattle.oauth2_script_values.specs.Part.{list_part, needed_part, text}
 use Rattle.oauth2_script.specs.Sent.{sent_params}
 
 -- the name, the password, the scopes and the further parameters of a request (RFC 6749, 4.3.2)

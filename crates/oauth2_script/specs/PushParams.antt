@@ -2,7 +2,7 @@
 use Rattle.std.specs.Prelude.{ℕ, [], List, Ok}
 use Rattle.serde_json.specs.Data.{Data}
 use Rattle.oauth2_script.specs.AuthorizeParams.{AuthorizeParams, authorize_params}
-use Rattle.oauth2_script.specs.Reading.{Reading, ◌>>=◌}
+use Rattle.oauth2_script_values.specs.Reading.{Reading, ◌>>=◌}
 use Rattle.oauth2_script.specs.Sent.{asserted}
 
 -- what is pushed: the parameters of an authorization request (RFC 9126, 2.1); and the two pairs of

@@ -2,9 +2,9 @@
 use Rattle.std.specs.Prelude.{ℕ, List, Option, Some, None, Ok, codes}
 use Rattle.serde_json.specs.Data.{Data}
 use Rattle.oauth2_urls.specs.Addressed.{Addressed}
-use Rattle.oauth2_script.specs.Reading.{Reading, ◌>>=◌, bad_member}
-use Rattle.oauth2_script.specs.Part.{needed_part, present_part, address, text}
-use Rattle.oauth2_script.specs.declared.script_cause.ScriptCause.TheVariants.{Excluded}
+use Rattle.oauth2_script_values.specs.Reading.{Reading, ◌>>=◌, bad_member}
+use Rattle.oauth2_script_values.specs.Part.{needed_part, present_part, address, text}
+use Rattle.oauth2_script_values.specs.declared.script_cause.ScriptCause.TheVariants.{Excluded}
 
 -- the issuer that is expected: one that the redirect has to name, one that it may leave out, or
 -- none (RFC 9207, 2.4)

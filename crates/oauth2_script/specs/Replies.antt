@@ -5,9 +5,9 @@ use Rattle.base64.specs.Engines.{standard}
 use Rattle.base64.specs.GeneralPurpose.{decode_of}
 use Rattle.serde_json.specs.Data.{Data}
 use Rattle.serde_json.specs.Find.{get, as_bool}
-use Rattle.oauth2_script.specs.Reading.{Reading, ◌>>=◌, map_read, bad, or_bad, inside, bad_member, to_member}
-use Rattle.oauth2_script.specs.Part.{needed_part, present_part, an_object, field, status, text}
-use Rattle.oauth2_script.specs.declared.script_cause.ScriptCause.TheVariants.{Missing, WrongType, BadText, Excluded}
+use Rattle.oauth2_script_values.specs.Reading.{Reading, ◌>>=◌, map_read, bad, or_bad, inside, bad_member, to_member}
+use Rattle.oauth2_script_values.specs.Part.{needed_part, present_part, an_object, field, status, text}
+use Rattle.oauth2_script_values.specs.declared.script_cause.ScriptCause.TheVariants.{Missing, WrongType, BadText, Excluded}
 
 -- an HTTP reply of the script: its status, the value of its Content-Type and the bytes of its body
 pub record HttpReply : Type 0 where

@@ -2,8 +2,8 @@
 use Rattle.std.specs.Prelude.{ℕ, List, Option, Some, None, Ok, unwrap_or, if◌then◌else◌, codes}
 use Rattle.std.specs.Str.{bytes_eq}
 use Rattle.serde_json.specs.Data.{Data}
-use Rattle.oauth2_script.specs.Reading.{Reading, ◌>>=◌}
-use Rattle.oauth2_script.specs.Part.{needed_part, present_part, text, word}
+use Rattle.oauth2_script_values.specs.Reading.{Reading, ◌>>=◌}
+use Rattle.oauth2_script_values.specs.Part.{needed_part, present_part, text, word}
 use Rattle.oauth2_script.specs.Sent.{asserted_extra}
 use Rattle.oauth2_script.specs.declared.revoke_params.TokenKind.{TokenKind}
 use Rattle.oauth2_script.specs.declared.revoke_params.TokenKind.TheVariants.{Access, Refresh}

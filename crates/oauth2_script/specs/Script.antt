@@ -3,10 +3,10 @@ use Rattle.std.specs.Prelude.{ℕ, ℤ, ◌&&◌, List, Option, Some, None, Resu
 use Rattle.serde_json.specs.Data.{Data, object, no_members}
 use Rattle.serde_json.specs.Find.{get}
 use Rattle.oauth2_script.specs.Fault.{Fault, told}
-use Rattle.oauth2_script.specs.Json.{json_in}
-use Rattle.oauth2_script.specs.Reading.{Reading, PartFault, ◌>>=◌, fault, fault_inside, inside, to_member}
-use Rattle.oauth2_script.specs.Part.{list_part, needed_part, present_part, an_object, moment, text}
-use Rattle.oauth2_script.specs.declared.script_cause.ScriptCause.TheVariants.{Excluded}
+use Rattle.oauth2_script_values.specs.Json.{json_in}
+use Rattle.oauth2_script_values.specs.Reading.{Reading, PartFault, ◌>>=◌, fault, fault_inside, inside, to_member}
+use Rattle.oauth2_script_values.specs.Part.{list_part, needed_part, present_part, an_object, moment, text}
+use Rattle.oauth2_script_values.specs.declared.script_cause.ScriptCause.TheVariants.{Excluded}
 use Rattle.oauth2_script.specs.Form.{form_part}
 use Rattle.oauth2_script.specs.Client.{Client, client}
 use Rattle.oauth2_script.specs.Replies.{Reply, reply}

@@ -2,8 +2,8 @@
 use Rattle.std.specs.Prelude.{ℕ, List, if◌then◌else◌, codes}
 use Rattle.std.specs.Str.{bytes_eq}
 use Rattle.serde_json.specs.Data.{Data}
-use Rattle.oauth2_script.specs.Reading.{Reading, map_read}
-use Rattle.oauth2_script.specs.Part.{of_params}
+use Rattle.oauth2_script_values.specs.Reading.{Reading, map_read}
+use Rattle.oauth2_script_values.specs.Part.{of_params}
 use Rattle.oauth2_script.specs.AssertionParams.{assertion_params}
 use Rattle.oauth2_script.specs.Command.{Command, command_of}
 use Rattle.oauth2_script.specs.ExchangeTokenParams.{exchange_token_params}

@@ -4,8 +4,9 @@ use Rattle.serde_json.specs.Data.{Data}
 use Rattle.oauth2_form.specs.Pairs.{Pair}
 use Rattle.oauth2_client_assertions.specs.Assertions.{assertion_pairs}
 use Rattle.oauth2_client_assertions.specs.declared.assertion_type.AssertionType.TheVariants.{JwtBearer}
-use Rattle.oauth2_script.specs.Reading.{Reading, ◌>>=◌}
-use Rattle.oauth2_script.specs.Part.{list_part, present_part, pair_part, text, uri}
+use Rattle.oauth2_script_values.specs.Reading.{Reading, ◌>>=◌}
+use Rattle.oauth2_script_values.specs.Part.{list_part, present_part, pair_part, text}
+use Rattle.oauth2_script.specs.Uri.{uri}
 
 -- one pair for each resource that a token is for (RFC 8707, 2)
 abbrev pub resource_pairs : List (List ℕ) → List Pair

@@ -2,8 +2,8 @@
 use Rattle.std.specs.Prelude.{ℕ, List, Option, Some, None, Ok, unwrap_or, if◌then◌else◌, codes}
 use Rattle.std.specs.Str.{bytes_eq}
 use Rattle.serde_json.specs.Data.{Data}
-use Rattle.oauth2_script.specs.Reading.{Reading, ◌>>=◌}
-use Rattle.oauth2_script.specs.Part.{list_part, needed_part, present_part, an_object, small_number, text, word}
+use Rattle.oauth2_script_values.specs.Reading.{Reading, ◌>>=◌}
+use Rattle.oauth2_script_values.specs.Part.{list_part, needed_part, present_part, an_object, small_number, text, word}
 use Rattle.oauth2_script.specs.declared.shared_keeper_params.Fate.{Fate}
 use Rattle.oauth2_script.specs.declared.shared_keeper_params.Fate.TheVariants as fates
 use Rattle.oauth2_script.specs.declared.shared_keeper_params.SharedKeeperStep.{SharedKeeperStep}

@@ -2,12 +2,10 @@
 
 ghost use Rattle.std.specs.Prelude.{◌≡◌, IsTrue};
 ghost use Rattle.oauth2_resource_indicators.specs.AbsoluteUri.{is_absolute_uri};
-ghost use Rattle.oauth2_script.specs.Part as spec;
+ghost use Rattle.oauth2_script.specs.Uri as spec;
 
-use crate::part::Part;
-use crate::part_error::{PartError, bad};
-use crate::script_cause::ScriptCause;
 use oauth2_resource_indicators::is_absolute_uri;
+use oauth2_script_values::{Part, PartError, ScriptCause, bad};
 use serde_json::Value;
 use std::alloc::Global;
 use std::marker::Model;

@@ -2,8 +2,7 @@
 
 ghost use Rattle.oauth2_script.specs.AccessTokenParams as spec;
 
-use crate::part::{Part, needed, optional};
-use crate::part_error::PartError;
+use oauth2_script_values::{Part, PartError, needed, optional};
 use serde_json::Value;
 use std::alloc::Global;
 use std::time::Duration;

@@ -2,9 +2,7 @@
 
 ghost use Rattle.oauth2_script.specs.Adapter as spec;
 
-use crate::part::Part;
-use crate::part_error::{PartError, bad};
-use crate::script_cause::ScriptCause;
+use oauth2_script_values::{Part, PartError, ScriptCause, bad};
 use serde_json::Value;
 use std::alloc::Global;
 

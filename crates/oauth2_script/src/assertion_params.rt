@@ -2,10 +2,8 @@
 
 ghost use Rattle.oauth2_script.specs.AssertionParams as spec;
 
-use crate::part::{Part, listed, needed};
-use crate::part_error::{PartError, bad};
-use crate::script_cause::ScriptCause;
 use crate::sent_params::sent_params;
+use oauth2_script_values::{Part, PartError, ScriptCause, bad, listed, needed};
 use oauth2_types::Scope;
 use serde_json::Value;
 use std::alloc::Global;

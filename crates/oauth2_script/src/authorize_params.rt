@@ -2,9 +2,8 @@
 
 ghost use Rattle.oauth2_script.specs.AuthorizeParams as spec;
 
-use crate::part::{Part, listed, needed, optional};
-use crate::part_error::PartError;
 use crate::sent_params::resources_and_extra;
+use oauth2_script_values::{Part, PartError, listed, needed, optional};
 use oauth2_types::{CsrfToken, PkceCodeChallenge, ResponseType, Scope};
 use oauth2_urls::RedirectUrl;
 use serde_json::Value;

@@ -3,9 +3,7 @@
 ghost use Rattle.oauth2_script.specs.Client as spec;
 
 use crate::adapter::Adapter;
-use crate::part::{Part, an_object, listed, needed, optional};
-use crate::part_error::{PartError, bad};
-use crate::script_cause::ScriptCause;
+use oauth2_script_values::{Part, PartError, an_object, listed, needed, optional};
 use oauth2_types::{ClientId, ClientSecret};
 use oauth2_urls::{
     AuthUrl, DeviceAuthorizationUrl, IntrospectionUrl, RedirectUrl, RevocationUrl, TokenUrl,
@@ -38,52 +36,6 @@ pub struct ClientEndpoints {
     pub revocation: Option<RevocationUrl>,
     /// The pushed authorization request endpoint (RFC 9126, section 2).
     pub push: Option<Url>,
-}
-
-impl Part for AuthType {
-    ghost use Rattle.std.specs.Prelude.{false};
-    ghost use Rattle.oauth2_wire.specs.declared.request.AuthType.{AuthType};
-
-    ghost Meaning = { AuthType };
-
-    ghost meaning = { λ auth_type. auth_type };
-
-    ghost reading = { spec.auth_type_part };
-
-    ghost allocates = { false };
-
-    #[tactic(auto, unfolding(crate::specs::Client::auth_type_of))]
-    fn from_value(_alloc: Global, value: &Value) -> Result<AuthType, PartError> {
-        match value.as_str() {
-            Some("basic") => Ok(AuthType::BasicAuth),
-            Some("body") => Ok(AuthType::RequestBody),
-            Some(_) => Err(bad(ScriptCause::UnknownWord)),
-            None => Err(bad(ScriptCause::WrongType)),
-        }
-    }
-}
-
-impl Part for ReplyRule {
-    ghost use Rattle.std.specs.Prelude.{false};
-    ghost use Rattle.oauth2_wire.specs.declared.content_type.ReplyRule.{ReplyRule};
-
-    ghost Meaning = { ReplyRule };
-
-    ghost meaning = { λ rule. rule };
-
-    ghost reading = { spec.reply_rule_part };
-
-    ghost allocates = { false };
-
-    #[tactic(auto, unfolding(crate::specs::Client::reply_rule_of))]
-    fn from_value(_alloc: Global, value: &Value) -> Result<ReplyRule, PartError> {
-        match value.as_str() {
-            Some("prefix") => Ok(ReplyRule::Prefix),
-            Some("media_type") => Ok(ReplyRule::MediaType),
-            Some(_) => Err(bad(ScriptCause::UnknownWord)),
-            None => Err(bad(ScriptCause::WrongType)),
-        }
-    }
 }
 
 impl Part for ClientEndpoints {

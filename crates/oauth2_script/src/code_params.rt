@@ -2,9 +2,8 @@
 
 ghost use Rattle.oauth2_script.specs.CodeParams as spec;
 
-use crate::part::{Part, needed, optional};
-use crate::part_error::PartError;
 use crate::sent_params::sent_params;
+use oauth2_script_values::{Part, PartError, needed, optional};
 use oauth2_types::{AuthorizationCode, PkceCodeVerifier};
 use oauth2_urls::RedirectUrl;
 use serde_json::Value;

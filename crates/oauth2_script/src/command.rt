@@ -2,7 +2,7 @@
 
 ghost use Rattle.serde_json.specs.View.{view};
 ghost use Rattle.oauth2_script.specs.Command as spec;
-ghost use Rattle.oauth2_script.specs.Gives.{Gives};
+ghost use Rattle.oauth2_script_values.specs.Gives.{Gives};
 ghost use Rattle.oauth2_script.specs.Views.{command_view};
 
 use crate::access_token_params::AccessTokenParams;
@@ -15,14 +15,12 @@ use crate::id_token_params::IdTokenParams;
 use crate::introspect_params::IntrospectParams;
 use crate::keeper_params::KeeperParams;
 use crate::metadata_params::MetadataParams;
-use crate::part::of_params;
-use crate::part_error::{PartError, bad_member};
 use crate::password_params::PasswordParams;
 use crate::redirect_params::RedirectParams;
 use crate::refresh_params::RefreshParams;
 use crate::revoke_params::RevokeParams;
-use crate::script_cause::ScriptCause;
 use crate::shared_keeper_params::SharedKeeperParams;
+use oauth2_script_values::{PartError, ScriptCause, bad_member, of_params};
 use serde_json::Value;
 use std::alloc::Global;
 

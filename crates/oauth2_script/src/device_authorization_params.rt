@@ -4,9 +4,8 @@
 
 ghost use Rattle.oauth2_script.specs.DeviceAuthorizationParams as spec;
 
-use crate::part::{Part, listed};
-use crate::part_error::PartError;
 use crate::sent_params::sent_params;
+use oauth2_script_values::{Part, PartError, listed};
 use oauth2_types::Scope;
 use serde_json::Value;
 use std::alloc::Global;

@@ -3,14 +3,12 @@
 ghost use Rattle.std.specs.Prelude.{option_map, string_bytes};
 ghost use Rattle.serde_json.specs.View.{view};
 ghost use Rattle.oauth2_script.specs.ExchangeTokenParams as spec;
-ghost use Rattle.oauth2_script.specs.Gives.{Gives};
+ghost use Rattle.oauth2_script_values.specs.Gives.{Gives};
 ghost use Rattle.oauth2_script.specs.Views.{typed_token_view};
 
 use crate::absolute_uri::AbsoluteUri;
-use crate::part::{Part, listed, needed, optional};
-use crate::part_error::{PartError, bad_member};
-use crate::script_cause::ScriptCause;
 use crate::sent_params::asserted_extra;
+use oauth2_script_values::{Part, PartError, ScriptCause, bad_member, listed, needed, optional};
 use oauth2_types::Scope;
 use serde_json::Value;
 use std::alloc::Global;

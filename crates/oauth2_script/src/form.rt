@@ -2,12 +2,9 @@
 
 ghost use Rattle.std.specs.Prelude.{◌≡◌, IfOk};
 ghost use Rattle.oauth2_script.specs.Form as spec;
-ghost use Rattle.oauth2_script.specs.Gives.{Gives};
+ghost use Rattle.oauth2_script_values.specs.Gives.{Gives};
 
-use crate::json::json_in;
-use crate::part::{Part, needed};
-use crate::part_error::{PartError, bad};
-use crate::script_cause::ScriptCause;
+use oauth2_script_values::{Part, PartError, ScriptCause, bad, json_in, needed};
 use serde_json::Value;
 use std::alloc::{AllocError, Global};
 

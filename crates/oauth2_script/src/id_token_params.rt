@@ -1,13 +1,11 @@
 //! The parameters of the command `id_token`.
 
 ghost use Rattle.serde_json.specs.View.{view};
-ghost use Rattle.oauth2_script.specs.Gives.{Gives};
+ghost use Rattle.oauth2_script_values.specs.Gives.{Gives};
 ghost use Rattle.oauth2_script.specs.IdTokenParams as spec;
 ghost use Rattle.oauth2_script.specs.Views.{issuer_view};
 
-use crate::part::{Part, each, listed, needed, optional};
-use crate::part_error::{PartError, bad};
-use crate::script_cause::ScriptCause;
+use oauth2_script_values::{Part, PartError, ScriptCause, bad, each, listed, needed, optional};
 use oauth2_types::AccessToken;
 use serde_json::Value;
 use std::alloc::Global;

@@ -2,9 +2,8 @@
 
 ghost use Rattle.oauth2_script.specs.IntrospectParams as spec;
 
-use crate::part::{Part, needed, optional};
-use crate::part_error::PartError;
 use crate::sent_params::asserted_extra;
+use oauth2_script_values::{Part, PartError, needed, optional};
 use oauth2_types::AccessToken;
 use serde_json::Value;
 use std::alloc::Global;

@@ -2,9 +2,8 @@
 
 ghost use Rattle.oauth2_script.specs.KeeperParams as spec;
 
-use crate::part::{Part, listed, needed, optional};
-use crate::part_error::PartError;
 use crate::sent_params::sent_params;
+use oauth2_script_values::{Part, PartError, listed, needed, optional};
 use oauth2_types::{RefreshToken, Scope};
 use serde_json::Value;
 use std::alloc::Global;

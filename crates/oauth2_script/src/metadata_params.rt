@@ -2,9 +2,7 @@
 
 ghost use Rattle.oauth2_script.specs.MetadataParams as spec;
 
-use crate::part::{Part, needed, optional};
-use crate::part_error::{PartError, bad};
-use crate::script_cause::ScriptCause;
+use oauth2_script_values::{Part, PartError, ScriptCause, bad, needed, optional};
 use serde_json::Value;
 use std::alloc::Global;
 

@@ -2,9 +2,8 @@
 
 ghost use Rattle.oauth2_script.specs.PasswordParams as spec;
 
-use crate::part::{Part, listed, needed};
-use crate::part_error::PartError;
 use crate::sent_params::sent_params;
+use oauth2_script_values::{Part, PartError, listed, needed};
 use oauth2_types::{ResourceOwnerPassword, ResourceOwnerUsername, Scope};
 use serde_json::Value;
 use std::alloc::Global;

@@ -3,9 +3,8 @@
 ghost use Rattle.oauth2_script.specs.PushParams as spec;
 
 use crate::authorize_params::AuthorizeParams;
-use crate::part::Part;
-use crate::part_error::PartError;
 use crate::sent_params::asserted;
+use oauth2_script_values::{Part, PartError};
 use serde_json::Value;
 use std::alloc::Global;
 

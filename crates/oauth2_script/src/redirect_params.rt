@@ -1,13 +1,11 @@
 //! The parameters of the command `redirect`.
 
 ghost use Rattle.std.specs.Prelude.{option_map, string_bytes};
-ghost use Rattle.oauth2_script.specs.Gives.{Gives};
+ghost use Rattle.oauth2_script_values.specs.Gives.{Gives};
 ghost use Rattle.oauth2_script.specs.RedirectParams as spec;
 ghost use Rattle.oauth2_script.specs.Views.{expected_issuer_view};
 
-use crate::part::{Part, needed, optional};
-use crate::part_error::{PartError, bad_member};
-use crate::script_cause::ScriptCause;
+use oauth2_script_values::{Part, PartError, ScriptCause, bad_member, needed, optional};
 use oauth2_types::CsrfToken;
 use oauth2_urls::RedirectUrl;
 use serde_json::Value;

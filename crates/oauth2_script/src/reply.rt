@@ -2,17 +2,16 @@
 
 ghost use Rattle.std.specs.Prelude.{◌≡◌, option_map, IfOk};
 ghost use Rattle.serde_json.specs.View.{view};
-ghost use Rattle.oauth2_script.specs.Gives.{Gives};
+ghost use Rattle.oauth2_script_values.specs.Gives.{Gives};
 ghost use Rattle.oauth2_script.specs.Replies as spec;
 
-use crate::part::{Part, an_object, needed, optional, read_inside};
-use crate::part_error::{PartError, bad, bad_member};
-use crate::path::Step;
-use crate::script_cause::ScriptCause;
 use base64::DecodeAllocError;
 use base64::engine::general_purpose::STANDARD;
 use http::StatusCode;
 use http_header::HeaderValue;
+use oauth2_script_values::{
+    Part, PartError, ScriptCause, Step, an_object, bad, bad_member, needed, optional, read_inside,
+};
 use serde_json::Value;
 use std::alloc::{AllocError, Global};
 

@@ -2,10 +2,8 @@
 
 ghost use Rattle.oauth2_script.specs.RevokeParams as spec;
 
-use crate::part::{Part, needed, optional};
-use crate::part_error::{PartError, bad};
-use crate::script_cause::ScriptCause;
 use crate::sent_params::asserted_extra;
+use oauth2_script_values::{Part, PartError, ScriptCause, bad, needed, optional};
 use serde_json::Value;
 use std::alloc::Global;
 

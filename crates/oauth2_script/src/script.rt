@@ -4,20 +4,20 @@ ghost use Rattle.std.specs.Prelude.{◌≡◌, option_map, IfErr};
 ghost use Rattle.serde_json.specs.View.{view};
 ghost use Rattle.serde_json.specs.Data.{object, no_members};
 ghost use Rattle.oauth2_script.specs.Script as spec;
-ghost use Rattle.oauth2_script.specs.Gives.{Gives, GivesScript, IsBad, fault_view};
+ghost use Rattle.oauth2_script_values.specs.Gives.{Gives, IsBad, fault_view};
+ghost use Rattle.oauth2_script.specs.Gives.{GivesScript};
 ghost use Rattle.oauth2_script.specs.Views.{client_view, script_view};
 
 use crate::client_part::ClientPart;
 use crate::form::ResultForm;
-use crate::json::json_in;
-use crate::part::{an_object, listed, needed, optional};
-use crate::part_error::{PartError, PartFault, bad_member};
-use crate::path::{Path, Step, path_text};
 use crate::reply::Reply;
-use crate::script_cause::ScriptCause;
 use crate::script_command::{ScriptCommand, script_command_of};
 use crate::script_error::{ScriptError, ScriptFault};
 use jiff_core::Timestamp;
+use oauth2_script_values::{
+    PartError, PartFault, Path, ScriptCause, Step, an_object, bad_member, json_in, listed, needed,
+    optional, path_text,
+};
 use serde_json::{Map, Value};
 use std::alloc::Global;
 

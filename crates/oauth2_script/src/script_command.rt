@@ -2,13 +2,12 @@
 
 ghost use Rattle.serde_json.specs.View.{view};
 ghost use Rattle.oauth2_script.specs.ScriptCommand as spec;
-ghost use Rattle.oauth2_script.specs.Gives.{Gives};
+ghost use Rattle.oauth2_script_values.specs.Gives.{Gives};
 ghost use Rattle.oauth2_script.specs.Views.{script_command_view};
 
 use crate::command::{Command, command_of};
 use crate::grant_command::GrantCommand;
-use crate::part::of_params;
-use crate::part_error::PartError;
+use oauth2_script_values::{PartError, of_params};
 use serde_json::Value;
 use std::alloc::Global;
 

@@ -3,7 +3,7 @@
 ghost use Rattle.std.specs.Prelude.{◌≡◌};
 ghost use Rattle.oauth2_script.specs.declared.script_error.ScriptError.TheVariants.{Memory};
 
-use crate::script_cause::ScriptCause;
+use oauth2_script_values::ScriptCause;
 use std::alloc::AllocError;
 
 /// The first member of a script that is bad, and why.

@@ -2,13 +2,12 @@
 
 ghost use Rattle.std.specs.Prelude.{◌≡◌, ◌++◌, map, option_map, string_bytes, IfOk};
 ghost use Rattle.serde_json.specs.View.{view};
-ghost use Rattle.oauth2_script.specs.Gives.{Gives};
+ghost use Rattle.oauth2_script_values.specs.Gives.{Gives};
 ghost use Rattle.oauth2_script.specs.Sent as spec;
 
 use crate::absolute_uri::AbsoluteUri;
-use crate::part::{listed, optional};
-use crate::part_error::PartError;
 use oauth2_client_assertions::AssertionType;
+use oauth2_script_values::{PartError, listed, optional};
 use serde_json::Value;
 use std::alloc::{AllocError, Global};
 

@@ -2,9 +2,9 @@
 
 ghost use Rattle.oauth2_script.specs.SharedKeeperParams as spec;
 
-use crate::part::{Part, an_object, listed, needed, optional};
-use crate::part_error::{PartError, bad};
-use crate::script_cause::ScriptCause;
+use oauth2_script_values::{
+    Part, PartError, ScriptCause, an_object, bad, listed, needed, optional,
+};
 use oauth2_types::RefreshToken;
 use serde_json::Value;
 use std::alloc::Global;

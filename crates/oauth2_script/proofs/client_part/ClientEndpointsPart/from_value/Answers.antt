@@ -1,7 +1,7 @@
 use Rattle.std.proofs.lemmas.Iterator.Adapters.{option_map_id}
 use Rattle.serde_json.specs.View.{view}
 use Rattle.oauth2_script.specs.Client.{endpoints}
-use Rattle.oauth2_script.specs.Gives.{TellsPartError}
+use Rattle.oauth2_script_values.specs.Gives.{TellsPartError}
 use Rattle.oauth2_script.proofs.Refusals.{Refuses-then, Gives-refused}
 use Rattle.oauth2_script.proofs.client_part.ClientEndpointsPart.from_value.Goals as goal
 

@@ -2,7 +2,7 @@ use Rattle.std.proofs.lemmas.Iterator.Adapters.{option_map_id}
 use Rattle.std.proofs.lemmas.List.{map-id}
 use Rattle.serde_json.specs.View.{view}
 use Rattle.oauth2_script.specs.ExchangeTokenParams.{exchange_token_params}
-use Rattle.oauth2_script.specs.Gives.{TellsPartError}
+use Rattle.oauth2_script_values.specs.Gives.{TellsPartError}
 use Rattle.oauth2_script.proofs.Refusals.{Refuses-then, Gives-refused}
 use Rattle.oauth2_script.proofs.exchange_token_params.ExchangeTokenParamsPart.from_value.Goals as goal
 

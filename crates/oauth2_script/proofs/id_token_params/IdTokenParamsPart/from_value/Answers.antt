@@ -1,7 +1,7 @@
 use Rattle.std.proofs.Common.{rules}
 use Rattle.serde_json.specs.View.{view}
 use Rattle.oauth2_script.specs.IdTokenParams.{id_token_params}
-use Rattle.oauth2_script.specs.Gives.{TellsPartError}
+use Rattle.oauth2_script_values.specs.Gives.{TellsPartError}
 use Rattle.oauth2_script.proofs.Refusals.{Refuses-then, Gives-refused}
 use Rattle.oauth2_script.proofs.id_token_params.IdTokenParamsPart.from_value.Goals as goal
 
