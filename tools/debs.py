@@ -38,8 +38,8 @@ Libs: -L${libdir} -llifecrib
 ABOUT = ''' The library builds the requests of an OAuth 2.0 client and reads their
  replies: RFC 6749, PKCE, devices, token exchange, introspection, revocation,
  and logins with OpenID Connect. It opens no connection and keeps nothing
- between calls. Its only function takes a script in JSON and gives the result
- of its run as JSON or as lines.
+ between calls. A function takes a script in JSON and gives the result of
+ its run as JSON or as lines.
 '''
 
 

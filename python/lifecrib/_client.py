@@ -230,7 +230,7 @@ class Keeper(_keeper.KeeperState[Client]):
         return threading.RLock()
 
     def token(self) -> Token:
-        """A token that is good for longer than the margin. A new one is told to on_token first."""
+        """A token that is good for at least the margin. A new one is told to on_token first."""
         with self._lock:
             before, found = self._token, self._good()
             if found is not before and self._on_token:
@@ -257,7 +257,7 @@ class AsyncKeeper(_keeper.KeeperState[AsyncClient]):
         return None
 
     async def token(self) -> Token:
-        """A token that is good for longer than the margin. A new one is told to on_token first."""
+        """A token that is good for at least the margin. A new one is told to on_token first."""
         if self._lock is None:
             self._lock = asyncio.Lock()  # of the loop that runs now
         async with self._lock:

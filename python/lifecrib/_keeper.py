@@ -59,7 +59,7 @@ class KeeperState(Generic[S]):
 
 
 def good_token(self: KeeperState[Any]) -> Call[Token]:
-    """A token that is good for longer than the margin: the one that is held, or a new one. Waiting if a request failed
+    """A token that is good for at least the margin: the one that is held, or a new one. Waiting if a request failed
     less than retry_after seconds ago."""
     at = _calls.now()
     run = self._run(self._replies, at)

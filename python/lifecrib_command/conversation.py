@@ -114,7 +114,7 @@ def seconds_of(sleep: Mapping[str, Any]) -> float:
 
 
 def sleep(seconds: float) -> None:
-    endings.note('waiting %g seconds' % seconds)
+    endings.note('waiting %g second%s' % (seconds, '' if seconds == 1 else 's'))
     sleep_until(time.monotonic() + seconds)
 
 
