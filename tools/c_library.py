@@ -3,6 +3,7 @@ import os
 import subprocess
 import sys
 
+import kept
 import program
 import repository
 
@@ -15,9 +16,11 @@ EXPORTS = ('lifecrib_run', 'lifecrib_version', 'lifecrib_kinds')
 
 
 def static_library(given):
-    """The path of the static library, which is proved and built if none is given, for a plain x86-64."""
+    """The path of the static library, which is proved and built if none is given, for a plain x86-64. The libraries below it are those of
+    the checkout, or those that `rt ci` keeps on this machine, if it has them all; else `rt lib` proves them too."""
     if given:
         return given
+    kept.has_libraries(kept.kit(), repository.ROOT, NAME)
     subprocess.run(['rt', 'lib', '--cpu', 'x86-64'], cwd=CRATE, check=True, stdout=sys.stderr)
     return os.path.join(CRATE, 'out', 'liboauth2_c.a')
 
