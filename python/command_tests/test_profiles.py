@@ -4,6 +4,7 @@ import json
 import os
 import re
 import stat
+import time
 import unittest
 from unittest import mock
 
@@ -12,7 +13,7 @@ import where
 from stand_in import OK
 from test_openid import Case as OpenIdCase
 
-from lifecrib_command import caches, profile_files, signing_out
+from lifecrib_command import caches, moments, profile_files, signing_out
 from lifecrib_command.endings import Stop
 
 WORK = 'client_id = "of-work"\ntoken_url = "%s/token"\n'
@@ -39,6 +40,16 @@ class Case(stand_in.Case):
     def work(self, more=''):
         """Writes the user's own file, with the profile "work"."""
         return self.profiles('[profile.work]\n' + WORK % self.server.url + more)
+
+    def kept(self):
+        """What the file of the profile "work" keeps."""
+        with open(self.tokens + '/work.token', encoding='utf-8') as f:
+            return json.load(f)
+
+    def keep(self, entry):
+        """Has that file keep another entry."""
+        with open(self.tokens + '/work.token', 'w', encoding='utf-8') as f:
+            json.dump(entry, f)
 
     def ids(self):
         return [it['client']['id'] for it in self.scripts()]
@@ -199,13 +210,44 @@ class Status(Case):
                          {'profile': 'work', 'file': self.tokens + '/work.token', 'user': '"ann"', 'client': 'of-work',
                           'scopes': 'a',
                                 'token endpoint': self.server.url + '/token',
-                          'renewal': 'by a refresh token, at the next use'})
+                          'renewal': 'by the refresh token, from %s on; until then the token is handed out as it is'
+                          % moments.moment(self.kept()['expires_at'] - 60)})
         status, out, _ = self.run_tool('status', '--profile', 'work', '--output', 'json')
         found = json.loads(out)
         self.assertEqual((status, found['profile'], found['username'], found['is_good'], found['can_be_renewed']),
                          (0, 'work', 'ann', True, True))
         for secret in 't1', 'r1', 'ppp':
             self.assertNotIn('"%s"' % secret, out)
+
+    def test_it_says_what_the_next_use_does(self):
+        self.work()
+        self.server.reply = {**OK, 'refresh_token': 'r1'}
+        self.run_tool('password', '--profile', 'work', '--username', 'ann', OAUTH2_PASSWORD='p')
+        kept, lasts = self.kept(), '{"access_token":"t1","token_type":"bearer"}'
+        refreshed, asked, none = 'by the refresh token', 'by the client itself', 'none: sign in anew'
+        later, now, then = ', from 20.* on; until then the token is handed out as it is', ', at the next use', ' once it has ended'
+        rows = ((900, {}, [], refreshed + later, 'is good for', 0), (900, {}, ['--margin', '1000'], refreshed + now, 'is good for', 1),
+                (30, {}, [], refreshed + now, 'is good for', 1), (30, {}, ['--margin', '0'], refreshed + later, 'is good for', 0),
+                (-1, {}, [], refreshed + now, 'ended at 20', 1),
+                (900, {'command': 'token'}, [], refreshed + later, 'is good for', 0),
+                (900, {'refresh_token': None, 'command': 'token'}, [], asked + later, 'is good for', 0),
+                (-1, {'refresh_token': None, 'command': 'token'}, [], asked + now, 'ended at 20', 1),
+                (900, {'refresh_token': None}, [], none + then, 'is good for', 0),
+                (30, {'refresh_token': None}, [], none + then, 'is good for', 0),
+                (-1, {'refresh_token': None}, [], none, 'ended at 20', 0),
+                (900, {'answer': lasts}, [], refreshed + later, 'came without a lifetime and is taken as good for', 0),
+                (-1, {'answer': lasts}, [], refreshed + now, 'came without a lifetime, is taken as ended at 20', 1),
+                (900, {'obtained_at': int(time.time()) + 500}, [], refreshed + now, 'is good for', 1))
+        for ends, members, words, renewal, token, requests in rows:
+            with self.subTest(ends=ends, words=words, **members):
+                entry = {**kept, 'expires_at': int(time.time()) + ends, **members}
+                self.keep(entry)
+                status, out, _ = self.run_tool('status', '--profile', 'work', *words)
+                self.assertRegex(out, '\nrenewal: %s\n' % renewal)
+                self.assertIn('\ntoken: ' + token, out)
+                before = len(self.server.asked)
+                self.assertEqual(self.run_tool('token', '--profile', 'work', *words)[0], status)
+                self.assertEqual((len(self.server.asked) - before, status), (requests, 5 if renewal == none else 0))
 
     def test_the_exit_status_says_whether_a_user_has_to_sign_in(self):
         self.work()

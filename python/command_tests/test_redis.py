@@ -313,6 +313,8 @@ class Renewals(Case):
         self.assertEqual(self.token('--timeout', '1'), (0, 't2'))
         self.change(expires_at=int(time.time()))
         self.marked(3600)
+        said = 'renewal: begun by another run at 20.* and not finished: the client itself gets another token once this one has ended\n'
+        self.assertRegex(self.run_tool('status', '--cache', self.place)[1], said)
         self.assertEqual(self.token(), (0, 't3'))
         self.change(refresh_token='r0')
         self.over()

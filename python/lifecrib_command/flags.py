@@ -82,8 +82,9 @@ ABOUT = {
                      'issuer knows.',
                      'tools/oauth2 verify-token --issuer https://as.example --audience https://api.example'),
     'status': ('says whose token is kept, from which server, and until when it is good',
-               'No secret is shown, and no request is made. The exit status is 5 if a user has to sign in for a good '
-               'token.',
+               'No secret is shown, and no request is made. The line "renewal" says what the next use does, with the '
+               'same --margin.\n'
+               'The exit status is 5 if a user has to sign in for a good token.',
                'tools/oauth2 status --profile work'),
     'whoami': ('asks the UserInfo endpoint about the user who has signed in',
                'The token is the kept one of a login with --openid, renewed where that is needed. The answer is shown '
@@ -198,11 +199,15 @@ def add_for_caches(it: argparse.ArgumentParser) -> None:
     it.add_argument('--anew', action='store_true', help='ask for a token whatever --cache has, and keep the new one')
 
 
-def add_for_renewals(it: argparse.ArgumentParser) -> None:
+def add_margin(it: argparse.ArgumentParser) -> None:
     it.add_argument('--margin', type=whole_from(0), default=60, metavar='SECONDS',
                     help='renew a kept token so long before its end (%(default)s)')
     it.add_argument('--life', type=whole_from(0), default=3600, metavar='SECONDS',
                     help='how long a kept token is good whose reply does not say (%(default)s)')
+
+
+def add_for_renewals(it: argparse.ArgumentParser) -> None:
+    add_margin(it)
 
 
 def add_for_kept(it: argparse.ArgumentParser, name: str) -> None:
@@ -214,6 +219,7 @@ def add_for_kept(it: argparse.ArgumentParser, name: str) -> None:
                         help='lines for people, or one line of JSON (%(default)s)')
     if name in ('whoami', 'git-credential'):
         add_for_renewals(it)
+        add_margin(it)
     if name == 'git-credential':
         it.add_argument('--host', action='append', required=True,
                         help='a host for which the token is; may be given again')

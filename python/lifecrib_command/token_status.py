@@ -8,7 +8,7 @@ from . import token_cache
 from .moments import moment
 
 if TYPE_CHECKING:
-    from .caches import Cache
+    from .caches import Cache, Mark
     from .token_cache import Entry
 
 
@@ -18,7 +18,7 @@ def can_be_renewed(entry: Entry, cache: Cache) -> bool:
 
 
 def has_ended(entry: Entry, now: int) -> bool:
-    return not token_cache.is_good(entry, now, 0)
+    return bool(now >= entry['expires_at'])
 
 
 def in_json(entry: Entry, profile: Optional[str], cache: Cache, now: int) -> str:
@@ -35,12 +35,12 @@ def in_json(entry: Entry, profile: Optional[str], cache: Cache, now: int) -> str
     return json.dumps(found, separators=(',', ':'))
 
 
-def in_lines(entry: Entry, profile: Optional[str], cache: Cache, now: int) -> list[str]:
-    """The status as lines for people."""
+def in_lines(entry: Entry, profile: Optional[str], cache: Cache, now: int, margin: int) -> list[str]:
+    """The status as lines for people. margin is how many seconds before its end a token is renewed."""
     rows = [('profile', profile), (cache.kind, cache.name), ('user', user_of(entry)),
             ('client', entry['client_id']), ('issuer', entry['issuer']),
             ('token endpoint', entry['token_url']), ('scopes', ' '.join(entry['scopes'])),
-            ('token', of_token(entry, now)), ('renewal', of_renewal(entry, cache))]
+            ('token', of_token(entry, now)), ('renewal', of_renewal(entry, cache, now, margin))]
     return ['%s: %s' % (name, value) for name, value in rows if value]
 
 
@@ -63,13 +63,21 @@ def of_token(entry: Entry, now: int) -> str:
     return '%s, until %s' % (token_cache.how_long(entry, now), ends)
 
 
-def of_renewal(entry: Entry, cache: Cache) -> str:
-    if cache.mark and cache.is_over():
-        return 'begun by another run at %s and not finished: sign in anew' % cache.mark.since()
+def of_renewal(entry: Entry, cache: Cache, now: int, margin: int) -> str:
+    """What the next use does, by the rule of kept_tokens.is_good."""
     if cache.mark:
-        return 'by another run, since %s' % cache.mark.since()
-    if entry['refresh_token'] is not None:
-        return 'by a refresh token, at the next use'
-    if entry['command'] == 'token':
-        return 'by the client itself, at the next use'
-    return 'none: sign in anew once it has ended'
+        return of_mark(entry, cache, cache.mark)
+    if not can_be_renewed(entry, cache):
+        return 'none: sign in anew' if has_ended(entry, now) else 'none: sign in anew once it has ended'
+    how = 'by the client itself' if entry['refresh_token'] is None else 'by the refresh token'
+    if token_cache.is_good(entry, now, margin):
+        return '%s, from %s on; until then the token is handed out as it is' % (how, moment(entry['expires_at'] - margin))
+    return how + ', at the next use'
+
+
+def of_mark(entry: Entry, cache: Cache, mark: Mark) -> str:
+    """What is said of the renewal of another run."""
+    if not cache.is_over():
+        return 'by another run, since %s' % mark.since()
+    then = 'the client itself gets another token once this one has ended' if entry['command'] == 'token' else 'sign in anew'
+    return 'begun by another run at %s and not finished: %s' % (mark.since(), then)

@@ -29,7 +29,8 @@ def show_status(given: argparse.Namespace, cache: Cache) -> int:
     if given.output == 'json':
         answers.put(token_status.in_json(kept, name, cache, now) + '\n')
     else:
-        answers.put(''.join(endings.printable(it) + '\n' for it in token_status.in_lines(kept, name, cache, now)))
+        lines = token_status.in_lines(kept, name, cache, now, given.margin)
+        answers.put(''.join(endings.printable(it) + '\n' for it in lines))
     return SIGN_IN if token_status.has_ended(kept, now) and not token_status.can_be_renewed(kept, cache) else 0
 
 
