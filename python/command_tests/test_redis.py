@@ -359,6 +359,11 @@ class Others(Case):
         self.assertEqual(self.run_tool('logout', '--cache', self.place)[0], 0)
         self.assertEqual([it[1]['token'] for it in server.asked], ['r1', 'other'])
         self.assertEqual(self.value(), ['8', 'none'])
+        self.sign_in()
+        server.reply = lambda asked: self.put('10', 'rest', other) or {} if asked['token'] == 'r2' else (503, {}, '')
+        status, _, err = self.run_tool('logout', '--cache', self.place)
+        self.assertEqual((status, self.value()), (25, ['11', 'none']), err)
+        self.assertIn('another run had put a new token into %s, which is dropped and not revoked: ' % SHOWN, err)
 
     def test_git(self):
         self.sign_in()

@@ -20,6 +20,7 @@ OF_CODE = {'invalid_request': 10, 'invalid_client': 11, 'invalid_grant': 12, 'un
            'temporarily_unavailable': 19,
            'expired_token': 20, 'unsupported_token_type': 21, 'authorization_pending': 22, 'slow_down': 23,
            'invalid_target': 24}
+NOT_REVOKED = 25
 DISK = (errno.ENOSPC, errno.EDQUOT, errno.EIO)
 command = 'lifecrib'  # by which it is run; tools/oauth2 sets another name
 quiet = False  # --quiet: no notes

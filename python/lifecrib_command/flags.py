@@ -93,8 +93,10 @@ ABOUT = {
                'tools/oauth2 whoami --profile work'),
     'logout': ('revokes the kept token, and removes the file',
                'The refresh token is revoked, or the access token if there is no other. The file is removed also if '
-               'the server could not\n'
-               'be asked or said no, and standard error says so.',
+               'the token can not be\n'
+               'revoked: because of a setting, as a revocation URL that is not https, of the network, or of the server. '
+               'Standard error\n'
+               'then says why, and the exit status is 25. revoke --cache keeps the file until the server has said yes.',
                'tools/oauth2 logout --profile work'),
     'git-credential': ('gives git the kept token as a password',
                        'git runs it and adds what it wants: get, store or erase. It answers for --host alone, over '
@@ -202,12 +204,12 @@ def add_for_caches(it: argparse.ArgumentParser) -> None:
 def add_margin(it: argparse.ArgumentParser) -> None:
     it.add_argument('--margin', type=whole_from(0), default=60, metavar='SECONDS',
                     help='renew a kept token so long before its end (%(default)s)')
-    it.add_argument('--life', type=whole_from(0), default=3600, metavar='SECONDS',
-                    help='how long a kept token is good whose reply does not say (%(default)s)')
 
 
 def add_for_renewals(it: argparse.ArgumentParser) -> None:
     add_margin(it)
+    it.add_argument('--life', type=whole_from(0), default=3600, metavar='SECONDS',
+                    help='how long a kept token is good whose reply does not say (%(default)s)')
 
 
 def add_for_kept(it: argparse.ArgumentParser, name: str) -> None:
@@ -217,9 +219,9 @@ def add_for_kept(it: argparse.ArgumentParser, name: str) -> None:
     if name == 'status':
         it.add_argument('--output', choices=('text', 'json'), default='text',
                         help='lines for people, or one line of JSON (%(default)s)')
+        add_margin(it)
     if name in ('whoami', 'git-credential'):
         add_for_renewals(it)
-        add_margin(it)
     if name == 'git-credential':
         it.add_argument('--host', action='append', required=True,
                         help='a host for which the token is; may be given again')

@@ -85,7 +85,8 @@ Exit status:
      14  unsupported_grant_type        21  unsupported_token_type
      15  invalid_scope                 22  authorization_pending
      16  access_denied                 23  slow_down
-      24  invalid_target (20 also by --give-up)
+     24  invalid_target (20 also by --give-up)
+     25  the token is kept no more and could not be revoked: of logout
     125  the tool stopped before an answer was written, by no fault of a setting: no library, say, a full disk, or no
          browser in time
     129, 130, 131, 143  it was ended by SIGHUP, by Ctrl-C, by SIGQUIT, or by SIGTERM

@@ -8,7 +8,7 @@ from . import answers, caches, endings, flags, help_texts, kept_tokens, renewal,
 from .endings import NOT_KEPT, Stop, tell
 from .profiles import make_folder
 from .session import Session
-from .settings import OF_TLS, check_complete, settings_of
+from .settings import check_complete, settings_of
 
 TYPE_CHECKING = False
 if TYPE_CHECKING:  # typing takes a while to load
@@ -61,10 +61,8 @@ def answer(given: argparse.Namespace) -> int:
 
 def begin(session: Session) -> None:
     """Takes the certificates of the settings, and shows requests if that is wanted."""
-    paths = [session.settings[name] for name in OF_TLS]
-    if any(paths):
-        from . import tls
-        tls.use(*paths)
+    if session.given.command != 'logout':  # as in settings_of
+        session.take_certificates()
     if session.given.verbose:
         wire_log.begin(session.given.extra)
 

@@ -5,7 +5,7 @@ import functools
 
 from . import wire_log
 from .endings import Stop
-from .settings import ENDPOINTS, NEEDED, URLS, asked, flag_of
+from .settings import ENDPOINTS, NEEDED, OF_TLS, URLS, asked, flag_of
 
 TYPE_CHECKING = False
 if TYPE_CHECKING:  # typing takes a while to load
@@ -47,6 +47,13 @@ class Session:
         if found:
             wire_log.secrets.add_login(self.settings['client_id'] or '', found)
         return found
+
+    def take_certificates(self) -> None:
+        """Takes the certificates of the settings. Stops at a file that can't be used."""
+        paths = [self.settings[name] for name in OF_TLS]
+        if any(paths):
+            from . import tls
+            tls.use(*paths)
 
     def find(self, names: Iterable[str]) -> None:
         """Discovers those of the endpoints that no setting names; the metadata are asked for once."""

@@ -118,9 +118,17 @@ def settings_of(given: argparse.Namespace, kept: Mapping[str, Any]) -> Settings:
         raise Stop('the issuer of the token is not set: give --issuer', BAD_SETTING)
     if getattr(given, 'listen', None) is not None and not found['redirect']:
         found['redirect'] = 'http://127.0.0.1/'
-    take_secret(given, found)
-    check(given, found, own)
+    check_extra(given, found)
+    if given.command != 'logout':  # which forgets a token whether or not the server can be asked, and makes them usable itself
+        make_usable(given, found, own)
     return found
+
+
+def make_usable(given: argparse.Namespace, found: Settings, own: Optional[set[str]] = None) -> None:
+    """Reads the file of the client's secret, if there is one. Stops at a setting that can't be used. own has the names of
+    those that are given; None: all that there are."""
+    take_secret(given, found)
+    check(given, found, {name for name in TEXTS if found[name]} if own is None else own)
 
 
 def of_file(given: argparse.Namespace) -> tuple[Optional[str], Settings]:
@@ -226,6 +234,10 @@ def check(given: argparse.Namespace, found: Mapping[str, Any], own: set[str]) ->
         raise Stop('there are a secret of the client and --client-assertion-file: a client shows one of both (RFC '
                    '6749, 2.3), so leave the '
                    'other out', BAD_SETTING)
+
+
+def check_extra(given: argparse.Namespace, found: Mapping[str, Any]) -> None:
+    """Stops at a further parameter that the command sends itself."""
     for name, _ in given.extra or ():
         if name in sent_by(given, found):
             raise Stop('--extra %s: the tool sends that parameter itself' % name, BAD_SETTING)

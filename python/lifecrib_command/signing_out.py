@@ -5,9 +5,9 @@ from typing import TYPE_CHECKING, Optional
 
 from . import answers
 from .commands import revoked
-from .endings import BAD_SETTING, Stop, note, tell
+from .endings import BAD_SETTING, NOT_REVOKED, Stop, note, tell
 from .kept_tokens import raise_differing
-from .settings import check_complete
+from .settings import check_complete, make_usable
 from .writing import show
 
 if TYPE_CHECKING:
@@ -41,9 +41,8 @@ def remove(session: Session, params: Params, cache: Opened) -> None:
     if dropped and (not cache.entry or token_of(dropped) != token_of(cache.entry)):
         outcome = revoked(session, params, token_of(dropped), kind_of(dropped))
         if outcome.fault:
-            said, status = session.fault_of(outcome)
             raise Stop('another run had put a new token into %s, which is dropped and not revoked: %s'
-                       % (session.cache.name, said), status)
+                       % (session.cache.name, session.fault_of(outcome)[0]), NOT_REVOKED)
 
 
 def kind_of(kept: Entry) -> str:
@@ -67,7 +66,8 @@ def kept_by(session: Session, kept: Optional[Entry]) -> Entry:
 
 
 def logout(session: Session, params: Params) -> int:
-    """Revokes the kept token and removes the file, or does the one of both that can be done: the exit status."""
+    """Revokes the kept token and removes the file, or does the one of both that can be done: the exit status. The file is
+    removed whatever keeps the token from being revoked, be it a setting, the network or the server."""
     name = session.cache.name
     kept_by(session, session.cache.read())
     not_ready = why_not_ready(session)
@@ -85,13 +85,16 @@ def logout(session: Session, params: Params) -> int:
     else:
         note(what + 'revoked')
         note(session.cache.removed % name)
-    failed = not_revoked or not_removed
-    return failed.status if failed else 0
+    if not_removed:
+        return not_removed.status
+    return NOT_REVOKED if not_revoked else 0
 
 
 def why_not_ready(session: Session) -> Optional[Stop]:
-    """Why no token can be revoked; None where the library, the endpoint and the secret are there."""
+    """Why no token can be revoked; None where the library, the endpoint, the secret and the certificates are there."""
     try:
+        make_usable(session.given, session.settings)
+        session.take_certificates()
         check_complete(session.given, session.settings)
         session.prepare()
         return None
