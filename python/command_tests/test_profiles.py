@@ -194,6 +194,15 @@ class Profiles(Case):
     def test_a_missing_setting_names_the_file(self):
         path = self.profiles('[profile.a]\nclient_id = "s"\n')
         self.assertIn('or "token_url" in ' + path, self.run_tool('token', '--profile', 'a')[2])
+    def test_a_missing_token_names_the_command_of_the_profile(self):
+        for sign_in, command in ('sign_in = "device"\n', 'device'), ('', 'login'):
+            self.work(sign_in)
+            for words in ['status'], ['whoami'], ['git-credential', '--host', 'h', 'get']:
+                given = 'protocol=https\nhost=h\n' if len(words) > 1 else ''
+                status, _, err = self.run_tool(words[0], '--profile', 'work', *words[1:], given=given)
+                self.assertEqual(status, 5)
+                self.assertRegex(err, 'there is no token in .*by tools/oauth2 %s --profile work\n' % command)
+
 
 
 class Status(Case):

@@ -7,7 +7,7 @@ import time
 from . import caches, endings, token_cache
 from .endings import BAD_SETTING, NOT_KEPT, SIGN_IN, Stop, note, tell
 from .flags import EXTRA_GOES
-from .profiles import SIGNS_IN
+from .profiles import SIGNS_IN, signs_in
 from .settings import check_complete, flag_of, issuer_of
 from .writing import show, whole, write
 
@@ -58,16 +58,14 @@ def check_may_ask(given: argparse.Namespace) -> None:
     one."""
     sign_in = given.keeps_for.members.get('sign_in') if given.keeps_for else None
     if given.command == 'token' and sign_in not in (None, 'token'):
-        raise Stop('the profile "%s" has no token yet: sign in by %s %s %s'
-                   % (given.keeps_for.name, endings.command, sign_in, given.place), SIGN_IN)
+        raise Stop('the profile "%s" has no token yet: sign in by %s' % (given.keeps_for.name, signs_in(given)), SIGN_IN)
 
 
 def used(session: Session, params: Params) -> int:
     """Gets the kept token, renewed where it has to be, for a command that uses it itself: the exit status."""
     kept, name = session.cache.read(), session.cache.name
     if not kept:
-        raise Stop('there is no token in %s: sign in first, by %s login %s'
-                   % (name, endings.command, session.given.place), SIGN_IN)
+        raise Stop('there is no token in %s: sign in first, by %s' % (name, signs_in(session.given)), SIGN_IN)
     done = handed_out(session, kept)
     if done is None:
         done = renewed(session, params, kept)

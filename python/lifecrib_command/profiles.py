@@ -14,6 +14,7 @@ from __future__ import annotations
 
 import os
 
+from . import endings
 from .caches import DEFAULT_NAME, is_shared
 from .endings import BAD_SETTING, Stop, status_at, tell
 from .settings import is_of_profiles
@@ -116,6 +117,12 @@ def of_place(given: argparse.Namespace, profile: Optional[Profile]) -> None:
     given.place = '--cache ' + place.shown(place.name or given.cache_name)
     if profile:
         given.keeps_for, given.place = profile, '--profile %s %s' % (profile.name, given.place)
+
+
+def signs_in(given: argparse.Namespace) -> str:
+    """The command line by which a user gets the token that is missing."""
+    members = given.keeps_for.members if given.keeps_for else {}
+    return '%s %s %s' % (endings.command, members.get('sign_in', 'login'), given.place)
 
 
 def make_folder(path: str) -> None:

@@ -9,6 +9,7 @@ from typing import TYPE_CHECKING
 from . import answers, endings, git_credential, token_status
 from .endings import SIGN_IN, Stop
 from .kept_tokens import used
+from .profiles import signs_in
 from .settings import NEEDED, check_complete
 
 if TYPE_CHECKING:
@@ -24,8 +25,7 @@ def show_status(given: argparse.Namespace, cache: Cache) -> int:
     kept, now = cache.read(), int(time.time())
     name = given.keeps_for.name if given.keeps_for else None
     if not kept:
-        raise Stop('there is no token in %s: sign in by %s login %s' % (cache.name, endings.command, given.place),
-                   SIGN_IN)
+        raise Stop('there is no token in %s: sign in by %s' % (cache.name, signs_in(given)), SIGN_IN)
     if given.output == 'json':
         answers.put(token_status.in_json(kept, name, cache, now) + '\n')
     else:
