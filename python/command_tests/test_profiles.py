@@ -181,7 +181,8 @@ class Profiles(Case):
         other = self.profiles('[profile.c]\n', os.path.join(self.room, 'other.toml'))
         for words, said in ((['--config', plain, '--profile', 'a'],
                              '--profile names one of a .toml file, and --config is ' + plain),
-                            (['--config', other], 'other.toml has no default_profile: give --profile')):
+                            (['--config', other], 'other.toml has no default_profile: give --profile'),
+                            (['--profile', ''], 'argument --profile: it has to name a profile')):
             status, _, err = self.run_tool('token', *words)
             self.assertEqual(status, 2)
             self.assertIn(said, err)

@@ -163,6 +163,8 @@ class Settings(stand_in.Case):
                 (['--client-secret', 'sss', 'token'], {}, 2,
                  'give OAUTH2_CLIENT_SECRET, --client-secret-file FILE or --ask-secret'),
                 (['token', 'sss'], {}, 2, 'there is an argument that no flag takes'),
+                (['--username', 'sss', 'token'], {}, 2, '--username goes behind the command (tools/oauth2 --help'),
+                (['--issuer=https://ann:sss@h', 'token'], {}, 2, '--issuer goes behind the command'),
                 (['token', '--client-secret-file', '/none/sss'], {}, 2,
                  'the file of --client-secret-file can not be read: No such file'),
                 (['token', '--client-secret-file', '/dev/null'], {}, 2, 'the file of --client-secret-file is empty'),

@@ -139,6 +139,12 @@ def file_of(text: str) -> str:
     return text
 
 
+def profile_of(text: str) -> str:
+    if not text:
+        raise argparse.ArgumentTypeError('it has to name a profile')  # not the default one, as where a variable is empty
+    return text
+
+
 def port_of(text: str) -> int:
     if not text.isascii() or not text.isdigit() or int(text) > 65535:
         raise argparse.ArgumentTypeError('"%s" is no port: it is 0 to 65535' % text)
@@ -148,7 +154,7 @@ def port_of(text: str) -> int:
 def add_for_all(it: argparse.ArgumentParser, name: str) -> None:
     it.set_defaults(cache=None, extra=None, resource=None, openid=False, push=False, anew=False, ask_secret=False,
                     client_secret_file=None)
-    it.add_argument('--profile', metavar='NAME', help='the profile whose settings are used, and whose token is kept')
+    it.add_argument('--profile', type=profile_of, metavar='NAME', help='the profile whose settings are used, and whose token is kept')
     it.add_argument('--no-profile', action='store_true',
                     help='use no profile, also if the file of profiles names a default one')
     it.add_argument('--config', type=file_of, metavar='FILE',
@@ -374,6 +380,9 @@ def parsed(words: Sequence[str], doc: str) -> tuple[argparse.ArgumentParser, arg
         given.command = name
         return it, given, unknown
     parser, of_commands = parser_of(doc)
+    first = words[0].partition('=')[0] if words else ''
+    if first.startswith('--') and first not in parser._option_string_actions:  # what follows may be a secret
+        parser.error('%s goes behind the command' % first)
     given, unknown = parser.parse_known_args(words)
     return of_commands[given.command], given, unknown
 
