@@ -2,6 +2,8 @@
 import json
 import os
 import stat
+import subprocess
+import sys
 import threading
 import time
 import unittest
@@ -255,6 +257,14 @@ class Cache(stand_in.Case):
         self.assertIn('can not be used as a cache', self.err)
         self.path = os.path.join(self.room, 'none', 'cache')
         self.assertEqual(self.token(), (2, ''))
+
+    def test_a_folder_that_is_gone(self):
+        gone = ['sh', '-c', 'mkdir gone && cd gone && rmdir ../gone && exec "$@"', 'sh']
+        for command in 'token', 'status', 'revoke':
+            words = [*gone, sys.executable, *stand_in.FLAGS, where.OAUTH2, command, '--cache', 'c']
+            run = subprocess.run(words, cwd=self.room, env=self.env, capture_output=True, text=True)
+            self.assertEqual((run.returncode, run.stdout), (2, ''), run.stderr)
+            self.assertEqual(run.stderr, 'tools/oauth2: c can not be used as a cache: No such file or directory\n')
 
     def test_an_empty_file_is_a_new_cache_and_a_link_stays(self):
         target = os.path.join(self.room, 'target')

@@ -168,6 +168,8 @@ class Profiles(Case):
                            ('[profile.a]\nsign_in = "x"',
                             ', line 2: "sign_in" is none of login, device, password, token'),
                            ('[profile.a]\n\nclient_id = aaa', ', line 3: a value has to be a text in ""'),
+                           ('[profile.a]\ncacert = "a\\u0000"', ', line 2: "cacert" has the character U+0000'),
+                           ('[profile.a]\nscopes = ["\\u0000"]', ', line 2: "scopes" has the character U+0000'),
                            ('[profile.b]', ' has no profile "a": it has b'), ('', ' has no profile "a": it has none')):
             with self.subTest(text):
                 path = self.profiles(text)
@@ -192,9 +194,6 @@ class Profiles(Case):
         self.assertIn('%s holds a secret, and others can read it: chmod 600' % path,
                       self.run_tool('token', '--profile', 'a')[2])
 
-    def test_a_missing_setting_names_the_file(self):
-        path = self.profiles('[profile.a]\nclient_id = "s"\n')
-        self.assertIn('or "token_url" in ' + path, self.run_tool('token', '--profile', 'a')[2])
     def test_a_missing_token_names_the_command_of_the_profile(self):
         for sign_in, command in ('sign_in = "device"\n', 'device'), ('', 'login'):
             self.work(sign_in)
@@ -204,6 +203,9 @@ class Profiles(Case):
                 self.assertEqual(status, 5)
                 self.assertRegex(err, 'there is no token in .*by tools/oauth2 %s --profile work\n' % command)
 
+    def test_a_missing_setting_names_the_file(self):
+        path = self.profiles('[profile.a]\nclient_id = "s"\n')
+        self.assertIn('or "token_url" in ' + path, self.run_tool('token', '--profile', 'a')[2])
 
 
 class Status(Case):

@@ -199,6 +199,7 @@ class Settings(stand_in.Case):
                            ('{"secret":"s"}', '"secret" is no setting'),
                            ('[]', 'has to hold one JSON object'), ('{', 'can not be read as JSON'),
                            ('{"auth":1}', '"auth" is no text'),
+                           ('{"cacert":"a\\u0000"}', '"cacert" has the character U+0000'),
                            ('{"scopes":"a"}', '"scopes" is no list of texts')):
             with open(path, 'w', encoding='utf-8') as f:
                 f.write(text)

@@ -32,10 +32,10 @@ class Tests(stand_in.Case):
                              **env)
 
     def test_by_the_keys_of_the_metadata_or_of_a_url(self):
-        token = self.token(sub='u-1')
+        token = self.token(sub='u-1', weight=0.25)
         for words in (), ('--jwks-url', self.issuer + '/keys'):
             status, out, err = self.verify(*words, token=token)
-            self.assertEqual((status, json.loads(out)['sub'], err), (0, 'u-1', ''))
+            self.assertEqual((status, json.loads(out)['sub'], json.loads(out)['weight'], err), (0, 'u-1', 0.25, ''))
         script = self.scripts()[-1]
         self.assertEqual(script['params'],
                          {'issuer': self.issuer, 'audience': 'api', 'keys': KEYS, 'leeway': 60, 'access_token': token})

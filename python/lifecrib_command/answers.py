@@ -74,7 +74,12 @@ def on_a_line(value: str) -> str:
 
 def text_of(value: Any) -> str:
     """The JSON text of an answer, on one line."""
-    return on_a_line(json.dumps(value, ensure_ascii=False, separators=(',', ':')))
+    try:
+        text = json.dumps(value, ensure_ascii=False, separators=(',', ':'))
+    except TypeError:  # it has a number that is kept as it was spelled
+        from lifecrib import _json
+        text = _json.text_of(value)
+    return on_a_line(text)
 
 
 def with_others(answer: Any, body: str) -> str:

@@ -79,6 +79,8 @@ def members_of(table: toml_subset.Table, folder: str) -> dict[str, Any]:
             raise toml_subset.Fault(line, '"%s" is no setting: there are %s' % (name, ', '.join(KINDS)))
         if type(value) is not KINDS[name]:
             raise toml_subset.Fault(line, '"%s" is not %s' % (name, SAID[KINDS[name]]))
+        if '\0' in ''.join(value if isinstance(value, (str, list)) else ''):
+            raise toml_subset.Fault(line, '"%s" has the character U+0000, which no setting can have' % name)
         if name == 'sign_in' and value not in SIGNS_IN:
             raise toml_subset.Fault(line, '"sign_in" is none of ' + ', '.join(SIGNS_IN))
         if name == 'listen' and value not in range(65536):

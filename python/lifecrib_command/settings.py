@@ -103,6 +103,8 @@ def settings_of(given: argparse.Namespace, kept: Mapping[str, Any]) -> Settings:
         found[name] = getattr(given, name, None) or os.environ.get('OAUTH2_' + name.upper()) or found.get(name)
         if not isinstance(found[name], (str, type(None))):
             raise Stop('%s: "%s" is no text' % (path, name), BAD_SETTING)
+        if '\0' in (found[name] or ''):
+            raise Stop('%s: "%s" has the character U+0000, which no setting can have' % (path, name), BAD_SETTING)
     own = {name for name in TEXTS if found[name]}
     for name in kept.keys() & TEXTS.keys():
         if name not in ENDPOINTS or found['issuer'] in (None, kept['issuer']):

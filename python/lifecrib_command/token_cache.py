@@ -90,8 +90,8 @@ def told(path: str) -> Iterator[None]:
 def read(path: str) -> Optional[Entry]:
     """What a cache keeps now, without waiting for other runs, which put a new file in its place; None where there is no
     file yet."""
-    path = os.path.realpath(path)
     with told(path):
+        path = os.path.realpath(path)  # which fails where the folder of the run is gone
         try:
             file, _ = opened(path, os.O_RDONLY)
         except FileNotFoundError:
