@@ -203,6 +203,14 @@ class Profiles(Case):
                 self.assertEqual(status, 5)
                 self.assertRegex(err, 'there is no token in .*by tools/oauth2 %s --profile work\n' % command)
 
+    def test_a_missing_token_is_named_by_each_flag_that_names_its_place(self):
+        self.work()
+        other = self.profiles('[profile.c]\nclient_id = "c"\n', os.path.join(self.room, 'other.toml'))
+        plain = self.profiles('{}', os.path.join(self.room, 'plain.json'))
+        for words in (['--profile', 'work'], ['--cache', '/none/c'], ['--profile', 'work', '--cache', '/none/c'],
+                      ['--config', other, '--profile', 'c'], ['--config', plain, '--cache', '/none/c']):
+            self.assertIn('sign in by tools/oauth2 login %s\n' % ' '.join(words), self.run_tool('status', *words)[2])
+
     def test_a_missing_setting_names_the_file(self):
         path = self.profiles('[profile.a]\nclient_id = "s"\n')
         self.assertIn('or "token_url" in ' + path, self.run_tool('token', '--profile', 'a')[2])

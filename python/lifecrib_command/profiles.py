@@ -89,10 +89,10 @@ def profile_of(path: str, name: Optional[str], is_needed: bool = False) -> Optio
 def apply(given: argparse.Namespace) -> None:
     """Chooses the profile of a run, and gives it what the profile has in the place of flags."""
     profile = given.of_profile = chosen(given)
-    given.keeps_for, given.place = None, '--cache %s' % given.cache
-    given.cache_name = profile.name if profile else DEFAULT_NAME
-    if is_shared(given.cache):
-        of_place(given, profile)
+    given.keeps_for, given.cache_name, cache = None, profile.name if profile else DEFAULT_NAME, given.cache
+    if is_shared(cache):
+        given.keeps_for, cache = profile, shown_place(given)
+    given.place = named_again(given, profile, cache)
     if not profile:
         return
     members = profile.members
@@ -103,20 +103,23 @@ def apply(given: argparse.Namespace) -> None:
             given.listen = members.get('listen')
     if given.command in KEEPS and not given.cache:
         given.cache, given.keeps_for = members.get('cache') or profile.token_file(), profile
-        given.place = '--profile ' + profile.name
 
 
-def of_place(given: argparse.Namespace, profile: Optional[Profile]) -> None:
-    """Says how a shared --cache is named again. Warns of a password that is no secret there."""
+def named_again(given: argparse.Namespace, profile: Optional[Profile], cache: Optional[str]) -> str:
+    """The flags by which another command line uses the same token."""
+    found = (('--config', given.config), ('--profile', profile and profile.name), ('--cache', cache))
+    return ' '.join('%s %s' % it for it in found if it[1])
+
+
+def shown_place(given: argparse.Namespace) -> str:
+    """A shared --cache without its password. Warns of a password that is no secret there."""
     from . import shared_places
     place = shared_places.place_in(given.cache)
     if place.password:
         tell('all users of this machine can see its processes with their flags, so with the password in --cache: %s '
              'has it instead'
              % shared_places.VARIABLE)
-    given.place = '--cache ' + place.shown(place.name or given.cache_name)
-    if profile:
-        given.keeps_for, given.place = profile, '--profile %s %s' % (profile.name, given.place)
+    return place.shown(place.name or given.cache_name)
 
 
 def signs_in(given: argparse.Namespace) -> str:
