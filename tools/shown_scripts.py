@@ -10,8 +10,9 @@ import sources
 
 PAGES = tuple(os.path.join('docs', it) for it in ('SCRIPT.md', 'C.md'))
 BLOCK = r'((?:^ {4}.*\n)+)'
-# A block, the paragraph below it and the block below that, which may begin the next such three.
-SHOWN = re.compile(BLOCK + r'(?=\n((?:^\S.*\n)+)\n' + BLOCK + ')', re.M)
+FENCED = r'^```json\n((?:^(?!```).*\n)+)^```\n'
+# A block, the paragraph below it and the indented block below that, which may begin the next such three.
+SHOWN = re.compile('(?:%s|%s)' % (BLOCK, FENCED) + r'(?=\n((?:^\S.*\n)+)\n' + BLOCK + ')', re.M)
 
 # A printed line goes on in the page's next one, where that is four columns further in.
 GOES_ON = re.compile('\n {4}')
@@ -31,8 +32,8 @@ def is_script(text):
 
 def scripts_on(page):
     """The scripts of a page, each a block of its own above one with its lines."""
-    for block, between, lines in SHOWN.findall(page):
-        script, lines = (re.sub('(?m)^    ', '', it) for it in (block, lines))
+    for block, fenced, between, lines in SHOWN.findall(page):
+        script, lines = fenced or re.sub('(?m)^    ', '', block), re.sub('(?m)^    ', '', lines)
         status = re.search(r'\bexit (\d)\b', between)
         if is_script(script):
             yield Shown(script, int(status.group(1)) if status else None, GOES_ON.sub('', lines))

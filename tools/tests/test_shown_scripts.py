@@ -1,4 +1,5 @@
 """Tests of tools/shown_scripts.py: which scripts a page shows, and that those which are stored too print there what the page says."""
+import json
 import os
 import re
 import sys
@@ -35,6 +36,16 @@ and it prints
 is none.
 
     four
+
+```json
+{
+    "command": "c"
+}
+```
+
+prints, with exit 0,
+
+    five
 '''
 STATUS = {'Answered': 0, 'Fault': 1, 'BadScript': 2}
 
@@ -42,7 +53,14 @@ STATUS = {'Answered': 0, 'Fault': 1, 'BadScript': 2}
 class Pages(unittest.TestCase):
     def test_scripts_of_a_page(self):
         self.assertEqual(list(shown_scripts.scripts_on(PAGE)), [
-            Shown('{"command": "a"}\n', 1, 'one\ntwo\n'), Shown('{"command": "b",\n "params": {}}\n', None, 'three\n')])
+            Shown('{"command": "a"}\n', 1, 'one\ntwo\n'), Shown('{"command": "b",\n "params": {}}\n', None, 'three\n'),
+            Shown('{\n    "command": "c"\n}\n', 0, 'five\n')])
+
+    def test_the_first_example(self):
+        """docs/SCRIPT.md lays out the script that is the program's stored run."""
+        first, folder = shown_scripts.all_shown()[0][1], os.path.join(repository.CRATES, 'oauth2_run')
+        self.assertEqual(json.loads(first.script), json.loads(sources.read(os.path.join(folder, 'stdin'))))
+        self.assertIsNone(shown_scripts.difference(first, 0, sources.read(os.path.join(folder, 'stdout'))))
 
     def test_differences(self):
         shown = Shown('', 1, 'one\ntwo\n')
