@@ -44,7 +44,7 @@ def tools():
 
 
 def readme():
-    """The commands on README.md, and the examples of the C library, which compile programs without proofs."""
+    """The commands, scripts and programs on the pages, and the examples of the C library, which compile programs without proofs."""
     return [of_tool('readme'), of_tool('try-c-examples')]
 
 
