@@ -1,5 +1,6 @@
 """Tests of tools/examples: what each kind of mark shows of a file, and which blocks need none."""
 import os
+import re
 import shutil
 import sys
 import tempfile
@@ -118,6 +119,14 @@ class Marks(unittest.TestCase):
         self.assertEqual(list(examples.dead_links('page.md', page)), [])
         page += '[f](c.rt), [g](b.md#two), [h](#b-part)\n'
         self.assertEqual(list(examples.dead_links('page.md', page)), ['c.rt', 'b.md#two', '#b-part'])
+
+
+class Pages(unittest.TestCase):
+    def test_what_the_program_on_errors_prints(self):
+        page, stored = (examples.sources.read(os.path.join(examples.repository.ROOT, *path))
+                        for path in (('docs', 'ERRORS.md'), ('crates', 'oauth2_programs', 'stdout')))
+        shown = re.search(r'It prints:\n\n((?:    .*\n)+)', page).group(1)
+        self.assertIn('\n' + textwrap.dedent(shown), stored)
 
 
 if __name__ == '__main__':
