@@ -12,8 +12,7 @@ import time
 import urllib.request
 import wsgiref.simple_server
 
-from lifecrib import (BadAccessToken, BadSignature, BadToken, Client, LifecribError, UncheckedSignature,
-                      check_access_token)
+from lifecrib import BadAccessToken, BadToken, Client, LifecribError, UncheckedSignature, check_access_token
 
 SCOPE = os.environ.get('SCOPE', 'read')
 KEEP_KEYS, ASK_AGAIN = 3600, 60  # seconds
@@ -30,7 +29,7 @@ class ByIntrospection:
 
 
 class ByKeys:
-    """Checks a JWT by the issuer's keys (RFC 9068), which are kept. A wrong signature may be one by a new key."""
+    """Checks a JWT by the issuer's keys (RFC 9068), which are kept. A token that is refused may have a newer key."""
 
     def __init__(self, issuer, audience):
         self.metadata = Client.discover(issuer, audience).metadata
@@ -40,7 +39,7 @@ class ByKeys:
         self.ask_for_keys(KEEP_KEYS)
         try:
             return self.check(token)
-        except BadSignature:
+        except BadAccessToken:
             self.ask_for_keys(ASK_AGAIN)
             return self.check(token)
 
@@ -67,7 +66,7 @@ def verdict(check, authorization):
         return '401 Unauthorized', 'Bearer', None
     try:
         found = check(token)
-    except (BadToken, BadAccessToken, BadSignature, UncheckedSignature):
+    except (BadToken, BadAccessToken, UncheckedSignature):
         return '401 Unauthorized', 'Bearer error="invalid_token"', None
     except (LifecribError, OSError, ValueError):  # the authorization server could not be asked
         return '503 Service Unavailable', None, None

@@ -1,4 +1,6 @@
 """The programs of recipes run as they are, each at a server on this machine that speaks TLS."""
+import importlib.util
+import io
 import json
 import os
 import shutil
@@ -11,8 +13,10 @@ import unittest
 import urllib.error
 import urllib.parse
 import urllib.request
+from unittest import mock
 
 from case import HERE, Local
+import lifecrib
 from test_openid import signer
 
 RECIPES = os.path.join(os.path.dirname(HERE), 'recipes')
@@ -302,6 +306,29 @@ class ResourceServer(Case):
                    ('Bearer x', 401, wrong),
                    (token(scope='write'), 403, 'Bearer error="insufficient_scope", scope="read"'))
         self.assertEqual([path for _, path, _, _ in self.site.seen].count('/keys'), 1)
+
+    def test_a_new_key(self):
+        spec = importlib.util.spec_from_file_location('resource_server', os.path.join(RECIPES, 'resource_server.py'))
+        module = importlib.util.module_from_spec(spec)
+        spec.loader.exec_module(module)
+        issuer, audience, now = 'https://as.example', 'https://api.example/', int(time.time())
+        claims = {'iss': issuer, 'sub': 'ann', 'aud': audience, 'exp': now + 60, 'iat': now, 'client_id': 'aaa',
+                  'jti': '1', 'scope': 'read'}
+        tokens = [signer(kid).token('at+jwt', **claims) for kid in ('k1', 'k2')]
+        sets = [io.BytesIO(json.dumps({'keys': [signer(kid).key]}).encode()) for kid in ('k1', 'k2')]
+        with mock.patch.object(module.Client, 'discover') as discover, \
+                mock.patch.object(module.urllib.request, 'urlopen', lambda *_, **__: sets.pop(0)):
+            discover.return_value.metadata = lifecrib.Metadata(issuer, jwks_uri=issuer + '/keys')
+            check = module.ByKeys(issuer, audience)
+            self.assertTrue(check(tokens[0]).active)
+            with self.assertRaises(lifecrib.BadAccessToken):
+                check(tokens[1])
+            self.assertEqual(len(sets), 1)  # they are asked for at most once in a minute
+            check.asked_at -= 61
+            self.assertTrue(check(tokens[1]).active)
+            with self.assertRaises(lifecrib.BadAccessToken):
+                check(tokens[0])
+        self.assertEqual(sets, [])
 
 
 class Fleet(Case):
