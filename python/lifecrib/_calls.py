@@ -10,7 +10,7 @@ from typing import Any, Generator, Iterable, Mapping, Optional, TypeVar, Union
 from . import _library
 from ._data import (Claims, Introspection, Metadata, Reply, Request, Token, claims_of, introspection_of, metadata_of,
                     token_of, without_none)
-from ._errors import BadKeys, BadSignature, InsecureEndpoint, LifecribError, OutOfMemory
+from ._errors import BadKeys, BadSignature, InsecureEndpoint, LifecribError, OutOfMemory, RequestFailed
 
 T = TypeVar('T')
 Call = Generator[Request, Reply, T]
@@ -261,7 +261,12 @@ def fetch_keys(self: Settings) -> Call[Any]:
     url = self.metadata.jwks_uri if self.metadata else None
     if not url:
         raise ValueError(NO_KEYS)
-    reply = yield from sent(self, Request('GET', url, (('accept', 'application/json'),), b''))
+    try:
+        reply = yield from sent(self, Request('GET', url, (('accept', 'application/json'),), b''))
+    except InsecureEndpoint:
+        raise
+    except Exception as error:
+        raise RequestFailed('Request failed') from error
     found = value(reply.body) if reply.status == 200 else None
     if not isinstance(found, dict):
         raise BadKeys('there is no key set at jwks_uri', status=reply.status, content_type=reply.content_type)

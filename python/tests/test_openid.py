@@ -155,6 +155,13 @@ class OpenId(Case):
             server.replies += [(200, {**TOKEN, 'id_token': self.signer.token(**self.claims(login))}), reply]
             self.fails(lifecrib.BadKeys, login.finish, 'https://app.example/back?code=c&state=' + login.state)
 
+    def test_keys_that_do_not_come(self):
+        it, server = self.discovered()
+        login = it.login(scopes='openid')
+        server.replies += [(200, {**TOKEN, 'id_token': self.signer.token(**self.claims(login))}), OSError('down')]
+        error = self.fails(lifecrib.RequestFailed, login.finish, 'https://app.example/back?code=c&state=' + login.state)
+        self.assertIsInstance(error.__cause__, OSError)
+
     def test_the_issuer_of_the_redirect(self):
         said = 'https://app.example/back?code=c&state=%s&iss=%s'
         for needed, iss, is_taken in ((True, ISSUER, True), (True, '', False), (True, 'https://other', False),
