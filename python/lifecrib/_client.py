@@ -232,9 +232,10 @@ class Keeper(_keeper.KeeperState[Client]):
     def token(self) -> Token:
         """A token that is good for at least the margin. A new one is told to on_token first."""
         with self._lock:
-            before, found = self._token, self._good()
-            if found is not before and self._on_token:
-                self._on_token(found)
+            found = self._good()
+            if self._on_token and not self._is_told:
+                with self._telling():
+                    self._on_token(found)
             return found
 
     def forget_token(self) -> None:
@@ -261,9 +262,10 @@ class AsyncKeeper(_keeper.KeeperState[AsyncClient]):
         if self._lock is None:
             self._lock = asyncio.Lock()  # of the loop that runs now
         async with self._lock:
-            before, found = self._token, await self._good()
-            if found is not before and self._on_token:
-                told = self._on_token(found)
-                if inspect.isawaitable(told):
-                    await told
+            found = await self._good()
+            if self._on_token and not self._is_told:
+                with self._telling():
+                    told = self._on_token(found)
+                    if inspect.isawaitable(told):
+                        await told
             return found

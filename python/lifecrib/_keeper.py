@@ -1,8 +1,9 @@
 """Keepers: a token that is renewed in time. The library decides when, by the last reply and the clock."""
 from __future__ import annotations
 
+import contextlib
 import dataclasses
-from typing import Any, Callable, Generic, Mapping, Optional, TypeVar
+from typing import Any, Callable, Generic, Iterator, Mapping, Optional, TypeVar
 
 from . import _calls, _json, _library
 from ._calls import Call, Pairs, Settings, Texts
@@ -23,7 +24,7 @@ class KeeperState(Generic[S]):
         self._params: dict[str, Any] = {
             **_calls.more(extra, resource, client_assertion, scopes), 'margin': margin, 'life': life,
             'retry_after': retry_after}
-        self._on_token, self._retry_after = on_token, retry_after
+        self._on_token, self._is_told, self._retry_after = on_token, True, retry_after
         self._lock = self._new_lock()
         self._start(token)
 
@@ -35,6 +36,16 @@ class KeeperState(Generic[S]):
         self._token, self._refresh = token, refresh
         self._replies: list[dict[str, Any]] = [_reply_of(token)] if token else []
         self._readings: list[int] = [token.asked_at] if token else []
+
+    @contextlib.contextmanager
+    def _telling(self) -> Iterator[None]:
+        """A new token is told to on_token here. If that fails, the next call tells it again."""
+        self._is_told = True  # before, since on_token may ask this keeper
+        try:
+            yield
+        except BaseException:
+            self._is_told = False
+            raise
 
     @property
     def _settings(self) -> S:
@@ -85,7 +96,7 @@ def good_token(self: KeeperState[Any]) -> Call[Token]:
         held = 1 if self._token else 0
         self._replies, self._readings = [*self._replies[:held], reply], [*self._readings[:held], at]
         raise run.error() from why
-    self._token = _new_token(self, sent.get('refresh_token'), reply, at)
+    self._token, self._is_told = _new_token(self, sent.get('refresh_token'), reply, at), False
     self._refresh, self._replies, self._readings = sent.get('refresh_token'), [reply], [at]
     return self._token
 

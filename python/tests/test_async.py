@@ -86,6 +86,22 @@ class Async(Case, unittest.IsolatedAsyncioTestCase):
             self.assertEqual((await keeper.token()).access_token, 't2')
         self.assertIn('refresh_token=r1', server.bodies[1])
 
+    async def test_a_token_that_could_not_be_told_is_told_again(self):
+        it, server = async_client((200, TOKEN))
+        faults, told = [OSError()], []
+
+        async def tell(token):
+            await asyncio.sleep(0)
+            if faults:
+                raise faults.pop()
+            told.append(token.access_token)
+        keeper = AsyncKeeper(it, on_token=tell)
+        with self.assertRaises(OSError):
+            await keeper.token()
+        for _ in range(2):
+            await keeper.token()
+        self.assertEqual((told, len(server.requests)), (['t1'], 1))
+
     async def test_a_call_is_cancelled(self):
         begun = asyncio.Event()
 

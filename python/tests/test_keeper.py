@@ -117,6 +117,21 @@ class Keepers(Case):
         self.assertEqual([it.access_token for it in told], ['t1', 't2'])
         self.assertEqual(told[0].members['expires_in'], 100)
 
+    def test_a_token_that_could_not_be_told_is_told_again(self):
+        faults, told = [OSError(), OSError()], []
+
+        def tell(token):
+            if faults:
+                raise faults.pop()
+            told.append(keeper.token())  # on_token may ask
+        keeper, server = self.keeper(reply(1, refresh_token='r1'), on_token=tell)
+        for _ in range(2):
+            with self.assertRaises(OSError):
+                keeper.token()
+        for _ in range(2):
+            self.assertEqual(keeper.token().access_token, 't1')
+        self.assertEqual(([it.refresh_token for it in told], len(server.requests)), (['r1'], 1))
+
     def test_a_life_that_is_not_told(self):
         keeper, _ = self.keeper((200, {'access_token': 't1', 'token_type': 'bearer'}), reply(2), life=100, margin=0)
         keeper.token()
