@@ -73,6 +73,9 @@ class Run(NamedTuple):
 
     events: list[dict[str, Any]]
 
+    def __repr__(self) -> str:
+        return 'Run(%d events, the last: %s)' % (len(self.events), self.last['event'])
+
     @property
     def exchanges(self) -> list[dict[str, Any]]:
         return [it for it in self.events if it['event'] == 'exchange']

@@ -91,6 +91,7 @@ class Loaded(Case):
         run = lifecrib.run_script(script('code'), _library.Library('x', runs))
         self.assertEqual(seen, [{**script('code'), 'result': 'json'}])
         self.assertIsInstance(run, lifecrib.Run)
+        self.assertEqual(repr(run), 'Run(1 events, the last: fault)')  # a request has secrets
         self.assertEqual(run.last['kind'], 'other_error')
         self.fails(lifecrib.OtherError, run.answer)
 
