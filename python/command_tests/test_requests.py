@@ -171,6 +171,10 @@ class Settings(stand_in.Case):
                 (['token', '--auth', 'post'], {}, 2, '--auth is "post": it has to be basic or body'),
                 (['token', '--extra', 'grant_type=x'], {}, 2,
                  '--extra grant_type: the tool sends that parameter itself'),
+                (['token', '--extra', 'client_id=x'], {}, 2, '--extra client_id: the tool sends'),
+                (['token', '--extra', 'client_id=x', '--auth', 'body'], SECRETS, 2, '--extra client_id: the tool'),
+                (['introspect', '--hint', 'jwt', '--extra', 'token_type_hint=x'], {}, 2, '--extra token_type_hint: the'),
+                (['token', '--extra', 'client_id=x'], SECRETS, 2, 'OAUTH2_PROGRAM names /none'),  # the header has it
                 (['token', '--config', '/none/x'], {}, 2, 'the file of settings /none/x does not exist'),
                 (['revoke'], {}, 2, '/revocation: revocation takes https alone, also on this machine'),
                 (['login', '--redirect', 'https://a.example/', '--auth-url', 'http://a.example/'], {}, 2,

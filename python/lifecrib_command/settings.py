@@ -252,8 +252,12 @@ def sent_by(given: argparse.Namespace, found: Mapping[str, Any]) -> set[str]:
         sent.add('scope')
     if given.openid:
         sent.add('nonce')
+    if getattr(given, 'hint', None):
+        sent.add('token_type_hint')
     if found['client_assertion_file']:
         sent.update(OF_ASSERTION)
+    if found['auth'] == 'body' or not (found['client_secret'] or given.ask_secret):
+        sent.add('client_id')  # else the header has it
     if pushes(given, found):
         sent.add('request_uri')
     return sent
