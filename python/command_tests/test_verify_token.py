@@ -7,6 +7,8 @@ import unittest
 
 import stand_in
 
+from lifecrib_command import access_tokens
+
 KEYS = {'keys': [{'kty': 'EC', 'kid': 'k'}]}
 
 
@@ -59,6 +61,12 @@ class Tests(stand_in.Case):
             self.assertIn('the token is refused: ', err)
             self.assertIn(said, err)
         self.assertEqual(self.verify(token='a.b')[:2], (7, ''))
+
+    def test_a_token_of_another_key(self):
+        params = {'access_token': self.token(), 'issuer': self.issuer, 'audience': 'api', 'leeway': 60}
+        fault = {'kind': 'bad_access_token', 'text': 'no key is for the token'}
+        said = access_tokens.advice_of(fault, params, int(time.time()))
+        self.assertIn('are the keys those of this issuer?', said)
 
     def test_no_keys(self):
         for document, status, said in (((404, {}, ''), 6, 'HTTP status 404'), ((503, {}, ''), 9, 'HTTP status 503'),

@@ -45,8 +45,6 @@ def verify(session: Session) -> int:
 
 def advice_of(fault: Fault, params: Mapping[str, Any], now: int) -> Optional[str]:
     """What may be done about a token that is refused, by the kind of the fault and what the token says."""
-    if fault['kind'] == 'bad_signature':
-        return openid.OTHER_KEYS
     if fault['kind'] == 'unchecked_signature':
         return openid.ALGORITHM
     if fault['kind'] != 'bad_access_token':
@@ -60,4 +58,6 @@ def advice_of(fault: Fault, params: Mapping[str, Any], now: int) -> Optional[str
         return 'it has to be %s (--issuer)' % params['issuer']
     if not claims.has(found, 'aud', params['audience']):
         return 'it has to have "%s" (--audience)' % params['audience']
-    return openid.CLOCK if claims.is_ended(found, now, params['leeway']) else None
+    if 'crit' in header:
+        return None
+    return openid.CLOCK if claims.is_ended(found, now, params['leeway']) else openid.OTHER_KEYS

@@ -254,7 +254,8 @@ def add_for_one(it: argparse.ArgumentParser, name: str) -> None:
         it.add_argument('--leeway', type=whole_from(0), metavar='SECONDS',
                         help="with --openid: how far this clock and the server's may differ (%d)" % LEEWAY)
         it.add_argument('--algorithm',
-                        help='with --openid: the algorithm of the ID token that is registered (else any but none)')
+                        help='with --openid: the algorithm of the ID token that is registered (else RS256; any but none, if '
+                             'no signature is checked)')
     if name == 'exchange':
         add_for_exchange(it)
     if name == 'assertion':
