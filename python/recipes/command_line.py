@@ -9,6 +9,7 @@ import fcntl
 import http.server
 import os
 import sys
+import time
 import urllib.request
 import webbrowser
 
@@ -22,8 +23,11 @@ MOST_SECONDS = 600  # for which a user is awaited
 class Back(http.server.BaseHTTPRequestHandler):
     """Receives the redirect of the browser."""
 
+    timeout = 5  # seconds for what is sent; a browser may connect and say nothing
+
     def do_GET(self):
-        self.server.url = self.path
+        if self.path.startswith('/back?'):
+            self.server.url = self.path
         self.send_response(200)
         self.send_header('Content-Type', 'text/plain')
         self.end_headers()
@@ -36,21 +40,22 @@ class Back(http.server.BaseHTTPRequestHandler):
 def sign_in(client):
     """A token of the user, who signs in with a browser on this machine (RFC 8252)."""
     with http.server.HTTPServer(('127.0.0.1', int(os.environ.get('PORT', 0))), Back) as server:
-        here, server.timeout = 'http://127.0.0.1:%d' % server.server_port, MOST_SECONDS
+        here, end = 'http://127.0.0.1:%d' % server.server_port, time.monotonic() + MOST_SECONDS
         login = client.login(scopes=SCOPES, redirect=here + '/back')
         print('If no browser opens, open', login.url, file=sys.stderr, flush=True)
         webbrowser.open(login.url)
-        while True:
-            server.url = None
+        while time.monotonic() < end:
+            server.url, server.timeout = None, end - time.monotonic()
             server.handle_request()
-            if server.url is None:
-                sys.exit('nobody signed in')
+            if server.url is None:  # what came is no redirect, or nothing came
+                continue
             try:
                 return login.finish(here + server.url)
             except RefusedRedirect as error:
                 if error.error:  # the user said no
                     raise
                 print('Not the browser of this login:', error, file=sys.stderr)
+    sys.exit('nobody signed in')
 
 
 def load():
@@ -88,7 +93,8 @@ def good_token():
 
 
 def main():
-    request = urllib.request.Request(os.environ['API'], headers=good_token().headers)
+    request = urllib.request.Request(os.environ['API'])
+    request.add_unredirected_header('Authorization', good_token().headers['Authorization'])
     with urllib.request.urlopen(request, timeout=30) as reply:
         print(reply.read().decode())
 

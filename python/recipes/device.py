@@ -28,7 +28,8 @@ def main():
     keeper = Keeper(client, sign_in(client))
     print('Signed in.', flush=True)
     for line in sys.stdin:
-        request = urllib.request.Request(os.environ['API'], line.encode(), keeper.token().headers, method='POST')
+        request = urllib.request.Request(os.environ['API'], line.encode(), method='POST')
+        request.add_unredirected_header('Authorization', keeper.token().headers['Authorization'])
         with urllib.request.urlopen(request, timeout=30) as reply:
             print(reply.read().decode(), flush=True)
 

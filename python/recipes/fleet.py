@@ -33,7 +33,8 @@ def header():
 
 def main():
     for line in sys.stdin:
-        request = urllib.request.Request(os.environ['API'], line.encode(), header(), method='POST')
+        request = urllib.request.Request(os.environ['API'], line.encode(), method='POST')
+        request.add_unredirected_header('Authorization', header()['Authorization'])  # not to where the API sends on
         with urllib.request.urlopen(request, timeout=30) as reply:
             print(reply.read().decode(), flush=True)
 

@@ -36,7 +36,9 @@ def orders(authorization):
 
 
 def called(token):
-    with urllib.request.urlopen(urllib.request.Request(API, headers=token.headers), timeout=30) as reply:
+    request = urllib.request.Request(API)
+    request.add_unredirected_header('Authorization', token.headers['Authorization'])  # not to where the API sends on
+    with urllib.request.urlopen(request, timeout=30) as reply:
         return '200 OK', reply.read()
 
 

@@ -64,11 +64,13 @@ def orders(name, _query):
     if session is None:
         return answer('401 Unauthorized', 'sign in')
     try:
-        headers = session.keeper.token().headers
+        header = session.keeper.token().headers['Authorization']
     except (Ended, ErrorResponse):  # the server has ended the login
         SESSIONS.pop(name, None)
         return answer('401 Unauthorized', 'sign in again')
-    with urllib.request.urlopen(urllib.request.Request(API, headers=headers), timeout=30) as reply:
+    request = urllib.request.Request(API)
+    request.add_unredirected_header('Authorization', header)  # not to where the API sends on
+    with urllib.request.urlopen(request, timeout=30) as reply:
         return answer('200 OK', json.dumps({'user': session.user, 'orders': json.load(reply)}), 'application/json')
 
 

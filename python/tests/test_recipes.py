@@ -4,6 +4,7 @@ import io
 import json
 import os
 import shutil
+import socket
 import stat
 import subprocess
 import sys
@@ -208,6 +209,10 @@ class CommandLine(Case):
     def test_a_login_and_later_runs(self):
         run = self.start('command_line.py', without=['CLIENT_SECRET'])
         redirect, back = self.sign_in(run)
+        at = urllib.parse.urlsplit(redirect)
+        with socket.create_connection((at.hostname, at.port)), socket.create_connection((at.hostname, at.port)) as odd:
+            odd.sendall(b'GET * HTTP/1.0\r\n\r\n')  # the first says nothing
+            self.assertEqual(visit(redirect, 'POST')[0], 501)
         self.assertEqual(visit(redirect + back.replace('state=', 'state=x'))[0], 200)
         self.assertEqual(visit(redirect + back)[0], 200)
         out, err = run.communicate(timeout=30)
