@@ -61,8 +61,8 @@ or that which LIFECRIB_LIBRARY names. In a checkout without a library it is the 
 `tools/test --proved` has built; if there is none, it is compiled without proofs, which takes about a minute, once for
 a checkout. A line on standard error says if what runs is not proved.
 
-Standard output has the answer as one line: the whole reply as JSON, or as --output says; of revoke, null. status
-writes several lines, and logout none. All else goes to standard error, where an error is one line.
+Standard output has the answer as one line: the whole reply as JSON, or as --output says; of revoke, null. status and
+git-credential write several lines, and logout none. All else goes to standard error, where an error is one line.
 
 Exit status:
       0  an answer
