@@ -94,8 +94,8 @@ ABOUT = {
     'logout': ('revokes the kept token, and removes the file',
                'The refresh token is revoked, or the access token if there is no other. The file is removed also if '
                'the token can not be\n'
-               'revoked: because of a setting, as a revocation URL that is not https, of the network, or of the server. '
-               'Standard error\n'
+               'revoked: because of a setting, as a revocation URL that is not https, of the network, or of the '
+               'server. Standard error\n'
                'then says why, and the exit status is 25. revoke --cache keeps the file until the server has said yes.',
                'tools/oauth2 logout --profile work'),
     'git-credential': ('gives git the kept token as a password',
@@ -141,7 +141,8 @@ def file_of(text: str) -> str:
 
 def profile_of(text: str) -> str:
     if not text:
-        raise argparse.ArgumentTypeError('it has to name a profile')  # not the default one, as where a variable is empty
+        # not the default one, as where a variable is empty
+        raise argparse.ArgumentTypeError('it has to name a profile')
     return text
 
 
@@ -154,7 +155,8 @@ def port_of(text: str) -> int:
 def add_for_all(it: argparse.ArgumentParser, name: str) -> None:
     it.set_defaults(cache=None, extra=None, resource=None, openid=False, push=False, anew=False, ask_secret=False,
                     client_secret_file=None)
-    it.add_argument('--profile', type=profile_of, metavar='NAME', help='the profile whose settings are used, and whose token is kept')
+    it.add_argument('--profile', type=profile_of, metavar='NAME',
+                    help='the profile whose settings are used, and whose token is kept')
     it.add_argument('--no-profile', action='store_true',
                     help='use no profile, also if the file of profiles names a default one')
     it.add_argument('--config', type=file_of, metavar='FILE',
@@ -254,8 +256,8 @@ def add_for_one(it: argparse.ArgumentParser, name: str) -> None:
         it.add_argument('--leeway', type=whole_from(0), metavar='SECONDS',
                         help="with --openid: how far this clock and the server's may differ (%d)" % LEEWAY)
         it.add_argument('--algorithm',
-                        help='with --openid: the algorithm of the ID token that is registered (else RS256; any but none, if '
-                             'no signature is checked)')
+                        help='with --openid: the algorithm of the ID token that is registered (else RS256; any but '
+                             'none, if no signature is checked)')
     if name == 'exchange':
         add_for_exchange(it)
     if name == 'assertion':

@@ -58,7 +58,8 @@ def check_may_ask(given: argparse.Namespace) -> None:
     one."""
     sign_in = given.keeps_for.members.get('sign_in') if given.keeps_for else None
     if given.command == 'token' and sign_in not in (None, 'token'):
-        raise Stop('the profile "%s" has no token yet: sign in by %s' % (given.keeps_for.name, signs_in(given)), SIGN_IN)
+        raise Stop('the profile "%s" has no token yet: sign in by %s' % (given.keeps_for.name, signs_in(given)),
+                   SIGN_IN)
 
 
 def used(session: Session, params: Params) -> int:

@@ -121,14 +121,15 @@ def settings_of(given: argparse.Namespace, kept: Mapping[str, Any]) -> Settings:
     if getattr(given, 'listen', None) is not None and not found['redirect']:
         found['redirect'] = 'http://127.0.0.1/'
     check_extra(given, found)
-    if given.command != 'logout':  # which forgets a token whether or not the server can be asked, and makes them usable itself
+    # logout makes them usable itself: it forgets a token whether or not the server can be asked
+    if given.command != 'logout':
         make_usable(given, found, own)
     return found
 
 
 def make_usable(given: argparse.Namespace, found: Settings, own: Optional[set[str]] = None) -> None:
-    """Reads the file of the client's secret, if there is one. Stops at a setting that can't be used. own has the names of
-    those that are given; None: all that there are."""
+    """Reads the file of the client's secret, if there is one. Stops at a setting that can't be used. own has the names
+    of those that are given; None: all that there are."""
     take_secret(given, found)
     check(given, found, {name for name in TEXTS if found[name]} if own is None else own)
 

@@ -66,8 +66,8 @@ def kept_by(session: Session, kept: Optional[Entry]) -> Entry:
 
 
 def logout(session: Session, params: Params) -> int:
-    """Revokes the kept token and removes the file, or does the one of both that can be done: the exit status. The file is
-    removed whatever keeps the token from being revoked, be it a setting, the network or the server."""
+    """Revokes the kept token and removes the file, or does the one of both that can be done: the exit status. The file
+    is removed whatever keeps the token from being revoked, be it a setting, the network or the server."""
     name = session.cache.name
     kept_by(session, session.cache.read())
     not_ready = why_not_ready(session)

@@ -71,7 +71,8 @@ def of_renewal(entry: Entry, cache: Cache, now: int, margin: int) -> str:
         return 'none: sign in anew' if has_ended(entry, now) else 'none: sign in anew once it has ended'
     how = 'by the client itself' if entry['refresh_token'] is None else 'by the refresh token'
     if token_cache.is_good(entry, now, margin):
-        return '%s, from %s on; until then the token is handed out as it is' % (how, moment(entry['expires_at'] - margin))
+        due = moment(entry['expires_at'] - margin)
+        return '%s, from %s on; until then the token is handed out as it is' % (how, due)
     return how + ', at the next use'
 
 
@@ -79,5 +80,7 @@ def of_mark(entry: Entry, cache: Cache, mark: Mark) -> str:
     """What is said of the renewal of another run."""
     if not cache.is_over():
         return 'by another run, since %s' % mark.since()
-    then = 'the client itself gets another token once this one has ended' if entry['command'] == 'token' else 'sign in anew'
+    then = 'sign in anew'
+    if entry['command'] == 'token':
+        then = 'the client itself gets another token once this one has ended'
     return 'begun by another run at %s and not finished: %s' % (mark.since(), then)

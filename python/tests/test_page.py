@@ -84,8 +84,8 @@ class Pages(unittest.TestCase):
     def test_a_token_that_another_library_stored(self):
         with open(PAGES[1], encoding='utf-8') as f:
             shown = re.search(r'\n\n((?:    .*\n)+)', f.read().partition('A token that Authlib stored')[2]).group(1)
-        old = {'access_token': 't1', 'token_type': 'Bearer', 'expires_in': 3600, 'expires_at': 4600, 'refresh_token': 'r1',
-               'scope': 'read write'}
+        old = {'access_token': 't1', 'token_type': 'Bearer', 'expires_in': 3600, 'expires_at': 4600,
+               'refresh_token': 'r1', 'scope': 'read write'}
         token = eval(shown.strip(), {'Token': lifecrib.Token, 'old': old})
         self.assertEqual((token.headers, token.refresh_token, token.scopes, token.expires_at),
                          ({'Authorization': 'Bearer t1'}, 'r1', ('read', 'write'), 4600))
