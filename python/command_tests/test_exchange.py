@@ -159,7 +159,7 @@ class Assertions(Case):
     def setUp(self):
         super().setUp()
         self.url = self.server.url + '/token'
-        self.jwt, self.xml = jwt_of(iss='issuer', sub='ann', aud=self.url, exp=int(time.time()) + 60), saml_of(self.url)
+        self.jwt, self.xml = jwt_of(iss='issuer', sub='ann', aud=self.url, exp=int(time.time()) + 3600), saml_of(self.url)
 
     def test_a_jwt(self):
         path = self.file(self.jwt + '\n')
@@ -192,7 +192,7 @@ class Assertions(Case):
 
     def test_errors(self):
         for claims in ({'exp': 1}, {'aud': 'x'}, {'sub': ''}):
-            found = {'iss': 'issuer', 'sub': 'ann', 'aud': self.url, 'exp': int(time.time()) + 60, **claims}
+            found = {'iss': 'issuer', 'sub': 'ann', 'aud': self.url, 'exp': int(time.time()) + 3600, **claims}
             status, out, err = self.run_tool('assertion', OAUTH2_ASSERTION=jwt_of(**found))
             self.assertEqual((status, out), (12, ''))
             self.assertIn('invalid_grant', err)
