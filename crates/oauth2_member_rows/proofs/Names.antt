@@ -1,15 +1,13 @@
 -- Names of which none occurs twice.
 use Rattle.std.proofs.Common.{◌≡◌, ℕ, List, [], ◌∷◌, ◌++◌, Bool, true, false, not, ◌&&◌, ◌||◌, bytes_eq, refl, sym, ap, ◌∙◌}
 use Rattle.std.proofs.lemmas.Slice.Eq.{bytes_eq-Decides}
-use Rattle.serde_json.specs.Data.{Members, no_members}
+use Rattle.serde_json.specs.Data.{Members}
 use Rattle.serde_json.specs.Find.{get_member}
-use Rattle.oauth2_json.specs.Members.{without, others, put_some, clashes}
-use Rattle.oauth2_json.specs.Puts.{Row, names, put_all}
-use Rattle.oauth2_json.proofs.Objects.{get_member-without, misses as misses_all}
-use Rattle.oauth2_json.proofs.Puts.{are_distinct as none_twice, rest}
+use Rattle.oauth2_json.specs.Members.{without, others, put_some}
+use Rattle.oauth2_json.specs.Puts.{Row, put_all}
+use Rattle.oauth2_json.proofs.Objects.{get_member-without}
 use Rattle.oauth2_body_members.specs.Object.{has_name}
-use Rattle.oauth2_body_members.proofs.Tables.{Holds as Stand, all_held}
-use Rattle.oauth2_member_rows.specs.Rows.{misses, are_distinct, Agree, Holds}
+use Rattle.oauth2_member_rows.specs.Rows.{misses, are_distinct, Agree}
 
 both : (a b : Bool) → a && b ≡ true → (a ≡ true) × (b ≡ true)
 both true b h = (refl, h)
@@ -70,33 +68,6 @@ others-append (x ∷ xs) ys ms = others-append xs ys (without x ms)
 pub put_all-append : (rs more : List Row) (ms : Members) → put_all (rs ++ more) ms ≡ put_all rs (put_all more ms)
 put_all-append [] more ms = refl
 put_all-append (r ∷ rs) more ms = ap (put_some r.0 r.1) (put_all-append rs more ms)
-
--- ---- members that were put in
-
-misses_too : (q : List ℕ) (ks : List (List ℕ)) → misses q ks ≡ misses_all q ks
-misses_too q [] = refl
-misses_too q (k ∷ ks) = ap (λ b. not (bytes_eq q k) && b) (misses_too q ks)
-
-distinct_too : (ks : List (List ℕ)) → are_distinct ks ≡ none_twice ks
-distinct_too [] = refl
-distinct_too (k ∷ ks) = rw (misses_too k ks, distinct_too ks) refl
-
-stand : (rs : List Row) (ms : Members) → Stand rs ms → Holds rs ms
-stand [] ms h = tt
-stand (r ∷ rs) ms h = (h.0, stand rs ms h.1)
-
-module _ (rs : List Row) (ks : List (List ℕ)) (ms : Members) where
-  pub held : names rs ≡ ks → are_distinct ks ≡ true → clashes ks ms ≡ false → Holds rs (put_all rs ms)
-  held named h free = stand rs (put_all rs ms) (all_held rs ms (sym (distinct_too (names rs)) ∙ ap are_distinct named ∙ h) (ap (λ own. clashes own ms) named ∙ free))
-
-  pub left : names rs ≡ ks → are_distinct ks ≡ true → clashes ks ms ≡ false → others ks (put_all rs ms) ≡ ms
-  left named h free =
-      ap (λ own. others own (put_all rs ms)) (sym named)
-      ∙ rest rs ms (sym (distinct_too (names rs)) ∙ ap are_distinct named ∙ h) (ap (λ own. clashes own ms) named ∙ free)
-
-pub no_clash : (ks : List (List ℕ)) → clashes ks no_members ≡ false
-no_clash [] = refl
-no_clash (k ∷ ks) = no_clash ks
 
 -- ---- members that are kept
 

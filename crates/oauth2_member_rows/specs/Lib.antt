@@ -1,4 +1,3 @@
-pub mod Kinds
 pub mod Rows
 pub mod Objects
 pub mod private

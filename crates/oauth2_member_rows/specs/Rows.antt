@@ -22,11 +22,6 @@ abbrev pub Agree : List (List ℕ) → Members → Members → Type 0
 Agree [] a b = Unit {0}
 Agree (k ∷ ks) a b = (get_member k a ≡ get_member k b) × Agree ks a b
 
--- under each name, the object has the value that is written
-abbrev pub Holds : List Row → Members → Type 0
-Holds [] ms = Unit {0}
-Holds (r ∷ rs) ms = (get_member r.0 ms ≡ r.1) × Holds rs ms
-
 -- two values as a pair
 abbrev pub joined : {A B : Type 0} → A → B → A × B
 joined a b = (a, b)

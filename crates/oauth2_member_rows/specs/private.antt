@@ -1,3 +1,2 @@
--- Lemmas that the laws of the kinds and of the rows cite.
-pub mod KindLaws
+-- Lemmas that the laws of the rows cite.
 pub mod RowLaws

@@ -1,36 +1,18 @@
 //! The kinds of members.
 
-ghost use Rattle.std.specs.Prelude.{◌≡◌, ℕ, List, Bool, Option, Some, Ok, IfOk};
+ghost use Rattle.std.specs.Prelude.{◌≡◌, ℕ, List, Bool, Option, Some, IfOk};
 ghost use Rattle.std.specs.Prelude.{map, option_map, string_bytes};
 ghost use Rattle.serde_json.specs.Data.{array, boolean, number, unsigned, string};
 ghost use Rattle.serde_json.specs.View.{view};
 ghost use Rattle.oauth2_json.specs.Members.{needed_member, optional_member};
 ghost use Rattle.oauth2_json.specs.Values.{flag, text, text_items, text_list, texts, whole_number};
-ghost use Rattle.oauth2_member_rows.specs.Kinds.{written_data, IsWrittenBack, AreWrittenBack};
-ghost use Rattle.oauth2_member_rows.specs.private.KindLaws.{
-  needed_again,
-  optional_again,
-  text_again,
-  list_again,
-  flag_again,
-  number_again,
-};
 
-use crate::member::{MemberKind, ReadKind};
-use oauth2_json::{FromJson, ReadError, ToJson, members};
+use crate::member::{ReadKind, WriteKind};
+use crate::write_text::{WriteText, text_of};
+use oauth2_json::{FromJson, ReadError, members};
 use serde_json::Value;
 use std::alloc::{AllocError, Global};
 use std::marker::PhantomData;
-
-// The JSON value of a value that writes itself without a refusal.
-fn written<T: ToJson>(alloc: Global, value: &T) -> Result<Value, AllocError>
-    ensures { IfOk result (λ v. view v ≡ written_data (T.writing value.now)) }
-{
-    match value.to_json(alloc) {
-        Ok(value) => Ok(value),
-        Err(_) => Err(AllocError),
-    }
-}
 
 /// A required member: absent is `Missing`, null is `WrongType`.
 pub struct Needed<T>(PhantomData<T>);
@@ -49,16 +31,13 @@ impl<T: FromJson + Drop> ReadKind for Needed<T> {
     }
 }
 
-impl<T: FromJson + ToJson + Drop> MemberKind for Needed<T> {
-    ghost written = { λ x. Some (written_data (T.writing x)) };
+impl<T: WriteText> WriteKind for Needed<T> {
+    type Value = T;
 
-    ghost IsKept = { IsWrittenBack T.reading T.meaning T.writing };
-
-    ghost reads_back = { needed_again T.reading T.meaning T.writing };
+    ghost written = { λ x. Some (string (T.text x)) };
 
     fn write(alloc: Global, value: &T) -> Result<Option<Value>, AllocError> {
-        let data = written(alloc, value)?;
-        Ok(Some(data))
+        Ok(Some(text_of(alloc, value)?))
     }
 }
 
@@ -79,16 +58,14 @@ impl<T: FromJson + Drop> ReadKind for Optional<T> {
     }
 }
 
-impl<T: FromJson + ToJson + Drop> MemberKind for Optional<T> {
-    ghost written = { option_map (λ x. written_data (T.writing x)) };
+impl<T: WriteText> WriteKind for Optional<T> {
+    type Value = Option<T>;
 
-    ghost IsKept = { AreWrittenBack T.reading T.meaning T.writing };
-
-    ghost reads_back = { optional_again T.reading T.meaning T.writing };
+    ghost written = { option_map (λ x. string (T.text x)) };
 
     fn write(alloc: Global, value: &Option<T>) -> Result<Option<Value>, AllocError> {
         match value {
-            Some(value) => Ok(Some(written(alloc, value)?)),
+            Some(value) => Ok(Some(text_of(alloc, value)?)),
             None => Ok(None),
         }
     }
@@ -128,12 +105,10 @@ impl ReadKind for OptionalText {
     }
 }
 
-impl MemberKind for OptionalText {
+impl WriteKind for OptionalText {
+    type Value = Option<String>;
+
     ghost written = { λ o. option_map string (option_map string_bytes o) };
-
-    ghost IsKept = { λ _. Unit {0} };
-
-    ghost reads_back = { λ name o _. text_again name (option_map string_bytes o) };
 
     fn write(alloc: Global, value: &Option<String>) -> Result<Option<Value>, AllocError> {
         members::text_value(alloc, value)
@@ -161,13 +136,10 @@ impl ReadKind for OptionalTextList {
     }
 }
 
-impl MemberKind for OptionalTextList {
+impl WriteKind for OptionalTextList {
+    type Value = Option<Vec<String>>;
+
     ghost written = { λ o. option_map (λ list. array (text_items list))
-        (option_map (λ list. map string_bytes list.items) o) };
-
-    ghost IsKept = { λ _. Unit {0} };
-
-    ghost reads_back = { λ name o _. list_again name
         (option_map (λ list. map string_bytes list.items) o) };
 
     fn write(alloc: Global, value: &Option<Vec<String>>) -> Result<Option<Value>, AllocError> {
@@ -192,12 +164,10 @@ impl ReadKind for OptionalNumber {
     }
 }
 
-impl MemberKind for OptionalNumber {
+impl WriteKind for OptionalNumber {
+    type Value = Option<u64>;
+
     ghost written = { option_map (λ n. number (unsigned n)) };
-
-    ghost IsKept = { λ _. Unit {0} };
-
-    ghost reads_back = { λ name o _. number_again name o };
 
     fn write(_alloc: Global, value: &Option<u64>) -> Result<Option<Value>, AllocError> {
         Ok(members::number_value(*value))
@@ -224,12 +194,10 @@ impl ReadKind for OptionalFlag {
     }
 }
 
-impl MemberKind for OptionalFlag {
+impl WriteKind for OptionalFlag {
+    type Value = Option<bool>;
+
     ghost written = { option_map boolean };
-
-    ghost IsKept = { λ _. Unit {0} };
-
-    ghost reads_back = { λ name o _. flag_again name o };
 
     fn write(_alloc: Global, value: &Option<bool>) -> Result<Option<Value>, AllocError> {
         match value {

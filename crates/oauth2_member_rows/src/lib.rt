@@ -7,14 +7,16 @@ mod member;
 mod member_pair;
 mod objects;
 mod rows;
+mod write_text;
 
 pub use kinds::{
     Needed, NeededTexts, Optional, OptionalFlag, OptionalNumber, OptionalText, OptionalTextList,
 };
-pub use member::{Member, MemberKind, ReadKind};
-pub use member_pair::{MemberPair, PairKind};
+pub use member::{Member, ReadKind, WriteKind};
+pub use member_pair::{MemberPair, ReadPairKind, WritePairKind};
 pub use objects::{
     object_of, object_with, read_body_with, read_object, read_value_after, read_value_and_others,
     read_value_with,
 };
 pub use rows::{Rows, WriteRows};
+pub use write_text::WriteText;

@@ -1,8 +1,8 @@
 //! A row for one member: its name and its kind.
 
-ghost use Rattle.std.specs.Prelude.{[], ◌∷◌, refl};
+ghost use Rattle.std.specs.Prelude.{[], ◌∷◌};
 ghost use Rattle.serde_json.specs.Find.{get_member};
-ghost use Rattle.oauth2_member_rows.specs.private.RowLaws.{member_depends, member_back};
+ghost use Rattle.oauth2_member_rows.specs.private.RowLaws.{member_depends};
 
 use crate::rows::{Rows, WriteRows};
 use oauth2_body_members::Object;
@@ -34,24 +34,21 @@ pub trait ReadKind {
         ensures { ReadsAs meaning result (reading name.now (option_map view found)) };
 }
 
-/// How the value of a member is read and written.
-pub trait MemberKind: ReadKind {
-    ghost use Rattle.std.specs.Prelude.{◌≡◌, ℕ, List, Option, Ok, IfOk, option_map};
+/// How the value of a member is written.
+pub trait WriteKind {
+    ghost use Rattle.std.specs.Prelude.{◌≡◌, Option, IfOk, option_map};
     ghost use Rattle.serde_json.specs.Data.{Data};
     ghost use Rattle.serde_json.specs.View.{view};
+
+    /// What is written: also a member that may be absent has a value.
+    type Value;
 
     /// What a value is written as; `None` is not written.
     ghost written: { Self.Value → Option Data };
 
-    /// The condition under which what is written reads back.
-    ghost IsKept: { Self.Value → Type 0 };
-
     /// The JSON value of a member; `None` is not written. An error means out of memory.
     fn write(alloc: Global, value: &Self::Value) -> Result<Option<Value>, AllocError>
         ensures { IfOk result (λ v. option_map view v ≡ written value.now) };
-
-    ghost reads_back: { (name : List ℕ) (x : Self.Value)
-        → IsKept x → Self.reading name (written x) ≡ Ok (Self.meaning x) };
 }
 
 /// A row: the name of a member, and its kind `K`.
@@ -80,17 +77,12 @@ impl<K: ReadKind> Rows for Member<K> {
     }
 }
 
-impl<K: MemberKind> WriteRows<&K::Value> for Member<K> {
+impl<K: WriteKind> WriteRows<&K::Value> for Member<K> {
+    ghost Values = { K.Value };
+
     ghost values_of = { λ v. v.now };
 
     ghost written = { λ m v. (m.0.now, K.written v) ∷ [] };
-
-    ghost IsKept = { K.IsKept };
-
-    ghost named = { λ m v. refl };
-
-    ghost reads_back = { λ m v ms held kept. member_back (K.reading m.0.now) (K.written v)
-        (K.meaning v) m.0.now ms held (K.reads_back m.0.now v kept) };
 
     fn put(
         &self,

@@ -1,8 +1,8 @@
 //! A row for a value that takes two members.
 
-ghost use Rattle.std.specs.Prelude.{[], ◌∷◌, refl};
+ghost use Rattle.std.specs.Prelude.{[], ◌∷◌};
 ghost use Rattle.serde_json.specs.Find.{get_member};
-ghost use Rattle.oauth2_member_rows.specs.private.RowLaws.{members_depend, members_back};
+ghost use Rattle.oauth2_member_rows.specs.private.RowLaws.{members_depend};
 
 use crate::rows::{Rows, WriteRows};
 use oauth2_body_members::Object;
@@ -11,9 +11,9 @@ use serde_json::{Map, Value};
 use std::alloc::{AllocError, Global};
 use std::marker::PhantomData;
 
-/// How a value that takes two members is read and written.
-pub trait PairKind {
-    ghost use Rattle.std.specs.Prelude.{◌≡◌, ℕ, List, Option, Ok, IfOk, option_map};
+/// How a value that takes two members is read.
+pub trait ReadPairKind {
+    ghost use Rattle.std.specs.Prelude.{ℕ, List, Option, option_map};
     ghost use Rattle.serde_json.specs.Data.{Data};
     ghost use Rattle.serde_json.specs.View.{view};
     ghost use Rattle.oauth2_json.specs.Reading.{Reading, ReadsAs};
@@ -29,14 +29,6 @@ pub trait PairKind {
     /// What the members of two names are read as.
     ghost reading: { List ℕ → List ℕ → Option Data → Option Data → Reading Meaning };
 
-    /// What a value is written as, under the first name and under the second.
-    ghost written: { Self.Value → Option Data };
-
-    ghost written_other: { Self.Value → Option Data };
-
-    /// The condition under which what is written reads back.
-    ghost IsKept: { Self.Value → Type 0 };
-
     /// Reads the members `name` and `other`.
     fn read(
         alloc: Global,
@@ -47,6 +39,21 @@ pub trait PairKind {
     ) -> Result<Self::Value, ReadError>
         ensures { ReadsAs meaning result (reading name.now other.now
             (option_map view found) (option_map view found_other)) };
+}
+
+/// How a value that takes two members is written.
+pub trait WritePairKind {
+    ghost use Rattle.std.specs.Prelude.{◌≡◌, Option, IfOk, option_map};
+    ghost use Rattle.serde_json.specs.Data.{Data};
+    ghost use Rattle.serde_json.specs.View.{view};
+
+    /// What is written under both names.
+    type Value;
+
+    /// What a value is written as, under the first name and under the second.
+    ghost written: { Self.Value → Option Data };
+
+    ghost written_other: { Self.Value → Option Data };
 
     /// The JSON value under the first name. An error means out of memory.
     fn write(alloc: Global, value: &Self::Value) -> Result<Option<Value>, AllocError>
@@ -55,15 +62,12 @@ pub trait PairKind {
     /// The JSON value under the second name. An error means out of memory.
     fn write_other(alloc: Global, value: &Self::Value) -> Result<Option<Value>, AllocError>
         ensures { IfOk result (λ v. option_map view v ≡ written_other value.now) };
-
-    ghost reads_back: { (name other : List ℕ) (x : Self.Value)
-        → IsKept x → reading name other (written x) (written_other x) ≡ Ok (meaning x) };
 }
 
 /// A row: the names of two members that hold one value, and its kind `K`.
 pub struct MemberPair<K>(pub &'static str, pub &'static str, pub PhantomData<K>);
 
-impl<K: PairKind> Rows for MemberPair<K> {
+impl<K: ReadPairKind> Rows for MemberPair<K> {
     type Values = K::Value;
 
     ghost Meaning = { K.Meaning };
@@ -89,18 +93,12 @@ impl<K: PairKind> Rows for MemberPair<K> {
     }
 }
 
-impl<K: PairKind> WriteRows<&K::Value> for MemberPair<K> {
+impl<K: WritePairKind> WriteRows<&K::Value> for MemberPair<K> {
+    ghost Values = { K.Value };
+
     ghost values_of = { λ v. v.now };
 
     ghost written = { λ m v. (m.0.now, K.written v) ∷ (m.1.now, K.written_other v) ∷ [] };
-
-    ghost IsKept = { K.IsKept };
-
-    ghost named = { λ m v. refl };
-
-    ghost reads_back = { λ m v ms held kept. members_back (K.reading m.0.now m.1.now)
-        (K.written v) (K.written_other v) (K.meaning v) m.0.now m.1.now ms held
-        (K.reads_back m.0.now m.1.now v kept) };
 
     fn put(
         &self,

@@ -1,7 +1,7 @@
 //! Whole JSON objects, read and written by their rows.
 
-ghost use Rattle.std.specs.Prelude.{◌≡◌, true, Ok, IfOk};
-ghost use Rattle.serde_json.specs.Data.{Members, object, no_members};
+ghost use Rattle.std.specs.Prelude.{◌≡◌, true, IfOk};
+ghost use Rattle.serde_json.specs.Data.{object, no_members};
 ghost use Rattle.serde_json.specs.View.{view};
 ghost use Rattle.oauth2_json.specs.Body.{body_reading};
 ghost use Rattle.oauth2_json.specs.Puts.{put_all};
@@ -33,12 +33,8 @@ pub fn object_of<V, R: WriteRows<V>>(
     alloc: Global,
     values: V,
 ) -> Result<Value, AllocError>
-    requires { are_distinct (R.names rows.now) ≡ true }
-    ensures written { IfOk result (λ v.
+    ensures { IfOk result (λ v.
         view v ≡ object (put_all (R.written rows.now (R.values_of values)) no_members)) }
-    ensures reads_back { IfOk result (λ v. R.IsKept (R.values_of values)
-        → object_reading (R.reading rows.now) (view v)
-        ≡ Ok (R.meaning (R.values_of values))) }
 {
     let mut members = Map::new(alloc);
     rows.put(alloc, values, &mut members)?;
@@ -123,20 +119,14 @@ pub fn read_value_after<R: Rows, E: FromJson + Drop>(
 }
 
 /// The object that is written by these rows, next to the members of `extra`.
-pub fn object_with<V: Drop, R: WriteRows<V>, E: FromJson + ToJson>(
+pub fn object_with<V: Drop, R: Rows + WriteRows<V>, E: ToJson>(
     rows: &R,
     alloc: Global,
     values: V,
     extra: &E,
 ) -> Result<Value, WriteError>
-    requires { are_distinct (R.names rows.now) ≡ true }
-    ensures written { WritesAs result
-        (writing_with (R.names rows.now) (R.written rows.now (R.values_of values))
-        (E.writing extra.now)) }
-    ensures reads_back { IfOk result (λ v. R.IsKept (R.values_of values) → (x : Members)
-        → E.writing extra.now ≡ Ok (object x) → E.reading (object x) ≡ Ok (E.meaning extra.now)
-        → reading_with (R.names rows.now) (R.reading rows.now) E.reading (view v)
-        ≡ Ok (R.meaning (R.values_of values), E.meaning extra.now)) }
+    ensures { WritesAs result (writing_with (R.names rows.now)
+        (R.written rows.now (R.values_of values)) (E.writing extra.now)) }
 {
     let mut names = Vec::new(alloc);
     rows.push_names(&mut names)?;

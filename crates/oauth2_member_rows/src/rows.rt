@@ -3,7 +3,7 @@
 ghost use Rattle.std.specs.Prelude.{[], ◌++◌, Ok, refl};
 ghost use Rattle.oauth2_json.specs.Reading.{◌⊛◌};
 ghost use Rattle.oauth2_member_rows.specs.Rows.{joined};
-ghost use Rattle.oauth2_member_rows.specs.private.RowLaws.{pair_depends, pair_named, pair_back};
+ghost use Rattle.oauth2_member_rows.specs.private.RowLaws.{pair_depends};
 
 use oauth2_body_members::Object;
 use oauth2_json::ReadError;
@@ -50,21 +50,18 @@ pub trait Rows {
 }
 
 /// The members of a type, written from `V`: references to the values, as nested pairs.
-pub trait WriteRows<V>: Rows {
-    ghost use Rattle.std.specs.Prelude.{◌≡◌, List, Ok, IfOk};
-    ghost use Rattle.serde_json.specs.Data.{Members};
+pub trait WriteRows<V> {
+    ghost use Rattle.std.specs.Prelude.{◌≡◌, List, IfOk};
     ghost use Rattle.serde_json.specs.View.{members_view};
-    ghost use Rattle.oauth2_json.specs.Puts.{Row, names as names_of_rows, put_all};
-    ghost use Rattle.oauth2_member_rows.specs.Rows.{Holds};
+    ghost use Rattle.oauth2_json.specs.Puts.{Row, put_all};
 
     /// The values that are referred to.
-    ghost values_of: { V → Self.Values };
+    ghost Values: { Type 0 };
+
+    ghost values_of: { V → Values };
 
     /// What is written: for each name its value, or `None` if the member is not written.
-    ghost written: { Self → Self.Values → List Row };
-
-    /// The condition under which what is written reads back.
-    ghost IsKept: { Self.Values → Type 0 };
+    ghost written: { Self → Values → List Row };
 
     /// Puts the members into an object.
     fn put(
@@ -76,12 +73,6 @@ pub trait WriteRows<V>: Rows {
         ensures { IfOk result (λ _. members_view members.new.entries
             ≡ put_all (written self.now (values_of values))
             (members_view members.old.entries)) };
-
-    ghost named: { (rows : Self) (v : Self.Values)
-        → names_of_rows (written rows v) ≡ Self.names rows };
-
-    ghost reads_back: { (rows : Self) (v : Self.Values) (ms : Members)
-        → Holds (written rows v) ms → IsKept v → Self.reading rows ms ≡ Ok (Self.meaning v) };
 }
 
 /// No rows.
@@ -108,15 +99,11 @@ impl Rows for () {
 }
 
 impl WriteRows<()> for () {
-    ghost values_of = { λ v. v };
+    ghost Values = { Unit {0} };
 
-    ghost written = { λ _ v. [] };
+    ghost values_of = { λ _. tt };
 
-    ghost IsKept = { λ _. Unit {0} };
-
-    ghost named = { λ _ v. refl };
-
-    ghost reads_back = { λ _ v ms _ _. refl };
+    ghost written = { λ _ _. [] };
 
     fn put(
         &self,
@@ -160,18 +147,11 @@ impl<A: Rows, B: Rows> Rows for (A, B) {
 }
 
 impl<A: WriteRows<V>, B: WriteRows<W>, V: Drop, W: Drop> WriteRows<(V, W)> for (A, B) {
+    ghost Values = { A.Values × B.Values };
+
     ghost values_of = { λ v. (A.values_of v.0, B.values_of v.1) };
 
     ghost written = { λ s v. A.written s.0 v.0 ++ B.written s.1 v.1 };
-
-    ghost IsKept = { λ v. A.IsKept v.0 × B.IsKept v.1 };
-
-    ghost named = { λ s v. pair_named (A.written s.0 v.0) (B.written s.1 v.1)
-        (A.names s.0) (B.names s.1) (A.named s.0 v.0) (B.named s.1 v.1) };
-
-    ghost reads_back = { λ s v ms held kept. pair_back (A.reading s.0) (B.reading s.1)
-        (A.written s.0 v.0) (B.written s.1 v.1) (A.meaning v.0) (B.meaning v.1) ms held
-        (λ h. A.reads_back s.0 v.0 ms h kept.0) (λ h. B.reads_back s.1 v.1 ms h kept.1) };
 
     fn put(
         &self,
