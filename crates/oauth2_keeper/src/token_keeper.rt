@@ -156,8 +156,8 @@ where
     I: EndpointState,
     R: EndpointState,
 {
-    /// A keeper without a token. A token is good until `margin` before its lifetime ends. Its
-    /// lifetime is `life` if the reply has none.
+    /// A keeper without a token. A token is good until `times.margin` before its lifetime ends. Its
+    /// lifetime is `times.default_lifetime` if the reply has none.
     pub fn new(
         client: &'a Client<TE, TR, TIR, RT, TRE, A, D, I, R, EndpointSet>,
         refresh_token: Option<RefreshToken>,

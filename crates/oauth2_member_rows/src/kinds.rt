@@ -37,7 +37,8 @@ impl<T: WriteText> WriteKind for Needed<T> {
     ghost written = { λ x. Some (string (T.text x)) };
 
     fn write(alloc: Global, value: &T) -> Result<Option<Value>, AllocError> {
-        Ok(Some(text_of(alloc, value)?))
+        let text = text_of(alloc, value)?;
+        Ok(Some(text))
     }
 }
 

@@ -2,3 +2,4 @@ pub mod Visible
 pub mod Values
 pub mod StartLaws
 pub mod EndLaws
+pub mod LoginBack

@@ -1,4 +1,3 @@
 pub mod ErrorTexts
 pub mod Started
 pub mod Stored
-pub mod private

@@ -13,13 +13,13 @@ ghost use Rattle.oauth2_stored_token.specs.Stored.{
   stored_reading,
   stored_writing,
 };
-ghost use Rattle.oauth2_stored_token.specs.private.Back.{moment_back, lifetime_back};
 
 use crate::stored_token::StoredToken;
 use jiff::Timestamp;
 use oauth2_json::{FromJson, ParseCause, ReadError, ToJson, WriteError, members};
 use oauth2_member_rows::{
-    Member, MemberPair, Needed, Optional, OptionalText, PairKind, object_of, read_object,
+    Member, MemberPair, Needed, Optional, OptionalText, ReadPairKind, WritePairKind, object_of,
+    read_object,
 };
 use oauth2_times::{needed_time, time_value};
 use oauth2_types::{AccessToken, ClientId, RefreshToken};
@@ -61,7 +61,7 @@ const ROWS: (
 // A moment, in whole seconds since 1970 and nanoseconds to add to them.
 struct Moment;
 
-impl PairKind for Moment {
+impl ReadPairKind for Moment {
     type Value = Timestamp;
 
     ghost Meaning = { ℤ };
@@ -69,14 +69,6 @@ impl PairKind for Moment {
     ghost meaning = { λ t. t.nanosecond };
 
     ghost reading = { moment_reading };
-
-    ghost written = { λ t. Some (second_data t.nanosecond) };
-
-    ghost written_other = { λ t. Some (whole_data (nanoseconds_of t.nanosecond)) };
-
-    ghost IsKept = { λ _. Unit {0} };
-
-    ghost reads_back = { λ name other t _. moment_back name other t.nanosecond t.in_range };
 
     fn read(
         alloc: Global,
@@ -92,6 +84,14 @@ impl PairKind for Moment {
             Err(_) => Err(ReadError::at(alloc, name, ParseCause::OutOfRange)),
         }
     }
+}
+
+impl WritePairKind for Moment {
+    type Value = Timestamp;
+
+    ghost written = { λ t. Some (second_data t.nanosecond) };
+
+    ghost written_other = { λ t. Some (whole_data (nanoseconds_of t.nanosecond)) };
 
     fn write(_alloc: Global, value: &Timestamp) -> Result<Option<Value>, AllocError> {
         Ok(time_value(Some(*value)))
@@ -112,7 +112,7 @@ fn nanoseconds_of(moment: Timestamp) -> u64
 // A lifetime, in whole seconds and nanoseconds to add to them.
 struct Lifetime;
 
-impl PairKind for Lifetime {
+impl ReadPairKind for Lifetime {
     type Value = Duration;
 
     ghost Meaning = { ℕ };
@@ -120,14 +120,6 @@ impl PairKind for Lifetime {
     ghost meaning = { as_nanos };
 
     ghost reading = { lifetime_reading };
-
-    ghost written = { λ d. Some (whole_data (as_nanos d / 1_000_000_000)) };
-
-    ghost written_other = { λ d. Some (whole_data (as_nanos d % 1_000_000_000)) };
-
-    ghost IsKept = { λ d. FitsDuration (as_nanos d) };
-
-    ghost reads_back = { λ name other d fits. lifetime_back name other (as_nanos d) fits };
 
     fn read(
         alloc: Global,
@@ -145,6 +137,14 @@ impl PairKind for Lifetime {
             Err(ReadError::at(alloc, name, ParseCause::OutOfRange))
         }
     }
+}
+
+impl WritePairKind for Lifetime {
+    type Value = Duration;
+
+    ghost written = { λ d. Some (whole_data (as_nanos d / 1_000_000_000)) };
+
+    ghost written_other = { λ d. Some (whole_data (as_nanos d % 1_000_000_000)) };
 
     fn write(_alloc: Global, value: &Duration) -> Result<Option<Value>, AllocError> {
         Ok(members::number_value(Some(value.as_secs())))
