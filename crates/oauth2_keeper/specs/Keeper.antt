@@ -73,7 +73,8 @@ pub record Given : Type 0 where
   pub lifetime : Option ℕ
   pub refresh_token : Option (List ℕ)
 
--- the token of a reply that was accepted at `now`; its lifetime is the default one if the reply has none
+-- the token of a reply that was accepted at `now`; its lifetime is the keeper's default one if the
+-- reply has none
 abbrev pub accepted_token : ℕ → ℤ → Given → AcceptedToken
 accepted_token default_lifetime now given =
     record { access_token = given.access_token; accepted_at = now; lifetime = unwrap_or given.lifetime default_lifetime }

@@ -3,7 +3,6 @@ use Rattle.std.specs.Prelude.{◌≡◌, ℕ, List, [], ◌∷◌, Bool, true, n
 use Rattle.std.specs.Str.{bytes_eq}
 use Rattle.serde_json.specs.Data.{Data, Members}
 use Rattle.serde_json.specs.Find.{get_member}
-use Rattle.oauth2_json.specs.Puts.{Row}
 use Rattle.oauth2_json.specs.Reading.{Reading}
 use Rattle.oauth2_body_members.specs.Table.{Column}
 
