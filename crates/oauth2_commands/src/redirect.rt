@@ -16,7 +16,7 @@ ghost use Rattle.oauth2_world.specs.Quotation.{quotation};
 
 use oauth2::AuthorizationCode;
 use oauth2_redirect::{ExpectedIssuer, RedirectError, read_redirect};
-use oauth2_request_commands::{RunStatus, add_answer, add_fault, members_shown};
+use oauth2_request_commands::{RunStatus, ShownError, add_answer, add_fault};
 use oauth2_script::{ExpectedIssuerParam, RedirectParams};
 use oauth2_world::{Events, Fault, FaultDetails, FaultKind, quoted};
 use std::alloc::{AllocError, Global};
@@ -57,10 +57,7 @@ fn details_in(alloc: Global, error: &RedirectError) -> Result<FaultDetails, Allo
     ensures { IfOk result (λ details. details_of details ≡ details_in error.now) }
 {
     match error {
-        RedirectError::Refused(error) => {
-            let members = members_shown(alloc, error)?;
-            Ok(FaultDetails::Refused(members))
-        }
+        RedirectError::Refused(error) => { Ok(FaultDetails::Refused(error.shown_members(alloc)?)) }
         RedirectError::OtherState => Ok(FaultDetails::None),
         RedirectError::OtherIssuer => Ok(FaultDetails::None),
         RedirectError::NoCode => Ok(FaultDetails::None),

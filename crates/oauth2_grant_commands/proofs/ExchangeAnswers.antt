@@ -4,17 +4,20 @@ use Rattle.std.specs.Prelude.{IsOkAnd}
 use Rattle.serde_json.specs.Data.{string}
 use Rattle.serde_json.specs.Written.{has_float}
 use Rattle.oauth2_codes.specs.Codes.{token_code, token_code_text}
+use Rattle.oauth2_codes.specs.ErrorResponse.{error_text, parts_of}
+use Rattle.oauth2_codes.specs.declared.error_response.StandardErrorResponse.{StandardErrorResponse}
 use Rattle.oauth2_codes.specs.declared.token_type.BasicTokenType.{BasicTokenType}
 use Rattle.oauth2_json.specs.Writing.{Writing}
 use Rattle.oauth2_replies.specs.Token.{Token, token_rows, token_seen, token_writing}
 use Rattle.oauth2_grants.specs.ExchangeFields.{exchange_fields, exchange_fields_writing, issued_type_of}
+use Rattle.oauth2_grants.specs.ExchangeErrors.{exchange_error_code, exchange_error_code_text}
+use Rattle.oauth2_grants.specs.declared.exchange_error.TokenExchangeErrorType.{TokenExchangeErrorType}
 use Rattle.oauth2_grants.specs.declared.exchange_fields.ExchangeFields.{ExchangeFields}
+use Rattle.oauth2_request_commands.specs.Exchange.{error_members}
 use Rattle.oauth2_request_commands.specs.Out.{members_text}
 use Rattle.oauth2_request_commands.proofs.NoFloats.{put_all-no_float, token_rows-free}
 use Rattle.oauth2_request_commands.proofs.Results.{free_of}
 use Rattle.oauth2_grant_commands.specs.ExchangeToken.{ExchangeAnswer, exchange_data}
-use Rattle.oauth2_grant_commands.specs.declared.exchange_error.ExchangeError.{ExchangeError}
-use Rattle.oauth2_grant_commands.specs.private.ExchangeError.{exchange_error_seen}
 
 abbrev pub ExchangeSeen : Type 0
 ExchangeSeen = Token ExchangeFields BasicTokenType
@@ -42,5 +45,7 @@ exchange_free t =
     (exchange_data-no_float (exchange_meaning t))
 
 -- how the server's error is shown
-pub exchange_error_told : (e : ExchangeError) → Some (members_text (exchange_error_seen e.0)) ≡ Some (members_text (exchange_error_seen e.0))
+pub exchange_error_told : (e : StandardErrorResponse TokenExchangeErrorType)
+    → error_text (Some (exchange_error_code_text (exchange_error_code e.error))) (parts_of (λ t. t) e)
+    ≡ Some (members_text (error_members exchange_error_code_text (parts_of exchange_error_code e)))
 exchange_error_told e = refl

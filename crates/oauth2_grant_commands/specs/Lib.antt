@@ -4,4 +4,3 @@ pub mod Assertion
 pub mod ExchangeToken
 pub mod Push
 pub mod Grant
-pub mod private

@@ -12,7 +12,6 @@ ghost use Rattle.oauth2_script.specs.Views.{client_view, exchange_token_view, ty
 ghost use Rattle.oauth2_wire.specs.ServerView.{pair_texts};
 ghost use Rattle.oauth2_world.specs.Replay.{client_replies};
 
-use crate::exchange_error::shown_end;
 use crate::token_grant::{show_grant_fault, token_client, with_extra};
 use oauth2_grants::{
     ExtensionTokenRequest, TokenClient, TokenExchange, TokenExchangeErrorResponse,
@@ -178,7 +177,6 @@ fn show_exchange(
     match with_extra(request, extra) {
         Ok(asked) => {
             let end = asked.request(alloc, http_client);
-            let end = shown_end(end);
             show_end(alloc, &mut http_client.events, &end)
         }
         Err(fault) => show_grant_fault(alloc, &mut http_client.events, fault),

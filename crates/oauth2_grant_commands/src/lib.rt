@@ -3,7 +3,6 @@
 #![tactic(auto)]
 
 mod assertion;
-mod exchange_error;
 mod exchange_token;
 mod extension;
 mod grant;

@@ -35,5 +35,5 @@ pub use introspect::run_introspect;
 pub use password::run_password;
 pub use refresh::run_refresh;
 pub use revoke::run_revoke;
-pub use shown_error::{ShownError, members_shown};
+pub use shown_error::ShownError;
 pub use status::RunStatus;

@@ -4,7 +4,6 @@ use Rattle.oauth2_codes.specs.ErrorResponse.{parts_of}
 use Rattle.oauth2_grants.specs.ExchangeErrors.{exchange_error_code, exchange_error_code_text}
 use Rattle.oauth2_grants.specs.Extension.{extension_configuration}
 use Rattle.oauth2_request_commands.specs.Exchange.{error_members}
-use Rattle.oauth2_request_commands.specs.Out.{success_output}
 use Rattle.oauth2_request_commands.proofs.Exchanges.{exchange_told}
 use Rattle.oauth2_grant_commands.specs.ExchangeToken.{IsExchangeAsked, exchange_answer, exchange_json}
 use Rattle.oauth2_grant_commands.proofs.ExchangeAnswers.{exchange_error_told, exchange_free, exchange_meaning, exchange_written-data}
@@ -20,7 +19,6 @@ pub returns-in-Ok : goal.returns-in-Ok
 unfolding exchange_json
 returns-in-Ok c =
     let r = c.in-Ok.asked in
-    let ended = c.shown_end-end.ensures (λ t. success_output (exchange_json (exchange_meaning t))) in
     IfOk-weaker c.show_end.result _ _
     (λ status shows. λ fed.
     asked_told (IsExchangeAsked (client_replies c.args.http_client.now)) c.args.request _ _ _ status r c.in-Ok.ensures.ok
@@ -28,7 +26,7 @@ returns-in-Ok c =
     (exchange_answer r.base.reply_rule) (extension_configuration r) r.token_url
     c.args.http_client.now c.request-end.new.http_client c.show_end.new.events status
     c.request-end.result c.request-end.ensures.once fed
-    (rw ended at (shows _ exchange_written-data exchange_error_told))))
+    (shows _ exchange_written-data exchange_error_told)))
     c.show_end.ensures
 
 pub returns-in-Err : goal.returns-in-Err
