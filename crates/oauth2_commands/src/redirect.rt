@@ -57,7 +57,7 @@ fn details_in(alloc: Global, error: &RedirectError) -> Result<FaultDetails, Allo
     ensures { IfOk result (λ details. details_of details ≡ details_in error.now) }
 {
     match error {
-        RedirectError::Refused(error) => { Ok(FaultDetails::Refused(error.shown_members(alloc)?)) }
+        RedirectError::Refused(error) => Ok(FaultDetails::Refused(error.shown_members(alloc)?)),
         RedirectError::OtherState => Ok(FaultDetails::None),
         RedirectError::OtherIssuer => Ok(FaultDetails::None),
         RedirectError::NoCode => Ok(FaultDetails::None),

@@ -4,8 +4,9 @@ ghost use Rattle.std.specs.Prelude.{◌≡◌, ℕ, List, Bool, Option, Some, If
 ghost use Rattle.std.specs.Prelude.{map, option_map, string_bytes};
 ghost use Rattle.serde_json.specs.Data.{array, boolean, number, unsigned, string};
 ghost use Rattle.serde_json.specs.View.{view};
-ghost use Rattle.oauth2_json.specs.Members.{needed_member, optional_member};
-ghost use Rattle.oauth2_json.specs.Values.{flag, text, text_items, text_list, texts, whole_number};
+ghost use Rattle.oauth2_json.specs.Members.{needed_member, optional_member, present_member};
+ghost use Rattle.oauth2_json.specs.Values.{flag, lowercase_reading, text, text_items, text_list};
+ghost use Rattle.oauth2_json.specs.Values.{texts, whole_number};
 
 use crate::member::{ReadKind, WriteKind};
 use crate::write_text::{WriteText, text_of};
@@ -72,6 +73,40 @@ impl<T: WriteText> WriteKind for Optional<T> {
     }
 }
 
+/// A required string that is read after its ASCII letters are lowered.
+pub struct NeededLowered<T>(PhantomData<T>);
+
+impl<T: FromJson + Drop> ReadKind for NeededLowered<T> {
+    type Value = T;
+
+    ghost Meaning = { T.Meaning };
+
+    ghost meaning = { T.meaning };
+
+    ghost reading = { needed_member (lowercase_reading T.reading) };
+
+    fn read(alloc: Global, name: &str, found: Option<Value>) -> Result<T, ReadError> {
+        members::needed_lowered(alloc, name, found)
+    }
+}
+
+/// A string that may be absent, but not null, and is read after its ASCII letters are lowered.
+pub struct PresentLowered<T>(PhantomData<T>);
+
+impl<T: FromJson + Drop> ReadKind for PresentLowered<T> {
+    type Value = Option<T>;
+
+    ghost Meaning = { Option T.Meaning };
+
+    ghost meaning = { option_map T.meaning };
+
+    ghost reading = { present_member (lowercase_reading T.reading) };
+
+    fn read(alloc: Global, name: &str, found: Option<Value>) -> Result<Option<T>, ReadError> {
+        members::present_lowered(alloc, name, found)
+    }
+}
+
 /// A required text, which reads as a list of one, or a required array of strings.
 pub struct NeededTexts;
 
@@ -116,6 +151,39 @@ impl WriteKind for OptionalText {
     }
 }
 
+/// A text, which reads as a list of one, or an array of strings; it may be absent or null. A list
+/// is written as an array.
+pub struct OptionalTexts;
+
+impl ReadKind for OptionalTexts {
+    type Value = Option<Vec<String>>;
+
+    ghost Meaning = { Option (List (List ℕ)) };
+
+    ghost meaning = { option_map (λ list. map string_bytes list.items) };
+
+    ghost reading = { optional_member texts };
+
+    fn read(
+        alloc: Global,
+        name: &str,
+        found: Option<Value>,
+    ) -> Result<Option<Vec<String>>, ReadError> {
+        members::optional_texts(alloc, name, found)
+    }
+}
+
+impl WriteKind for OptionalTexts {
+    type Value = Option<Vec<String>>;
+
+    ghost written = { λ o. option_map (λ list. array (text_items list))
+        (option_map (λ list. map string_bytes list.items) o) };
+
+    fn write(alloc: Global, value: &Option<Vec<String>>) -> Result<Option<Value>, AllocError> {
+        members::texts_value(alloc, value)
+    }
+}
+
 /// An array of strings that may be absent or null. A single string is `WrongType`.
 pub struct OptionalTextList;
 
@@ -148,6 +216,33 @@ impl WriteKind for OptionalTextList {
     }
 }
 
+/// A required whole number that is not negative.
+pub struct NeededNumber;
+
+impl ReadKind for NeededNumber {
+    type Value = u64;
+
+    ghost Meaning = { ℕ };
+
+    ghost meaning = { λ n. n };
+
+    ghost reading = { needed_member whole_number };
+
+    fn read(alloc: Global, name: &str, found: Option<Value>) -> Result<u64, ReadError> {
+        members::needed_number(alloc, name, found)
+    }
+}
+
+impl WriteKind for NeededNumber {
+    type Value = u64;
+
+    ghost written = { λ n. Some (number (unsigned n)) };
+
+    fn write(_alloc: Global, value: &u64) -> Result<Option<Value>, AllocError> {
+        Ok(members::number_value(Some(*value)))
+    }
+}
+
 /// A whole number that is not negative, or absent or null.
 pub struct OptionalNumber;
 
@@ -172,6 +267,33 @@ impl WriteKind for OptionalNumber {
 
     fn write(_alloc: Global, value: &Option<u64>) -> Result<Option<Value>, AllocError> {
         Ok(members::number_value(*value))
+    }
+}
+
+/// A required truth value.
+pub struct NeededFlag;
+
+impl ReadKind for NeededFlag {
+    type Value = bool;
+
+    ghost Meaning = { Bool };
+
+    ghost meaning = { λ b. b };
+
+    ghost reading = { needed_member flag };
+
+    fn read(alloc: Global, name: &str, found: Option<Value>) -> Result<bool, ReadError> {
+        members::needed_flag(alloc, name, found)
+    }
+}
+
+impl WriteKind for NeededFlag {
+    type Value = bool;
+
+    ghost written = { λ b. Some (boolean b) };
+
+    fn write(_alloc: Global, value: &bool) -> Result<Option<Value>, AllocError> {
+        Ok(Some(Value::Bool(*value)))
     }
 }
 

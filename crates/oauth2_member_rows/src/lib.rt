@@ -10,9 +10,10 @@ mod rows;
 mod write_text;
 
 pub use kinds::{
-    Needed, NeededTexts, Optional, OptionalFlag, OptionalNumber, OptionalText, OptionalTextList,
+    Needed, NeededFlag, NeededLowered, NeededNumber, NeededTexts, Optional, OptionalFlag,
+    OptionalNumber, OptionalText, OptionalTextList, OptionalTexts, PresentLowered,
 };
-pub use member::{Member, ReadKind, WriteKind};
+pub use member::{AsItIs, Member, ReadKind, WriteKind};
 pub use member_pair::{MemberPair, ReadPairKind, WritePairKind};
 pub use objects::{
     object_of, object_with, read_body_with, read_object, read_value_after, read_value_and_others,

@@ -1,7 +1,10 @@
 //! A row for one member: its name and its kind.
 
-ghost use Rattle.std.specs.Prelude.{[], ◌∷◌};
+ghost use Rattle.std.specs.Prelude.{[], ◌∷◌, Option, Ok, option_map};
 ghost use Rattle.serde_json.specs.Find.{get_member};
+ghost use Rattle.serde_json.specs.Data.{Data};
+ghost use Rattle.serde_json.specs.View.{view};
+ghost use Rattle.serde_json.specs.declared.value.Value.{Value};
 ghost use Rattle.oauth2_member_rows.specs.private.RowLaws.{member_depends};
 
 use crate::rows::{Rows, WriteRows};
@@ -52,6 +55,7 @@ pub trait WriteKind {
 }
 
 /// A row: the name of a member, and its kind `K`.
+#[derive(Drop)]
 pub struct Member<K>(pub &'static str, pub PhantomData<K>);
 
 impl<K: ReadKind> Rows for Member<K> {
@@ -92,5 +96,48 @@ impl<K: WriteKind> WriteRows<&K::Value> for Member<K> {
     ) -> Result<(), AllocError> {
         let value = K::write(alloc, values)?;
         members::put_some(members, alloc, self.0, value)
+    }
+}
+
+/// A row for a member that is read and written as it is: its name. `None` is not written.
+#[derive(Drop)]
+pub struct AsItIs(pub &'static str);
+
+impl Rows for AsItIs {
+    type Values = Option<Value>;
+
+    ghost Meaning = { Option Data };
+
+    ghost meaning = { option_map view };
+
+    ghost names = { λ m. m.0.now ∷ [] };
+
+    ghost reading = { λ m ms. Ok (get_member m.0.now ms) };
+
+    ghost depends = { λ m. member_depends (λ o. Ok o) m.0.now };
+
+    fn read(&self, _alloc: Global, object: &mut Object<'_>) -> Result<Option<Value>, ReadError> {
+        Ok(object.take(self.0))
+    }
+
+    fn push_names(&self, list: &mut Vec<&'static str>) -> Result<(), AllocError> {
+        Ok(list.push(self.0)?)
+    }
+}
+
+impl WriteRows<Option<Value>> for AsItIs {
+    ghost Values = { Option Value };
+
+    ghost values_of = { λ v. v };
+
+    ghost written = { λ m v. (m.0.now, option_map view v) ∷ [] };
+
+    fn put(
+        &self,
+        alloc: Global,
+        values: Option<Value>,
+        members: &mut Map<String, Value>,
+    ) -> Result<(), AllocError> {
+        members::put_some(members, alloc, self.0, values)
     }
 }

@@ -65,6 +65,7 @@ pub trait WritePairKind {
 }
 
 /// A row: the names of two members that hold one value, and its kind `K`.
+#[derive(Drop)]
 pub struct MemberPair<K>(pub &'static str, pub &'static str, pub PhantomData<K>);
 
 impl<K: ReadPairKind> Rows for MemberPair<K> {

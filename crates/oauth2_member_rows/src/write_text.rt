@@ -5,9 +5,13 @@ ghost use Rattle.serde_json.specs.Data.{string};
 ghost use Rattle.serde_json.specs.View.{view};
 
 use oauth2_json::{ToJson, WriteError};
-use oauth2_types::{AccessToken, ClientId, CsrfToken, PkceCodeVerifier, RefreshToken};
+use oauth2_types::{
+    AccessToken, ClientId, CsrfToken, DeviceCode, PkceCodeVerifier, RefreshToken, UserCode,
+    VerificationUriComplete,
+};
 use oauth2_urls::{
-    AuthUrl, DeviceAuthorizationUrl, IntrospectionUrl, RedirectUrl, RevocationUrl, TokenUrl,
+    AuthUrl, DeviceAuthorizationUrl, EndUserVerificationUrl, IntrospectionUrl, RedirectUrl,
+    RevocationUrl, TokenUrl,
 };
 use serde_json::Value;
 use std::alloc::{AllocError, Global};
@@ -102,6 +106,30 @@ impl WriteText for RevocationUrl {
 }
 
 impl WriteText for TokenUrl {
+    ghost text = { λ t. t.text };
+
+    ghost is_text = { λ _. refl };
+}
+
+impl WriteText for DeviceCode {
+    ghost text = { λ t. t };
+
+    ghost is_text = { λ _. refl };
+}
+
+impl WriteText for UserCode {
+    ghost text = { λ t. t };
+
+    ghost is_text = { λ _. refl };
+}
+
+impl WriteText for VerificationUriComplete {
+    ghost text = { λ t. t };
+
+    ghost is_text = { λ _. refl };
+}
+
+impl WriteText for EndUserVerificationUrl {
     ghost text = { λ t. t.text };
 
     ghost is_text = { λ _. refl };
