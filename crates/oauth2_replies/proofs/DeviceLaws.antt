@@ -1,42 +1,25 @@
 -- A device authorization response reads back.
-use Rattle.std.proofs.Common.{◌≡◌, ℕ, List, Bool, false, Option, Some, None, Result, Ok, Err, IfOk, refl, sym, ap, ◌∙◌, subst}
+use Rattle.std.proofs.Common.{◌≡◌, ℕ, List, Bool, true, false, Option, Some, None, Ok, Err, refl, sym, ap, subst}
+use Rattle.std.specs.Str.{is_utf8}
 use Rattle.serde_json.specs.Data.{Data, Members, null, boolean, number, string, array, object}
+use Rattle.serde_json.specs.Read.{read}
 use Rattle.url.specs.Parser.{Parsed, parse_url}
 use Rattle.url.specs.Parts.{Parts}
 use Rattle.oauth2_urls.specs.Addressed.{Addressed}
-use Rattle.oauth2_json.specs.Reading.{Reading, whole, at_member, ReadsAs, ◌⊛◌}
-use Rattle.oauth2_json.specs.declared.read.ReadError.{ReadError}
+use Rattle.oauth2_json.specs.Body.{body_reading, value_reading}
+use Rattle.oauth2_json.specs.Reading.{Reading, read_then, whole, at_member, ◌⊛◌}
 use Rattle.oauth2_json.specs.declared.read.ParseCause.TheVariants as cause
-use Rattle.oauth2_json.specs.Writing.{Writing, write_then}
-use Rattle.oauth2_json.specs.Members.{members_of_object, needed_member, either_name, others, clashes, beside}
+use Rattle.oauth2_json.specs.Writing.{Writing}
+use Rattle.oauth2_json.specs.Members.{members_of_object, needed_member, either_name}
 use Rattle.oauth2_json.specs.Values.{url}
-use Rattle.oauth2_json.specs.Puts.{put_all}
-use Rattle.oauth2_json.proofs.Puts.{rest}
-use Rattle.oauth2_json.proofs.Objects.{beside_taken, optional-text}
-use Rattle.oauth2_body_members.specs.Object.{Keeps}
-use Rattle.oauth2_body_members.specs.Table.{names_of}
-use Rattle.oauth2_body_members.specs.private.Groups.{turn_reading}
-use Rattle.oauth2_body_members.proofs.Tables.{in_three, kept_table, whole_table, read_back}
+use Rattle.oauth2_json.proofs.Objects.{optional-text}
+use Rattle.oauth2_body_members.specs.private.Groups.{Meanings}
+use Rattle.oauth2_member_rows.specs.Rows.{joined}
+use Rattle.oauth2_member_rows.specs.Objects.{reading_with, row_with}
+use Rattle.oauth2_member_rows.proofs.Tables.{pairs_reading, with_read_back}
 use Rattle.oauth2_replies.specs.Kept.{AreFieldsKept}
-use Rattle.oauth2_replies.specs.Device.{DeviceAuthorization, device_authorization, device_seen, device_table, device_names, device_rows, address_reading, device_row, device_reading, device_writing}
+use Rattle.oauth2_replies.specs.Device.{DeviceAuthorization, device_authorization, device_seen, device_table, device_names, address_reading, device_reading, device_writing}
 use Rattle.oauth2_replies.specs.private.Address.{IsAddress}
-use Rattle.oauth2_replies.specs.private.DeviceRows.{codes_table, codes_reading, addresses_table, addresses_reading, times_table, times_reading, device_in_turn}
-
--- group by group is row by row
-one_by_one : {E : Type 0} (er : Data → Reading E) (ms : Members) → device_in_turn er ms ≡ turn_reading device_table (Ok device_authorization) ms ⊛ er (object (others device_names ms))
-unfolding codes_reading addresses_reading times_reading
-one_by_one er ms =
-    let after_codes = others (names_of codes_table) ms in
-    ap (λ r. r ⊛ er (object (others device_names ms)))
-    (in_three codes_table addresses_table times_table device_authorization ms after_codes (others (names_of addresses_table) after_codes))
-
--- what is kept of the members reads as all of them
-pub kept_rows : {E : Type 0} (er : Data → Reading E) (b : Bool) (all kept : Members) → Keeps device_names b all kept → (b ≡ false → (x y : Members) → er (object x) ≡ er (object y))
-    → device_in_turn er kept ≡ device_row er all
-kept_rows er b all kept k any = one_by_one er kept ∙ kept_table device_table (Ok device_authorization) er b all kept refl k any
-
-pub rows_in_turn : {E : Type 0} (er : Data → Reading E) (d : Data) (ms : Members) → members_of_object d ≡ Ok ms → device_in_turn er ms ≡ device_reading er d
-rows_in_turn er d ms h = one_by_one er ms ∙ whole_table device_table (Ok device_authorization) er d ms refl h
 
 -- ---- the URL
 
@@ -66,9 +49,9 @@ address_read name None o a h = address_needed name o a h
 address_read name (Some d) None a h = address_needed name (Some d) a h
 address_read name (Some d) (Some e) a h = cc
 
-pub addresses : (name : List ℕ) (v o : Option Data) (r : Result Addressed ReadError) → ReadsAs (λ a. a) r (either_name url name v o) → IfOk r IsAddress
-addresses name v o (Ok a) h = address_read name v o a h
-addresses name v o (Err e) h = tt
+of_pair : (name : List ℕ) (v o : Option Data) (a : Addressed) → address_reading name v o ≡ Ok a → IsAddress a
+unfolding address_reading
+of_pair name v o a h = address_read name v o a h
 
 -- and it is read again from the text
 address_back : (name : List ℕ) (a : Addressed) → IsAddress a → address_reading name (Some (string a.text)) None ≡ Ok a
@@ -77,20 +60,48 @@ address_back name a h = subst (λ p. text_and_url name a.text p ≡ Ok a) (sym h
 
 -- ---- the whole response
 
--- what was put beside the extra members is found again
-device_again : {E : Type 0} (er : Data → Reading E) (r : DeviceAuthorization E) (ms : Members)
-    → clashes device_names ms ≡ false → IsAddress r.verification_uri → er (object ms) ≡ Ok r.extra_fields
-    → device_row er (put_all (device_rows r) ms) ≡ Ok r
-device_again er r ms free address again =
-    ap (λ x. x ⊛ er (object (others device_names (put_all (device_rows r) ms))))
-    (read_back device_table device_authorization (device_seen (λ _. tt) r)
-    (r.device_code, (r.user_code, (r.verification_uri, (r.verification_uri_complete, (r.expires_in, (r.interval, tt)))))) ms refl free
-    (refl, (refl, (address_back _ r.verification_uri address, (optional-text _ r.verification_uri_complete, (refl, (refl, tt)))))))
-    ∙ rw (rest (device_rows r) ms refl free, again) refl
+-- both parts of a pair that was read
+parts : {A B : Type 0} (f : Reading A) (g : Reading B) (a : A) (b : B) → Ok joined ⊛ f ⊛ g ≡ Ok (a, b) → (f ≡ Ok a) × (g ≡ Ok b)
+parts (Err e) g a b h = cc h
+parts (Ok x) (Err e) a b h = cc h
+parts {A = A} {B = B} (Ok x) (Ok y) a b h =
+    let pair : ◌≡◌ {A = A × B} (x, y) (a, b) = cc h in
+    (ap (λ v. Ok v.0) pair, ap (λ v. Ok v.1) pair)
+
+module _ {E : Type 0} (er : Data → Reading E) where
+  abbrev read_with : Data → Reading (Meanings device_table × E)
+  read_with d = reading_with device_names (pairs_reading device_table) er d
+
+  of_members : (ms : Members) (v : Meanings device_table × E) → row_with device_names (pairs_reading device_table) er ms ≡ Ok v → IsAddress v.0.1.1.0
+  of_members ms v h =
+      let own = parts _ _ v.0 v.1 h in
+      let after_code = parts _ _ v.0.0 v.0.1 own.0 in
+      let after_user_code = parts _ _ v.0.1.0 v.0.1.1 after_code.1 in
+      let address = parts _ _ v.0.1.1.0 v.0.1.1.1 after_user_code.1 in
+      of_pair _ _ _ v.0.1.1.0 address.0
+
+  of_object : (r : Reading Members) (v : Meanings device_table × E) → read_then r (row_with device_names (pairs_reading device_table) er) ≡ Ok v → IsAddress v.0.1.1.0
+  of_object (Err e) v h = cc h
+  of_object (Ok ms) v h = of_members ms v h
+
+  -- a URL that was read is that of its text
+  pub address_of : (d : Data) (v : Meanings device_table × E) → read_with d ≡ Ok v → IsAddress v.0.1.1.0
+  address_of d v h = of_object (members_of_object d) v h
+
+  of_value : (o : Option Data) (v : Meanings device_table × E) → value_reading read_with o ≡ Ok v → IsAddress v.0.1.1.0
+  of_value None v h = cc h
+  of_value (Some d) v h = address_of d v h
+
+  of_text : (bytes : List ℕ) (b : Bool) (v : Meanings device_table × E) → is_utf8 bytes ≡ b → body_reading read_with bytes ≡ Ok v → IsAddress v.0.1.1.0
+  of_text bytes true v is h = of_value (read bytes) v (rw is at h)
+  of_text bytes false v is h = cc (rw is at h)
+
+  pub address_of_body : (bytes : List ℕ) (v : Meanings device_table × E) → body_reading read_with bytes ≡ Ok v → IsAddress v.0.1.1.0
+  address_of_body bytes v h = of_text bytes (is_utf8 bytes) v refl h
 
 pub device_back : {E F : Type 0} (er : Data → Reading F) (em : E → F) (ew : E → Writing) (r : DeviceAuthorization E) → IsAddress r.verification_uri → (d : Data)
     → device_writing ew r ≡ Ok d → AreFieldsKept er em ew r.extra_fields → device_reading er d ≡ Ok (device_seen em r)
-device_back er em ew r address d h x =
-    let written : write_then (beside device_names (object x.members)) (λ ms. Ok (object (put_all (device_rows r) ms))) ≡ Ok d = rw x.written at h in
-    let taken = beside_taken device_names x.members (λ ms. object (put_all (device_rows r) ms)) d written in
-    rw (← taken.1) (device_again er (device_seen em r) x.members taken.0 address x.back)
+device_back {F = F} er em ew r address d h x =
+    with_read_back device_table (device_seen (λ _. tt) r) (r.device_code, (r.user_code, (r.verification_uri, (r.verification_uri_complete, (r.expires_in, (r.interval, tt)))))) refl
+    (refl, (refl, (address_back _ r.verification_uri address, (optional-text _ r.verification_uri_complete, (refl, (refl, tt))))))
+    refl (ew r.extra_fields) x.members d x.written h (DeviceAuthorization F) device_authorization er (em r.extra_fields) x.back

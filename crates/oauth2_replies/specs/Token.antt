@@ -1,6 +1,6 @@
 -- RFC 6749, 5.1: the members of a token response.
 use Rattle.std.specs.Prelude.{ℕ, List, Option, Some, Ok, codes, option_map}
-use Rattle.serde_json.specs.Data.{Data, Members, number, unsigned, string, object}
+use Rattle.serde_json.specs.Data.{Data, number, unsigned, string, object}
 use Rattle.oauth2_json.specs.Reading.{Reading, read_then, ◌⊛◌}
 use Rattle.oauth2_json.specs.Writing.{Writing, write_then}
 use Rattle.oauth2_json.specs.Members.{members_of_object, needed_member, optional_member, others, beside}

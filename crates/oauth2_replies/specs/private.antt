@@ -1,3 +1,1 @@
-pub mod TokenRows
-pub mod DeviceRows
 pub mod Address

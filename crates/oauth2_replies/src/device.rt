@@ -134,13 +134,6 @@ pub(crate) struct Addresses {
     pub(crate) verification_uri_complete: Option<VerificationUriComplete>,
 }
 
-// The lifetime of the codes and the wait between two requests, in seconds.
-#[derive(Drop)]
-pub(crate) struct Times {
-    pub(crate) expires_in: u64,
-    pub(crate) interval: u64,
-}
-
 impl<EF> DeviceAuthorizationResponse<EF> {
     fn copied_codes(&self, alloc: Global) -> Result<Codes, AllocError>
         ensures device_code { IfOk result (λ c. c.device_code ≡ self.now.device_code) }

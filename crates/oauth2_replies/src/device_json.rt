@@ -1,57 +1,166 @@
 //! Device authorization responses as JSON objects.
 
-ghost use Rattle.std.specs.Prelude.{◌≡◌, Ok, IfOk, option_map};
-ghost use Rattle.serde_json.specs.Data.{string};
-ghost use Rattle.serde_json.specs.Find.{get_member};
-ghost use Rattle.serde_json.specs.View.{view, members_view};
-ghost use Rattle.oauth2_json.specs.Reading.{ReadsAs};
-ghost use Rattle.oauth2_json.specs.Members.{without, others};
+ghost use Rattle.std.specs.Prelude.{◌≡◌, ℕ, Some, None, Ok, IfOk};
+ghost use Rattle.serde_json.specs.Data.{number, unsigned, string};
+ghost use Rattle.serde_json.specs.View.{view};
+ghost use Rattle.oauth2_json.specs.Members.{member_or};
+ghost use Rattle.oauth2_json.specs.Values.{whole_number};
 ghost use Rattle.oauth2_json.specs.Writing.{WritesAs};
-ghost use Rattle.oauth2_json.specs.Puts.{put_all};
-ghost use Rattle.oauth2_body_members.specs.Object.{object_members};
-ghost use Rattle.oauth2_body_members.specs.Table.{names_of};
-ghost use Rattle.oauth2_body_members.specs.private.Groups.{pair};
+ghost use Rattle.oauth2_urls.specs.Addressed.{Addressed};
 ghost use Rattle.oauth2_replies.specs.Kept.{AreFieldsKept};
 ghost use Rattle.oauth2_replies.specs.Device.{
   DeviceAuthorization,
+  device_authorization,
   device_seen,
   device_reading,
   device_writing,
-  device_rows,
   address_reading,
 };
 ghost use Rattle.oauth2_replies.specs.private.Address.{IsAddress};
-ghost use Rattle.oauth2_replies.specs.private.DeviceRows.{
-  codes_table,
-  codes_reading,
-  addresses_table,
-  addresses_reading,
-  times_table,
-  times_reading,
-  device_in_turn,
-};
 
-use crate::device::{
-    Addresses, Codes, DeviceAuthorizationResponse, ExtraDeviceAuthorizationFields, Times,
-};
-use oauth2_body_members::Object;
+use crate::device::{DeviceAuthorizationResponse, ExtraDeviceAuthorizationFields};
 use oauth2_json::{FromJson, ReadError, ToJson, WriteError, members};
-use oauth2_types::VerificationUriComplete;
+use oauth2_member_rows::{
+    Member, MemberPair, Needed, NeededNumber, Optional, ReadKind, ReadPairKind, WriteKind,
+    WritePairKind, object_with, read_body_with, read_value_with,
+};
+use oauth2_types::{DeviceCode, UserCode, VerificationUriComplete};
 use oauth2_urls::EndUserVerificationUrl;
-use serde_json::{Map, Value};
+use serde_json::Value;
 use std::alloc::{AllocError, Global};
+use std::marker::PhantomData;
 use std::ops::Deref;
 
-/// The members of RFC 8628, section 3.2, and a second name of `verification_uri`.
-const NAMES: [&str; 7] = [
-    "device_code",
-    "user_code",
-    "verification_uri",
-    "verification_url",
-    "verification_uri_complete",
-    "expires_in",
-    "interval",
-];
+// The members of RFC 8628, section 3.2, and a second name of `verification_uri`.
+const ROWS: (
+    Member<Needed<DeviceCode>>,
+    (
+        Member<Needed<UserCode>>,
+        (
+            MemberPair<VerificationUri>,
+            (
+                Member<Optional<VerificationUriComplete>>,
+                (Member<NeededNumber>, (Member<Interval>, ())),
+            ),
+        ),
+    ),
+) = (
+    Member("device_code", PhantomData),
+    (
+        Member("user_code", PhantomData),
+        (
+            MemberPair("verification_uri", "verification_url", PhantomData),
+            (
+                Member("verification_uri_complete", PhantomData),
+                (
+                    Member("expires_in", PhantomData),
+                    (Member("interval", PhantomData), ()),
+                ),
+            ),
+        ),
+    ),
+);
+
+// What these members are read as.
+type Values = (
+    DeviceCode,
+    (
+        UserCode,
+        (
+            EndUserVerificationUrl,
+            (Option<VerificationUriComplete>, (u64, (u64, ()))),
+        ),
+    ),
+);
+
+// The URL under one of two names, which is written under the first. A value under both is an error.
+struct VerificationUri;
+
+impl ReadPairKind for VerificationUri {
+    type Value = EndUserVerificationUrl;
+
+    ghost Meaning = { Addressed };
+
+    ghost meaning = { λ u. u };
+
+    ghost reading = { λ name _. address_reading name };
+
+    #[tactic(auto, unfolding(crate::specs::Device::address_reading))]
+    fn read(
+        alloc: Global,
+        name: &str,
+        _other: &str,
+        found: Option<Value>,
+        found_other: Option<Value>,
+    ) -> Result<EndUserVerificationUrl, ReadError> {
+        members::either_name(alloc, name, found, found_other)
+    }
+}
+
+impl WritePairKind for VerificationUri {
+    type Value = EndUserVerificationUrl;
+
+    ghost written = { λ u. Some (string u.text) };
+
+    ghost written_other = { λ _. None };
+
+    fn write(alloc: Global, value: &EndUserVerificationUrl) -> Result<Option<Value>, AllocError> {
+        Ok(Some(Value::try_from_str(alloc, value.deref().as_str())?))
+    }
+
+    fn write_other(
+        _alloc: Global,
+        _value: &EndUserVerificationUrl,
+    ) -> Result<Option<Value>, AllocError> {
+        Ok(None)
+    }
+}
+
+// The wait in seconds between two requests; absent and null read as 5.
+struct Interval;
+
+impl ReadKind for Interval {
+    type Value = u64;
+
+    ghost Meaning = { ℕ };
+
+    ghost meaning = { λ n. n };
+
+    ghost reading = { λ name. member_or whole_number name 5 };
+
+    fn read(alloc: Global, name: &str, found: Option<Value>) -> Result<u64, ReadError> {
+        members::number_or(alloc, name, 5, found)
+    }
+}
+
+impl WriteKind for Interval {
+    type Value = u64;
+
+    ghost written = { λ n. Some (number (unsigned n)) };
+
+    fn write(_alloc: Global, value: &u64) -> Result<Option<Value>, AllocError> {
+        Ok(members::number_value(Some(*value)))
+    }
+}
+
+// The response with these members.
+fn response_of<EF>(values: Values, extra_fields: EF) -> DeviceAuthorizationResponse<EF>
+    requires { IsAddress values.1.1.0 }
+    ensures { result ≡ device_authorization values.0 values.1.0 values.1.1.0 values.1.1.1.0
+        values.1.1.1.1.0 values.1.1.1.1.1.0 extra_fields }
+{
+    let (device_code, (user_code, (verification_uri, rest))) = values;
+    let (verification_uri_complete, (expires_in, (interval, ()))) = rest;
+    DeviceAuthorizationResponse {
+        device_code,
+        user_code,
+        verification_uri,
+        verification_uri_complete,
+        expires_in,
+        interval,
+        extra_fields,
+    }
+}
 
 impl<EF: ExtraDeviceAuthorizationFields + Drop> FromJson for DeviceAuthorizationResponse<EF> {
     ghost Meaning = { DeviceAuthorization EF.Meaning };
@@ -64,146 +173,25 @@ impl<EF: ExtraDeviceAuthorizationFields + Drop> FromJson for DeviceAuthorization
         alloc: Global,
         value: Value,
     ) -> Result<DeviceAuthorizationResponse<EF>, ReadError> {
-        let members = Object::of_value(alloc, value)?;
-        from_members(alloc, members)
+        let (values, extra_fields) = read_value_with(&ROWS, alloc, value)?;
+        Ok(response_of(values, extra_fields))
     }
 
     fn from_body(
         alloc: Global,
         bytes: &[u8],
     ) -> Result<DeviceAuthorizationResponse<EF>, ReadError> {
-        let members = Object::of_body(alloc, bytes, &NAMES, EF::reads_members())?;
-        from_members(alloc, members)
+        let (values, extra_fields) = read_body_with(&ROWS, alloc, bytes)?;
+        Ok(response_of(values, extra_fields))
     }
 }
 
-// The URL under one of two names. A value under both is an error.
-fn take_address(
-    alloc: Global,
-    members: &mut Object<'_>,
-    name: &str,
-    other: &str,
-) -> Result<EndUserVerificationUrl, ReadError>
-    ensures read { ReadsAs (λ uri. uri) result
-        (address_reading name.now (get_member name.now (object_members members.old))
-        (get_member other.now (without name.now (object_members members.old)))) }
-    ensures rest { object_members members.new
-        ≡ without other.now (without name.now (object_members members.old)) }
-    ensures address { IfOk result IsAddress }
+// The verification URL, and that contracts may take it to be its text, parsed.
+fn uri_of<EF>(response: &DeviceAuthorizationResponse<EF>) -> &EndUserVerificationUrl
+    ensures same { result.now ≡ response.now.verification_uri }
+    ensures address { IsAddress response.now.verification_uri }
 {
-    members.either_name(alloc, name, other)
-}
-
-#[tactic(auto, unfolding(crate::specs::private::DeviceRows::codes_reading))]
-fn take_codes(alloc: Global, members: &mut Object<'_>) -> Result<Codes, ReadError>
-    ensures read { ReadsAs (λ c. pair c.device_code c.user_code) result
-        (codes_reading (object_members members.old)) }
-    ensures rest { IfOk result (λ _. object_members members.new
-        ≡ others (names_of codes_table) (object_members members.old)) }
-{
-    Ok(Codes {
-        device_code: members.needed(alloc, "device_code")?,
-        user_code: members.needed(alloc, "user_code")?,
-    })
-}
-
-#[tactic(auto, unfolding(crate::specs::private::DeviceRows::addresses_reading))]
-fn take_addresses(alloc: Global, members: &mut Object<'_>) -> Result<Addresses, ReadError>
-    ensures read { ReadsAs (λ a. pair a.verification_uri a.verification_uri_complete) result
-        (addresses_reading (object_members members.old)) }
-    ensures address { IfOk result (λ a. IsAddress a.verification_uri) }
-    ensures rest { IfOk result (λ _. object_members members.new
-        ≡ others (names_of addresses_table) (object_members members.old)) }
-{
-    Ok(Addresses {
-        verification_uri: take_address(alloc, members, "verification_uri", "verification_url")?,
-        verification_uri_complete: members.optional(alloc, "verification_uri_complete")?,
-    })
-}
-
-#[tactic(auto, unfolding(crate::specs::private::DeviceRows::times_reading))]
-fn take_times(alloc: Global, members: &mut Object<'_>) -> Result<Times, ReadError>
-    ensures read { ReadsAs (λ t. pair t.expires_in t.interval) result
-        (times_reading (object_members members.old)) }
-    ensures rest { IfOk result (λ _. object_members members.new
-        ≡ others (names_of times_table) (object_members members.old)) }
-{
-    Ok(Times {
-        expires_in: members.needed_number(alloc, "expires_in")?,
-        interval: members.number_or(alloc, "interval", 5)?,
-    })
-}
-
-// Reads the members group by group, and then the extra fields from the members that are left.
-fn from_members<EF: ExtraDeviceAuthorizationFields + Drop>(
-    alloc: Global,
-    mut members: Object<'_>,
-) -> Result<DeviceAuthorizationResponse<EF>, ReadError>
-    ensures { ReadsAs (device_seen EF.meaning) result
-        (device_in_turn EF.reading (object_members members.entry)) }
-{
-    let codes = take_codes(alloc, &mut members)?;
-    let addresses = take_addresses(alloc, &mut members)?;
-    let times = take_times(alloc, &mut members)?;
-    let extra_fields = EF::from_json(alloc, members.into_value(alloc)?)?;
-    Ok(DeviceAuthorizationResponse {
-        device_code: codes.device_code,
-        user_code: codes.user_code,
-        verification_uri: addresses.verification_uri,
-        verification_uri_complete: addresses.verification_uri_complete,
-        expires_in: times.expires_in,
-        interval: times.interval,
-        extra_fields,
-    })
-}
-
-fn uri_value(alloc: Global, uri: &EndUserVerificationUrl) -> Result<Value, AllocError>
-    ensures { IfOk result (λ v. view v ≡ string uri.now.text) }
-{
-    Value::try_from_str(alloc, uri.deref().as_str())
-}
-
-fn uri_complete_value(
-    alloc: Global,
-    uri: &Option<VerificationUriComplete>,
-) -> Result<Option<Value>, AllocError>
-    ensures { IfOk result (λ v. option_map view v ≡ option_map string uri.now) }
-{
-    members::text_value(alloc, &uri.as_ref().map(VerificationUriComplete::secret))
-}
-
-impl<EF: ExtraDeviceAuthorizationFields> DeviceAuthorizationResponse<EF> {
-    fn to_value(&self, alloc: Global) -> Result<Value, WriteError>
-        ensures written { WritesAs result (device_writing EF.writing self.now) }
-        ensures address { IsAddress self.now.verification_uri }
-    {
-        let extra = self.extra_fields.to_json(alloc)?;
-        let members = members::beside(&NAMES, extra)?;
-        Ok(Value::Object(self.with_members(alloc, members)?))
-    }
-
-    fn with_members(
-        &self,
-        alloc: Global,
-        mut members: Map<String, Value>,
-    ) -> Result<Map<String, Value>, AllocError>
-        ensures { IfOk result (λ all. members_view all.entries
-            ≡ put_all (device_rows self.now) (members_view members.entries)) }
-    {
-        let interval = members::number_value(Some(self.interval));
-        members::put_some(&mut members, alloc, "interval", interval)?;
-        let expires_in = members::number_value(Some(self.expires_in));
-        members::put_some(&mut members, alloc, "expires_in", expires_in)?;
-        let complete = uri_complete_value(alloc, &self.verification_uri_complete)?;
-        members::put_some(&mut members, alloc, "verification_uri_complete", complete)?;
-        let uri = uri_value(alloc, &self.verification_uri)?;
-        members::put_some(&mut members, alloc, "verification_uri", Some(uri))?;
-        let user_code = Value::try_from_str(alloc, self.user_code.secret().as_str())?;
-        members::put_some(&mut members, alloc, "user_code", Some(user_code))?;
-        let device_code = Value::try_from_str(alloc, self.device_code.secret().as_str())?;
-        members::put_some(&mut members, alloc, "device_code", Some(device_code))?;
-        Ok(members)
-    }
+    &response.verification_uri
 }
 
 impl<EF: ExtraDeviceAuthorizationFields> ToJson for DeviceAuthorizationResponse<EF> {
@@ -216,6 +204,9 @@ impl<EF: ExtraDeviceAuthorizationFields> ToJson for DeviceAuthorizationResponse<
             AreFieldsKept EF.reading EF.meaning EF.writing self.now.extra_fields
             → device_reading EF.reading (view v) ≡ Ok (device_seen EF.meaning self.now)) }
     {
-        self.to_value(alloc)
+        let times = (&self.expires_in, (&self.interval, ()));
+        let addresses = (uri_of(self), (&self.verification_uri_complete, times));
+        let values = (&self.device_code, (&self.user_code, addresses));
+        object_with(&ROWS, alloc, values, &self.extra_fields)
     }
 }

@@ -17,7 +17,7 @@ pub use device::{
 };
 pub use extra_fields::ExtraFields;
 pub use revocation::{RevocableToken, StandardRevocableToken};
-pub use scopes::scopes_value;
+pub use scopes::OptionalScopes;
 pub use token::{
     BasicTokenResponse, EmptyExtraTokenFields, ExtraTokenFields, StandardTokenResponse,
     TokenResponse,
