@@ -1,6 +1,6 @@
 -- The error response of RFC 6749, 5.2 (and so of RFC 7009, 2.2.1, and RFC 8628, 3.5).
 use Rattle.std.specs.Prelude.{◌≡◌, ℕ, List, [], ◌++◌, Option, Some, None, Ok, codes, option_map, string_bytes}
-use Rattle.serde_json.specs.Data.{Data, Members, string, object, no_members}
+use Rattle.serde_json.specs.Data.{Data, string, object, no_members}
 use Rattle.oauth2_json.specs.Reading.{Reading, read_then}
 use Rattle.oauth2_json.specs.Writing.{Writing, write_then}
 use Rattle.oauth2_json.specs.Members.{members_of_object, needed_member, optional_member}

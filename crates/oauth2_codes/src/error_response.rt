@@ -1,22 +1,27 @@
 //! Error responses (RFC 6749, section 5.2).
 
 ghost use Rattle.std.specs.Prelude.{◌≡◌, Ok};
-ghost use Rattle.oauth2_json.specs.Reading.{ReadsAs};
-ghost use Rattle.oauth2_body_members.specs.Object.{object_members};
-ghost use Rattle.oauth2_body_members.specs.Table.{table_reading};
-ghost use Rattle.oauth2_codes.specs.ErrorResponse.{parts_of, parts_of_error, error_table};
 
 use crate::basic_error::BasicErrorResponseType;
 use crate::device_error::DeviceCodeErrorResponseType;
 use crate::error_traits::{ErrorResponse, ErrorResponseType};
 use crate::revocation_error::RevocationErrorResponseType;
-use oauth2_body_members::Object;
-use oauth2_json::{FromJson, ReadError, ToJson, WriteError, members};
+use oauth2_json::{FromJson, ReadError, ToJson, WriteError};
+use oauth2_member_rows::{AsItIs, Member, Needed, OptionalText, object_of, read_body, read_object};
 use oauth2_types::TryClone;
 use oauth2_types::display::write_display;
-use serde_json::{Map, Value};
+use serde_json::Value;
 use std::alloc::{AllocError, Global};
 use std::fmt;
+use std::marker::PhantomData;
+
+// The members of an error response: the name of the first, and the others.
+const ERROR: &str = "error";
+
+const DETAILS: (Member<OptionalText>, (Member<OptionalText>, ())) = (
+    Member("error_description", PhantomData),
+    (Member("error_uri", PhantomData), ()),
+);
 
 /// An error response (RFC 6749, section 5.2): a code and, if the server sent them, a description
 /// and the URI of a page about the error.
@@ -93,48 +98,23 @@ impl<T: FromJson + Drop> FromJson for StandardErrorResponse<T> {
     ghost reading = { error_reading T.reading };
 
     fn from_json(alloc: Global, value: Value) -> Result<StandardErrorResponse<T>, ReadError> {
-        let members = Object::of_value(alloc, value)?;
-        from_members(alloc, members)
+        let rows = (Member::<Needed<T>>(ERROR, PhantomData), DETAILS);
+        let (error, (error_description, (error_uri, ()))) = read_object(&rows, alloc, value)?;
+        Ok(StandardErrorResponse {
+            error,
+            error_description,
+            error_uri,
+        })
     }
 
     fn from_body(alloc: Global, bytes: &[u8]) -> Result<StandardErrorResponse<T>, ReadError> {
-        let names = ["error", "error_description", "error_uri"];
-        let members = Object::of_body(alloc, bytes, &names, false)?;
-        from_members(alloc, members)
-    }
-}
-
-#[tactic(auto, using(oauth2_json::proofs::Objects::member_facts))]
-fn from_members<T: FromJson + Drop>(
-    alloc: Global,
-    mut members: Object<'_>,
-) -> Result<StandardErrorResponse<T>, ReadError>
-    ensures { ReadsAs (parts_of T.meaning) result
-        (table_reading (error_table T.reading) (Ok parts_of_error)
-        (object_members members.entry)) }
-{
-    Ok(StandardErrorResponse {
-        error: members.needed(alloc, "error")?,
-        error_description: members.optional(alloc, "error_description")?,
-        error_uri: members.optional(alloc, "error_uri")?,
-    })
-}
-
-impl<T: FromJson + ToJson> StandardErrorResponse<T> {
-    ghost use Rattle.oauth2_json.specs.Writing.{WritesAs};
-    ghost use Rattle.oauth2_codes.specs.ErrorResponse.{parts_of, error_writing};
-
-    fn to_value(&self, alloc: Global) -> Result<Value, WriteError>
-        ensures { WritesAs result (error_writing T.writing (parts_of (λ t. t) self.now)) }
-    {
-        let error = self.error.to_json(alloc)?;
-        let description = members::text_value(alloc, &self.error_description)?;
-        let uri = members::text_value(alloc, &self.error_uri)?;
-        let mut members = Map::new(alloc);
-        members::put_some(&mut members, alloc, "error_uri", uri)?;
-        members::put_some(&mut members, alloc, "error_description", description)?;
-        members::put_some(&mut members, alloc, "error", Some(error))?;
-        Ok(Value::Object(members))
+        let rows = (Member::<Needed<T>>(ERROR, PhantomData), DETAILS);
+        let (error, (error_description, (error_uri, ()))) = read_body(&rows, alloc, bytes)?;
+        Ok(StandardErrorResponse {
+            error,
+            error_description,
+            error_uri,
+        })
     }
 }
 
@@ -154,7 +134,13 @@ impl<T: FromJson + ToJson> ToJson for StandardErrorResponse<T> {
             IsReadBack T.reading T.meaning T.writing (parts_of (λ t. t) self.now).error
             → error_reading T.reading (view v) ≡ Ok (parts_of T.meaning self.now)) }
     {
-        self.to_value(alloc)
+        let error = self.error.to_json(alloc)?;
+        let rows = (AsItIs(ERROR), DETAILS);
+        let values = (
+            Some(error),
+            (&self.error_description, (&self.error_uri, ())),
+        );
+        Ok(object_of(&rows, alloc, values)?)
     }
 }
 

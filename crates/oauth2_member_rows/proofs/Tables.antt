@@ -87,6 +87,17 @@ module _ {R : Type 0} (X : Type 0) (t : Table R) (f : Builder t X) where
   pub object_errs : (d : Data) (e : ReadError) → ErrsAs e (object_reading (pairs_reading t) d) → ErrsAs e (object_reading (table_reading t (Ok f)) d)
   object_errs d e h = made_errs (uncurried {X = X} t f) _ _ (object_made d) e h
 
+  object_body_made : (bytes : List ℕ) → Ok (uncurried {X = X} t f) ⊛ body_reading (object_reading (pairs_reading t)) bytes ≡ body_reading (object_reading (table_reading t (Ok f))) bytes
+  object_body_made bytes = made_body (uncurried {X = X} t f) (object_reading (pairs_reading t)) (object_reading (table_reading t (Ok f))) object_made bytes
+
+  -- what a body reads to
+  pub object_body_built : (bytes : List ℕ) (m : Meanings t) → body_reading (object_reading (pairs_reading t)) bytes ≡ Ok m → body_reading (object_reading (table_reading t (Ok f))) bytes ≡ Ok (uncurried {X = X} t f m)
+  object_body_built bytes m h = made_of (uncurried {X = X} t f) _ _ (object_body_made bytes) m h
+
+  -- and its fault
+  pub object_body_errs : (bytes : List ℕ) (e : ReadError) → ErrsAs e (body_reading (object_reading (pairs_reading t)) bytes) → ErrsAs e (body_reading (object_reading (table_reading t (Ok f))) bytes)
+  object_body_errs bytes e h = made_errs (uncurried {X = X} t f) _ _ (object_body_made bytes) e h
+
 -- ---- a whole object, whose other members are read as an `F`
 
 module _ {R F : Type 0} (X : Type 0) (t : Table R) (f : Builder t (F → X)) (extra : Data → Reading F) where

@@ -16,8 +16,8 @@ pub use kinds::{
 pub use member::{AsItIs, Member, ReadKind, WriteKind};
 pub use member_pair::{MemberPair, ReadPairKind, WritePairKind};
 pub use objects::{
-    object_of, object_with, read_body_with, read_object, read_value_after, read_value_and_others,
-    read_value_with,
+    object_of, object_with, read_body, read_body_with, read_object, read_value_after,
+    read_value_and_others, read_value_with,
 };
 pub use rows::{Rows, WriteRows};
 pub use write_text::WriteText;

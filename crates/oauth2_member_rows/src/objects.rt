@@ -27,6 +27,18 @@ pub fn read_object<R: Rows>(rows: &R, alloc: Global, value: Value) -> Result<R::
     rows.read(alloc, &mut object)
 }
 
+/// Reads a whole body that is an object by its rows. Its other members are ignored.
+pub fn read_body<R: Rows>(rows: &R, alloc: Global, bytes: &[u8]) -> Result<R::Values, ReadError>
+    requires { are_distinct (R.names rows.now) ≡ true }
+    ensures { ReadsAs R.meaning result
+        (body_reading (object_reading (R.reading rows.now)) bytes.now) }
+{
+    let mut names = Vec::new(alloc);
+    rows.push_names(&mut names)?;
+    let mut object = Object::of_body(alloc, bytes, names.as_slice(), false)?;
+    rows.read(alloc, &mut object)
+}
+
 /// The object that is written by these rows.
 pub fn object_of<V, R: WriteRows<V>>(
     rows: &R,
