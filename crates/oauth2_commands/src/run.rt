@@ -7,7 +7,6 @@ ghost use Rattle.oauth2_request_commands.specs.Out.{Adds};
 ghost use Rattle.oauth2_commands.specs.Input.{Calls};
 ghost use Rattle.oauth2_commands.specs.Run.{
   IsCommandOutput,
-  IsOutputOf,
   IsResultOf,
   IsRunOutput,
   IsScriptOutput,
@@ -16,6 +15,7 @@ ghost use Rattle.oauth2_commands.specs.Run.{
 ghost use Rattle.oauth2_script.specs.Views.{
   client_view,
   command_view,
+  read_view,
   script_command_view,
   script_view,
   stored_reply,
@@ -30,7 +30,7 @@ use oauth2_grant_commands::run_grant;
 use oauth2_request_commands::{RunStatus, client_of};
 use oauth2_results::text_of;
 use oauth2_script::{
-    ClientPart, Command, Reply, Script, ScriptCommand, ScriptError, result_form_in, script_in,
+    ClientPart, Command, Reply, Script, ScriptCommand, ScriptFault, ScriptInput, script_input,
 };
 use oauth2_world::{Event, Events, ScriptedClient, ScriptedClock, ScriptedWorld, adapt_replies};
 use std::alloc::{AllocError, Global};
@@ -112,19 +112,20 @@ fn events_of(alloc: Global, script: Script) -> Result<(Events, RunStatus), Alloc
     Ok((http_client.events, status))
 }
 
-// Runs the script in this input; returns its events and its status.
-#[tactic(auto, unfolding(crate::specs::Run::IsOutputOf))]
-fn run_input(alloc: Global, input: &[u8]) -> Result<(Events, RunStatus), AllocError>
-    ensures { IfOk result (λ r. Shows r.0 r.1 (IsOutputOf input.now)) }
+// Runs the script that was read, or shows its fault; returns the events and the status.
+fn run_read(
+    alloc: Global,
+    read: Result<Script, ScriptFault>,
+) -> Result<(Events, RunStatus), AllocError>
+    ensures { IfOk result (λ r. Shows r.0 r.1 (IsScriptOutput (read_view read))) }
 {
-    match script_in(alloc, input) {
+    match read {
         Ok(script) => events_of(alloc, script),
-        Err(ScriptError::Bad(fault)) => {
+        Err(fault) => {
             let mut events = Events::new(alloc);
             events.push(Event::BadScript(fault))?;
             Ok((events, RunStatus::BadScript))
         }
-        Err(ScriptError::Memory) => Err(AllocError),
     }
 }
 
@@ -133,8 +134,8 @@ fn run_input(alloc: Global, input: &[u8]) -> Result<(Events, RunStatus), AllocEr
 fn output_of(alloc: Global, input: &[u8]) -> Result<(String, RunStatus), AllocError>
     ensures { IfOk result (λ r. IsResultOf input.now (string_bytes r.0) r.1) }
 {
-    let (events, status) = run_input(alloc, input)?;
-    let form = result_form_in(alloc, input)?;
+    let ScriptInput { form, script } = script_input(alloc, input)?;
+    let (events, status) = run_read(alloc, script)?;
     let text = text_of(alloc, form, &events)?;
     Ok((text, status))
 }

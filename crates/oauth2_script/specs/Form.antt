@@ -19,7 +19,7 @@ abbrev pub form_part : Data → Reading ResultForm
 form_part d = word form_of d
 
 -- the form that an input names by its member `result`
-unfoldable pub named_form : List ℕ → Reading ResultForm
+abbrev pub named_form : List ℕ → Reading ResultForm
 named_form input = json_in input >>= needed_part form_part (codes "result")
 
 -- a form that was read; else lines

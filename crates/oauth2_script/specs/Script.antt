@@ -49,7 +49,7 @@ script_of d = do
   Ok (record { client = client; command = command; replies = replies; readings = readings })
 
 -- what the bytes of an input are read as
-unfoldable pub read_script : List ℕ → Reading Script
+abbrev pub read_script : List ℕ → Reading Script
 read_script input = json_in input >>= script_of
 
 -- the script that the bytes of an input are, or its fault

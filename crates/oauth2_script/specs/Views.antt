@@ -1,9 +1,11 @@
 -- The views of the types of the code: what contracts see of them, with texts as bytes.
-use Rattle.std.specs.Prelude.{map, option_map, string_bytes}
+use Rattle.std.specs.Prelude.{map, option_map, string_bytes, Result, Ok, Err}
 use Rattle.std.specs.Duration.{as_nanos}
 use Rattle.std.specs.Int.NonZero.{non_zero_u64_get}
 use Rattle.serde_json.specs.View.{view}
 use Rattle.oauth2_replies.specs.Device.{device_seen}
+use Rattle.oauth2_script.specs.Fault.{Fault}
+use Rattle.oauth2_script.specs.Gives.{script_fault_view}
 use Rattle.oauth2_script.specs.Client as client_spec
 use Rattle.oauth2_script.specs.Command as command_spec
 use Rattle.oauth2_script.specs.GrantCommand as grant_spec
@@ -65,6 +67,7 @@ use Rattle.oauth2_script.specs.declared.reply.HttpReply.{HttpReply}
 use Rattle.oauth2_script.specs.declared.reply.Reply.{Reply}
 use Rattle.oauth2_script.specs.declared.reply.Reply.TheVariants.{Replied, Failed}
 use Rattle.oauth2_script.specs.declared.script.Script.{Script}
+use Rattle.oauth2_script.specs.declared.script_fault.ScriptFault.{ScriptFault}
 
 -- the parameters of the command `code` as contracts see them
 abbrev pub code_view : CodeParams → code_spec.CodeParams
@@ -320,3 +323,8 @@ script_view s = record {
   replies = map stored_reply s.replies.items;
   readings = map (λ t. t.nanosecond) s.readings.items;
 }
+
+-- the script that was read, or its fault, as contracts see it
+abbrev pub read_view : Result Script ScriptFault → Result script_spec.Script Fault
+read_view (Ok s) = Ok (script_view s)
+read_view (Err f) = Err (script_fault_view f)

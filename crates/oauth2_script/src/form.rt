@@ -1,12 +1,13 @@
 //! The form in which a script asks for its result.
 
-ghost use Rattle.std.specs.Prelude.{◌≡◌, IfOk};
+ghost use Rattle.std.specs.Prelude.{◌≡◌, codes};
+ghost use Rattle.serde_json.specs.View.{view};
 ghost use Rattle.oauth2_script.specs.Form as spec;
-ghost use Rattle.oauth2_script_values.specs.Gives.{Gives};
+ghost use Rattle.oauth2_script_values.specs.Part.{needed_part};
 
-use oauth2_script_values::{Part, PartError, ScriptCause, bad, json_in, needed};
+use oauth2_script_values::{Part, PartError, ScriptCause, bad, needed};
 use serde_json::Value;
-use std::alloc::{AllocError, Global};
+use std::alloc::Global;
 
 /// The form in which the result of a run is written.
 #[derive(Clone, Copy, Debug, PartialEq, Eq)]
@@ -40,23 +41,13 @@ impl Part for ResultForm {
     }
 }
 
-#[tactic(auto, unfolding(crate::specs::Form::named_form))]
-fn named_form(alloc: Global, input: &[u8]) -> Result<ResultForm, PartError>
-    ensures { Gives (λ form. form) result (spec.named_form input.now) }
+/// The form that a value names by its member `result`; lines if it names none.
+pub fn result_form(alloc: Global, value: &Value) -> ResultForm
+    ensures { result
+        ≡ spec.or_lines (needed_part spec.form_part (codes "result") (view value.now)) }
 {
-    let value = json_in(alloc, input)?;
-    let form = needed(alloc, &value, "result")?;
-    Ok(form)
-}
-
-/// Reads the form that the input names by its member `result`; lines if it names none.
-#[tactic(auto, unfolding(crate::specs::Form::form_in))]
-pub fn result_form_in(alloc: Global, input: &[u8]) -> Result<ResultForm, AllocError>
-    ensures { IfOk result (λ form. form ≡ spec.form_in input.now) }
-{
-    match named_form(alloc, input) {
-        Ok(form) => Ok(form),
-        Err(PartError::Bad(_)) => Ok(ResultForm::Lines),
-        Err(PartError::Memory) => Err(AllocError),
+    match needed(alloc, value, "result") {
+        Ok(form) => form,
+        Err(_) => ResultForm::Lines,
     }
 }

@@ -1,25 +1,24 @@
-//! A script, and how it is read from the input.
+//! A script, and how it is read from a JSON value.
 
-ghost use Rattle.std.specs.Prelude.{◌≡◌, option_map, IfErr};
+ghost use Rattle.std.specs.Prelude.{◌≡◌, option_map, IfErr, IfOk};
 ghost use Rattle.serde_json.specs.View.{view};
 ghost use Rattle.serde_json.specs.Data.{object, no_members};
+ghost use Rattle.oauth2_script.specs.Fault.{told};
 ghost use Rattle.oauth2_script.specs.Script as spec;
 ghost use Rattle.oauth2_script_values.specs.Gives.{Gives, IsBad, fault_view};
-ghost use Rattle.oauth2_script.specs.Gives.{GivesScript};
-ghost use Rattle.oauth2_script.specs.Views.{client_view, script_view};
+ghost use Rattle.oauth2_script.specs.Views.{client_view, read_view, script_view};
 
 use crate::client_part::ClientPart;
 use crate::form::ResultForm;
 use crate::reply::Reply;
 use crate::script_command::{ScriptCommand, script_command_of};
-use crate::script_error::{ScriptError, ScriptFault};
+use crate::script_fault::{ScriptFault, script_fault};
 use jiff_core::Timestamp;
 use oauth2_script_values::{
-    PartError, PartFault, Path, ScriptCause, Step, an_object, bad_member, json_in, listed, needed,
-    optional, path_text,
+    PartError, PartFault, Path, ScriptCause, Step, an_object, bad_member, listed, needed, optional,
 };
 use serde_json::{Map, Value};
-use std::alloc::Global;
+use std::alloc::{AllocError, Global};
 
 /// A script: the client, one command, the replies of the server and the readings of the clock.
 #[derive(Drop)]
@@ -103,29 +102,13 @@ fn script_of(alloc: Global, value: &Value) -> Result<Script, PartError>
     })
 }
 
-#[tactic(auto, unfolding(crate::specs::Script::read_script))]
-fn read_script(alloc: Global, input: &[u8]) -> Result<Script, PartError>
-    ensures { Gives script_view result (spec.read_script input.now) }
+/// Reads a value as a script; if it is bad, tells the first member that is, and why.
+pub fn read_script(alloc: Global, value: &Value) -> Result<Result<Script, ScriptFault>, AllocError>
+    ensures { IfOk result (λ read. read_view read ≡ told (spec.script_of (view value.now))) }
 {
-    let value = json_in(alloc, input)?;
-    let script = script_of(alloc, &value)?;
-    Ok(script)
-}
-
-/// Reads the whole input as a script; if it is bad, tells the first member that is, and why.
-#[tactic(auto, unfolding(crate::specs::Script::script_in))]
-pub fn script_in(alloc: Global, input: &[u8]) -> Result<Script, ScriptError>
-    ensures { GivesScript script_view result (spec.script_in input.now) }
-{
-    match read_script(alloc, input) {
-        Ok(script) => Ok(script),
-        Err(PartError::Memory) => Err(ScriptError::Memory),
-        Err(PartError::Bad(fault)) => {
-            let member = path_text(alloc, fault.path)?;
-            Err(ScriptError::Bad(ScriptFault {
-                member,
-                why: fault.why,
-            }))
-        }
+    match script_of(alloc, value) {
+        Ok(script) => Ok(Ok(script)),
+        Err(PartError::Bad(fault)) => Ok(Err(script_fault(alloc, fault)?)),
+        Err(PartError::Memory) => Err(AllocError),
     }
 }
