@@ -1,5 +1,5 @@
 -- What only private clauses and lemmas cite.
 pub mod Found
-pub mod Groups
+pub mod Meanings
 pub mod Taken
 pub mod Texts

@@ -7,7 +7,6 @@ mod member;
 mod nested;
 mod number;
 mod object;
-mod readers;
 mod text;
 
 pub use object::Object;

@@ -14,7 +14,7 @@ use Rattle.oauth2_json.proofs.Objects.{beside_taken}
 use Rattle.oauth2_json.proofs.Puts.{are_distinct as none_twice, rest as rest_of_all}
 use Rattle.oauth2_body_members.specs.Table.{Table, ◌▸◌, end, Builder, names_of, rows_of, table_reading, values_under}
 use Rattle.oauth2_body_members.proofs.Tables.{IsReadBack, read_back}
-use Rattle.oauth2_body_members.specs.private.Groups.{Meanings, uncurried}
+use Rattle.oauth2_body_members.specs.private.Meanings.{Meanings, uncurried}
 use Rattle.oauth2_member_rows.specs.Rows.{are_distinct, Agree, joined}
 use Rattle.oauth2_member_rows.specs.private.RowLaws.{agree_parts}
 use Rattle.oauth2_member_rows.specs.Objects.{as_it_is, object_reading, row_with, reading_with, reading_after, writing_with}

@@ -13,7 +13,7 @@ use Rattle.oauth2_json.specs.Writing.{Writing}
 use Rattle.oauth2_json.specs.Members.{members_of_object, needed_member, either_name}
 use Rattle.oauth2_json.specs.Values.{url}
 use Rattle.oauth2_json.proofs.Objects.{optional-text}
-use Rattle.oauth2_body_members.specs.private.Groups.{Meanings}
+use Rattle.oauth2_body_members.specs.private.Meanings.{Meanings}
 use Rattle.oauth2_member_rows.specs.Rows.{joined}
 use Rattle.oauth2_member_rows.specs.Objects.{reading_with, row_with}
 use Rattle.oauth2_member_rows.proofs.Tables.{pairs_reading, with_read_back}

@@ -1,11 +1,9 @@
 //! Times as JSON members: whole seconds since 1970-01-01T00:00:00Z (RFC 7662, section 2.2).
 
 ghost use Rattle.std.specs.Prelude.{◌≡◌, ℕ, ℤ, List, Ok, IfSome, option_map};
-ghost use Rattle.serde_json.specs.Find.{get_member};
 ghost use Rattle.serde_json.specs.View.{view};
 ghost use Rattle.oauth2_json.specs.Reading.{ReadsAs};
-ghost use Rattle.oauth2_json.specs.Members.{without, needed_member, optional_member};
-ghost use Rattle.oauth2_body_members.specs.Object.{object_members};
+ghost use Rattle.oauth2_json.specs.Members.{needed_member, optional_member};
 ghost use Rattle.oauth2_times.specs.Instants.{
   instant,
   instant_at,
@@ -15,7 +13,6 @@ ghost use Rattle.oauth2_times.specs.Instants.{
 };
 
 use jiff::Timestamp;
-use oauth2_body_members::Object;
 use oauth2_json::{FromJson, ParseCause, ReadError, members};
 use serde_json::Value;
 use std::alloc::Global;
@@ -81,34 +78,6 @@ pub fn needed_time(alloc: Global, name: &str, found: Option<Value>) -> Result<Ti
 {
     let Instant(at) = members::needed::<Instant>(alloc, name, found)?;
     Ok(at)
-}
-
-/// Takes the member `name` out of `members` and reads it as `optional_time` does.
-pub fn take_optional_time(
-    alloc: Global,
-    members: &mut Object<'_>,
-    name: &str,
-) -> Result<Option<Timestamp>, ReadError>
-    ensures read { ReadsAs (option_map (λ t. t.nanosecond)) result
-        (optional_member instant name.now (get_member name.now (object_members members.old))) }
-    ensures rest { object_members members.new ≡ without name.now (object_members members.old) }
-{
-    let found = members.take(name);
-    optional_time(alloc, name, found)
-}
-
-/// Takes the member `name` out of `members` and reads it as `needed_time` does.
-pub fn take_needed_time(
-    alloc: Global,
-    members: &mut Object<'_>,
-    name: &str,
-) -> Result<Timestamp, ReadError>
-    ensures read { ReadsAs (λ t. t.nanosecond) result
-        (needed_member instant name.now (get_member name.now (object_members members.old))) }
-    ensures rest { object_members members.new ≡ without name.now (object_members members.old) }
-{
-    let found = members.take(name);
-    needed_time(alloc, name, found)
 }
 
 // The whole seconds of a time since 1970, rounded down.

@@ -5,5 +5,5 @@
 mod instants;
 mod sum;
 
-pub use instants::{needed_time, optional_time, take_needed_time, take_optional_time, time_value};
+pub use instants::{needed_time, optional_time, time_value};
 pub use sum::nanosecond_after;
