@@ -7,7 +7,7 @@ ghost use Rattle.form_urlencoded.specs.Form.{append_pair, byte_serialize, equals
 ghost use Rattle.form_urlencoded.specs.Form.{serialize_byte, serialize_pair, IsPrefix};
 ghost use Rattle.oauth2_form.specs.ExtendsForm.{ExtendsForm};
 ghost use Rattle.oauth2_form.specs.FormEncoding.{form_text};
-ghost use Rattle.oauth2_form.specs.Length.{counted};
+ghost use Rattle.oauth2_form.specs.Length.{usize_len};
 ghost use Rattle.oauth2_form.specs.private.EncodingTable.{single_byte};
 
 use percent_encoding::percent_encode_byte;
@@ -66,7 +66,7 @@ pub fn append_pair(form: &mut Vec<u8>, name: &str, value: &str) -> Result<(), Al
 
 /// The length in bytes of the form-encoded text, or `usize::MAX` if it is longer.
 pub fn encoded_len(text: &str) -> usize
-    ensures { result ≡ counted (byte_serialize text.now) }
+    ensures { result ≡ usize_len (byte_serialize text.now) }
 {
     let mut len: usize = 0;
     for &byte in text.as_bytes() {
@@ -78,9 +78,9 @@ pub fn encoded_len(text: &str) -> usize
 /// The length in bytes of a form of `form_len` bytes after one more pair, whose encoded value has
 /// `value_len` bytes; `usize::MAX` if it is longer.
 pub fn len_with_pair(form_len: usize, name: &str, value_len: usize) -> usize
-    ensures { (form value : List ℕ) → form_len ≡ counted form
-        → value_len ≡ counted (byte_serialize value)
-        → result ≡ counted (append_pair form name.now value) }
+    ensures { (form value : List ℕ) → form_len ≡ usize_len form
+        → value_len ≡ usize_len (byte_serialize value)
+        → result ≡ usize_len (append_pair form name.now value) }
 {
     let separator = if form_len == 0 { 0 } else { "&".len() };
     let name = form_len

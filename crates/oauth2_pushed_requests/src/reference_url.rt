@@ -7,7 +7,7 @@ ghost use Rattle.url.specs.Parser.{IsOutOfRoom};
 ghost use Rattle.url.specs.Parts.{IsValid};
 ghost use Rattle.url.specs.Setters.{append_query_pairs};
 ghost use Rattle.oauth2_form.specs.ExtendsForm.{ExtendsForm};
-ghost use Rattle.oauth2_form.specs.Length.{counted};
+ghost use Rattle.oauth2_form.specs.Length.{usize_len};
 ghost use Rattle.oauth2_form.specs.Query.{ExtendsQuery};
 ghost use Rattle.oauth2_requests.specs.Authorization.{IsTooLong};
 ghost use Rattle.oauth2_pushed_requests.specs.Pushed.{reference_pairs};
@@ -74,7 +74,7 @@ fn extended_query(
 // The length of that query in bytes, or `usize::MAX` if it is longer. Allocates nothing.
 fn query_len(endpoint: &Url, client_id: &str, request_uri: &str) -> usize
     ensures { let query = unwrap_or endpoint.now.query [] in
-        result ≡ counted (extend_pairs query (reference_pairs client_id.now request_uri.now)) }
+        result ≡ usize_len (extend_pairs query (reference_pairs client_id.now request_uri.now)) }
 {
     let len = with_pair(own_query(endpoint).len(), "client_id", client_id);
     with_pair(len, "request_uri", request_uri)
@@ -82,8 +82,8 @@ fn query_len(endpoint: &Url, client_id: &str, request_uri: &str) -> usize
 
 // The length `len` with one more parameter.
 fn with_pair(len: usize, name: &str, value: &str) -> usize
-    ensures { (query : List ℕ) → len ≡ counted query
-        → result ≡ counted (extend_pairs query ((name.now, value.now) ∷ [])) }
+    ensures { (query : List ℕ) → len ≡ usize_len query
+        → result ≡ usize_len (extend_pairs query ((name.now, value.now) ∷ [])) }
 {
     len_with_pair(len, name, encoded_len(value))
 }
@@ -97,7 +97,7 @@ fn own_query(url: &Url) -> &str
 
 // Whether the URL with a query of `query_len` bytes would be longer than a `Url` can be.
 fn is_too_long(url: &Url, query_len: usize) -> bool
-    ensures longer { (query : List ℕ) → query_len ≡ counted query
+    ensures longer { (query : List ℕ) → query_len ≡ usize_len query
         → (IsTrue result ↔ IsTooLong (record url.now { query = Some query })) }
     ensures valid { IsValid url.now }
 {

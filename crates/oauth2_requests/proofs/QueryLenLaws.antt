@@ -7,7 +7,7 @@ use Rattle.std.proofs.lemmas.List.Sums.{fold-append}
 use Rattle.std.proofs.lemmas.Grind.{flat_map-append}
 use Rattle.form_urlencoded.specs.Form.{byte_serialize, append_pair, extend_pairs}
 use Rattle.form_urlencoded.proofs.FormLemmas.{byte_serialize-cons, byte_serialize-append}
-use Rattle.oauth2_form.specs.Length.{counted}
+use Rattle.oauth2_form.specs.Length.{usize_len}
 use Rattle.oauth2_form.specs.Pairs.{Pair}
 use Rattle.oauth2_json.specs.Words.{joined_words}
 use Rattle.oauth2_wire.specs.Expected.{optional_pair}
@@ -39,14 +39,14 @@ cut_once : (a b more m : ℕ) → more ≡ 1 + b → min (min (min a m + 1) m + 
 cut_once a b more m is = omega (arith, is)
 
 -- one word more was counted
-pub counted-word : (text : List ℕ) (words : List (List ℕ)) (word : List ℕ)
-    → min (min (counted (byte_serialize (text ++ further_words words)) + 1) (2 ^ 64 - 1) + counted (byte_serialize word)) (2 ^ 64 - 1) ≡ counted (byte_serialize (text ++ further_words (words ++ word ∷ [])))
-counted-word text words word =
+pub usize_len-word : (text : List ℕ) (words : List (List ℕ)) (word : List ℕ)
+    → min (min (usize_len (byte_serialize (text ++ further_words words)) + 1) (2 ^ 64 - 1) + usize_len (byte_serialize word)) (2 ^ 64 - 1) ≡ usize_len (byte_serialize (text ++ further_words (words ++ word ∷ [])))
+usize_len-word text words word =
     let front = byte_serialize (text ++ further_words words) in
     let longer : length (43 ∷ byte_serialize word) ≡ 1 + length (byte_serialize word) = omega arith in
     cut_once (length front) (length (byte_serialize word)) (length (43 ∷ byte_serialize word)) (2 ^ 64 - 1) longer
     ∙ ap (λ n. min n (2 ^ 64 - 1)) (sym (length-append front (43 ∷ byte_serialize word)))
-    ∙ ap counted (sym (longer_text text words word))
+    ∙ ap usize_len (sym (longer_text text words word))
 
 -- ---- whether there is a scope to send
 
@@ -63,15 +63,15 @@ one_scope (b ∷ bs) some = refl
 -- ---- all pairs of a request
 
 -- the count after the pairs of each kind is that after all of them
-pub counted-asked : (query : List ℕ) (r : Authorization)
-    → counted (extend_pairs (extend_pairs (extend_pairs (extend_pairs (extend_pairs query (required_pairs r)) (challenge_pairs r.pkce_challenge)) (optional_pair (codes "redirect_uri") (option_map given_text r.redirect_url))) (scope_pairs (joined_words r.scopes))) r.extra_params)
-    ≡ counted (extend_pairs query (query_pairs r))
-counted-asked query r =
+pub usize_len-asked : (query : List ℕ) (r : Authorization)
+    → usize_len (extend_pairs (extend_pairs (extend_pairs (extend_pairs (extend_pairs query (required_pairs r)) (challenge_pairs r.pkce_challenge)) (optional_pair (codes "redirect_uri") (option_map given_text r.redirect_url))) (scope_pairs (joined_words r.scopes))) r.extra_params)
+    ≡ usize_len (extend_pairs query (query_pairs r))
+usize_len-asked query r =
     let challenge = challenge_pairs r.pkce_challenge in
     let redirect = optional_pair (codes "redirect_uri") (option_map given_text r.redirect_url) in
     let scope = scope_pairs (joined_words r.scopes) in
     let first = extend_pairs query (required_pairs r) in
-    ap counted (sym (extend_pairs-append query (required_pairs r) (challenge ++ redirect ++ scope ++ r.extra_params)
+    ap usize_len (sym (extend_pairs-append query (required_pairs r) (challenge ++ redirect ++ scope ++ r.extra_params)
     ∙ extend_pairs-append first (challenge ++ redirect ++ scope) r.extra_params
     ∙ ap (λ q. extend_pairs q r.extra_params) (extend_pairs-append first (challenge ++ redirect) scope
     ∙ ap (λ q. extend_pairs q scope) (extend_pairs-append first challenge redirect))))

@@ -13,7 +13,7 @@ ghost use Rattle.oauth2_requests.specs.Authorization.{IsTooLong, asked_url, quer
 ghost use Rattle.oauth2_requests.specs.Authorization.{challenge_pairs, scope_pairs};
 ghost use Rattle.oauth2_requests.specs.Authorization.{required_pairs, optional_pairs};
 ghost use Rattle.form_urlencoded.specs.Form.{extend_pairs};
-ghost use Rattle.oauth2_form.specs.Length.{counted};
+ghost use Rattle.oauth2_form.specs.Length.{usize_len};
 ghost use Rattle.oauth2_form.specs.Query.{ExtendsQuery};
 ghost use Rattle.oauth2_form.specs.ExtendsForm.{ExtendsForm};
 
@@ -223,7 +223,7 @@ impl<'a> AuthorizationRequest<'a> {
     // The length in bytes of the query of the authorization URL, or `usize::MAX` if it is longer.
     fn query_len(&self) -> usize
         ensures { let query = unwrap_or self.now.auth_url.url.query [] in
-            result ≡ counted (extend_pairs query (query_pairs self.now)) }
+            result ≡ usize_len (extend_pairs query (query_pairs self.now)) }
     {
         let own = own_query(self.auth_url.url());
         let len = self.required_len(own.len());
@@ -235,8 +235,8 @@ impl<'a> AuthorizationRequest<'a> {
 
     // The length of a query of `own` bytes with the parameters that every request sends.
     fn required_len(&self, own: usize) -> usize
-        ensures { (query : List ℕ) → own ≡ counted query
-            → result ≡ counted (extend_pairs query (required_pairs self.now)) }
+        ensures { (query : List ℕ) → own ≡ usize_len query
+            → result ≡ usize_len (extend_pairs query (required_pairs self.now)) }
     {
         let len = with_pair(own, "response_type", self.response_type.as_str());
         let len = with_pair(len, "client_id", self.client_id.as_str());
@@ -287,7 +287,7 @@ fn own_query(url: &Url) -> &str
 
 // Whether the URL with a query of `query_len` bytes would be longer than a `Url` can be.
 fn is_too_long(url: &Url, query_len: usize) -> bool
-    ensures longer { (query : List ℕ) → query_len ≡ counted query
+    ensures longer { (query : List ℕ) → query_len ≡ usize_len query
         → (IsTrue result ↔ IsTooLong (record url.now { query = Some query })) }
     ensures valid { IsValid url.now }
 {

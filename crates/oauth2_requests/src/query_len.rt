@@ -5,7 +5,7 @@ ghost use Rattle.std.specs.Prelude.{◌≡◌, ◌≢◌, ◌∷◌, [], ◌++�
 ghost use Rattle.std.specs.Prelude.{◌↔◌, IsTrue, length, map, option_map};
 ghost use Rattle.std.specs.List.{flat_map};
 ghost use Rattle.form_urlencoded.specs.Form.{byte_serialize, extend_pairs};
-ghost use Rattle.oauth2_form.specs.Length.{counted};
+ghost use Rattle.oauth2_form.specs.Length.{usize_len};
 ghost use Rattle.oauth2_json.specs.Words.{joined_words};
 ghost use Rattle.oauth2_requests.specs.Authorization.{challenge_pairs, scope_pairs};
 ghost use Rattle.oauth2_wire.specs.Expected.{optional_pair};
@@ -17,8 +17,8 @@ use oauth2_wire::{ParamText, RedirectRef};
 
 /// The length `len` with the parameters of a code challenge added.
 pub fn with_challenge(len: usize, challenge: &Option<PkceCodeChallenge>) -> usize
-    ensures { (query : List ℕ) → len ≡ counted query
-        → result ≡ counted (extend_pairs query (challenge_pairs challenge.now)) }
+    ensures { (query : List ℕ) → len ≡ usize_len query
+        → result ≡ usize_len (extend_pairs query (challenge_pairs challenge.now)) }
 {
     match challenge {
         Some(challenge) => {
@@ -32,8 +32,8 @@ pub fn with_challenge(len: usize, challenge: &Option<PkceCodeChallenge>) -> usiz
 /// The length `len` with the parameter `redirect_uri` added.
 pub fn with_redirect(len: usize, redirect: &Option<RedirectRef<'_>>) -> usize
     ensures { let text = option_map given_text (option_map redirect_of redirect.now) in
-        (query : List ℕ) → len ≡ counted query
-        → result ≡ counted (extend_pairs query (optional_pair (codes "redirect_uri") text)) }
+        (query : List ℕ) → len ≡ usize_len query
+        → result ≡ usize_len (extend_pairs query (optional_pair (codes "redirect_uri") text)) }
 {
     match redirect {
         Some(redirect) => with_pair(len, "redirect_uri", redirect.redirect_url().as_str()),
@@ -43,8 +43,8 @@ pub fn with_redirect(len: usize, redirect: &Option<RedirectRef<'_>>) -> usize
 
 /// The length `len` with the parameter `scope` added.
 pub fn with_scopes(len: usize, scopes: &[Scope]) -> usize
-    ensures { (query : List ℕ) → len ≡ counted query
-        → result ≡ counted (extend_pairs query (scope_pairs (joined_words scopes.now))) }
+    ensures { (query : List ℕ) → len ≡ usize_len query
+        → result ≡ usize_len (extend_pairs query (scope_pairs (joined_words scopes.now))) }
 {
     match joined_len(scopes) {
         Some(scope_len) => len_with_pair(len, "scope", scope_len),
@@ -55,7 +55,7 @@ pub fn with_scopes(len: usize, scopes: &[Scope]) -> usize
 // The length of the scopes, joined and encoded; `None` if the joined text is empty.
 fn joined_len(scopes: &[Scope]) -> Option<usize>
     ensures some { IfSome result (λ len. (joined_words scopes.now ≢ [])
-        × (len ≡ counted (byte_serialize (joined_words scopes.now)))) }
+        × (len ≡ usize_len (byte_serialize (joined_words scopes.now)))) }
     ensures none { result ≡ None → joined_words scopes.now ≡ [] }
 {
     let (first, others) = scopes.split_first()?;
@@ -75,8 +75,8 @@ fn is_one_empty(first: &Scope, others: &[Scope]) -> bool
 // The length of an encoded text of length `len` with further words, each after a space.
 fn with_further(mut len: usize, words: &[Scope]) -> usize
     ensures { let further = flat_map (λ word. codes " " ++ word) words.now in
-        (text : List ℕ) → len ≡ counted (byte_serialize text)
-        → result ≡ counted (byte_serialize (text ++ further)) }
+        (text : List ℕ) → len ≡ usize_len (byte_serialize text)
+        → result ≡ usize_len (byte_serialize (text ++ further)) }
 {
     for word in words {
         len = len
@@ -88,8 +88,8 @@ fn with_further(mut len: usize, words: &[Scope]) -> usize
 
 /// The length `len` with the extra parameters added.
 pub fn with_extra_params(mut len: usize, extra_params: &[(ParamText<'_>, ParamText<'_>)]) -> usize
-    ensures { (query : List ℕ) → len ≡ counted query
-        → result ≡ counted (extend_pairs query (map param_pair extra_params.now)) }
+    ensures { (query : List ℕ) → len ≡ usize_len query
+        → result ≡ usize_len (extend_pairs query (map param_pair extra_params.now)) }
 {
     for (name, value) in extra_params {
         len = with_pair(len, name.as_str(), value.as_str());
@@ -99,8 +99,8 @@ pub fn with_extra_params(mut len: usize, extra_params: &[(ParamText<'_>, ParamTe
 
 /// The length `len` with one more pair.
 pub fn with_pair(len: usize, name: &str, value: &str) -> usize
-    ensures { (query : List ℕ) → len ≡ counted query
-        → result ≡ counted (extend_pairs query ((name.now, value.now) ∷ [])) }
+    ensures { (query : List ℕ) → len ≡ usize_len query
+        → result ≡ usize_len (extend_pairs query ((name.now, value.now) ∷ [])) }
 {
     len_with_pair(len, name, encoded_len(value))
 }
