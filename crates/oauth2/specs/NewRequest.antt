@@ -84,7 +84,8 @@ new_device_request client url = record {
 }
 
 -- the token request of the device that received this response (RFC 8628, 3.4)
-abbrev pub new_device_token_request : {EF : Type 0} → Settings → Addressed → DeviceAuthorization EF → DeviceToken
+abbrev pub new_device_token_request : {EF : Type 0} → Settings → Addressed → DeviceAuthorization EF
+    → DeviceToken
 new_device_token_request client url response = new_device_token (base_of client) url response
 
 -- an introspection request for this token (RFC 7662, 2.1)
@@ -102,7 +103,8 @@ abbrev pub IsHttps : Addressed → Type 0
 IsHttps endpoint = endpoint.url.scheme ≡ codes "https"
 
 -- a revocation request for the token with this text and this hint (RFC 7009, 2.1)
-abbrev pub new_revocation_request : Settings → Addressed → List ℕ → Option (List ℕ) → TokenRevocation
+abbrev pub new_revocation_request : Settings → Addressed → List ℕ → Option (List ℕ)
+    → TokenRevocation
 new_revocation_request client url token token_type_hint = record {
   base = base_of client;
   revocation_url = url;

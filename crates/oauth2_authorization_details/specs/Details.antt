@@ -66,4 +66,5 @@ TellsFault Memory expected = Unit {0}
 
 -- a compact text of a value: exact if it holds no float, and it reads back if it nests at most 127 deep
 abbrev pub IsTextOf : Data → List ℕ → Type 0
-IsTextOf d text = (has_float d ≡ false → text ≡ compact_text d) × (depth d ≤ max_depth → read text ≡ Some d)
+IsTextOf d text =
+    (has_float d ≡ false → text ≡ compact_text d) × (depth d ≤ max_depth → read text ≡ Some d)

@@ -22,13 +22,15 @@ parts_of_error e d u = record { error = e; description = d; uri = u }
 -- the members of a response, without their place in memory; `f` is applied to its code
 abbrev pub parts_of : {T M : Type 0} → (T → M) → StandardErrorResponse T → ErrorParts M
 parts_of f r =
-    parts_of_error (f r.error) (option_map string_bytes r.error_description) (option_map string_bytes r.error_uri)
+    parts_of_error (f r.error) (option_map string_bytes r.error_description)
+    (option_map string_bytes r.error_uri)
 
 -- each member: how it is read, and how it is written once the code is JSON; others are ignored
 abbrev pub error_table : {T : Type 0} → (Data → Reading T) → Table (ErrorParts Data)
 error_table code =
     column (codes "error") (needed_member code) (λ r. Some r.error)
-    ▸ column (codes "error_description") (optional_member text) (λ r. option_map string r.description)
+    ▸ column (codes "error_description") (optional_member text)
+    (λ r. option_map string r.description)
     ▸ column (codes "error_uri") (optional_member text) (λ r. option_map string r.uri)
     ▸ end
 

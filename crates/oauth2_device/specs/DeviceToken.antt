@@ -27,7 +27,8 @@ abbrev pub nanos_of_seconds : ℕ → ℕ
 nanos_of_seconds n = n * 1_000_000_000
 
 -- the token request of a device that received this response (RFC 8628, 3.2); the cap is ten seconds
-abbrev pub new_device_token : {EF : Type 0} → Base → Addressed → DeviceAuthorization EF → DeviceToken
+abbrev pub new_device_token : {EF : Type 0} → Base → Addressed → DeviceAuthorization EF
+    → DeviceToken
 new_device_token base token_url response = record {
   base = base;
   token_url = token_url;

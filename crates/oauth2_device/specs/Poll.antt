@@ -44,8 +44,10 @@ abbrev pub PollError : Type 0 → Type 0
 PollError RE = RequestTokenError RE DeviceErrorResponse
 
 -- what a reply to the token request of a device says, by this rule for its Content-Type
-abbrev pub device_answer : {A : Type 0} → ReplyRule → (Data → JsonReading A) → HttpResponse → Answer A DeviceError
-device_answer rule reading reply = answer_of rule reading (error_reading device_error_code_reading) (reply_of reply)
+abbrev pub device_answer : {A : Type 0} → ReplyRule → (Data → JsonReading A) → HttpResponse
+    → Answer A DeviceError
+device_answer rule reading reply =
+    answer_of rule reading (error_reading device_error_code_reading) (reply_of reply)
 
 -- what an error code means to a poll: keep the interval, lengthen it, or stop (RFC 8628, 3.5)
 abbrev pub class_of_code : DeviceErrorCode → PollAnswer
@@ -104,12 +106,15 @@ module _ {A : Type 0} (says : HttpResponse → Answer A DeviceError) where
 module _ {D A RE : Type 0} (meaning : D → A) (says : HttpResponse → Answer A DeviceError) where
   -- the result that a poll with this ending returns
   abbrev pub IsAnswerAt : Ending → List (Event RE) → Result D (PollError RE) → Type 0
-  IsAnswerAt trace.TooLong e result = IsErrAnd result (SaysOther (codes "failed to convert the timeout"))
-  IsAnswerAt trace.OutOfRange e result = IsErrAnd result (SaysOther (codes "failed to calculate timeout"))
+  IsAnswerAt trace.TooLong e result =
+      IsErrAnd result (SaysOther (codes "failed to convert the timeout"))
+  IsAnswerAt trace.OutOfRange e result =
+      IsErrAnd result (SaysOther (codes "failed to calculate timeout"))
   IsAnswerAt (trace.Late n) e result = IsErrAnd result SaysExpired
   IsAnswerAt (trace.Decided n) e result =
       (reply : HttpResponse) × (last_reply None e ≡ Some (Ok reply)) × ShowsAnswer meaning device_error (says reply) result
-  IsAnswerAt (trace.Limited n) e result = IsErrAnd result (SaysOther (codes "polling limit reached"))
+  IsAnswerAt (trace.Limited n) e result =
+      IsErrAnd result (SaysOther (codes "polling limit reached"))
 
   -- the poll ran to its end, and returned the result of that ending
   pub record IsWhole (p : PollInput) (e : List (Event RE)) (result : Result D (PollError RE)) : Type 0 where
@@ -136,7 +141,8 @@ module _ {D A RE : Type 0} (meaning : D → A) (says : HttpResponse → Answer A
 
   -- the poll ran to its end, ran out of memory, or could not send its request
   abbrev pub IsPoll : Type 0 → PollInput → List (Event RE) → Result D (PollError RE) → Type 0
-  IsPoll NotHttp p e result = IsWhole p e result ⊎ (IsCutShort p e result ⊎ IsUnsendable NotHttp p e result)
+  IsPoll NotHttp p e result =
+      IsWhole p e result ⊎ (IsCutShort p e result ⊎ IsUnsendable NotHttp p e result)
 
 module _ {D A RE : Type 0} (meaning : D → A) (reading : Data → JsonReading A) (r : DeviceToken) (timeout max_polls : ℕ) where
   -- a device polled with these events and this result, for at most `timeout` nanoseconds and with

@@ -16,17 +16,20 @@ abbrev pub member_and_rest : {T E : Type 0} → Option T → E → MemberAndRest
 member_and_rest value rest = record { value = value; rest = rest }
 
 -- the same fields with `f` applied to the value and `g` to the other fields
-abbrev pub with_member_seen : {T E A F : Type 0} → (T → A) → (E → F) → MemberAndRest T E → MemberAndRest A F
+abbrev pub with_member_seen : {T E A F : Type 0} → (T → A) → (E → F) → MemberAndRest T E
+    → MemberAndRest A F
 with_member_seen f g fields = member_and_rest (option_map f fields.value) (g fields.rest)
 
 -- reads the named member of an object, where absent and null are no value, and then the other
 -- fields from an object of the other members
-abbrev pub with_member_reading : {A F : Type 0} → List ℕ → (Data → Reading A) → (Data → Reading F) → Data → Reading (MemberAndRest A F)
+abbrev pub with_member_reading : {A F : Type 0} → List ℕ → (Data → Reading A) → (Data → Reading F)
+    → Data → Reading (MemberAndRest A F)
 with_member_reading name kind rest d = read_then (members_of_object d) (λ ms.
     Ok member_and_rest ⊛ optional_member kind name (get_member name ms) ⊛ rest (object (without name ms)))
 
 -- writes the named member, if it has a value, next to the other fields, which may not have its name
-abbrev pub with_member_writing : {T E : Type 0} → List ℕ → (T → Data) → (E → Writing) → MemberAndRest T E → Writing
+abbrev pub with_member_writing : {T E : Type 0} → List ℕ → (T → Data) → (E → Writing)
+    → MemberAndRest T E → Writing
 with_member_writing name written rest fields =
     write_then (rest fields.rest) (λ d.
     write_then (beside (name ∷ []) d) (λ ms.

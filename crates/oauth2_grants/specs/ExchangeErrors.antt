@@ -20,7 +20,8 @@ exchange_error_code (Basic e) = basic (error_code e)
 
 -- the code that a text names; a text other than `invalid_target` is read by `error_code_of`
 abbrev pub exchange_error_code_of : List ℕ → ExchangeErrorCode
-exchange_error_code_of s = if bytes_eq s (codes "invalid_target") then invalid_target else basic (error_code_of s)
+exchange_error_code_of s =
+    if bytes_eq s (codes "invalid_target") then invalid_target else basic (error_code_of s)
 
 -- the text of a code, as the server sends it
 abbrev pub exchange_error_code_text : ExchangeErrorCode → List ℕ

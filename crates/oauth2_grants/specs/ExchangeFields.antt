@@ -15,7 +15,8 @@ issued_type_of fields = string_bytes fields.issued
 -- reads `issued_token_type`, which a server has to send, as a text
 abbrev pub exchange_fields_reading : Data → Reading (List ℕ)
 exchange_fields_reading d =
-    read_then (members_of_object d) (λ ms. needed_member text (codes "issued_token_type") (get_member (codes "issued_token_type") ms))
+    read_then (members_of_object d)
+    (λ ms. needed_member text (codes "issued_token_type") (get_member (codes "issued_token_type") ms))
 
 -- the one member that is written
 abbrev pub exchange_fields : List ℕ → Members

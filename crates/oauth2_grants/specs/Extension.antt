@@ -46,7 +46,9 @@ new_extension_request client grant_type = record {
 
 -- the request with these parameters after its own
 abbrev pub with_params : ExtensionRequest → List Pair → ExtensionRequest
-with_params r params = record r { base = record r.base { extra_params = r.base.extra_params ++ params } }
+with_params r params = record r {
+  base = record r.base { extra_params = r.base.extra_params ++ params };
+}
 
 -- the grant; the parameters of an extension follow the client's own (RFC 6749, section 4.5)
 abbrev pub extension_pairs : List ℕ → List Pair

@@ -44,7 +44,8 @@ subject_pairs subject =
 -- the type of the actor's token goes with that token
 abbrev pub actor_pairs : Option TypedToken → List Pair
 actor_pairs None = []
-actor_pairs (Some actor) = (codes "actor_token", actor.token) ∷ (codes "actor_token_type", actor.token_type) ∷ []
+actor_pairs (Some actor) =
+    (codes "actor_token", actor.token) ∷ (codes "actor_token_type", actor.token_type) ∷ []
 
 -- the parameters, in the order of RFC 8693, section 2.1; the scope is the request's
 abbrev pub token_exchange_pairs : Exchange → List Pair

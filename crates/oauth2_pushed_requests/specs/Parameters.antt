@@ -18,7 +18,8 @@ same_pair a b = bytes_eq a.0 b.0 && bytes_eq a.1 b.1
 abbrev pub pairs_after : List Pair → List Pair → Option (List Pair)
 pairs_after [] pairs = Some pairs
 pairs_after (own ∷ owns) [] = None
-pairs_after (own ∷ owns) (pair ∷ pairs) = if same_pair own pair then pairs_after owns pairs else None
+pairs_after (own ∷ owns) (pair ∷ pairs) =
+    if same_pair own pair then pairs_after owns pairs else None
 
 -- the parameters that the second URL has after those of the first one's own query, which an
 -- authorization URL keeps (RFC 6749, 3.1)
@@ -49,4 +50,5 @@ names_fault id pairs =
 -- why it cannot push the parameters that were found: none were found, one is no text, or such a name
 abbrev pub push_fault : List ℕ → Option (List Pair) → Option PushFault
 push_fault id None = Some OtherEndpoint
-push_fault id (Some pairs) = if list_all is_text_pair pairs then names_fault id pairs else Some NotText
+push_fault id (Some pairs) =
+    if list_all is_text_pair pairs then names_fault id pairs else Some NotText

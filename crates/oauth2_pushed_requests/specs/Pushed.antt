@@ -47,7 +47,8 @@ identifier (Some credentials) id = (codes "client_id", id) ∷ []
 abbrev pub front_pairs : PushingClientView → List Pair → List Pair
 front_pairs client pairs =
     before_name (codes "client_id") pairs
-    ++ identifier (basic_credentials client.auth_type client.client_id client.client_secret) client.client_id
+    ++ identifier (basic_credentials client.auth_type client.client_id client.client_secret)
+    client.client_id
 
 -- what the request sends: the parameters in their order, and the client's credentials, which stand
 -- where `client_id` is if they are in the body
@@ -83,7 +84,8 @@ pub record IsPushOf (r : PushedRequest) (v : RequestView) : Type 0 where
 -- ---- what the reply says
 
 -- only status 201 is a success (RFC 9126, 2.2); any other reply is an error response (2.3)
-abbrev pub pushed_answer_of : {E : Type 0} → ReplyRule → (Data → Reading E) → ReplyView → Answer PushedAuthorization E
+abbrev pub pushed_answer_of : {E : Type 0} → ReplyRule → (Data → Reading E) → ReplyView
+    → Answer PushedAuthorization E
 pushed_answer_of rule error_reading reply =
     if reply.status == 201 then success_answer rule pushed_reading reply.content_type reply.body
     else failure_answer error_reading reply.body

@@ -15,7 +15,10 @@ pub record PushedAuthorization : Type 0 where
 
 -- a response with these members
 abbrev pub pushed_authorization : List ℕ → ℕ → PushedAuthorization
-pushed_authorization request_uri expires_in = record { request_uri = request_uri; expires_in = expires_in }
+pushed_authorization request_uri expires_in = record {
+  request_uri = request_uri;
+  expires_in = expires_in;
+}
 
 -- reads the two members, which a server has to send; other members are ignored
 abbrev pub pushed_row : Members → Reading PushedAuthorization

@@ -36,18 +36,23 @@ token_refusal = Err (whole cause.Refused)
 
 -- the token, if exactly one of the two names has a value; both or neither are refused
 abbrev pub one_of : Option Data → Option Data → Reading StandardRevocableToken
-one_of (Some d) None = read_then (needed_member text (codes "AccessToken") (Some d)) (λ text. Ok (AccessToken text))
-one_of None (Some d) = read_then (needed_member text (codes "RefreshToken") (Some d)) (λ text. Ok (RefreshToken text))
+one_of (Some d) None =
+    read_then (needed_member text (codes "AccessToken") (Some d)) (λ text. Ok (AccessToken text))
+one_of None (Some d) =
+    read_then (needed_member text (codes "RefreshToken") (Some d)) (λ text. Ok (RefreshToken text))
 one_of (Some d) (Some e) = token_refusal
 one_of None None = token_refusal
 
 -- the same, where `rest` holds the other members of the object; any other member is refused
 abbrev pub sole_token : Option Data → Option Data → Members → Reading StandardRevocableToken
-sole_token access_token refresh_token rest = if has_any rest then token_refusal else one_of access_token refresh_token
+sole_token access_token refresh_token rest =
+    if has_any rest then token_refusal else one_of access_token refresh_token
 
 -- reads a token from the members of an object
 abbrev pub revocable_row : Members → Reading StandardRevocableToken
-revocable_row ms = sole_token (get_member (codes "AccessToken") ms) (get_member (codes "RefreshToken") ms) (others (codes "AccessToken" ∷ codes "RefreshToken" ∷ []) ms)
+revocable_row ms =
+    sole_token (get_member (codes "AccessToken") ms) (get_member (codes "RefreshToken") ms)
+    (others (codes "AccessToken" ∷ codes "RefreshToken" ∷ []) ms)
 
 -- reads a token from an object with one member, named `AccessToken` or `RefreshToken`
 abbrev pub revocable_reading : Data → Reading StandardRevocableToken

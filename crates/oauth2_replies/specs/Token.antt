@@ -20,21 +20,33 @@ pub record Token (E T : Type 0) : Type 0 where
   pub extra_fields : E
 
 -- a token response with these members, in the order of the fields
-abbrev pub token : {E T : Type 0} → List ℕ → T → Option ℕ → Option (List ℕ) → Option (List (List ℕ)) → E → Token E T
-token a t e r s x = record { access_token = a; token_type = t; expires_in = e; refresh_token = r; scopes = s; extra_fields = x }
+abbrev pub token : {E T : Type 0} → List ℕ → T → Option ℕ → Option (List ℕ) → Option (List (List ℕ))
+    → E → Token E T
+token a t e r s x = record {
+  access_token = a;
+  token_type = t;
+  expires_in = e;
+  refresh_token = r;
+  scopes = s;
+  extra_fields = x;
+}
 
 -- the same response with `f` applied to its extra fields and `g` to its token type
 abbrev pub token_seen : {E T F M : Type 0} → (E → F) → (T → M) → Token E T → Token F M
-token_seen f g r = token r.access_token (g r.token_type) r.expires_in r.refresh_token r.scopes (f r.extra_fields)
+token_seen f g r =
+    token r.access_token (g r.token_type) r.expires_in r.refresh_token r.scopes (f r.extra_fields)
 
 -- each member of RFC 6749, 5.1: how it is read, and how it is written once the token type is JSON
 abbrev pub token_table : {T : Type 0} → (Data → Reading T) → Table (Token (Unit {0}) Data)
 token_table token_type =
     column (codes "access_token") (needed_member text) (λ r. Some (string r.access_token))
-    ▸ column (codes "token_type") (needed_member (lowercase_reading token_type)) (λ r. Some r.token_type)
-    ▸ column (codes "expires_in") (optional_member whole_number) (λ r. option_map (λ n. number (unsigned n)) r.expires_in)
+    ▸ column (codes "token_type") (needed_member (lowercase_reading token_type))
+    (λ r. Some r.token_type)
+    ▸ column (codes "expires_in") (optional_member whole_number)
+    (λ r. option_map (λ n. number (unsigned n)) r.expires_in)
     ▸ column (codes "refresh_token") (optional_member text) (λ r. option_map string r.refresh_token)
-    ▸ column (codes "scope") (optional_member (words_reading text)) (λ r. option_map (λ scopes. string (joined_words scopes)) r.scopes)
+    ▸ column (codes "scope") (optional_member (words_reading text))
+    (λ r. option_map (λ scopes. string (joined_words scopes)) r.scopes)
     ▸ end
 
 -- the names of these members, which do not depend on how the token type is read
@@ -42,7 +54,8 @@ abbrev pub token_names : List (List ℕ)
 token_names = names_of (token_table Ok)
 
 -- reads the members of RFC 6749, 5.1, and then the extra fields from an object of the other members
-abbrev pub token_reading : {E T : Type 0} → (Data → Reading E) → (Data → Reading T) → Data → Reading (Token E T)
+abbrev pub token_reading : {E T : Type 0} → (Data → Reading E) → (Data → Reading T) → Data
+    → Reading (Token E T)
 token_reading extra_fields token_type d = read_then (members_of_object d) (λ ms.
     table_reading (token_table token_type) (Ok token) ms ⊛ extra_fields (object (others token_names ms)))
 

@@ -24,7 +24,9 @@ pub record Authorization : Type 0 where
 abbrev pub challenge_pairs : Option Challenge → List Pair
 challenge_pairs None = []
 challenge_pairs (Some challenge) =
-    (codes "code_challenge", challenge.text) ∷ (codes "code_challenge_method", challenge.method) ∷ []
+    (codes "code_challenge", challenge.text)
+    ∷ (codes "code_challenge_method", challenge.method)
+    ∷ []
 
 -- the parameter `scope`, unless the joined text of the scopes is empty (RFC 6749, 3.3)
 abbrev pub scope_pairs : List ℕ → List Pair

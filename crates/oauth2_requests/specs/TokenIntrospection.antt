@@ -15,4 +15,5 @@ pub record TokenIntrospection : Type 0 where
 
 -- what this request sends
 abbrev pub introspection_configuration : TokenIntrospection → Configuration
-introspection_configuration r = configuration_of r.base (hinted_token_pairs r.token r.token_type_hint) None
+introspection_configuration r =
+    configuration_of r.base (hinted_token_pairs r.token r.token_type_hint) None

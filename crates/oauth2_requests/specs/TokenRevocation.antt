@@ -14,4 +14,5 @@ pub record TokenRevocation : Type 0 where
 
 -- what this request sends
 abbrev pub revocation_configuration : TokenRevocation → Configuration
-revocation_configuration r = configuration_of r.base (hinted_token_pairs r.token r.token_type_hint) None
+revocation_configuration r =
+    configuration_of r.base (hinted_token_pairs r.token r.token_type_hint) None

@@ -22,7 +22,8 @@ is_scheme text = begins_with_letter text && list_all is_scheme_byte text
 
 -- the characters of a URI (RFC 3986, section 2), but for the number sign, which begins a fragment
 abbrev pub is_uri_byte : ℕ → Bool
-is_uri_byte b = is_ascii_alphanumeric b || list_any (λ mark. mark == b) (codes "-._~:/?[]@!$&'()*+,;=%")
+is_uri_byte b =
+    is_ascii_alphanumeric b || list_any (λ mark. mark == b) (codes "-._~:/?[]@!$&'()*+,;=%")
 
 -- two hexadecimal digits are next
 abbrev pub begins_with_digits : List ℕ → Bool
@@ -33,7 +34,8 @@ begins_with_digits (a ∷ b ∷ after) = is_ascii_hexdigit a && is_ascii_hexdigi
 -- two hexadecimal digits follow each percent sign (RFC 3986, section 2.1)
 abbrev pub escapes_are_whole : List ℕ → Bool
 escapes_are_whole [] = true
-escapes_are_whole (b ∷ after) = (not (b == 37) || begins_with_digits after) && escapes_are_whole after
+escapes_are_whole (b ∷ after) =
+    (not (b == 37) || begins_with_digits after) && escapes_are_whole after
 
 -- what may follow the colon
 abbrev pub is_uri_text : List ℕ → Bool

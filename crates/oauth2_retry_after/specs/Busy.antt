@@ -17,10 +17,13 @@ wait_asked_by (Client error) = None
 -- what is returned for an answer of the inner client: a reply with status 429 or 503 becomes an
 -- error with its status and the wait that it asks for (RFC 6585, 4; RFC 9110, 10.2.3 and 15.6.4);
 -- any other reply is returned as it is, and so is an error
-abbrev pub IsTold : {E : Type 0} → Result HttpResponse E → Result HttpResponse (BusyError E) → Type 0
+abbrev pub IsTold : {E : Type 0} → Result HttpResponse E → Result HttpResponse (BusyError E)
+    → Type 0
 IsTold (Ok reply) (Ok told) = (is_busy (head_of reply).status ≡ false) × (told ≡ reply)
 IsTold (Ok reply) (Err (Busy status retry_after)) =
-    IsTrue (is_busy (head_of reply).status) × (status ≡ (head_of reply).status) × (option_map as_nanos retry_after ≡ asked_wait reply)
+    IsTrue (is_busy (head_of reply).status)
+    × (status ≡ (head_of reply).status)
+    × (option_map as_nanos retry_after ≡ asked_wait reply)
 IsTold (Ok reply) (Err (Client error)) = ⊥
 IsTold (Err error) result = result ≡ Err (Client error)
 

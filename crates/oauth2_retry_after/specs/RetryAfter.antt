@@ -22,7 +22,9 @@ delay_seconds value = if is_delay value then Some (digits_value 10 value) else N
 
 -- the seconds that the first Retry-After of a reply says, if it says any
 abbrev pub retry_after : HttpResponse → Option ℕ
-retry_after reply = option_and_then (λ value. delay_seconds value.bytes) (get (head_of reply).headers (codes "retry-after"))
+retry_after reply =
+    option_and_then (λ value. delay_seconds value.bytes)
+    (get (head_of reply).headers (codes "retry-after"))
 
 -- so many seconds in nanoseconds, or the longest `Duration` if that is less
 abbrev pub nanoseconds_of : ℕ → ℕ

@@ -18,7 +18,12 @@ step_view steps.End = reading.end
 
 -- a path as contracts see it
 abbrev pub path_view : Path → reading.Path
-path_view p = record { first = step_view p.first; second = step_view p.second; third = step_view p.third; fourth = step_view p.fourth }
+path_view p = record {
+  first = step_view p.first;
+  second = step_view p.second;
+  third = step_view p.third;
+  fourth = step_view p.fourth;
+}
 
 -- a fault of a part as contracts see it
 abbrev pub fault_view : PartFault → reading.PartFault
@@ -42,4 +47,6 @@ IsBad errors.Memory = ⊥
 
 -- the error of a value that is bad itself
 abbrev pub bad_error : ScriptCause → PartError
-bad_error why = errors.Bad (record { path = record { first = steps.End; second = steps.End; third = steps.End; fourth = steps.End }; why = why })
+bad_error why =
+    errors.Bad
+    (record { path = record { first = steps.End; second = steps.End; third = steps.End; fourth = steps.End }; why = why })

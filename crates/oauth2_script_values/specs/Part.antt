@@ -34,7 +34,8 @@ module _ {A : Type 0} (part : Data → Reading A) where
   -- reads each item of a list, of which the first has this index
   abbrev pub each_item : ℕ → Items → Reading (List A)
   each_item i no_items = Ok []
-  each_item i (item d ds) = inside (to_item i) (part d) >>= λ x. map_read (λ xs. x ∷ xs) (each_item (suc i) ds)
+  each_item i (item d ds) =
+      inside (to_item i) (part d) >>= λ x. map_read (λ xs. x ∷ xs) (each_item (suc i) ds)
 
   -- reads each item of a list
   abbrev pub list_of : Data → Reading (List A)
@@ -71,7 +72,8 @@ whole_number d = or_bad WrongType (option_and_then as_u64 (as_number d))
 
 -- a name and a value, the two items of a list
 abbrev pub pair_from : Data → Data → Reading (List ℕ × List ℕ)
-pair_from a b = inside (to_item 0) (text a) >>= λ name. map_read (λ value. (name, value)) (inside (to_item 1) (text b))
+pair_from a b =
+    inside (to_item 0) (text a) >>= λ name. map_read (λ value. (name, value)) (inside (to_item 1) (text b))
 
 -- a name and a value from a list of exactly two texts
 abbrev pub pair_of : Items → Reading (List ℕ × List ℕ)
@@ -136,7 +138,8 @@ field d = text d >>= field_of
 
 -- whole seconds since 1970, from -9999-01-02T01:59:59Z to 9999-12-30T22:00:00Z
 abbrev pub second_in_range : ℤ → Reading ℤ
-second_in_range z = if le_z (negsuc 377705023200) z && le_z z (pos 253402207200) then Ok z else bad OutOfRange
+second_in_range z =
+    if le_z (negsuc 377705023200) z && le_z z (pos 253402207200) then Ok z else bad OutOfRange
 
 -- a number of whole seconds since 1970, in the range of a reading
 abbrev pub second : Data → Reading ℤ

@@ -11,7 +11,8 @@ is_text_byte b = b == 9 || (nat_le 32 b && nat_le b 126)
 
 -- the value begins with `application/json`, ASCII letters in either case
 abbrev pub begins_with_json : List ℕ → Bool
-begins_with_json value = bytes_eq (map to_ascii_lowercase (take 16 value)) (codes "application/json")
+begins_with_json value =
+    bytes_eq (map to_ascii_lowercase (take 16 value)) (codes "application/json")
 
 -- the media type ends before these bytes: they are empty, or begin with a semicolon, a space or a
 -- tab, after which parameters may follow (RFC 9110, sections 8.3.1 and 5.6.6)
@@ -22,7 +23,8 @@ ends_the_type (b ∷ after) = b == 59 || b == 32 || b == 9
 -- the value counts as JSON: `Prefix` tests only how it begins, `MediaType` its whole media type
 abbrev pub is_json_type : ReplyRule → List ℕ → Bool
 is_json_type Prefix value = list_all is_text_byte value && begins_with_json value
-is_json_type MediaType value = list_all is_text_byte value && begins_with_json value && ends_the_type (drop 16 value)
+is_json_type MediaType value =
+    list_all is_text_byte value && begins_with_json value && ends_the_type (drop 16 value)
 
 -- a byte as the error text shows it: a quotation mark after a backslash, a byte above 126 as `\x`
 -- and two hexadecimal digits, and any other byte as it is
@@ -33,4 +35,6 @@ shown_byte b =
 -- the error text for a Content-Type that is not JSON
 abbrev pub unexpected_type_text : List ℕ → List ℕ
 unexpected_type_text value =
-    codes "unexpected response Content-Type: \"" ++ flat_map shown_byte value ++ codes "\", should be `application/json`"
+    codes "unexpected response Content-Type: \""
+    ++ flat_map shown_byte value
+    ++ codes "\", should be `application/json`"

@@ -13,8 +13,10 @@ use Rattle.oauth2_wire.specs.declared.error.HttpClientError.TheVariants as clien
 
 -- the text of a configuration error
 abbrev pub configuration_text : ConfigurationError → Option (List ℕ)
-configuration_text (MissingUrl name) = Some (codes "No " ++ name.now ++ codes " endpoint URL specified")
-configuration_text (InsecureUrl name) = Some (codes "Scheme for " ++ name.now ++ codes " endpoint URL must be HTTPS")
+configuration_text (MissingUrl name) =
+    Some (codes "No " ++ name.now ++ codes " endpoint URL specified")
+configuration_text (InsecureUrl name) =
+    Some (codes "Scheme for " ++ name.now ++ codes " endpoint URL must be HTTPS")
 
 -- the text of the error of a request that could not be built
 abbrev pub request_fault_text : RequestFault → Option (List ℕ)

@@ -22,7 +22,8 @@ pub record Configuration : Type 0 where
   pub extra_params : List Pair
 
 -- the configuration with the scope and the extra parameters of a buffer, and this redirect URL
-abbrev pub configuration_from : AuthType → List ℕ → Option (List ℕ) → List Pair → Params → Option Addressed → Configuration
+abbrev pub configuration_from : AuthType → List ℕ → Option (List ℕ) → List Pair → Params
+    → Option Addressed → Configuration
 configuration_from auth_type client_id client_secret own_pairs buffer redirect_url = record {
   auth_type = auth_type;
   client_id = client_id;
@@ -54,7 +55,8 @@ optional_pair name (Some value) = (name, value) ∷ []
 
 -- the credentials sent in the body, if none are sent in the header (RFC 6749, 2.3.1)
 abbrev pub body_credentials : Option Pair → List ℕ → Option (List ℕ) → List Pair
-body_credentials None id secret = (codes "client_id", id) ∷ optional_pair (codes "client_secret") secret
+body_credentials None id secret =
+    (codes "client_id", id) ∷ optional_pair (codes "client_secret") secret
 body_credentials (Some pair) id secret = []
 
 -- the credentials that a server reads from the header with `basic`
@@ -65,7 +67,9 @@ expected_basic c = basic_credentials c.auth_type c.client_id c.client_secret
 -- in the body, and the redirect URL (RFC 6749, 4.1.3)
 abbrev pub set_pairs : Configuration → List Pair
 set_pairs c =
-    c.own_pairs ++ optional_pair (codes "scope") c.scope ++ body_credentials (expected_basic c) c.client_id c.client_secret
+    c.own_pairs
+    ++ optional_pair (codes "scope") c.scope
+    ++ body_credentials (expected_basic c) c.client_id c.client_secret
     ++ optional_pair (codes "redirect_uri") c.redirect_uri
 
 -- the pairs that a server reads from the body with `form`: these, then the extra parameters
@@ -85,7 +89,8 @@ authorization_header (Some pair) = one_header (codes "authorization") (basic_val
 abbrev pub headers_before : Entries FieldValue → Entries FieldValue
 headers_before authorization =
     one_header (codes "accept") (codes "application/json")
-    ++ one_header (codes "content-type") (codes "application/x-www-form-urlencoded") ++ authorization
+    ++ one_header (codes "content-type") (codes "application/x-www-form-urlencoded")
+    ++ authorization
 
 -- every header of the request, in order
 abbrev pub expected_headers : Configuration → Entries FieldValue

@@ -22,17 +22,22 @@ module _ {D A T E RE C : Type 0} (meaning : D → A) (error_meaning : T → E)
   -- if the request was prepared, the client makes exactly one step with it, from the state before
   -- to the state after, and the result is the error of the client or what the reply says; if it
   -- could not be prepared, the client is unchanged, and the result says why
-  abbrev pub SendsOnce : C → Result HttpRequest RequestFault → Result D (RequestTokenError RE T) → C → Type 0
+  abbrev pub SendsOnce : C → Result HttpRequest RequestFault → Result D (RequestTokenError RE T) → C
+      → Type 0
   SendsOnce before (Ok request) result after =
       (answer : Result HttpResponse RE) × step before request answer after
-      × MatchResult answer (λ reply. ShowsAnswer meaning error_meaning (says (reply_of reply)) result) (λ error. result ≡ Err (token.Request error))
+      × MatchResult answer
+      (λ reply. ShowsAnswer meaning error_meaning (says (reply_of reply)) result)
+      (λ error. result ≡ Err (token.Request error))
   SendsOnce before (Err kind) (Err (token.Memory sent)) after = (sent ≡ false) × (after ≡ before)
-  SendsOnce before (Err fault.NotHttp) (Err (token.Other text)) after = (string_bytes text ≡ not_http_text) × (after ≡ before)
+  SendsOnce before (Err fault.NotHttp) (Err (token.Other text)) after =
+      (string_bytes text ≡ not_http_text) × (after ≡ before)
   SendsOnce before (Err kind) result after = ⊥
 
   -- a request for the endpoint URL with this text is prepared and sent once; preparing it fails
   -- only if the URL is not an HTTP target or memory runs out
-  abbrev pub AsksOnce : (List ℕ → RequestView → Type 0) → List ℕ → C → Result D (RequestTokenError RE T) → C → Type 0
+  abbrev pub AsksOnce : (List ℕ → RequestView → Type 0) → List ℕ → C
+      → Result D (RequestTokenError RE T) → C → Type 0
   AsksOnce IsRequest url before result after =
       (prepared : Result HttpRequest RequestFault)
       × IfOk prepared (λ request. IsRequest url (view_of request))
@@ -41,7 +46,9 @@ module _ {D A T E RE C : Type 0} (meaning : D → A) (error_meaning : T → E)
 
 -- if memory runs out after sending, the reply did not have status 200: a success that consists of
 -- its status alone (RFC 7009, 2.2) is never lost because memory ran out
-abbrev pub KeepsSuccess : {D T RE C : Type 0} → (C → HttpRequest → Result HttpResponse RE → C → Type 0) → C → Result D (RequestTokenError RE T) → C → Type 0
+abbrev pub KeepsSuccess : {D T RE C : Type 0}
+    → (C → HttpRequest → Result HttpResponse RE → C → Type 0) → C
+    → Result D (RequestTokenError RE T) → C → Type 0
 KeepsSuccess step before result after =
     result ≡ Err (token.Memory true)
     → (request : HttpRequest) × (reply : HttpResponse) × step before request (Ok reply) after × ((reply_of reply).status ≢ 200)

@@ -64,7 +64,8 @@ module _ {A E : Type 0} where
       else read_answer refused body (body_reading reading body)
 
   -- what a reply says: only status 200 is a success (RFC 6749, 5.1)
-  abbrev pub answer_of : ReplyRule → (Data → Reading A) → (Data → Reading E) → ReplyView → Answer A E
+  abbrev pub answer_of : ReplyRule → (Data → Reading A) → (Data → Reading E) → ReplyView
+      → Answer A E
   answer_of rule reading error_reading reply =
       if reply.status == 200 then success_answer rule reading reply.content_type reply.body
       else failure_answer error_reading reply.body
@@ -86,6 +87,7 @@ module _ {A T E RE : Type 0} where
 
   -- the result is this answer, seen through the two meanings; or memory ran out after the client
   -- was called
-  abbrev pub ShowsAnswer : {D : Type 0} → (D → A) → (T → E) → Answer A E → Result D (RequestTokenError RE T) → Type 0
+  abbrev pub ShowsAnswer : {D : Type 0} → (D → A) → (T → E) → Answer A E
+      → Result D (RequestTokenError RE T) → Type 0
   ShowsAnswer meaning error_meaning answer (Ok value) = answer ≡ accepted (meaning value)
   ShowsAnswer meaning error_meaning answer (Err fault) = ShowsFault error_meaning answer fault

@@ -8,6 +8,7 @@ use Rattle.oauth2_authorization_details.specs.Shown.{details_of}
 use Rattle.oauth2_authorization_details.specs.declared.authorization_details.AuthorizationDetails.{AuthorizationDetails}
 
 -- the value of details reads to itself
-pub details_read_back : (details : AuthorizationDetails) → details_reading (details_of details) ≡ Ok (details_of details)
+pub details_read_back : (details : AuthorizationDetails)
+    → details_reading (details_of details) ≡ Ok (details_of details)
 details_read_back details =
     ap (λ (good : Bool). if good then Ok (details_of details) else Err (whole cause.Refused)) details.valid

@@ -22,7 +22,8 @@ OrMemory IsError sent error = IsError error ⊎ (error ≡ token.Memory sent)
 module _ {D A RE : Type 0} (meaning : D → A) where
   -- the reply decides the poll, and the result is what it says
   abbrev pub IsDecision : Answer A DeviceError → Result D (PollError RE) → Type 0
-  IsDecision said result = (class_of_answer said ≡ Deciding) × ShowsAnswer meaning device_error said result
+  IsDecision said result =
+      (class_of_answer said ≡ Deciding) × ShowsAnswer meaning device_error said result
 
   -- the verdict on what a reply says: go on with this answer, or stop with this result (or out of
   -- memory)
@@ -76,7 +77,9 @@ module _ {D A RE : Type 0} (meaning : D → A) where
 
     -- the events of a round, its result (`None` if the poll goes on) and the state of the poll
     -- after it
-    abbrev pub IsTurn : Type 0 → PollState → Bool → List (Event RE) → Option (Result D (PollError RE)) → PollState → Type 0
+    abbrev pub IsTurn : Type 0 → PollState → Bool → List (Event RE)
+        → Option (Result D (PollError RE)) → PollState → Type 0
     IsTurn NotHttp poll sent e None after = RoundGoesOn poll e after
-    IsTurn NotHttp poll sent e (Some (Err error)) after = EndsUnsent NotHttp poll sent e error ⊎ EndsSent poll e (Err error)
+    IsTurn NotHttp poll sent e (Some (Err error)) after =
+        EndsUnsent NotHttp poll sent e error ⊎ EndsSent poll e (Err error)
     IsTurn NotHttp poll sent e (Some (Ok value)) after = EndsSent poll e (Ok value)
