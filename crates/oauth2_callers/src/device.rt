@@ -8,7 +8,7 @@ ghost use Rattle.oauth2_wire.specs.Reply.{answer_of};
 ghost use Rattle.oauth2_wire.specs.Request.{IsRequestOf};
 ghost use Rattle.oauth2_replies.specs.Device.{device_seen, device_reading};
 ghost use Rattle.oauth2_requests.specs.DeviceAuthorization.{device_authorization_configuration};
-ghost use Rattle.oauth2_device.specs.Events.{Event, ClientLeads};
+ghost use Rattle.oauth2_device.specs.Events.{PollCall, ClientLeads};
 ghost use Rattle.oauth2_device.specs.Poll.{Polls, timeout_of};
 ghost use Rattle.oauth2.specs.NewRequest.{new_device_request, new_device_token_request};
 
@@ -67,7 +67,7 @@ pub fn polled_token<C: SyncHttpClient, F: FnMut() -> Timestamp + Drop, S: FnMut(
     requires clock { F.IsAlwaysCallable time_fn }
     requires sleep { S.IsAlwaysCallable sleep_fn.old }
     ensures poll { (endpoint : Addressed) × (client.now.token_url ≡ Some endpoint)
-        × (e : List (Event C.Error)) × ClientLeads C.step http_client.old e http_client.new
+        × (e : List (PollCall C.Error)) × ClientLeads C.step http_client.old e http_client.new
         × Polls ⟦<BasicTokenResponse as FromJson>⟧.meaning
         ⟦<BasicTokenResponse as FromJson>⟧.reading
         (new_device_token_request client.now endpoint device.now)

@@ -8,7 +8,7 @@ use Rattle.oauth2_client_refusals_tests.specs.declared.counting_client.NoReply.{
 use Rattle.oauth2_client_refusals_tests.specs.declared.recorder.Recorder.{Recorder}
 use Rattle.oauth2_client_refusals_tests.specs.declared.recorder.Seen.{Seen}
 use Rattle.oauth2_client_refusals_tests.specs.declared.recorder.Seen.TheVariants.{Reading, Request, Sleep}
-use Rattle.oauth2_device.specs.Events.{Event}
+use Rattle.oauth2_device.specs.Events.{PollCall}
 use Rattle.oauth2_device.specs.Events as event
 
 -- one event is recorded after those before it, unless there was no room for an event (`is_whole`)
@@ -29,13 +29,13 @@ abbrev pub RecordsSleep : Recorder → Duration → Recorder → Type 0
 RecordsSleep before duration after = Notes before (Sleep duration) after
 
 -- the events of a poll, in the form in which a recorder keeps them
-abbrev pub events_seen : {RE : Type 0} → List (Event RE) → List Seen
+abbrev pub events_seen : {RE : Type 0} → List (PollCall RE) → List Seen
 events_seen [] = []
 events_seen (event.Reading moment ∷ e) = Reading moment ∷ events_seen e
 events_seen (event.Sent request answer ∷ e) = Request ∷ events_seen e
 events_seen (event.Slept duration ∷ e) = Sleep duration ∷ events_seen e
 
 -- these events are recorded after those before them, unless there was no room for an event
-abbrev pub Records : {RE : Type 0} → Recorder → List (Event RE) → Recorder → Type 0
+abbrev pub Records : {RE : Type 0} → Recorder → List (PollCall RE) → Recorder → Type 0
 Records before e after =
     after.is_whole ≡ true → (before.is_whole ≡ true) × (after.seen.items ≡ before.seen.items ++ events_seen e)

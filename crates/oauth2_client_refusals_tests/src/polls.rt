@@ -2,7 +2,7 @@
 
 ghost use Rattle.std.specs.Prelude.{◌≡◌, ◌<◌, List, Some};
 ghost use Rattle.oauth2_urls.specs.Addressed.{Addressed};
-ghost use Rattle.oauth2_device.specs.Events.{Event};
+ghost use Rattle.oauth2_device.specs.Events.{PollCall};
 ghost use Rattle.oauth2_device.specs.Poll.{Polls, timeout_of};
 ghost use Rattle.oauth2.specs.NewRequest.{new_device_token_request};
 ghost use Rattle.oauth2_client_refusals_tests.specs.Recorded.{Records};
@@ -86,7 +86,7 @@ pub fn polled(
 ) -> PollResult
     requires { 0 < max_polls }
     ensures { (endpoint : Addressed) × (client.now.token_url ≡ Some endpoint)
-        × (e : List (Event NoReply))
+        × (e : List (PollCall NoReply))
         × Records world.old e world.new
         × Polls ⟦<BasicTokenResponse as FromJson>⟧.meaning
         ⟦<BasicTokenResponse as FromJson>⟧.reading

@@ -21,7 +21,7 @@ ghost use Rattle.oauth2_poll.specs.Pacing.{ClockIsHonest, SleepsArePaced, reques
 ghost use Rattle.oauth2_poll.specs.Run.{event_of};
 ghost use Rattle.oauth2_urls.specs.Addressed.{Addressed};
 ghost use Rattle.oauth2_device.specs.DeviceToken.{nanos_of_seconds};
-ghost use Rattle.oauth2_device.specs.Events.{ClientLeads, EachRequest, Event, SleepLeads};
+ghost use Rattle.oauth2_device.specs.Events.{ClientLeads, EachRequest, PollCall, SleepLeads};
 ghost use Rattle.oauth2_device.specs.Poll.{IsDeviceRequest, device_answer, plain};
 ghost use Rattle.oauth2.specs.NewRequest.{new_device_token_request};
 ghost use Rattle.oauth2_keeper.specs.Keeper.{is_good};
@@ -80,7 +80,7 @@ pub fn device_token<C: SyncHttpClient, F: FnMut() -> Timestamp + Drop, S: FnMut(
     requires clock { F.IsAlwaysCallable time_fn }
     requires sleep { S.IsAlwaysCallable sleep_fn.old }
     ensures poll { (endpoint : Addressed) × (client.now.token_url ≡ Some endpoint)
-        × (e : List (Event C.Error))
+        × (e : List (PollCall C.Error))
         × ClientLeads C.step http_client.old e http_client.new
         × SleepLeads (λ s d v. S.step s d tt v) sleep_fn.old e sleep_fn.new
         × EachRequest

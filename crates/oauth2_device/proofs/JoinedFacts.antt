@@ -5,18 +5,18 @@ use Rattle.jiff.specs.Types.{Timestamp}
 use Rattle.oauth2_wire.specs.Request.{HttpRequest}
 use Rattle.oauth2_wire.specs.Reply.{HttpResponse}
 use Rattle.oauth2_device.specs.declared.joined_world.JoinedWorld.{JoinedWorld}
-use Rattle.oauth2_device.specs.Events.{Event, Reading, Sent, Slept, Leads, ClockLeads, ClientLeads, SleepLeads}
+use Rattle.oauth2_device.specs.Events.{PollCall, Reading, Sent, Slept, Leads, ClockLeads, ClientLeads, SleepLeads}
 use Rattle.oauth2_device.specs.private.Joined.{joined_reads, joined_sends, joined_sleeps}
 
 module _ {T C S RE : Type 0} (ticks : T → Timestamp → T → Type 0) (step : C → HttpRequest → Result HttpResponse RE → C → Type 0) (sleeps : S → Duration → S → Type 0) where
-  pub record EachLed (w : JoinedWorld T C S) (e : List (Event RE)) (v : JoinedWorld T C S) : Type 0 where
+  pub record EachLed (w : JoinedWorld T C S) (e : List (PollCall RE)) (v : JoinedWorld T C S) : Type 0 where
     pub clock : ClockLeads ticks w.clock e v.clock
     pub client : ClientLeads step w.client.now e v.client.now
     pub sleep : SleepLeads sleeps w.sleep.now e v.sleep.now
     pub same_client : v.client.ghost_name ≡ w.client.ghost_name
     pub same_sleep : v.sleep.ghost_name ≡ w.sleep.ghost_name
 
-  pub each_led : (w : JoinedWorld T C S) (e : List (Event RE)) (v : JoinedWorld T C S) → Leads (joined_reads ticks) (joined_sends step) (joined_sleeps sleeps) w e v → EachLed w e v
+  pub each_led : (w : JoinedWorld T C S) (e : List (PollCall RE)) (v : JoinedWorld T C S) → Leads (joined_reads ticks) (joined_sends step) (joined_sleeps sleeps) w e v → EachLed w e v
   each_led w [] v h =
       record {
         clock = ap (λ (x : JoinedWorld T C S). x.clock) h;

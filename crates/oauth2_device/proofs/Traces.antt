@@ -28,7 +28,7 @@ use Rattle.oauth2_wire.specs.Once.{not_http_text, SaysOther}
 use Rattle.oauth2_wire.specs.Request.{HttpRequest}
 use Rattle.oauth2_wire.specs.Reply.{HttpResponse, Answer}
 use Rattle.oauth2_device.specs.DeviceToken.{DeviceToken}
-use Rattle.oauth2_device.specs.Events.{Event, Reading, Sent, Slept, EachRequest, has_request}
+use Rattle.oauth2_device.specs.Events.{PollCall, Reading, Sent, Slept, EachRequest, has_request}
 use Rattle.oauth2_device.specs.Poll.{DeviceError, PollError, SaysExpired, IsDeviceRequest, class_of, plain, input_of, device_answer, IsWhole, IsUnsendable, IsPoll, Polls}
 use Rattle.oauth2_device.specs.private.Round.{OrMemory, IsDecision, EndsUnsent, EndsSent, IsTurn}
 use Rattle.oauth2_device.proofs.LeadsFacts.{EachRequest-append, none_sent, has_request-unsent, has_request-sent, last_reply-append}
@@ -46,20 +46,20 @@ pub no_request : (r : DeviceToken) → NotHttp r → (request : HttpRequest) →
 no_request r none request is = none _ _ _ is.target
 
 module _ {A : Type 0} (says : HttpResponse → Answer A DeviceError) where
-  pub plain-append : {RE : Type 0} (e f : List (Event RE)) → plain says (e ++ f) ≡ plain says e ++ plain says f
+  pub plain-append : {RE : Type 0} (e f : List (PollCall RE)) → plain says (e ++ f) ≡ plain says e ++ plain says f
   plain-append [] f = refl
   plain-append (Reading t ∷ e) f = ap (λ (l : List trace.TraceEvent). trace.Reading t.nanosecond ∷ l) (plain-append e f)
   plain-append (Sent r a ∷ e) f = ap (λ (l : List trace.TraceEvent). trace.Asked ∷ trace.Answered (class_of says a) ∷ l) (plain-append e f)
   plain-append (Slept d ∷ e) f = ap (λ (l : List trace.TraceEvent). trace.Slept (as_nanos d) ∷ l) (plain-append e f)
 
-  no_answers : {RE : Type 0} (e : List (Event RE)) → has_request e ≡ false → length (answers_in (plain says e)) ≡ 0
+  no_answers : {RE : Type 0} (e : List (PollCall RE)) → has_request e ≡ false → length (answers_in (plain says e)) ≡ 0
   no_answers [] h = refl
   no_answers (Reading t ∷ e) h = no_answers e h
   no_answers (Sent r a ∷ e) h = cc
   no_answers (Slept d ∷ e) h = no_answers e h
 
   -- one reading and nothing else
-  one_reading : {RE : Type 0} (e : List (Event RE)) (s : ℤ) → has_request e ≡ false → map Some (plain says e) ≡ Some (trace.Reading s) ∷ [] → (t : Timestamp) × (e ≡ Reading t ∷ [])
+  one_reading : {RE : Type 0} (e : List (PollCall RE)) (s : ℤ) → has_request e ≡ false → map Some (plain says e) ≡ Some (trace.Reading s) ∷ [] → (t : Timestamp) × (e ≡ Reading t ∷ [])
   one_reading [] s h k = cc
   one_reading (Reading t ∷ []) s h k = (t, refl)
   one_reading (Reading t ∷ Reading u ∷ e) s h k = cc
@@ -70,15 +70,15 @@ module _ {A : Type 0} (says : HttpResponse → Answer A DeviceError) where
 
 module _ {D A RE : Type 0} (meaning : D → A) (says : HttpResponse → Answer A DeviceError) (r : DeviceToken) (timeout max_polls : ℕ) where
   -- these events gave this result
-  abbrev pub Ended : List (Event RE) → Result D (PollError RE) → Type 0
+  abbrev pub Ended : List (PollCall RE) → Result D (PollError RE) → Type 0
   Ended e result = IsPoll meaning says (NotHttp r) (input_of r timeout max_polls (plain says e)) e result
 
   -- the whole plan was carried out
-  abbrev whole : (p : PollInput) (e : List (Event RE)) (end : Ending) → IsEnding p end → map Some (plain says e) ≡ poll_events p end → IsTraceOf p (plain says e)
+  abbrev whole : (p : PollInput) (e : List (PollCall RE)) (end : Ending) → IsEnding p end → map Some (plain says e) ≡ poll_events p end → IsTraceOf p (plain says e)
   whole p e end is h = record { ending = end; is_ending = is; rest = []; is = sym h ∙ sym (append-nil (map Some (plain says e))) }
 
   -- an answer of an end, or want of memory there
-  ended : (e : List (Event RE)) (sent : Bool) (IsError : PollError RE → Type 0) (error : PollError RE) (done : IsTraceOf (input_of r timeout max_polls (plain says e)) (plain says e)) → done.rest ≡ []
+  ended : (e : List (PollCall RE)) (sent : Bool) (IsError : PollError RE → Type 0) (error : PollError RE) (done : IsTraceOf (input_of r timeout max_polls (plain says e)) (plain says e)) → done.rest ≡ []
       → (IsError error → IsWhole meaning says (input_of r timeout max_polls (plain says e)) e (Err error)) → has_request e ≡ sent → OrMemory IsError sent error → Ended e (Err error)
   ended e sent IsError error done to_the_end answers is (inl h) = inl (answers h)
   ended e sent IsError error done to_the_end answers is (inr h) = inr (inl (record { done = done; answer = ap Err (h ∙ ap token.Memory (sym is)) }))
@@ -95,7 +95,7 @@ module _ {D A RE : Type 0} (meaning : D → A) (says : HttpResponse → Answer A
       ended (Reading t ∷ []) false (SaysOther (codes "failed to calculate timeout")) error done refl (λ s. record { done = done; to_the_end = refl; answer = s }) refl says_so
 
   -- rounds are over, and none ended the poll
-  pub record SoFar (e : List (Event RE)) (poll : PollState) (sent : Bool) : Type 0 where
+  pub record SoFar (e : List (PollCall RE)) (poll : PollState) (sent : Bool) : Type 0 where
     pub requests : EachRequest (IsDeviceRequest r) e
     pub is_open : IsOpen (input_of r timeout max_polls (plain says e)) (length (answers_in (plain says e))) (plain says e) poll
     pub counts : length (readings_in (plain says e)) ≡ suc (length (answers_in (plain says e)))
@@ -110,7 +110,7 @@ module _ {D A RE : Type 0} (meaning : D → A) (says : HttpResponse → Answer A
         sent_is = refl;
       }
 
-  module _ (e : List (Event RE)) (poll : PollState) (sent : Bool) (s : SoFar e poll sent) where
+  module _ (e : List (PollCall RE)) (poll : PollState) (sent : Bool) (s : SoFar e poll sent) where
     abbrev k : ℕ
     k = length (answers_in (plain says e))
 
@@ -126,7 +126,7 @@ module _ {D A RE : Type 0} (meaning : D → A) (says : HttpResponse → Answer A
         rw (answers_in-append (plain says e) (trace.Reading t ∷ trace.Asked ∷ trace.Answered a ∷ ys)) (slice_get-append_here (answers_in (plain says e)) a (answers_in ys))
 
     module _ (t : Timestamp) where
-      abbrev read : List (Event RE)
+      abbrev read : List (PollCall RE)
       read = Reading t ∷ []
 
       late_exit : (error : PollError RE) → poll.deadline <ℤ t.nanosecond → SaysExpired error → IsWhole meaning says (input_of r timeout max_polls (plain says (e ++ read))) (e ++ read) (Err error)
@@ -165,13 +165,13 @@ module _ {D A RE : Type 0} (meaning : D → A) (says : HttpResponse → Answer A
             not_http = not_http;
             start = one.0;
             moment = t;
-            events = ap (λ (l : List (Event RE)). l ++ read) one.1;
+            events = ap (λ (l : List (PollCall RE)). l ++ read) one.1;
             in_time = rw (plain-append says e read) (λ l. not_late _ k _ poll t.nanosecond o here before (rw none l));
             answer = says_so;
           }
 
       module _ (q : HttpRequest) (a : Result HttpResponse RE) (before : ¬ (poll.deadline <ℤ t.nanosecond)) where
-        abbrev turn : List (Event RE)
+        abbrev turn : List (PollCall RE)
         turn = Reading t ∷ Sent q a ∷ []
 
         cut_after : IsTraceOf (input_of r timeout max_polls (plain says (e ++ turn))) (plain says (e ++ turn))
@@ -224,7 +224,7 @@ module _ {D A RE : Type 0} (meaning : D → A) (says : HttpResponse → Answer A
 
         next : (d : Duration) (after : PollState) → IsDeviceRequest r q → class_of says a ≢ Deciding → poll.polls_left ≢ 1 → after ≡ state_after poll (class_of says a) → as_nanos d ≡ after.interval → SoFar (e ++ Reading t ∷ Sent q a ∷ Slept d ∷ []) after true
         next d after request no_decision more_left is is_length =
-            let all : List (Event RE) = Reading t ∷ Sent q a ∷ Slept d ∷ [] in
+            let all : List (PollCall RE) = Reading t ∷ Sent q a ∷ Slept d ∷ [] in
             let o = grown (plain says all) in
             let here = reading_here t.nanosecond (trace.Asked ∷ trace.Answered (class_of says a) ∷ trace.Slept (as_nanos d) ∷ []) in
             let there = answer_here t.nanosecond (class_of says a) (trace.Slept (as_nanos d) ∷ []) in
@@ -241,7 +241,7 @@ module _ {D A RE : Type 0} (meaning : D → A) (says : HttpResponse → Answer A
             })
 
     -- the ways out of a round
-    unsent_exit : (f : List (Event RE)) (error : PollError RE) → EndsUnsent meaning says (NotHttp r) poll sent f error → Ended (e ++ f) (Err error)
+    unsent_exit : (f : List (PollCall RE)) (error : PollError RE) → EndsUnsent meaning says (NotHttp r) poll sent f error → Ended (e ++ f) (Err error)
     unsent_exit f error x =
         rw x.events (elim x.cause [
           | inl (after, expired) ↦ inl (late_exit x.moment error after expired)
@@ -252,7 +252,7 @@ module _ {D A RE : Type 0} (meaning : D → A) (says : HttpResponse → Answer A
           }))
         ])
 
-    sent_exit : (f : List (Event RE)) (result : Result D (PollError RE)) → EndsSent meaning says poll f result → Ended (e ++ f) result
+    sent_exit : (f : List (PollCall RE)) (result : Result D (PollError RE)) → EndsSent meaning says poll f result → Ended (e ++ f) result
     sent_exit f result x =
         rw x.events (elim x.cause [
           | inl (reply, is, decision) ↦ inl (decided_exit x.moment x.request x.reply x.in_time reply result is decision)
@@ -263,18 +263,18 @@ module _ {D A RE : Type 0} (meaning : D → A) (says : HttpResponse → Answer A
           }))
         ])
 
-    pub last_round : (f : List (Event RE)) (result : Result D (PollError RE)) (after : PollState) → IsTurn meaning says (NotHttp r) poll sent f (Some result) after → Ended (e ++ f) result
+    pub last_round : (f : List (PollCall RE)) (result : Result D (PollError RE)) (after : PollState) → IsTurn meaning says (NotHttp r) poll sent f (Some result) after → Ended (e ++ f) result
     last_round f (Ok value) after x = sent_exit f (Ok value) x
     last_round f (Err error) after (inl x) = unsent_exit f error x
     last_round f (Err error) after (inr x) = sent_exit f (Err error) x
 
-    pub next_round : (f : List (Event RE)) (after : PollState) → EachRequest (IsDeviceRequest r) f → IsTurn {D = D} meaning says (NotHttp r) poll sent f None after → SoFar (e ++ f) after true
+    pub next_round : (f : List (PollCall RE)) (after : PollState) → EachRequest (IsDeviceRequest r) f → IsTurn {D = D} meaning says (NotHttp r) poll sent f None after → SoFar (e ++ f) after true
     next_round f after requests x =
         let here : EachRequest (IsDeviceRequest r) (Reading x.moment ∷ Sent x.request x.reply ∷ Slept x.sleep ∷ []) = rw x.events at requests in
         rw x.events (next x.moment x.request x.reply x.in_time x.sleep after here.0 x.open_answer x.more x.after_is x.sleep_is)
 
 -- the trace of every poll
-module _ {D A RE : Type 0} (meaning : D → A) (reading : Data → JsonReading A) (r : DeviceToken) (timeout max_polls : ℕ) (e : List (Event RE)) (result : Result D (PollError RE)) where
+module _ {D A RE : Type 0} (meaning : D → A) (reading : Data → JsonReading A) (r : DeviceToken) (timeout max_polls : ℕ) (e : List (PollCall RE)) (result : Result D (PollError RE)) where
   trace_of : Ended meaning (device_answer r.base.reply_rule reading) r timeout max_polls e result → IsTraceOf (input_of r timeout max_polls (plain (device_answer r.base.reply_rule reading) e)) (plain (device_answer r.base.reply_rule reading) e)
   trace_of (inl x) = x.done
   trace_of (inr (inl x)) = x.done

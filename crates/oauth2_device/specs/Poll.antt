@@ -25,7 +25,7 @@ use Rattle.oauth2_wire.specs.Once.{not_http_text, SaysOther}
 use Rattle.oauth2_wire.specs.Reply.{HttpResponse, Answer, accepted, refused, unread, other, answer_of, reply_of, ShowsAnswer}
 use Rattle.oauth2_wire.specs.Request.{HttpRequest, IsRequestOf, view_of}
 use Rattle.oauth2_device.specs.DeviceToken.{DeviceToken, device_token_configuration}
-use Rattle.oauth2_device.specs.Events.{Event, Reading, Sent, Slept, EachRequest, has_request, last_reply}
+use Rattle.oauth2_device.specs.Events.{PollCall, Reading, Sent, Slept, EachRequest, has_request, last_reply}
 
 -- the error response to the token request of a device, as values (RFC 8628, 3.5)
 abbrev pub DeviceError : Type 0
@@ -97,7 +97,7 @@ module _ {A : Type 0} (says : HttpResponse → Answer A DeviceError) where
   class_of (Ok reply) = class_of_answer (says reply)
 
   -- the events with their times in nanoseconds, and their results as answers to the poll
-  abbrev pub plain : {RE : Type 0} → List (Event RE) → List trace.TraceEvent
+  abbrev pub plain : {RE : Type 0} → List (PollCall RE) → List trace.TraceEvent
   plain [] = []
   plain (Reading t ∷ e) = trace.Reading t.nanosecond ∷ plain e
   plain (Sent r a ∷ e) = trace.Asked ∷ trace.Answered (class_of a) ∷ plain e
@@ -105,7 +105,7 @@ module _ {A : Type 0} (says : HttpResponse → Answer A DeviceError) where
 
 module _ {D A RE : Type 0} (meaning : D → A) (says : HttpResponse → Answer A DeviceError) where
   -- the result that a poll with this ending returns
-  abbrev pub IsAnswerAt : Ending → List (Event RE) → Result D (PollError RE) → Type 0
+  abbrev pub IsAnswerAt : Ending → List (PollCall RE) → Result D (PollError RE) → Type 0
   IsAnswerAt trace.TooLong e result =
       IsErrAnd result (SaysOther (codes "failed to convert the timeout"))
   IsAnswerAt trace.OutOfRange e result =
@@ -117,20 +117,20 @@ module _ {D A RE : Type 0} (meaning : D → A) (says : HttpResponse → Answer A
       IsErrAnd result (SaysOther (codes "polling limit reached"))
 
   -- the poll ran to its end, and returned the result of that ending
-  pub record IsWhole (p : PollInput) (e : List (Event RE)) (result : Result D (PollError RE)) : Type 0 where
+  pub record IsWhole (p : PollInput) (e : List (PollCall RE)) (result : Result D (PollError RE)) : Type 0 where
     pub done : IsTraceOf p (plain says e)
     pub to_the_end : done.rest ≡ []
     pub answer : IsAnswerAt done.ending e result
 
   -- memory ran out: the events are the first of that poll, and the error says whether a request was
   -- sent
-  pub record IsCutShort (p : PollInput) (e : List (Event RE)) (result : Result D (PollError RE)) : Type 0 where
+  pub record IsCutShort (p : PollInput) (e : List (PollCall RE)) (result : Result D (PollError RE)) : Type 0 where
     pub done : IsTraceOf p (plain says e)
     pub answer : result ≡ Err (token.Memory (has_request e))
 
   -- the endpoint is not an HTTP target: the poll read the clock twice, the second time not after
   -- the deadline, and sent nothing
-  pub record IsUnsendable (NotHttp : Type 0) (p : PollInput) (e : List (Event RE)) (result : Result D (PollError RE)) : Type 0 where
+  pub record IsUnsendable (NotHttp : Type 0) (p : PollInput) (e : List (PollCall RE)) (result : Result D (PollError RE)) : Type 0 where
     pub done : IsTraceOf p (plain says e)
     pub not_http : NotHttp
     pub start : Timestamp
@@ -140,7 +140,7 @@ module _ {D A RE : Type 0} (meaning : D → A) (says : HttpResponse → Answer A
     pub answer : IsErrAnd result (SaysOther not_http_text)
 
   -- the poll ran to its end, ran out of memory, or could not send its request
-  abbrev pub IsPoll : Type 0 → PollInput → List (Event RE) → Result D (PollError RE) → Type 0
+  abbrev pub IsPoll : Type 0 → PollInput → List (PollCall RE) → Result D (PollError RE) → Type 0
   IsPoll NotHttp p e result =
       IsWhole p e result ⊎ (IsCutShort p e result ⊎ IsUnsendable NotHttp p e result)
 
@@ -148,7 +148,7 @@ module _ {D A RE : Type 0} (meaning : D → A) (reading : Data → JsonReading A
   -- a device polled with these events and this result, for at most `timeout` nanoseconds and with
   -- at most `max_polls` requests; each request is the configured one, and sleeps and requests keep
   -- their bounds
-  pub record Polls (e : List (Event RE)) (result : Result D (PollError RE)) : Type 0 where
+  pub record Polls (e : List (PollCall RE)) (result : Result D (PollError RE)) : Type 0 where
     pub requests : EachRequest (IsDeviceRequest r) e
     pub poll : (let says = device_answer r.base.reply_rule reading in
         IsPoll meaning says (SpellsNone (serialize r.token_url.url)) (input_of r timeout max_polls (plain says e)) e result)

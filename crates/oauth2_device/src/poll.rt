@@ -4,7 +4,7 @@ ghost use Rattle.std.specs.Prelude.{◌≡◌, ◌<◌, List, Err, IfOk, IfSome}
 ghost use Rattle.std.specs.Duration.{as_nanos};
 ghost use Rattle.http_uri.specs.Uri.{SpellsNone};
 ghost use Rattle.url.specs.Parts.{serialize};
-ghost use Rattle.oauth2_device.specs.Events.{Event, Leads, EachRequest};
+ghost use Rattle.oauth2_device.specs.Events.{PollCall, Leads, EachRequest};
 ghost use Rattle.oauth2_device.specs.Poll.{IsDeviceRequest, Polls, device_answer, timeout_of};
 ghost use Rattle.oauth2_device.specs.private.Round.{IsJudged, IsTurn};
 
@@ -42,7 +42,7 @@ impl<'a, TR: TokenResponse, EF, T> DeviceAccessTokenRequest<'a, TR, EF, T> {
         T: Drop,
         requires polls { 0 < max_polls }
         requires ready { W.is_ready world.old }
-        ensures poll { (e : List (Event W.Error))
+        ensures poll { (e : List (PollCall W.Error))
             × Leads W.reads W.sends W.sleeps world.old e world.new
             × Polls TR.meaning TR.reading self.entry.request
             (timeout_of self.entry.request timeout) max_polls e result }
@@ -62,7 +62,7 @@ impl<'a, TR: TokenResponse, EF, T> DeviceAccessTokenRequest<'a, TR, EF, T> {
     ) -> Result<TR, PollError<W::Error>>
         requires polls { 0 < max_polls }
         requires ready { W.is_ready world.old }
-        ensures poll { (e : List (Event W.Error))
+        ensures poll { (e : List (PollCall W.Error))
             × Leads W.reads W.sends W.sleeps world.old e world.new
             × Polls TR.meaning TR.reading self.now.request (as_nanos timeout) max_polls e result }
         ensures ready { W.is_ready world.new }
@@ -111,7 +111,7 @@ impl<'a, TR: TokenResponse, EF, T> DeviceAccessTokenRequest<'a, TR, EF, T> {
         requires polls { 0 < poll.old.polls_left }
         requires ready { W.is_ready world.old }
         requires kept { IfSome kept.old (IsDeviceRequest self.now.request) }
-        ensures turn { (e : List (Event W.Error))
+        ensures turn { (e : List (PollCall W.Error))
             × Leads W.reads W.sends W.sleeps world.old e world.new
             × EachRequest (IsDeviceRequest self.now.request) e
             × IsTurn TR.meaning (device_answer self.now.request.base.reply_rule TR.reading)

@@ -1,7 +1,7 @@
 //! Polling with a clock, a client and a sleep function.
 
 ghost use Rattle.std.specs.Prelude.{◌<◌, List};
-ghost use Rattle.oauth2_device.specs.Events.{Event, ClockLeads, ClientLeads, SleepLeads};
+ghost use Rattle.oauth2_device.specs.Events.{PollCall, ClockLeads, ClientLeads, SleepLeads};
 ghost use Rattle.oauth2_device.specs.Poll.{Polls, timeout_of};
 
 use crate::device_access_token_request::{DeviceAccessTokenRequest, NoClock};
@@ -32,7 +32,7 @@ where
         requires clock { F.IsAlwaysCallable self.time_fn }
         requires client { C.is_ready http_client.old }
         requires sleep { S.IsAlwaysCallable sleep_fn.old }
-        ensures poll { (e : List (Event C.Error))
+        ensures poll { (e : List (PollCall C.Error))
             × ((last : F) × ClockLeads F.step self.entry.time_fn e last)
             × ClientLeads C.step http_client.old e http_client.new
             × SleepLeads (λ s d v. S.step s d tt v) sleep_fn.old e sleep_fn.new

@@ -12,7 +12,7 @@ use Rattle.oauth2_wire.specs.Request.{HttpRequest, IsRequestOf}
 use Rattle.oauth2_wire.specs.Reply.{HttpResponse, answer_of}
 use Rattle.oauth2_wire.specs.Once.{AsksOnce}
 use Rattle.oauth2_device.specs.DeviceToken.{DeviceToken}
-use Rattle.oauth2_device.specs.Events.{Event}
+use Rattle.oauth2_device.specs.Events.{PollCall}
 use Rattle.oauth2_device.specs.Poll.{PollError}
 use Rattle.oauth2_own_types_callers.specs.Asked.{ColorfulToken, PollsForToken}
 
@@ -23,6 +23,6 @@ module _ {D A T E RE C R : Type 0} (meaning : D → A) (error_meaning : T → E)
   AsksOnce-equal same asked =
       subst (λ r. AsksOnce meaning error_meaning step (answer_of (rule r) reading error_reading) (IsRequestOf (configuration r)) (serialize endpoint.url) before result after) same asked
 
-pub PollsForToken-equal : {RE : Type 0} (a b : DeviceToken) (max_polls : ℕ) (e : List (Event RE)) (result : Result ColorfulToken (PollError RE)) → a ≡ b
+pub PollsForToken-equal : {RE : Type 0} (a b : DeviceToken) (max_polls : ℕ) (e : List (PollCall RE)) (result : Result ColorfulToken (PollError RE)) → a ≡ b
     → PollsForToken a max_polls e result → PollsForToken b max_polls e result
 PollsForToken-equal a b max_polls e result same polled = subst (λ r. PollsForToken r max_polls e result) same polled

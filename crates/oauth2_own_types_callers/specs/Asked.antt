@@ -16,7 +16,7 @@ use Rattle.oauth2_wire.specs.Once.{AsksOnce}
 use Rattle.oauth2_wire.specs.Request.{HttpRequest, IsRequestOf}
 use Rattle.oauth2_wire.specs.Reply.{HttpResponse, answer_of, status_answer_of}
 use Rattle.oauth2_device.specs.DeviceToken.{DeviceToken}
-use Rattle.oauth2_device.specs.Events.{Event}
+use Rattle.oauth2_device.specs.Events.{PollCall}
 use Rattle.oauth2_device.specs.Poll.{PollError, Polls}
 use Rattle.oauth2_own_types_callers.specs.declared.colorful_error.ColorfulErrorResponseType.{ColorfulErrorResponseType}
 use Rattle.oauth2_own_types_callers.specs.declared.colorful_fields.ColorfulFields.{ColorfulFields}
@@ -101,6 +101,6 @@ module _ {RE C : Type 0} (step : C → HttpRequest → Result HttpResponse RE �
       (IsRequestOf configuration) (serialize endpoint.url) before result after
 
 -- the events `e` and the result of a device's poll for a token, until its code expires
-abbrev pub PollsForToken : {RE : Type 0} → DeviceToken → ℕ → List (Event RE) → Result ColorfulToken (PollError RE) → Type 0
+abbrev pub PollsForToken : {RE : Type 0} → DeviceToken → ℕ → List (PollCall RE) → Result ColorfulToken (PollError RE) → Type 0
 PollsForToken request max_polls e result =
     Polls colorful_token_seen colorful_token_reading request request.lifetime max_polls e result

@@ -24,7 +24,7 @@ ghost use Rattle.oauth2_requests.specs.Refresh.{refresh_configuration};
 ghost use Rattle.oauth2_requests.specs.TokenIntrospection.{introspection_configuration};
 ghost use Rattle.oauth2_requests.specs.TokenRevocation.{revocation_configuration};
 ghost use Rattle.oauth2_wire.specs.ConfigurationError.{IsInsecureUrl};
-ghost use Rattle.oauth2_device.specs.Events.{Event, Leads};
+ghost use Rattle.oauth2_device.specs.Events.{PollCall, Leads};
 ghost use Rattle.oauth2.specs.NewRequest.{
   IsHttps,
   new_client_credentials_request,
@@ -271,7 +271,7 @@ pub fn device_token<W: PollWorld>(
 ) -> Result<ColorfulTokenResponse, RequestTokenError<W::Error, DeviceCodeErrorResponse>>
     requires { W.is_ready world.old }
     ensures poll { (endpoint : Addressed) × (client.now.token_url ≡ Some endpoint)
-        × (e : List (Event W.Error)) × Leads W.reads W.sends W.sleeps world.old e world.new
+        × (e : List (PollCall W.Error)) × Leads W.reads W.sends W.sleeps world.old e world.new
         × PollsForToken (new_device_token_request client.now endpoint codes.now) 10 e result }
     ensures ready { W.is_ready world.new }
 {

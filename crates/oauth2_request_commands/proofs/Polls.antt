@@ -20,12 +20,12 @@ use Rattle.oauth2_poll.specs.Laws.{IsTraceOf}
 use Rattle.oauth2_poll.specs.Trace as trace
 use Rattle.oauth2_poll.specs.Trace.{Ending, TooLong, OutOfRange, Late, Decided, Limited, readings_in, answers_in}
 use Rattle.oauth2_device.specs.DeviceToken.{DeviceToken, device_token_configuration}
-use Rattle.oauth2_device.specs.Events.{Event, Reading, Sent, Slept, Leads, EachRequest, last_reply}
+use Rattle.oauth2_device.specs.Events.{PollCall, Reading, Sent, Slept, Leads, EachRequest, last_reply}
 use Rattle.oauth2_device.specs.Poll.{DeviceError, device_answer, device_error, class_of, plain, input_of, IsDeviceRequest, SaysExpired, IsAnswerAt, IsPoll, Polls}
 use Rattle.oauth2_world.specs.Clock.{reading_of, readings_of}
 use Rattle.oauth2_request_commands.specs.DevicePoll.{calls_of, last_call, poll_answer, class_of_call, AreEventsOf, device_error_members, shown_at, IsPolled}
 use Rattle.oauth2_request_commands.specs.Exchange.{BasicToken, token_json}
-use Rattle.oauth2_world.specs.Events.{Event as ShownEvent, exchanged, slept}
+use Rattle.oauth2_world.specs.Events.{PollCall as ShownEvent, exchanged, slept}
 use Rattle.oauth2_request_commands.specs.Out.{Output, after, success_output, no_memory_output, other_output, refused_output, unsent_output, AddsOutput, Adds}
 use Rattle.oauth2_world.specs.Replies.{next_reply}
 use Rattle.oauth2_world.specs.Replay.{ReplaysOrStarves, reply_seen, client_replies}
@@ -50,7 +50,7 @@ last_said None = None
 last_said (Some a) = reply_seen a
 
 -- what the calls of a world that was not refused memory tell
-record Told (r : DeviceToken) (w : ScriptedWorld) (e : List (Event NoReply)) (v : ScriptedWorld) : Type 0 where
+record Told (r : DeviceToken) (w : ScriptedWorld) (e : List (PollCall NoReply)) (v : ScriptedWorld) : Type 0 where
   is_fed : w.http_client.is_starved ≡ false
   shows : readings_in (plain (says r.base.reply_rule) e) ≡ readings_of w.clock (length (readings_in (plain (says r.base.reply_rule) e)))
   answers : answers_in (plain (says r.base.reply_rule) e) ≡ map (class_of_call r.base.reply_rule) (calls_of (client_replies w.http_client) (length (answers_in (plain (says r.base.reply_rule) e))))
@@ -65,10 +65,10 @@ after_events : (old now new shown added : List ShownEvent) → new ≡ now ++ ad
 after_events old now new shown added grown so_far = rw (grown, so_far) (append_assoc old shown added)
 
 module _ (r : DeviceToken) where
-  abbrev Requests : List (Event NoReply) → Type 0
+  abbrev Requests : List (PollCall NoReply) → Type 0
   Requests e = EachRequest (IsDeviceRequest r) e
 
-  module _ (w u : ScriptedWorld) (e : List (Event NoReply)) (v : ScriptedWorld) (k : Told r u e v) where
+  module _ (w u : ScriptedWorld) (e : List (PollCall NoReply)) (v : ScriptedWorld) (k : Told r u e v) where
     read_told : (t : Timestamp) → Reads w t u → Told r w (Reading t ∷ e) v
     read_told t reads =
         record {
@@ -119,7 +119,7 @@ module _ (r : DeviceToken) where
                   (slept (as_nanos d) ∷ []) k.shown k.added shows.events;
             }
 
-  told : (w : ScriptedWorld) (e : List (Event NoReply)) (v : ScriptedWorld) → Requests e → Leads Reads Sends Sleeps w e v
+  told : (w : ScriptedWorld) (e : List (PollCall NoReply)) (v : ScriptedWorld) → Requests e → Leads Reads Sends Sleeps w e v
       → v.http_client.is_starved ≡ false → Told r w e v
   told w [] v requests h fed =
       record {
@@ -154,7 +154,7 @@ says_expired rule n calls (Err (Other said)) h = absurd h
 says_expired rule n calls (Err (Memory sent)) h = absurd h
 
 -- the answer that fits an end, or want of memory there
-at_end : (rule : ReplyRule) (ending : Ending) (e : List (Event NoReply)) (result : Result TokenSeen DeviceFault) (calls : List (Option ReplyView))
+at_end : (rule : ReplyRule) (ending : Ending) (e : List (PollCall NoReply)) (result : Result TokenSeen DeviceFault) (calls : List (Option ReplyView))
     → last_said (last_reply None e) ≡ last_call None calls → IsAnswerAt token_meaning (says rule) ending e result
     → (poll_output result ≡ shown_at rule ending calls) ⊎ (poll_output result ≡ no_memory_output)
 at_end rule TooLong e result calls last h = inl (says_other (codes "failed to convert the timeout") result h)
@@ -168,7 +168,7 @@ at_end rule (Decided n) e result calls last (reply, is, shows) =
       | inr (sent, memory) ↦ inr (ap poll_output memory)
     ]
 
-module _ (r : DeviceToken) (timeout max_polls : ℕ) (w : ScriptedWorld) (e : List (Event NoReply)) (v : ScriptedWorld) (events : List ShownEvent) (s : RunStatus) (result : Result TokenSeen DeviceFault) where
+module _ (r : DeviceToken) (timeout max_polls : ℕ) (w : ScriptedWorld) (e : List (PollCall NoReply)) (v : ScriptedWorld) (events : List ShownEvent) (s : RunStatus) (result : Result TokenSeen DeviceFault) where
   abbrev IsOutput : Output → Type 0
   IsOutput o = IsPolled r timeout max_polls w.clock (client_replies w.http_client) o
 

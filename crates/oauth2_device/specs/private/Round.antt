@@ -12,7 +12,7 @@ use Rattle.oauth2_wire.specs.Request.{HttpRequest}
 use Rattle.oauth2_wire.specs.Reply.{HttpResponse, Answer, ShowsAnswer}
 use Rattle.oauth2_device.specs.declared.verdict.Verdict.{Verdict}
 use Rattle.oauth2_device.specs.declared.verdict.Verdict.TheVariants.{Again, Decided}
-use Rattle.oauth2_device.specs.Events.{Event, Reading, Sent, Slept}
+use Rattle.oauth2_device.specs.Events.{PollCall, Reading, Sent, Slept}
 use Rattle.oauth2_device.specs.Poll.{DeviceError, PollError, device_error, class_of, class_of_answer, SaysExpired}
 
 -- `IsError` holds of the error, or memory ran out
@@ -41,7 +41,7 @@ module _ {D A RE : Type 0} (meaning : D → A) where
 
     -- a round that ends without a request: the deadline has passed, the endpoint is not an HTTP
     -- target, or memory ran out
-    pub record EndsUnsent (NotHttp : Type 0) (poll : PollState) (sent : Bool) (e : List (Event RE)) (error : PollError RE) : Type 0 where
+    pub record EndsUnsent (NotHttp : Type 0) (poll : PollState) (sent : Bool) (e : List (PollCall RE)) (error : PollError RE) : Type 0 where
       pub moment : Timestamp
       pub events : e ≡ Reading moment ∷ []
       pub cause :
@@ -50,7 +50,7 @@ module _ {D A RE : Type 0} (meaning : D → A) where
 
     -- a round that ends after its request: the reply decides, the limit is reached, or memory ran
     -- out
-    pub record EndsSent (poll : PollState) (e : List (Event RE)) (result : Result D (PollError RE)) : Type 0 where
+    pub record EndsSent (poll : PollState) (e : List (PollCall RE)) (result : Result D (PollError RE)) : Type 0 where
       pub moment : Timestamp
       pub request : HttpRequest
       pub reply : Result HttpResponse RE
@@ -63,7 +63,7 @@ module _ {D A RE : Type 0} (meaning : D → A) where
 
     -- a round after which the poll goes on: it read the clock, sent a request that decided nothing,
     -- and slept
-    pub record RoundGoesOn (poll : PollState) (e : List (Event RE)) (after : PollState) : Type 0 where
+    pub record RoundGoesOn (poll : PollState) (e : List (PollCall RE)) (after : PollState) : Type 0 where
       pub moment : Timestamp
       pub request : HttpRequest
       pub reply : Result HttpResponse RE
@@ -77,7 +77,7 @@ module _ {D A RE : Type 0} (meaning : D → A) where
 
     -- the events of a round, its result (`None` if the poll goes on) and the state of the poll
     -- after it
-    abbrev pub IsTurn : Type 0 → PollState → Bool → List (Event RE)
+    abbrev pub IsTurn : Type 0 → PollState → Bool → List (PollCall RE)
         → Option (Result D (PollError RE)) → PollState → Type 0
     IsTurn NotHttp poll sent e None after = RoundGoesOn poll e after
     IsTurn NotHttp poll sent e (Some (Err error)) after =
