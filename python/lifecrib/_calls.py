@@ -102,11 +102,21 @@ def in_script(reply: Reply) -> dict[str, Any]:
     return found
 
 
-def sent(self: Settings, request: Request) -> Call[Reply]:
-    """Sends a request. InsecureEndpoint if others could read it on its way."""
+class NoReply(Exception):
+    """The transport has no reply to a request; its exception is the __cause__."""
+
+
+def reply_to(self: Settings, request: Request) -> Call[Reply]:
+    """Sends a request. InsecureEndpoint if others could read it on its way; NoReply if the transport fails. Want of
+    memory is passed on as it is."""
     if not may_send(request.url, self.plain_http):
         raise InsecureEndpoint('not sent, since others could read it: the endpoint is no https URL')
-    return (yield request)
+    try:
+        return (yield request)
+    except MemoryError:
+        raise
+    except Exception as error:
+        raise NoReply from error
 
 
 def exchange(self: Settings, command: str, params: Mapping[str, Any]) -> Call[_library.Run]:
@@ -115,11 +125,9 @@ def exchange(self: Settings, command: str, params: Mapping[str, Any]) -> Call[_l
     if not first.exchanges:
         raise first.error()
     try:
-        reply = yield from sent(self, request_of(first.exchanges[0]))
-    except InsecureEndpoint:
-        raise
-    except Exception as error:
-        raise first.error() from error
+        reply = yield from reply_to(self, request_of(first.exchanges[0]))
+    except NoReply as failed:
+        raise first.error() from failed.__cause__
     return self.run(command, params, [in_script(reply)])
 
 
@@ -262,16 +270,19 @@ def fetch_keys(self: Settings) -> Call[Any]:
     if not url:
         raise ValueError(NO_KEYS)
     try:
-        reply = yield from sent(self, Request('GET', url, (('accept', 'application/json'),), b''))
-    except InsecureEndpoint:
-        raise
-    except Exception as error:
-        raise RequestFailed('Request failed') from error
+        reply = yield from reply_to(self, Request('GET', url, (('accept', 'application/json'),), b''))
+    except NoReply as failed:
+        raise RequestFailed('Request failed') from failed.__cause__
     found = value(reply.body) if reply.status == 200 else None
     if not isinstance(found, dict):
         raise BadKeys('there is no key set at jwks_uri', status=reply.status, content_type=reply.content_type)
     self.keys = time.monotonic(), found
     return found
+
+
+def kept_keys(self: Settings) -> Optional[Any]:
+    """The key set that came last, if that is not too long ago."""
+    return self.keys[1] if self.keys and time.monotonic() < self.keys[0] + KEEP_KEYS else None
 
 
 def check_id_token(self: Settings, id_token: str, access_token: str, *, issuer: Optional[str] = None,
@@ -286,10 +297,10 @@ def check_id_token(self: Settings, id_token: str, access_token: str, *, issuer: 
                               'algorithm': algorithm, 'leeway': leeway, 'max_age': max_age,
                               'other_audiences': texts(other_audiences),
                               'authorized_parties': texts(authorized_parties)}
-    kept = self.keys if signature and keys is None else None
-    if kept and time.monotonic() < kept[0] + KEEP_KEYS:
+    kept = kept_keys(self) if signature and keys is None else None
+    if kept is not None:
         try:
-            return checked(self, {**params, 'keys': kept[1]})
+            return checked(self, {**params, 'keys': kept})
         except (BadKeys, BadSignature):  # the issuer may have new keys
             pass
     if signature:

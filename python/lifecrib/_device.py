@@ -6,7 +6,6 @@ from typing import Any, Generic, Mapping, NamedTuple, Optional, TypeVar
 from . import _calls
 from ._calls import Call, Pairs, Settings, Texts
 from ._data import Token, token_of
-from ._errors import InsecureEndpoint
 
 S = TypeVar('S', bound=Settings)
 TRIED_AGAIN = (429, *range(500, 600))  # the statuses after which a poll goes on
@@ -76,10 +75,8 @@ def poll(self: DeviceState[Any], *, timeout: Optional[int] = None) -> Call[Optio
 def _reply(client: Settings, exchange: Mapping[str, Any]) -> Call[dict[str, Any]]:
     """The reply to a poll. One of a server that is busy, or none, is a call that failed: the next one comes later."""
     try:
-        reply = yield from _calls.sent(client, _calls.request_of(exchange))
-    except InsecureEndpoint:
-        raise
-    except Exception:
+        reply = yield from _calls.reply_to(client, _calls.request_of(exchange))
+    except _calls.NoReply:
         return {'fail': True}
     return {'fail': True} if reply.status in TRIED_AGAIN else _calls.in_script(reply)
 

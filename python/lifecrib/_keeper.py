@@ -8,7 +8,7 @@ from typing import Any, Callable, Generic, Iterator, Mapping, Optional, TypeVar
 from . import _calls, _json, _library
 from ._calls import Call, Pairs, Settings, Texts
 from ._data import Token, token_of, without_none
-from ._errors import Ended, InsecureEndpoint
+from ._errors import Ended
 
 S = TypeVar('S', bound=Settings)
 
@@ -81,16 +81,14 @@ def good_token(self: KeeperState[Any]) -> Call[Token]:
         assert self._token
         return self._token
     exchange = run.exchanges[-1]
-    why: Optional[Exception] = None
+    why: Optional[BaseException] = None
     sent = dict(exchange['request']['pairs'])
     if self._is_of_a_user and 'refresh_token' not in sent:
         raise Ended('the token of the user has ended, and there is no refresh token')
     try:
-        reply: dict[str, Any] = _calls.in_script((yield from _calls.sent(self.client, _calls.request_of(exchange))))
-    except InsecureEndpoint:
-        raise
-    except Exception as error:
-        reply, why = {'fail': True}, error
+        reply = _calls.in_script((yield from _calls.reply_to(self.client, _calls.request_of(exchange))))
+    except _calls.NoReply as failed:
+        reply, why = {'fail': True}, failed.__cause__
     run = self._run([*self._replies, reply], at)
     if run.last['event'] != 'answer':
         held = 1 if self._token else 0

@@ -94,6 +94,8 @@ def finish(self: LoginState[Any], redirect_url: str, *, issuer: Optional[str] = 
         _calls.needs_of_id_token(client, issuer, keys, signature)
     params = {'state': kept['state'], 'redirect': redirect_url, **redirect_issuer(client)}
     code = client.run('redirect', params).answer()
+    if is_openid and signature and keys is None and _calls.kept_keys(client) is None:  # before the code is used up
+        yield from _calls.fetch_keys(client)
     got = yield from _calls.exchange_code(client, code, verifier=kept['verifier'],
                                           redirect=kept.get('redirect_uri'), extra=extra,
                                           resource=kept.get('resource', ()), client_assertion=client_assertion)

@@ -61,9 +61,10 @@ class Faults(Case):
         self.assertEqual((error.kind, error.text, error.status), ('request_failed', 'Request failed', None))
         self.assertIsInstance(error.__cause__, ConnectionRefusedError)
         self.assertEqual(str(error), 'Request failed (ConnectionRefusedError)')
-        it, _ = client(KeyboardInterrupt())
-        with self.assertRaises(KeyboardInterrupt):
-            it.fetch_token()
+        for kind in (KeyboardInterrupt, MemoryError):  # which are no failure of the request
+            it, _ = client(kind())
+            with self.assertRaises(kind):
+                it.fetch_token()
 
     def test_missing_endpoint(self):
         it = Client('aaa', transport=Server())

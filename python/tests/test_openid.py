@@ -130,19 +130,20 @@ class OpenId(Case):
         for at in range(2):
             login = it.login(scopes='openid')
             id_token = self.signer.token(**self.claims(login))
-            server.replies += [(200, {**TOKEN, 'id_token': id_token})] + [(200, self.keys)] * (at == 0)
+            server.replies += [(200, self.keys)] * (at == 0) + [(200, {**TOKEN, 'id_token': id_token})]
             token = login.finish('https://app.example/back?code=c&state=' + login.state)
             self.assertEqual(token.claims.sub, 'u1')
         self.assertEqual([request.url for request in server.requests[1:]],
-                         [ISSUER + '/token', ISSUER + '/keys', ISSUER + '/token'])
-        self.assertEqual(server.requests[2].method, 'GET')
+                         [ISSUER + '/keys', ISSUER + '/token', ISSUER + '/token'])
+        self.assertEqual(server.requests[1].method, 'GET')
 
     def test_new_keys_are_asked_for_once(self):
         it, server = self.discovered()
-        for signer, keys in ((self.signer, [self.keys]), (self.other, [{'keys': [self.other.key]}])):
+        new = {'keys': [self.other.key]}
+        for signer, before, after in ((self.signer, [self.keys], []), (self.other, [], [new])):
             login = it.login(scopes='openid')
-            id_token = signer.token(**self.claims(login))
-            server.replies += [(200, {**TOKEN, 'id_token': id_token}), *((200, it) for it in keys)]
+            reply = {**TOKEN, 'id_token': signer.token(**self.claims(login))}
+            server.replies += [(200, it) for it in (*before, reply, *after)]
             token = login.finish('https://app.example/back?code=c&state=' + login.state)
             self.assertTrue(token.claims.signature_checked)
         self.assertEqual(server.replies, [])
@@ -150,17 +151,19 @@ class OpenId(Case):
     def test_keys_that_are_none(self):
         for reply in ((200, b'<html>'), (200, b'[]'), (404, {'keys': []}), (200, b'{"keys":[]},"algorithm":"none"'),
                       (200, b'\xff')):
-            it, server = self.discovered()
+            it, server = self.discovered(reply)
             login = it.login(scopes='openid')
-            server.replies += [(200, {**TOKEN, 'id_token': self.signer.token(**self.claims(login))}), reply]
             self.fails(lifecrib.BadKeys, login.finish, 'https://app.example/back?code=c&state=' + login.state)
+            self.assertEqual([request.url for request in server.requests[1:]], [ISSUER + '/keys'])  # the code is kept
 
     def test_keys_that_do_not_come(self):
-        it, server = self.discovered()
+        it, server = self.discovered(OSError('down'))
         login = it.login(scopes='openid')
-        server.replies += [(200, {**TOKEN, 'id_token': self.signer.token(**self.claims(login))}), OSError('down')]
-        error = self.fails(lifecrib.RequestFailed, login.finish, 'https://app.example/back?code=c&state=' + login.state)
+        url = 'https://app.example/back?code=c&state=' + login.state
+        error = self.fails(lifecrib.RequestFailed, login.finish, url)
         self.assertIsInstance(error.__cause__, OSError)
+        server.replies += [(200, self.keys), (200, {**TOKEN, 'id_token': self.signer.token(**self.claims(login))})]
+        self.assertEqual(login.finish(url).claims.sub, 'u1')
 
     def test_the_issuer_of_the_redirect(self):
         said = 'https://app.example/back?code=c&state=%s&iss=%s'
