@@ -1,2 +1,1 @@
 pub mod Introspection
-pub mod private

@@ -1,16 +1,6 @@
 //! The response of an introspection endpoint (RFC 7662, section 2.2).
 
-ghost use Rattle.std.specs.Prelude.{
-  ◌≡◌,
-  ℕ,
-  List,
-  None,
-  IfOk,
-  map,
-  option_map,
-  option_copied,
-  string_bytes,
-};
+ghost use Rattle.std.specs.Prelude.{◌≡◌, None, map, option_map, option_copied, string_bytes};
 ghost use Rattle.oauth2_introspection.specs.Introspection.{Introspection, introspection_seen};
 
 use jiff::Timestamp;
@@ -121,7 +111,7 @@ pub trait TokenIntrospectionResponse: FromJson + ToJson + fmt::Debug {
 }
 
 /// The introspection response of RFC 7662, section 2.2, with extra fields `EF` and token type `TT`.
-#[derive(Debug)]
+#[derive(Debug, Drop)]
 pub struct StandardTokenIntrospectionResponse<EF, TT> {
     pub(crate) active: bool,
     pub(crate) scopes: Option<Vec<Scope>>,
@@ -136,26 +126,6 @@ pub struct StandardTokenIntrospectionResponse<EF, TT> {
     pub(crate) iss: Option<String>,
     pub(crate) jti: Option<String>,
     pub(crate) extra_fields: EF,
-}
-
-impl<EF: Drop, TT: Drop> Drop for StandardTokenIntrospectionResponse<EF, TT> {
-    fn drop(self) {
-        let StandardTokenIntrospectionResponse {
-            active: _,
-            scopes: _,
-            client_id: _,
-            username: _,
-            token_type: _,
-            exp: _,
-            iat: _,
-            nbf: _,
-            sub: _,
-            aud: _,
-            iss: _,
-            jti: _,
-            extra_fields: _,
-        } = self;
-    }
 }
 
 impl<EF, TT> Model for StandardTokenIntrospectionResponse<EF, TT> {
@@ -396,66 +366,6 @@ impl<EF: ExtraTokenFields + Drop, TT: TokenType + Drop> TokenIntrospectionRespon
     }
 }
 
-// The state of the token, its scopes, its client and its resource owner.
-#[derive(Drop)]
-pub(crate) struct Grant {
-    pub(crate) active: bool,
-    pub(crate) scopes: Option<Vec<Scope>>,
-    pub(crate) client_id: Option<ClientId>,
-    pub(crate) username: Option<String>,
-}
-
-// The type of the token and its three times.
-#[derive(Drop)]
-pub(crate) struct Validity<TT> {
-    pub(crate) token_type: Option<TT>,
-    pub(crate) exp: Option<Timestamp>,
-    pub(crate) iat: Option<Timestamp>,
-    pub(crate) nbf: Option<Timestamp>,
-}
-
-// The subject, audience, issuer and identifier of the token.
-#[derive(Drop)]
-pub(crate) struct Claims {
-    pub(crate) sub: Option<String>,
-    pub(crate) aud: Option<Vec<String>>,
-    pub(crate) iss: Option<String>,
-    pub(crate) jti: Option<String>,
-}
-
-impl<EF, TT> StandardTokenIntrospectionResponse<EF, TT> {
-    fn copied_grant(&self, alloc: Global) -> Result<Grant, AllocError>
-        ensures active { IfOk result (λ g. g.active ≡ self.now.active) }
-        ensures scopes { IfOk result (λ g.
-            option_map (λ list. list.items) g.scopes ≡ self.now.scopes) }
-        ensures client_id { IfOk result (λ g. g.client_id ≡ self.now.client_id) }
-        ensures username { IfOk result (λ g.
-            option_map string_bytes g.username ≡ self.now.username) }
-    {
-        Ok(Grant {
-            active: self.active,
-            scopes: self.scopes.try_clone(alloc)?,
-            client_id: self.client_id.try_clone(alloc)?,
-            username: self.username.try_clone(alloc)?,
-        })
-    }
-
-    fn copied_claims(&self, alloc: Global) -> Result<Claims, AllocError>
-        ensures sub { IfOk result (λ c. option_map string_bytes c.sub ≡ self.now.sub) }
-        ensures aud { IfOk result (λ c.
-            option_map (λ list. map string_bytes list.items) c.aud ≡ self.now.aud) }
-        ensures iss { IfOk result (λ c. option_map string_bytes c.iss ≡ self.now.iss) }
-        ensures jti { IfOk result (λ c. option_map string_bytes c.jti ≡ self.now.jti) }
-    {
-        Ok(Claims {
-            sub: self.sub.try_clone(alloc)?,
-            aud: self.aud.try_clone(alloc)?,
-            iss: self.iss.try_clone(alloc)?,
-            jti: self.jti.try_clone(alloc)?,
-        })
-    }
-}
-
 impl<EF: TryClone + Drop, TT: TryClone + Drop> TryClone
     for StandardTokenIntrospectionResponse<EF, TT> {
     ghost Seen = { Introspection EF.Seen TT.Seen };
@@ -466,24 +376,20 @@ impl<EF: TryClone + Drop, TT: TryClone + Drop> TryClone
         &self,
         alloc: Global,
     ) -> Result<StandardTokenIntrospectionResponse<EF, TT>, AllocError> {
-        let grant = self.copied_grant(alloc)?;
-        let claims = self.copied_claims(alloc)?;
-        let token_type = self.token_type.try_clone(alloc)?;
-        let extra_fields = self.extra_fields.try_clone(alloc)?;
         Ok(StandardTokenIntrospectionResponse {
-            active: grant.active,
-            scopes: grant.scopes,
-            client_id: grant.client_id,
-            username: grant.username,
-            token_type,
+            active: self.active,
+            scopes: self.scopes.try_clone(alloc)?,
+            client_id: self.client_id.try_clone(alloc)?,
+            username: self.username.try_clone(alloc)?,
+            token_type: self.token_type.try_clone(alloc)?,
             exp: self.exp,
             iat: self.iat,
             nbf: self.nbf,
-            sub: claims.sub,
-            aud: claims.aud,
-            iss: claims.iss,
-            jti: claims.jti,
-            extra_fields,
+            sub: self.sub.try_clone(alloc)?,
+            aud: self.aud.try_clone(alloc)?,
+            iss: self.iss.try_clone(alloc)?,
+            jti: self.jti.try_clone(alloc)?,
+            extra_fields: self.extra_fields.try_clone(alloc)?,
         })
     }
 }

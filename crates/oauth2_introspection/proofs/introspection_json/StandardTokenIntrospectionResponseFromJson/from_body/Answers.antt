@@ -1,23 +1,18 @@
-use Rattle.std.proofs.Common.{subst, sym, ◌∙◌}
+use Rattle.std.proofs.lemmas.Iterator.Adapters.{option_map_id}
 use Rattle.std.proofs.lemmas.Result.{err_from_is_err_and}
-use Rattle.oauth2_json.specs.Reading.{ReadsAs}
-use Rattle.oauth2_body_members.specs.Object.{object_members}
-use Rattle.oauth2_body_members.proofs.Keeping.{body_rows, body_refused}
-use Rattle.oauth2_introspection.specs.Introspection.{introspection_seen, introspection_row}
-use Rattle.oauth2_introspection.proofs.IntrospectionLaws.{kept_rows}
+use Rattle.oauth2_member_rows.proofs.Tables.{body_built, body_errs}
+use Rattle.oauth2_introspection.specs.Introspection.{Introspection, introspection, introspection_table}
 use Rattle.oauth2_introspection.proofs.introspection_json.StandardTokenIntrospectionResponseFromJson.from_body.Goals as goal
 
-pub returns-in_err-members : goal.returns-in_err-members
-returns-in_err-members g c =
+pub returns-in_err-values : goal.returns-in_err-values
+returns-in_err-values g c =
     let E = g.EF.FromJson in
     let T = g.TT.FromJson in
     let p = err_from_is_err_and c.from_residual.result c.from_residual.ensures.1 in
-    rw (p.1, p.2) (body_refused (introspection_row E.reading T.reading) c.args.bytes.now c.in_err-members.field-0.0 c.in_err-members.ensures)
+    rw (p.1, p.2) (body_errs (Introspection E.Meaning T.Meaning) (introspection_table T.reading) introspection E.reading c.args.bytes.now c.in_err-values.field-0.0 c.in_err-values.ensures)
 
 pub returns : goal.returns
 returns g c =
     let E = g.EF.FromJson in
     let T = g.TT.FromJson in
-    let k = c.in_ok-members.ensures in
-    subst (ReadsAs (introspection_seen E.meaning T.meaning) c.from_members.result)
-    (kept_rows E.reading T.reading c.reads_members.result k.0 (object_members c.in_ok-members.members) k.2 c.reads_members.ensures ∙ sym (body_rows (introspection_row E.reading T.reading) c.args.bytes.now k.0 k.1)) c.from_members.ensures
+    rw c.response_of.ensures (simp option_map_id at (body_built (Introspection E.Meaning T.Meaning) (introspection_table T.reading) introspection E.reading c.args.bytes.now _ c.in_ok-values.ensures))

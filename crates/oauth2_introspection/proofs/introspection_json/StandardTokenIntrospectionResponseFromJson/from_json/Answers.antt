@@ -1,13 +1,19 @@
-use Rattle.std.proofs.Common.{subst}
+use Rattle.std.proofs.lemmas.Iterator.Adapters.{option_map_id}
+use Rattle.std.proofs.lemmas.Result.{err_from_is_err_and}
 use Rattle.serde_json.specs.View.{view}
-use Rattle.oauth2_json.specs.Reading.{ReadsAs}
-use Rattle.oauth2_body_members.specs.Object.{object_members}
-use Rattle.oauth2_introspection.specs.Introspection.{introspection_seen}
-use Rattle.oauth2_introspection.proofs.IntrospectionLaws.{rows_in_turn}
+use Rattle.oauth2_member_rows.proofs.Tables.{with_built, with_errs}
+use Rattle.oauth2_introspection.specs.Introspection.{Introspection, introspection, introspection_table}
 use Rattle.oauth2_introspection.proofs.introspection_json.StandardTokenIntrospectionResponseFromJson.from_json.Goals as goal
+
+pub returns-in_err-values : goal.returns-in_err-values
+returns-in_err-values g c =
+    let E = g.EF.FromJson in
+    let T = g.TT.FromJson in
+    let p = err_from_is_err_and c.from_residual.result c.from_residual.ensures.1 in
+    rw (p.1, p.2) (with_errs (Introspection E.Meaning T.Meaning) (introspection_table T.reading) introspection E.reading (view c.args.value) c.in_err-values.field-0.0 c.in_err-values.ensures)
 
 pub returns : goal.returns
 returns g c =
     let E = g.EF.FromJson in
     let T = g.TT.FromJson in
-    subst (λ w. ReadsAs (introspection_seen E.meaning T.meaning) c.from_members.result w) (rows_in_turn E.reading T.reading (view c.args.value) (object_members c.in_ok-members.members) c.in_ok-members.ensures) c.from_members.ensures
+    rw c.response_of.ensures (simp option_map_id at (with_built (Introspection E.Meaning T.Meaning) (introspection_table T.reading) introspection E.reading (view c.args.value) _ c.in_ok-values.ensures))
