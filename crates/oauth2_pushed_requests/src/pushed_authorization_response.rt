@@ -17,19 +17,22 @@ ghost use Rattle.oauth2_pushed_requests.specs.Response.{
 };
 
 use crate::reference_url::reference_url;
-use oauth2_json::{FromJson, ReadError, ToJson, WriteError, members};
+use oauth2_json::{FromJson, ReadError, ToJson, WriteError};
+use oauth2_member_rows::{Member, Needed, NeededNumber, object_of, read_object};
 use oauth2_types::ClientId;
 use oauth2_urls::AuthUrl;
-use serde_json::{Map, Value};
+use serde_json::Value;
 use std::alloc::Global;
 use std::fmt;
-use std::marker::Model;
+use std::marker::{Model, PhantomData};
 use std::time::Duration;
 use url::{ParseError, Url};
 
-const REQUEST_URI: &str = "request_uri";
-
-const EXPIRES_IN: &str = "expires_in";
+// The members of the response.
+const ROWS: (Member<Needed<String>>, (Member<NeededNumber>, ())) = (
+    Member("request_uri", PhantomData),
+    (Member("expires_in", PhantomData), ()),
+);
 
 /// The response to a pushed authorization request. There is no constructor: it is read from JSON.
 #[derive(Drop)]
@@ -98,14 +101,11 @@ impl FromJson for PushedAuthorizationResponse {
 
     ghost reading = { pushed_reading };
 
-    #[tactic(auto, using(oauth2_json::proofs::Objects::member_facts))]
     fn from_json(alloc: Global, value: Value) -> Result<PushedAuthorizationResponse, ReadError> {
-        let mut members = members::of_object(alloc, value)?;
-        let request_uri = members::take(&mut members, REQUEST_URI);
-        let expires_in = members::take(&mut members, EXPIRES_IN);
+        let (request_uri, (expires_in, ())) = read_object(&ROWS, alloc, value)?;
         Ok(PushedAuthorizationResponse {
-            request_uri: members::needed(alloc, REQUEST_URI, request_uri)?,
-            expires_in: members::needed_number(alloc, EXPIRES_IN, expires_in)?,
+            request_uri,
+            expires_in,
         })
     }
 }
@@ -117,12 +117,8 @@ impl ToJson for PushedAuthorizationResponse {
         ensures written { WritesAs result (pushed_writing self.now) }
         ensures reads_back { IfOk result (λ v. pushed_reading (view v) ≡ Ok self.now) }
     {
-        let request_uri = Value::try_from_str(alloc, self.request_uri())?;
-        let expires_in = members::number_value(Some(self.expires_in));
-        let mut members = Map::new(alloc);
-        members::put_some(&mut members, alloc, EXPIRES_IN, expires_in)?;
-        members::put_some(&mut members, alloc, REQUEST_URI, Some(request_uri))?;
-        Ok(Value::Object(members))
+        let values = (&self.request_uri, (&self.expires_in, ()));
+        Ok(object_of(&ROWS, alloc, values)?)
     }
 }
 
