@@ -6,7 +6,7 @@ use Rattle.std.specs.declared.alloc.Global.{Global}
 use Rattle.std.proofs.lemmas.Bool.{false≢true}
 use Rattle.oauth2_wire.specs.Reply.{HttpResponse}
 use Rattle.oauth2_wire.specs.Request.{HttpRequest, view_of}
-use Rattle.oauth2_client_assertions.specs.AssertingCall.{Asserter, CallsAsserting, SendsWith, told}
+use Rattle.oauth2_client_assertions.specs.AssertingCall.{Asserter, CallsAsserting, SendsWith, inner_result}
 use Rattle.oauth2_client_assertions.specs.Requests.{authenticates, is_form_post}
 use Rattle.oauth2_client_assertions.specs.private.Asking.{Asks, IsAsserted}
 use Rattle.oauth2_client_assertions.specs.declared.assertion_type.AssertionType.{AssertionType}
@@ -25,7 +25,7 @@ module _ {C S E SE : Type 0} (step : C → HttpRequest → Result HttpResponse E
 
   sent_with : (kind : AssertionType) (request sent : HttpRequest) (assertion : Result (String Global) SE) (before after : C)
       (result : Result HttpResponse (AssertingError E SE)) (answer : Result HttpResponse E)
-      → IsAsserted {E = E} kind (view_of request) assertion (Ok sent) → step before sent answer after → result ≡ told answer
+      → IsAsserted {E = E} kind (view_of request) assertion (Ok sent) → step before sent answer after → result ≡ inner_result answer
       → SendsWith step kind request assertion before result after
   sent_with kind request sent (Ok text) before after result answer extended stepped is = inl (sent, extended, (answer, stepped, is))
   sent_with kind request sent (Err fault) before after result answer wrong stepped is = absurd wrong
@@ -38,7 +38,7 @@ module _ {C S E SE : Type 0} (step : C → HttpRequest → Result HttpResponse E
   -- ---- the whole call; `held` is what the client holds before it
 
   pub passes : {held before : Asserter C S} (called : C) (request : HttpRequest) (result : Result HttpResponse (AssertingError E SE)) (answer : Result HttpResponse E)
-      → held ≡ before → is_form_post (view_of request) ≡ false → step held.client request answer called → result ≡ told answer
+      → held ≡ before → is_form_post (view_of request) ≡ false → step held.client request answer called → result ≡ inner_result answer
       → CallsAsserting step asks before request result (record held { client = called })
   passes {held = held} called request result answer same lacks_it stepped is =
       subst (λ (b : Asserter C S). CallsAsserting step asks b request result (record held { client = called })) same
@@ -47,7 +47,7 @@ module _ {C S E SE : Type 0} (step : C → HttpRequest → Result HttpResponse E
   pub sends : {held before : Asserter C S} (asked : S) (called : C) (request sent : HttpRequest) (result : Result HttpResponse (AssertingError E SE)) (answer : Result HttpResponse E)
       → held ≡ before → is_form_post (view_of request) ≡ true → authenticates (view_of request) ≡ false
       → Asks {E = E} asks held.assertion_type (view_of request) held.source (Ok sent) asked
-      → step held.client sent answer called → result ≡ told answer
+      → step held.client sent answer called → result ≡ inner_result answer
       → CallsAsserting step asks before request result (record held { client = called; source = asked })
   sends {held = held} asked called request sent result answer same has_form not_yet asking stepped is =
       subst (λ (b : Asserter C S). CallsAsserting step asks b request result (record held { client = called; source = asked })) same

@@ -17,14 +17,14 @@ pub record Asserter (C S : Type 0) : Type 0 where
 
 module _ {E SE : Type 0} where
   -- what is returned for an answer of the inner client
-  abbrev pub told : Result HttpResponse E → Result HttpResponse (AssertingError E SE)
-  told (Ok reply) = Ok reply
-  told (Err fault) = Err (error.Client fault)
+  abbrev pub inner_result : Result HttpResponse E → Result HttpResponse (AssertingError E SE)
+  inner_result (Ok reply) = Ok reply
+  inner_result (Err fault) = Err (error.Client fault)
 
 module _ {C E SE : Type 0} (step : C → HttpRequest → Result HttpResponse E → C → Type 0) where
   -- the inner client is called once, with this request
   abbrev pub Sends : C → HttpRequest → Result HttpResponse (AssertingError E SE) → C → Type 0
-  Sends before sent result after = (answer : Result HttpResponse E) × step before sent answer after × (result ≡ told answer)
+  Sends before sent result after = (answer : Result HttpResponse E) × step before sent answer after × (result ≡ inner_result answer)
 
   -- the request is sent with the assertion that the source returned; without one, or if memory runs
   -- out, it is not sent

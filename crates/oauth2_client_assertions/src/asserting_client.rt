@@ -2,7 +2,7 @@
 
 ghost use Rattle.std.specs.Prelude.{◌≡◌};
 ghost use Rattle.oauth2_wire.specs.Request.{view_of};
-ghost use Rattle.oauth2_client_assertions.specs.AssertingCall.{told};
+ghost use Rattle.oauth2_client_assertions.specs.AssertingCall.{inner_result};
 ghost use Rattle.oauth2_client_assertions.specs.private.Asking.{Asks};
 
 use crate::assertion_source::AssertionSource;
@@ -86,13 +86,13 @@ impl<C: SyncHttpClient, S: AssertionSource> SyncHttpClient for AssertingClient<C
         request: HttpRequest,
     ) -> Result<HttpResponse, AssertingError<C::Error, S::Error>> {
         if !is_form_post(&request) {
-            return told(self.client.call(request));
+            return inner_result(self.client.call(request));
         }
         if authenticates(&request) {
             return Err(AssertingError::OtherAuthentication);
         }
-        match asserted(self.alloc, &mut self.source, self.assertion_type, request) {
-            Ok(sent) => told(self.client.call(sent)),
+        match asserted_request(self.alloc, &mut self.source, self.assertion_type, request) {
+            Ok(sent) => inner_result(self.client.call(sent)),
             Err(error) => Err(error),
         }
     }
@@ -103,7 +103,7 @@ impl<C: AlwaysReady, S: AssertionSource> AlwaysReady for AssertingClient<C, S> {
 }
 
 // The request with an assertion of the source, or why there is none.
-fn asserted<S: AssertionSource, E>(
+fn asserted_request<S: AssertionSource, E>(
     alloc: Global,
     source: &mut S,
     assertion_type: AssertionType,
@@ -121,8 +121,10 @@ fn asserted<S: AssertionSource, E>(
 }
 
 // The reply, or the error of the inner client.
-fn told<E: Drop, S>(answer: Result<HttpResponse, E>) -> Result<HttpResponse, AssertingError<E, S>>
-    ensures { result ≡ told answer }
+fn inner_result<E: Drop, S>(
+    answer: Result<HttpResponse, E>,
+) -> Result<HttpResponse, AssertingError<E, S>>
+    ensures { result ≡ inner_result answer }
 {
     match answer {
         Ok(reply) => Ok(reply),

@@ -41,5 +41,5 @@ unfoldable pub hs256_code : List ℕ → List ℕ → List ℕ
 hs256_code secret message = hmac Sha256 secret message
 
 -- the token: what is signed, a dot, and its code in base64url (RFC 7515, 7.1)
-abbrev pub signed : List ℕ → List ℕ → List ℕ
-signed secret claims = signing_input claims ++ codes "." ++ base64url (hs256_code secret (signing_input claims))
+abbrev pub signed_jwt : List ℕ → List ℕ → List ℕ
+signed_jwt secret claims = signing_input claims ++ codes "." ++ base64url (hs256_code secret (signing_input claims))

@@ -3,7 +3,7 @@ use Rattle.std.specs.Prelude.{◌≡◌, ℕ, ◌+◌, pos, ◌≤ℤ◌, List, 
 use Rattle.std.specs.declared.alloc.Global.{Global}
 use Rattle.jiff.specs.Types.{Timestamp}
 use Rattle.oauth2_types.specs.Pkce.{base64url}
-use Rattle.oauth2_client_secret_jwt.specs.Assertion.{claims_text, second_since_1970, signed}
+use Rattle.oauth2_client_secret_jwt.specs.Assertion.{claims_text, second_since_1970, signed_jwt}
 use Rattle.oauth2_client_secret_jwt.specs.declared.error.ClientSecretJwtError.{ClientSecretJwtError}
 use Rattle.oauth2_client_secret_jwt.specs.declared.error.ClientSecretJwtError.TheVariants as error
 
@@ -20,7 +20,7 @@ pub record Signer (K R : Type 0) : Type 0 where
 -- the assertion that is made in this second since 1970, with the bytes that were drawn for `jti`
 abbrev pub jwt_of : {K R : Type 0} → Signer K R → ℕ → List ℕ → List ℕ
 jwt_of s second drawn =
-    signed s.client_secret (claims_text s.client_id s.audience (base64url drawn) second (second + s.lifetime))
+    signed_jwt s.client_secret (claims_text s.client_id s.audience (base64url drawn) second (second + s.lifetime))
 
 -- a clock of the runtime shows no time before 1970, and stays as it was
 abbrev pub ShowsTimeSince1970 : {C E : Type 0} → C → Result Timestamp E → C → Type 0

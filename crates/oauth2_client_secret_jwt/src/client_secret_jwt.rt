@@ -9,7 +9,7 @@ ghost use Rattle.oauth2_client_secret_jwt.specs.private.Steps.{Draws, ReadsSecon
 use crate::claims::{claims_text, second_since_1970};
 use crate::clock::Clock;
 use crate::error::{ClientSecretJwtError, SecretTooShort};
-use crate::signed::signed;
+use crate::signed_jwt::signed_jwt;
 use base64::engine::general_purpose::URL_SAFE_NO_PAD;
 use oauth2_client_assertions::AssertionSource;
 use oauth2_types::{ClientId, ClientSecret};
@@ -96,7 +96,7 @@ impl<K, R> ClientSecretJwt<K, R> {
     }
 
     // The assertion of this second, with the bytes that were drawn.
-    fn signed(&self, alloc: Global, second: u64, drawn: &[u8]) -> Result<String, AllocError>
+    fn jwt_of(&self, alloc: Global, second: u64, drawn: &[u8]) -> Result<String, AllocError>
         requires { second < 2 ^ 40 }
         ensures { IfOk result (λ text. string_bytes text ≡ jwt_of self.now second drawn.now) }
     {
@@ -109,7 +109,7 @@ impl<K, R> ClientSecretJwt<K, R> {
             second,
             self.lifetime,
         )?;
-        signed(
+        signed_jwt(
             alloc,
             self.client_secret.secret().as_bytes(),
             claims.as_bytes(),
@@ -136,7 +136,7 @@ impl<K: Clock, R: TryRng> AssertionSource for ClientSecretJwt<K, R> {
             Ok(drawn) => drawn,
             Err(error) => return Err(error),
         };
-        match self.signed(alloc, second, &drawn) {
+        match self.jwt_of(alloc, second, &drawn) {
             Ok(text) => Ok(text),
             Err(_) => Err(ClientSecretJwtError::Memory),
         }

@@ -7,7 +7,7 @@ mod claims;
 mod client_secret_jwt;
 mod clock;
 mod error;
-mod signed;
+mod signed_jwt;
 
 pub use client_secret_jwt::ClientSecretJwt;
 pub use clock::{Clock, RuntimeClock};

@@ -5,7 +5,8 @@ use Rattle.oauth2_grants.specs.BearerGrants.{jwt_bearer_grant, jwt_bearer_pairs,
 use Rattle.oauth2_grants.specs.Extension.{ExtensionRequest, TokenClientView, new_extension_request, with_params}
 use Rattle.oauth2_request_commands.specs.Client.{WithToken}
 use Rattle.oauth2_request_commands.specs.Out.{Output}
-use Rattle.oauth2_grant_commands.specs.TokenGrant.{IsTokenAsked, WithExtra, scoped, token_client}
+use Rattle.oauth2_grant_commands.specs.TokenGrant.{IsTokenAsked, WithExtra, token_client}
+use Rattle.oauth2_grant_commands.specs.TokenGrant.{request_with_scopes}
 use Rattle.oauth2_script.specs.AssertionParams.{AssertionParams}
 use Rattle.oauth2_script.specs.Client.{Client}
 use Rattle.oauth2_script.specs.Replies.{Reply}
@@ -20,7 +21,7 @@ bearer_request Saml2 client text = with_params (new_extension_request client sam
 
 -- the request by the assertion of the command, with its scopes (RFC 7521, 4.1)
 abbrev pub assertion_request : Client → AssertionParams → Addressed → ExtensionRequest
-assertion_request client p url = scoped (bearer_request p.kind (token_client client url) p.assertion) p.scopes
+assertion_request client p url = request_with_scopes (bearer_request p.kind (token_client client url) p.assertion) p.scopes
 
 -- the output of `assertion`: that of its request, or that no token endpoint is set
 abbrev pub IsAssertionOutput : Client → AssertionParams → List Reply → Output → Type 0

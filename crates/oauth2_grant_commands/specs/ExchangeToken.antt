@@ -16,14 +16,14 @@ use Rattle.oauth2_grants.specs.TokenExchange as exchange
 use Rattle.oauth2_request_commands.specs.Client.{WithToken}
 use Rattle.oauth2_request_commands.specs.Exchange.{IsPostShown, error_members}
 use Rattle.oauth2_request_commands.specs.Out.{Output}
-use Rattle.oauth2_grant_commands.specs.TokenGrant.{WithExtra, scoped, token_client}
+use Rattle.oauth2_grant_commands.specs.TokenGrant.{WithExtra, request_with_scopes, token_client}
 use Rattle.oauth2_script.specs.Client.{Client}
 use Rattle.oauth2_script.specs.ExchangeTokenParams.{ExchangeTokenParams, TypedToken}
 use Rattle.oauth2_script.specs.Replies.{Reply}
 
 -- a token of the command, with its type (RFC 8693, 3)
-abbrev pub typed : TypedToken → exchange.TypedToken
-typed t = record { token = t.token; token_type = t.token_type }
+abbrev pub typed_token : TypedToken → exchange.TypedToken
+typed_token t = record { token = t.token; token_type = t.token_type }
 
 -- the exchange that the command asks for (RFC 8693, 2.1)
 abbrev pub exchange_of : ExchangeTokenParams → exchange.Exchange
@@ -31,15 +31,15 @@ exchange_of p = record {
   resources = p.resources;
   audiences = p.audiences;
   requested_token_type = p.requested_token_type;
-  subject = typed p.subject;
-  actor = option_map typed p.actor;
+  subject = typed_token p.subject;
+  actor = option_map typed_token p.actor;
 }
 
 -- the request of that exchange, with the scopes of the command (RFC 8693, 2.1)
 abbrev pub exchange_request : Client → ExchangeTokenParams → Addressed → ExtensionRequest
 exchange_request client p url =
     let start = new_extension_request (token_client client url) exchange.token_exchange_grant in
-    scoped (with_params start (exchange.token_exchange_pairs (exchange_of p))) p.scopes
+    request_with_scopes (with_params start (exchange.token_exchange_pairs (exchange_of p))) p.scopes
 
 -- a response to an exchange, with the type of the token that was issued (RFC 8693, 2.2.1)
 abbrev pub ExchangeAnswer : Type 0

@@ -24,8 +24,9 @@ token_client client url = record {
 }
 
 -- the request with these scopes (RFC 6749, 3.3)
-abbrev pub scoped : ExtensionRequest → List (List ℕ) → ExtensionRequest
-scoped r scopes = record r { base = record r.base { scope = with_scopes r.base.scope scopes } }
+abbrev pub request_with_scopes : ExtensionRequest → List (List ℕ) → ExtensionRequest
+request_with_scopes r scopes =
+    record r { base = record r.base { scope = with_scopes r.base.scope scopes } }
 
 -- one of these parameters has a name that the request sends itself
 abbrev pub has_taken_name : List Pair → Bool

@@ -35,7 +35,7 @@ fn new_exchange<'a>(alloc: Global, subject: &'a TypedTokenParam) -> TokenExchang
       resources = [];
       audiences = [];
       requested_token_type = None;
-      subject = spec.typed (typed_token_view subject.now);
+      subject = spec.typed_token (typed_token_view subject.now);
       actor = None;
     } }
 {
@@ -51,7 +51,7 @@ fn with_actor<'a>(
     exchange: TokenExchange<'a>,
     actor: &'a Option<TypedTokenParam>,
 ) -> TokenExchange<'a>
-    ensures { let given = option_map spec.typed (option_map typed_token_view actor.now) in
+    ensures { let given = option_map spec.typed_token (option_map typed_token_view actor.now) in
         result ≡ record exchange.entry { actor = given_or given exchange.entry.actor } }
 {
     match actor {

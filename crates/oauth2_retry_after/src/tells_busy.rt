@@ -51,7 +51,7 @@ impl<C: SyncHttpClient> SyncHttpClient for TellsBusy<C> {
     ghost step = { CallsAndTells C.step };
 
     fn call(&mut self, request: HttpRequest) -> Result<HttpResponse, BusyError<C::Error>> {
-        told(self.client.call(request))
+        reply_or_busy(self.client.call(request))
     }
 }
 
@@ -60,7 +60,7 @@ impl<C: AlwaysReady> AlwaysReady for TellsBusy<C> {
 }
 
 // The reply, or that the server is busy, or the error of the inner client.
-fn told<E: Drop>(answer: Result<HttpResponse, E>) -> Result<HttpResponse, BusyError<E>>
+fn reply_or_busy<E: Drop>(answer: Result<HttpResponse, E>) -> Result<HttpResponse, BusyError<E>>
     ensures { IsTold answer result }
 {
     match answer {

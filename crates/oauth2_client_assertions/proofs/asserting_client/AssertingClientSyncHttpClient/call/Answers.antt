@@ -9,7 +9,7 @@ returns-then-not-is_form_post-clause-step g c =
     let found = c.is_form_post.ensures in
     let tested = c.if-not-is_form_post.true in
     let lacks_it : is_form_post (view_of c.args.request) ≡ false = cc in
-    passes g.C.SyncHttpClient.step g.S.AssertionSource.step c.call.new.self c.args.request c.told.result c.call.result c.self.view_is lacks_it c.call.ensures.step c.told.ensures
+    passes g.C.SyncHttpClient.step g.S.AssertionSource.step c.call.new.self c.args.request c.inner_result.result c.call.result c.self.view_is lacks_it c.call.ensures.step c.inner_result.ensures
 
 pub returns-in-Ok-clause-step : goal.returns-in-Ok-clause-step
 returns-in-Ok-clause-step g c =
@@ -19,8 +19,8 @@ returns-in-Ok-clause-step g c =
     let read = c.authenticates.ensures in
     let none = c.if-authenticates.false in
     let not_yet : authenticates (view_of c.args.request) ≡ false = cc in
-    sends g.C.SyncHttpClient.step g.S.AssertionSource.step c.asserted.new.source c.call-in-Ok.new.self c.args.request c.in-Ok.sent c.told-in-Ok.result c.call-in-Ok.result
-    c.self.view_is has_form not_yet c.in-Ok.ensures c.call-in-Ok.ensures.step c.told-in-Ok.ensures
+    sends g.C.SyncHttpClient.step g.S.AssertionSource.step c.asserted_request.new.source c.call-in-Ok.new.self c.args.request c.in-Ok.sent c.inner_result-in-Ok.result c.call-in-Ok.result
+    c.self.view_is has_form not_yet c.in-Ok.ensures c.call-in-Ok.ensures.step c.inner_result-in-Ok.ensures
 
 pub returns-in-Err-clause-step : goal.returns-in-Err-clause-step
 returns-in-Err-clause-step g c =
@@ -30,4 +30,4 @@ returns-in-Err-clause-step g c =
     let read = c.authenticates.ensures in
     let none = c.if-authenticates.false in
     let not_yet : authenticates (view_of c.args.request) ≡ false = cc in
-    fails g.C.SyncHttpClient.step g.S.AssertionSource.step c.asserted.new.source c.args.request c.in-Err.error c.self.view_is has_form not_yet c.in-Err.ensures
+    fails g.C.SyncHttpClient.step g.S.AssertionSource.step c.asserted_request.new.source c.args.request c.in-Err.error c.self.view_is has_form not_yet c.in-Err.ensures

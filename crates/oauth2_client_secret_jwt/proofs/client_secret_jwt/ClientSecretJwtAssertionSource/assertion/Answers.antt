@@ -10,12 +10,12 @@ returns-in-Err-draw g c =
     no_bytes g.K.Clock.reads g.R.TryRng.may_fill c.read_second.new.clock c.draw.new.generator c.in-Ok.second c.in-Err-draw.error
     c.self.view_is c.in-Ok.ensures.step c.in-Err-draw.ensures
 
-pub returns-in-Ok-signed : goal.returns-in-Ok-signed
-returns-in-Ok-signed g c =
-    signs g.row.R-Error.Denot g.K.Clock.reads g.R.TryRng.may_fill c.read_second.new.clock c.draw.new.generator c.in-Ok.second c.in-Ok-draw.drawn c.in-Ok-signed.text
-    c.self.view_is c.in-Ok.ensures.step c.in-Ok-draw.ensures c.in-Ok-signed.ensures
+pub returns-in-Ok-jwt_of : goal.returns-in-Ok-jwt_of
+returns-in-Ok-jwt_of g c =
+    signs g.row.R-Error.Denot g.K.Clock.reads g.R.TryRng.may_fill c.read_second.new.clock c.draw.new.generator c.in-Ok.second c.in-Ok-draw.drawn c.in-Ok-jwt_of.text
+    c.self.view_is c.in-Ok.ensures.step c.in-Ok-draw.ensures c.in-Ok-jwt_of.ensures
 
-pub returns-in-Err-signed : goal.returns-in-Err-signed
-returns-in-Err-signed g c =
+pub returns-in-Err-jwt_of : goal.returns-in-Err-jwt_of
+returns-in-Err-jwt_of g c =
     no_memory g.row.R-Error.Denot g.K.Clock.reads g.R.TryRng.may_fill c.read_second.new.clock c.draw.new.generator c.in-Ok.second c.in-Ok-draw.drawn
     c.self.view_is c.in-Ok.ensures.step c.in-Ok-draw.ensures

@@ -5,5 +5,5 @@ pub returns-clause-step : goal.returns-clause-step
 returns-clause-step g c = (
   c.call.result,
   subst (λ client. g.C.SyncHttpClient.step client c.args.request c.call.result c.call.new.self) c.self.view_is c.call.ensures.step,
-  c.told.ensures,
+  c.reply_or_busy.ensures,
 )

@@ -4,7 +4,7 @@ ghost use Rattle.std.specs.Prelude.{◌≡◌, ◌≤◌, ◌++◌, IfOk, OnOk, 
 ghost use Rattle.hash_functions.specs.declared.hash_function.HashFunction.TheVariants.{Sha256};
 ghost use Rattle.hmac_signatures.specs.Hmac.{hmac};
 ghost use Rattle.oauth2_types.specs.Pkce.{base64url};
-ghost use Rattle.oauth2_client_secret_jwt.specs.Assertion.{hs256_code, signed, signing_input};
+ghost use Rattle.oauth2_client_secret_jwt.specs.Assertion.{hs256_code, signed_jwt, signing_input};
 
 use base64::engine::general_purpose::URL_SAFE_NO_PAD;
 use hmac_signatures::{AuthenticationCode, HashFunction, HmacKey};
@@ -13,9 +13,9 @@ use std::alloc::{AllocError, Global};
 const HEADER: &str = "{\"alg\":\"HS256\",\"typ\":\"JWT\"}";
 
 /// The text of a token with these claims: the header, the claims and the code, in base64url.
-pub(crate) fn signed(alloc: Global, secret: &[u8], claims: &[u8]) -> Result<String, AllocError>
+pub(crate) fn signed_jwt(alloc: Global, secret: &[u8], claims: &[u8]) -> Result<String, AllocError>
     requires { 32 ≤ length secret.now }
-    ensures { IfOk result (λ text. string_bytes text ≡ signed secret.now claims.now) }
+    ensures { IfOk result (λ text. string_bytes text ≡ signed_jwt secret.now claims.now) }
 {
     let mut text = signing_input(alloc, claims)?;
     let code = hs256_code(secret, text.as_bytes());

@@ -2,7 +2,7 @@ use Rattle.std.proofs.Common.{Ok, Err, refl, subst}
 use Rattle.oauth2_wire.specs.Request.{view_of}
 use Rattle.oauth2_client_assertions.specs.Assertions.{assertion_pairs}
 use Rattle.oauth2_client_assertions.specs.Requests.{IsExtended}
-use Rattle.oauth2_client_assertions.proofs.asserting_client.asserted.Goals as goal
+use Rattle.oauth2_client_assertions.proofs.asserting_client.asserted_request.Goals as goal
 
 pub returns-in-Ok-with_assertion : goal.returns-in-Ok-with_assertion
 returns-in-Ok-with_assertion g c = (
