@@ -12,14 +12,14 @@ use Rattle.oauth2_http1.specs.declared.bounds.Bounds.{Bounds}
 use Rattle.oauth2_http1.specs.declared.source.ReplySource.{ReplySource}
 use Rattle.oauth2_http1.specs.declared.fault.ReplyFault.{ReplyFault}
 use Rattle.oauth2_http1.specs.declared.fault.ReplyFault.TheVariants as Fault
-use Rattle.oauth2_http1.specs.Calls.{given, successes, GoesOn, Made, Goes, Fails, TakesNone, ReadsWithin, ReadFails}
+use Rattle.oauth2_http1.specs.Calls.{bytes_returned, successes, GoesOn, Made, Goes, Fails, TakesNone, ReadsWithin, ReadFails}
 use Rattle.oauth2_http1.specs.Kept.{ReadsAny}
 use Rattle.oauth2_http1.specs.private.Phase.{Tried, Took, IsPartFault}
 
-given-append : (ss rs : List (Result ℕ Error)) → given (ss ++ rs) ≡ given ss + given rs
-given-append [] rs = sym (zero-add (given rs))
-given-append (Ok n ∷ ss) rs = ap (λ k. n + k) (given-append ss rs) ∙ sym (add_assoc n (given ss) (given rs))
-given-append (Err e ∷ ss) rs = given-append ss rs
+bytes_returned-append : (ss rs : List (Result ℕ Error)) → bytes_returned (ss ++ rs) ≡ bytes_returned ss + bytes_returned rs
+bytes_returned-append [] rs = sym (zero-add (bytes_returned rs))
+bytes_returned-append (Ok n ∷ ss) rs = ap (λ k. n + k) (bytes_returned-append ss rs) ∙ sym (add_assoc n (bytes_returned ss) (bytes_returned rs))
+bytes_returned-append (Err e ∷ ss) rs = bytes_returned-append ss rs
 
 successes-append : (ss rs : List (Result ℕ Error)) → successes (ss ++ rs) ≡ successes ss + successes rs
 successes-append [] rs = sym (zero-add (successes rs))
@@ -97,9 +97,9 @@ module _ {R : Type 0} (remaining : R → Option (List ℕ)) (reads : R → Resul
       made = Made-append reads q.all.returned p.all.returned a b c p.all.made q.all.made;
       bytes = p.all.bytes ++ q.all.bytes;
       taken = Consumes-trans (remaining a) (remaining b) (remaining c) p.all.bytes q.all.bytes p.all.taken q.all.taken;
-      counted = omega (arith, length-append p.all.bytes q.all.bytes, given-append q.all.returned p.all.returned, p.all.counted, q.all.counted);
+      counted = omega (arith, length-append p.all.bytes q.all.bytes, bytes_returned-append q.all.returned p.all.returned, p.all.counted, q.all.counted);
     };
-    bytes = omega (arith, given-append q.all.returned p.all.returned, p.bytes, q.bytes);
+    bytes = omega (arith, bytes_returned-append q.all.returned p.all.returned, p.bytes, q.bytes);
     times = omega (arith, successes-append q.all.returned p.all.returned, p.times, q.times);
   }
 
@@ -107,7 +107,7 @@ module _ {R : Type 0} (remaining : R → Option (List ℕ)) (reads : R → Resul
   pub Took-same : (a b : R) (s t u : ReplySource) → Took remaining reads a b s t → u.bytes_left ≡ t.bytes_left → u.reads_left ≡ t.reads_left → Took remaining reads a b s u
   Took-same a b s t u p bytes times = record {
     all = p.all;
-    bytes = ap (λ n. given p.all.returned + n) bytes ∙ p.bytes;
+    bytes = ap (λ n. bytes_returned p.all.returned + n) bytes ∙ p.bytes;
     times = ap (λ n. successes p.all.returned + n) times ∙ p.times;
   }
 
@@ -120,7 +120,7 @@ module _ {R : Type 0} (remaining : R → Option (List ℕ)) (reads : R → Resul
   pub Took-any : (bounds : Bounds) (a b : R) (s t : ReplySource) → Took remaining reads a b s t → s.bytes_left ≡ most_bytes bounds → s.reads_left ≡ bounds.max_reads
       → ReadsAny remaining reads bounds (nat_lt t.bytes_left (most_bytes bounds)) a b
   Took-any bounds a b s t p bytes times =
-      (p.all, omega (arith, p.bytes, bytes), omega (arith, p.times, times), below (given p.all.returned) t.bytes_left (most_bytes bounds) (p.bytes ∙ bytes))
+      (p.all, omega (arith, p.bytes, bytes), omega (arith, p.times, times), below (bytes_returned p.all.returned) t.bytes_left (most_bytes bounds) (p.bytes ∙ bytes))
     where
       below : (n left most : ℕ) → n + left ≡ most → nat_lt left most ≡ nat_lt 0 n
       below n left most e = grind (arith, nat_tests)

@@ -12,7 +12,7 @@ use Rattle.oauth2_wire.specs.Expected.{Configuration, expected_basic, headers_be
 use Rattle.oauth2_wire.specs.Request.{HttpRequest, IsRequestOf, view_of}
 use Rattle.oauth2_http1.specs.Origin.{Place, host_text, origin_form}
 use Rattle.http1.specs.Conn.{length_header, states_framing}
-use Rattle.oauth2_http1.specs.Message.{IsWire, seen_request, length_fields, sized, sent_fields}
+use Rattle.oauth2_http1.specs.Message.{IsWire, seen_request, length_fields, with_length, sent_fields}
 use Rattle.oauth2_http1.specs.Law.{AreReadAs}
 
 abbrev all_fields : Place → Option Pair → List ℕ → List Header
@@ -66,7 +66,7 @@ authorizations place (Some pair) body read = ap (λ x. x ∷ []) read
 pub carried : (c : Configuration) (text : List ℕ) (r : HttpRequest) (place : Place) (bytes : List ℕ) → IsRequestOf c text (view_of r) → IsWire place r bytes → AreReadAs c place r bytes
 carried c text r place bytes is wire = λ limits rest takes.
     let body = (body_of r).items in
-    let headers : sized (head_of r).method (sent_fields place (head_of r).headers) body ≡ all_fields place (expected_basic c) body =
+    let headers : with_length (head_of r).method (sent_fields place (head_of r).headers) body ≡ all_fields place (expected_basic c) body =
     (λ i. sent_fields place (is.headers i) ++ (ap (λ m. length_fields m body) is.method ∙ posted body) i) in
     let given = expected_basic c in (
       seen_request (head_of r).method (origin_form (head_of r).uri) (sent_fields place (head_of r).headers) (body_of r).items,

@@ -10,10 +10,10 @@ use Rattle.oauth2_http1.specs.declared.fault.ReplyFault.{ReplyFault}
 use Rattle.oauth2_http1.specs.declared.fault.ReplyFault.TheVariants as Fault
 
 -- how many bytes the successful calls returned in total
-abbrev pub given : List (Result ℕ Error) → ℕ
-given [] = 0
-given (Ok n ∷ rs) = n + given rs
-given (Err e ∷ rs) = given rs
+abbrev pub bytes_returned : List (Result ℕ Error) → ℕ
+bytes_returned [] = 0
+bytes_returned (Ok n ∷ rs) = n + bytes_returned rs
+bytes_returned (Err e ∷ rs) = bytes_returned rs
 
 -- how many of the calls succeeded
 abbrev pub successes : List (Result ℕ Error) → ℕ
@@ -50,13 +50,13 @@ module _ {R : Type 0} (remaining : R → Option (List ℕ)) (reads : R → Resul
     pub made : Made reads returned old new
     pub bytes : List ℕ
     pub taken : Consumes (remaining old) (remaining new) bytes
-    pub counted : length bytes ≡ given returned
+    pub counted : length bytes ≡ bytes_returned returned
 
   -- the reads took at most as many bytes as the bounds allow, in at most as many reads; failed
   -- reads do not count
   abbrev pub ReadsWithin : Bounds → R → R → Type 0
   ReadsWithin bounds old new =
-      (all : ReadsOf old new) × (given all.returned ≤ most_bytes bounds) × (successes all.returned ≤ bounds.max_reads)
+      (all : ReadsOf old new) × (bytes_returned all.returned ≤ most_bytes bounds) × (successes all.returned ≤ bounds.max_reads)
 
 module _ {R : Type 0} (reads : R → Result ℕ Error → R → Type 0) where
   -- a fault `Read` has the error of the last read; with any other fault, no read failed except by

@@ -12,7 +12,7 @@ use Rattle.http1.specs.Fields.{Header, elements_named, has_option}
 use Rattle.http1.specs.Framing.{response_framing}
 use Rattle.http1.specs.Message.{Response, known_of}
 use Rattle.oauth2_http1.specs.Bounds.{most_bytes}
-use Rattle.oauth2_http1.specs.Calls.{given, successes, ReadsOf}
+use Rattle.oauth2_http1.specs.Calls.{bytes_returned, successes, ReadsOf}
 use Rattle.oauth2_http1.specs.Reply.{Terms, ReadsReply, IsResponseOf}
 use Rattle.oauth2_http1.specs.declared.bounds.Bounds.{Bounds}
 use Rattle.oauth2_http1.specs.declared.kept.ReplyRead.{ReplyRead}
@@ -56,5 +56,5 @@ pub record TakesReply (t : Terms) (stream : List ℕ) (read : ReplyRead) (left :
 -- whether they took any
 abbrev pub ReadsAny : {R : Type 0} → (R → Option (List ℕ)) → (R → Result ℕ Error → R → Type 0) → Bounds → Bool → R → R → Type 0
 ReadsAny remaining reads bounds came old new =
-    (all : ReadsOf remaining reads old new) × (given all.returned ≤ most_bytes bounds) × (successes all.returned ≤ bounds.max_reads)
-    × (came ≡ nat_lt 0 (given all.returned))
+    (all : ReadsOf remaining reads old new) × (bytes_returned all.returned ≤ most_bytes bounds) × (successes all.returned ≤ bounds.max_reads)
+    × (came ≡ nat_lt 0 (bytes_returned all.returned))

@@ -11,7 +11,7 @@ use Rattle.oauth2_form.specs.Basic.{basic}
 use Rattle.oauth2_wire.specs.Expected.{Configuration, expected_basic, headers_before, authorization_header}
 use Rattle.oauth2_wire.specs.Request.{HttpRequest, IsRequestOf, view_of}
 use Rattle.oauth2_http1.specs.Origin.{Place, host_text}
-use Rattle.oauth2_http1.specs.Message.{IsKeptWire, length_fields, sized, kept_fields}
+use Rattle.oauth2_http1.specs.Message.{IsKeptWire, length_fields, with_length, kept_fields}
 use Rattle.oauth2_http1_connections.specs.KeptFromBytes.{AreReadAs}
 
 abbrev all_fields : Option (List ℕ) → Place → Option Pair → List ℕ → List Header
@@ -83,7 +83,7 @@ authorizations (Some value) place (Some pair) body read = ap (λ x. x ∷ []) re
 pub carried : (c : Configuration) (text : List ℕ) (agent : Option (List ℕ)) (r : HttpRequest) (place : Place) (bytes : List ℕ) → IsRequestOf c text (view_of r) → IsKeptWire agent place r bytes → AreReadAs c agent place r bytes
 carried c text agent r place bytes is wire =
     let body = (body_of r).items in
-    let headers : sized (head_of r).method (kept_fields agent place (head_of r).headers) body ≡ all_fields agent place (expected_basic c) body =
+    let headers : with_length (head_of r).method (kept_fields agent place (head_of r).headers) body ≡ all_fields agent place (expected_basic c) body =
     (λ i. kept_fields agent place (is.headers i) ++ (ap (λ m. length_fields m body) is.method ∙ posted body) i) in
     let given = expected_basic c in (
       wire.read,
