@@ -2,7 +2,7 @@
 use Rattle.std.specs.Prelude.{◌≡◌, Bool, IsTrue, Result, Ok, Err}
 use Rattle.oauth2_wire.specs.Reply.{HttpResponse}
 use Rattle.oauth2_wire.specs.Request.{HttpRequest}
-use Rattle.oauth2_adapters.specs.Reply.{Reply, seen}
+use Rattle.oauth2_adapters.specs.Reply.{Reply, reply_values}
 use Rattle.oauth2_adapters.specs.declared.error.AdapterError.{AdapterError}
 use Rattle.oauth2_adapters.specs.declared.error.AdapterError.TheVariants as error
 
@@ -10,8 +10,8 @@ module _ {E : Type 0} (adapted : Reply → Reply) (needs_memory : Reply → Bool
   -- the result is the adapted reply of the inner client, or the error of the inner client; the
   -- error is `Memory` only if adapting that reply needs memory
   abbrev pub IsAdapted : Result HttpResponse E → Result HttpResponse (AdapterError E) → Type 0
-  IsAdapted (Ok reply) (Ok new) = seen new ≡ adapted (seen reply)
-  IsAdapted (Ok reply) (Err error.Memory) = IsTrue (needs_memory (seen reply))
+  IsAdapted (Ok reply) (Ok new) = reply_values new ≡ adapted (reply_values reply)
+  IsAdapted (Ok reply) (Err error.Memory) = IsTrue (needs_memory (reply_values reply))
   IsAdapted (Ok reply) (Err (error.Client fault)) = ⊥
   IsAdapted (Err fault) result = result ≡ Err (error.Client fault)
 

@@ -14,8 +14,8 @@ pub record Reply : Type 0 where
   pub body : List ℕ
 
 -- the values of a reply
-abbrev pub seen : HttpResponse → Reply
-seen r = record {
+abbrev pub reply_values : HttpResponse → Reply
+reply_values r = record {
   status = (head_of r).status;
   version = (head_of r).version;
   headers = (head_of r).headers;

@@ -1,7 +1,7 @@
 //! Error responses that a server sends with status 200.
 
 ghost use Rattle.std.specs.Prelude.{◌≡◌, ◌==◌};
-ghost use Rattle.oauth2_adapters.specs.Reply.{seen};
+ghost use Rattle.oauth2_adapters.specs.Reply.{reply_values};
 
 use crate::error_body::tells_error;
 use crate::reply_adapter::ReplyAdapter;
@@ -30,13 +30,13 @@ impl ReplyAdapter for ErrorsAtStatus200 {
 }
 
 fn is_success(reply: &HttpResponse) -> bool
-    ensures { result ≡ (seen reply.now).status == 200 }
+    ensures { result ≡ (reply_values reply.now).status == 200 }
 {
     reply.status().as_u16() == 200
 }
 
 fn at_status_400(reply: HttpResponse) -> HttpResponse
-    ensures { seen result ≡ record (seen reply) { status = 400 } }
+    ensures { reply_values result ≡ record (reply_values reply) { status = 400 } }
 {
     let (mut head, body) = reply.into_parts();
     head.status = StatusCode::BAD_REQUEST;

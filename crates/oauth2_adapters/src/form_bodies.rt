@@ -12,7 +12,7 @@ ghost use Rattle.oauth2_form.specs.Pairs.{form};
 ghost use Rattle.oauth2_wire.specs.ServerView.{pair_texts, shown_pair};
 ghost use Rattle.oauth2_adapters.specs.FormBodies.{form_members, form_object, form_value, has_pair};
 ghost use Rattle.oauth2_adapters.specs.FormBodies.{is_form, pairs_of, repeats};
-ghost use Rattle.oauth2_adapters.specs.Reply.{seen};
+ghost use Rattle.oauth2_adapters.specs.Reply.{reply_values};
 ghost use Rattle.oauth2_adapters.specs.Rewriting.{object_text};
 
 use crate::numbers_as_texts::is_digits;
@@ -49,9 +49,9 @@ impl ReplyAdapter for FormBodies {
 }
 
 fn is_form(reply: &HttpResponse) -> bool
-    ensures value { result ≡ is_form (seen reply.now) }
+    ensures value { result ≡ is_form (reply_values reply.now) }
     ensures found { OnTrue result
-        (ContainsKey (seen reply.now).headers (codes "content-type")) }
+        (ContainsKey (reply_values reply.now).headers (codes "content-type")) }
 {
     has_type_of(&["application/x-www-form-urlencoded"], reply)
 }

@@ -6,7 +6,7 @@ ghost use Rattle.std.specs.List.{list_any};
 ghost use Rattle.http_header.specs.HeaderMap.{get, ContainsKey};
 ghost use Rattle.oauth2_adapters.specs.OtherMediaTypes.{media_type, is_type, has_type_of};
 ghost use Rattle.oauth2_adapters.specs.OtherMediaTypes.{with_json_type};
-ghost use Rattle.oauth2_adapters.specs.Reply.{seen};
+ghost use Rattle.oauth2_adapters.specs.Reply.{reply_values};
 
 use crate::reply_adapter::ReplyAdapter;
 use http::Response;
@@ -58,9 +58,9 @@ impl ReplyAdapter for OtherMediaTypes<'_> {
 // Whether the first Content-Type has one of these media types.
 pub(crate) fn has_type_of(types: &[&str], reply: &HttpResponse) -> bool
     ensures value { result ≡ has_type_of (map (λ t. t.now) types.now)
-        (get (seen reply.now).headers (codes "content-type")) }
+        (get (reply_values reply.now).headers (codes "content-type")) }
     ensures found { OnTrue result
-        (ContainsKey (seen reply.now).headers (codes "content-type")) }
+        (ContainsKey (reply_values reply.now).headers (codes "content-type")) }
 {
     match reply.headers().get(CONTENT_TYPE) {
         Some(value) => is_listed(types, media_type(value.as_bytes())),
@@ -96,9 +96,9 @@ fn is_type(own: &[u8], listed: &str) -> bool
 }
 
 pub(crate) fn as_json(reply: HttpResponse) -> HttpResponse
-    requires { ContainsKey (seen reply).headers (codes "content-type") }
-    ensures { seen result
-        ≡ record (seen reply) { headers = with_json_type (seen reply).headers } }
+    requires { ContainsKey (reply_values reply).headers (codes "content-type") }
+    ensures { reply_values result
+        ≡ record (reply_values reply) { headers = with_json_type (reply_values reply).headers } }
 {
     let (mut head, body) = reply.into_parts();
     set_json_type(&mut head.headers);

@@ -7,7 +7,7 @@ ghost use Rattle.json.specs.Json.{members, value};
 ghost use Rattle.json.specs.Tree.{HasNumbers};
 ghost use Rattle.json.specs.Value.{value_view};
 ghost use Rattle.oauth2_adapters.specs.Objects.{object_in, object_of};
-ghost use Rattle.oauth2_adapters.specs.Reply.{seen};
+ghost use Rattle.oauth2_adapters.specs.Reply.{reply_values};
 ghost use Rattle.oauth2_adapters.specs.Rewriting.{new_body, with_changes, has_body};
 ghost use Rattle.oauth2_adapters.specs.private.Tokens.{object_at};
 ghost use Rattle.oauth2_adapters.specs.private.Written.{WritesValue, WritesMember};
@@ -49,8 +49,8 @@ pub(crate) fn adapt_reply<M: MemberChange>(
     reply: HttpResponse,
 ) -> Result<HttpResponse, AllocError>
     ensures reply { IfOk result (λ new.
-        seen new ≡ with_changes (M.change change.now) (seen reply)) }
-    ensures memory { OnErr result (IsTrue (has_body (seen reply))) }
+        reply_values new ≡ with_changes (M.change change.now) (reply_values reply)) }
+    ensures memory { OnErr result (IsTrue (has_body (reply_values reply))) }
 {
     match new_body(alloc, change, reply.body()) {
         Ok(Some(body)) => Ok(with_body(reply, body)),
@@ -61,7 +61,7 @@ pub(crate) fn adapt_reply<M: MemberChange>(
 
 // The reply with another body.
 pub(crate) fn with_body(reply: HttpResponse, body: Vec<u8>) -> HttpResponse
-    ensures { seen result ≡ record (seen reply) { body = body.items } }
+    ensures { reply_values result ≡ record (reply_values reply) { body = body.items } }
 {
     let (head, _) = reply.into_parts();
     Response::from_parts(head, body)

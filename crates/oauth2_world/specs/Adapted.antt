@@ -20,8 +20,8 @@ headers_of None = []
 headers_of (Some value) = (codes "content-type", plain_value value ∷ []) ∷ []
 
 -- a reply of the script as the HTTP client receives it
-abbrev pub received : HttpReply → adapters.Reply
-received r = record { status = r.status; version = HTTP_11; headers = headers_of r.content_type; body = r.body }
+abbrev pub received_reply : HttpReply → adapters.Reply
+received_reply r = record { status = r.status; version = HTTP_11; headers = headers_of r.content_type; body = r.body }
 
 -- a reply with what a client reads of it: its status, its first Content-Type and its body
 abbrev pub read_parts : adapters.Reply → HttpReply
@@ -46,7 +46,8 @@ adapted_by_each (adapter ∷ more) reply = adapted_by_each more (adapted_by adap
 
 -- a reply of the script, changed by these adapters; a failed call stays one
 abbrev pub adapted_reply : List Adapter → Reply → Reply
-adapted_reply list (replied reply) = replied (read_parts (adapted_by_each list (received reply)))
+adapted_reply list (replied reply) =
+    replied (read_parts (adapted_by_each list (received_reply reply)))
 adapted_reply list failed = failed
 
 -- the replies of a script, changed by the adapters of its client; without adapters they stay

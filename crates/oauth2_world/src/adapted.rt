@@ -1,10 +1,10 @@
 //! The replies of a script as the adapters of its client change them.
 
 ghost use Rattle.std.specs.Prelude.{◌≡◌, IfOk, map};
-ghost use Rattle.oauth2_adapters.specs.Reply.{seen};
+ghost use Rattle.oauth2_adapters.specs.Reply.{reply_values};
 ghost use Rattle.oauth2_script.specs.Views.{http_reply_view, stored_reply};
 ghost use Rattle.oauth2_world.specs.Adapted.{
-  received,
+  received_reply,
   read_parts,
   adapted_by,
   adapted_by_each,
@@ -59,7 +59,8 @@ fn adapt_reply(alloc: Global, adapters: &[Adapter], reply: Reply) -> Result<Repl
 
 // A reply of the script as the HTTP client receives it.
 fn receive(alloc: Global, reply: HttpReply) -> Result<HttpResponse, AllocError>
-    ensures { IfOk result (λ response. seen response ≡ received (http_reply_view reply)) }
+    ensures { IfOk result (λ response.
+        reply_values response ≡ received_reply (http_reply_view reply)) }
 {
     let HttpReply {
         status,
@@ -81,7 +82,7 @@ fn receive(alloc: Global, reply: HttpReply) -> Result<HttpResponse, AllocError>
 
 // The parts of a reply that a client reads.
 fn read_parts(reply: HttpResponse) -> Result<HttpReply, AllocError>
-    ensures { IfOk result (λ parts. http_reply_view parts ≡ read_parts (seen reply)) }
+    ensures { IfOk result (λ parts. http_reply_view parts ≡ read_parts (reply_values reply)) }
 {
     let (head, body) = reply.into_parts();
     let content_type = match head.headers.get(CONTENT_TYPE) {
@@ -101,7 +102,8 @@ fn adapt_by_each(
     adapters: &[Adapter],
     reply: HttpResponse,
 ) -> Result<HttpResponse, AllocError>
-    ensures { IfOk result (λ new. seen new ≡ adapted_by_each adapters.now (seen reply)) }
+    ensures { IfOk result (λ new.
+        reply_values new ≡ adapted_by_each adapters.now (reply_values reply)) }
 {
     let mut adapted = reply;
     for adapter in adapters {
@@ -112,7 +114,7 @@ fn adapt_by_each(
 
 // The reply, changed by the adapter of this name.
 fn adapt(alloc: Global, adapter: Adapter, reply: HttpResponse) -> Result<HttpResponse, AllocError>
-    ensures { IfOk result (λ new. seen new ≡ adapted_by adapter (seen reply)) }
+    ensures { IfOk result (λ new. reply_values new ≡ adapted_by adapter (reply_values reply)) }
 {
     match adapter {
         Adapter::CommasInScopes => CommasInScopes.adapt(alloc, reply),
