@@ -25,14 +25,14 @@ left_by (Lent key found left) = Some left
 left_by (Removed key) = None
 
 -- the entries after the value of the key that passes was lent, and left as this: the key was used last
-abbrev pub lent : {K V : Type 0} → (K → Bool) → List (K × V) → V → List (K × V)
-lent test entries left = set_value test (promoted test entries) left
+abbrev pub after_lending : {K V : Type 0} → (K → Bool) → List (K × V) → V → List (K × V)
+after_lending test entries left = set_value test (promoted test entries) left
 
 module _ {K V : Type 0} (eq : K → K → Bool) where
   -- the map after an event
   abbrev pub after : LruCache K V → Event K V → LruCache K V
   after map (Put key value) = lru_cache (put_entries eq map key value) map.cap
-  after map (Lent key found left) = lru_cache (lent (eq key) map.entries left) map.cap
+  after map (Lent key found left) = lru_cache (after_lending (eq key) map.entries left) map.cap
   after map (Removed key) = lru_cache (remove_entry (eq key) map.entries) map.cap
 
   -- a value is lent as it is found

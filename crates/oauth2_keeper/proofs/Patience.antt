@@ -9,7 +9,7 @@ use Rattle.oauth2_wire.specs.Request.{RequestView}
 use Rattle.oauth2_keeper.specs.declared.patient_keeper.PatientError.{PatientError}
 use Rattle.oauth2_keeper.specs.declared.patient_keeper.PatientError.TheVariants.{Request, Waits}
 use Rattle.oauth2_keeper.specs.Keeper.{Keeper, Given, quiet, accepted, failed, is_good, KeeperCalls}
-use Rattle.oauth2_keeper.specs.Patience.{Patient, PatientCall, waits_from, is_waiting_for, is_held_back, held_back, lasts, counts, called, failed_call, free_moments, AreWithinTheWait, PatientCalls, PatientRuns, EachPatientRunIsARun, EachFailureIsWaitedFor, EachSetBackIsWaitedFor, EachEndIsWithinTheWait, EachWaitEnds}
+use Rattle.oauth2_keeper.specs.Patience.{Patient, PatientCall, waits_from, is_waiting_for, is_held_back, held_back, lasts, counts, after_call, failed_call, free_moments, AreWithinTheWait, PatientCalls, PatientRuns, EachPatientRunIsARun, EachFailureIsWaitedFor, EachSetBackIsWaitedFor, EachEndIsWithinTheWait, EachWaitEnds}
 use Rattle.oauth2_keeper.specs.Runs.{Call, Runs}
 
 -- ---- the moment from which a call waits
@@ -60,10 +60,10 @@ if_counted false begun before is = cc
 
 module _ {D T RE C : Type 0} (asks : ReplyRule → (List ℕ → RequestView → Type 0) → List ℕ → C → Result D (RequestTokenError RE T) → C → Type 0) (told : D → Given) (asked : RE → Option ℕ) where
   pub by_success : (patient kept : Patient) (now : ℤ) (before after : C) (first keeper : Keeper) (done : Unit) → is_held_back patient now ≡ false → first ≡ patient.keeper
-      → KeeperCalls asks told first now before (Ok done) after keeper → kept ≡ called patient now keeper → PatientCalls asks told asked patient now before (Ok tt) after kept
+      → KeeperCalls asks told first now before (Ok done) after keeper → kept ≡ after_call patient now keeper → PatientCalls asks told asked patient now before (Ok tt) after kept
   by_success patient kept now before after first keeper done free same calls is =
       let ours = subst (λ k. KeeperCalls asks told k now before (Ok tt) after keeper) same calls in
-      inl (free, subst (λ (p : Patient). KeeperCalls asks told patient.keeper now before (Ok tt) after p.keeper) (sym is) ours, is ∙ ap (λ (p : Patient). called patient now p.keeper) (sym is))
+      inl (free, subst (λ (p : Patient). KeeperCalls asks told patient.keeper now before (Ok tt) after p.keeper) (sym is) ours, is ∙ ap (λ (p : Patient). after_call patient now p.keeper) (sym is))
 
   pub by_fault : (patient kept : Patient) (now : ℤ) (before after : C) (first keeper : Keeper) (error : RequestTokenError RE T) → is_held_back patient now ≡ false → first ≡ patient.keeper
       → KeeperCalls asks told first now before (Err error) after keeper → keeper ≡ patient.keeper → kept ≡ failed_call asked patient now error

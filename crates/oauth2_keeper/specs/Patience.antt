@@ -69,8 +69,8 @@ wait_in_force least most None = least
 wait_in_force least most (Some asked) = max least (min most asked)
 
 -- what is kept after a call without an error: if a request was made, the wait has ended
-abbrev pub called : Patient → ℤ → Keeper → Patient
-called patient now kept = record patient { keeper = kept; failed_at = if is_good patient.keeper now then patient.failed_at else None }
+abbrev pub after_call : Patient → ℤ → Keeper → Patient
+after_call patient now kept = record patient { keeper = kept; failed_at = if is_good patient.keeper now then patient.failed_at else None }
 
 -- what is kept after a request at `now` failed: the wait begins, if the error counts
 abbrev pub failed_call : {RE T : Type 0} → (RE → Option ℕ) → Patient → ℤ → RequestTokenError RE T → Patient
@@ -111,7 +111,7 @@ module _ {D T RE C : Type 0} (asks : ReplyRule → (List ℕ → RequestView →
   -- returned.
   abbrev pub PatientCalls : Patient → ℤ → C → Result Unit (PatientError RE T) → C → Patient → Type 0
   PatientCalls patient now before (Ok done) after kept =
-      ((is_held_back patient now ≡ false) × KeeperCalls asks told patient.keeper now before (Ok tt) after kept.keeper × (kept ≡ called patient now kept.keeper))
+      ((is_held_back patient now ≡ false) × KeeperCalls asks told patient.keeper now before (Ok tt) after kept.keeper × (kept ≡ after_call patient now kept.keeper))
       ⊎ (IsTrue (is_held_back patient now && lasts patient now) × (after ≡ before) × (kept ≡ held_back patient now))
   PatientCalls patient now before (Err (Request error)) after kept =
       (is_held_back patient now ≡ false) × KeeperCalls asks told patient.keeper now before (Err error) after patient.keeper × (kept ≡ failed_call asked patient now error)

@@ -9,7 +9,7 @@ use Rattle.oauth2_key_source.specs.declared.key_set_error.KeySetError.{KeySetErr
 use Rattle.oauth2_key_source.specs.declared.source_error.KeySourceError.{KeySourceError}
 use Rattle.oauth2_key_source.specs.declared.source_error.KeySourceError.TheVariants.{Request, Waits}
 use Rattle.oauth2_key_source.specs.Request.{KeySetQuery}
-use Rattle.oauth2_key_source.specs.Source.{Source, KeptKeys, earlier, aged, found_at, suffices, is_waiting, is_due, is_given, renewed, asked, IsUntil, Renews, Rests, CallsIf, SourceCalls}
+use Rattle.oauth2_key_source.specs.Source.{Source, KeptKeys, earlier, keys_found_at, found_at, suffices, is_waiting, is_due, is_given, after_renewal, after_failed_request, IsUntil, Renews, Rests, CallsIf, SourceCalls}
 use Rattle.oauth2_key_source.specs.Runs.{SourceCall, AreSince, AreWithin, SourceRuns, EachTwoRequestsAreApart, EachFloodAsksOnce, EachOtherCallSendsNothing, EachEndIsWithinTheWait}
 
 -- ---- moments
@@ -75,14 +75,14 @@ abbrev IsGotBy : ℤ → Option KeptKeys → Type 0
 IsGotBy moment None = Unit {0}
 IsGotBy moment (Some kept) = IsTrue (int_le kept.got_at moment)
 
-got_when_found : (now : ℤ) (kept : Option KeptKeys) → IsGotBy now (option_map (aged now) kept)
+got_when_found : (now : ℤ) (kept : Option KeptKeys) → IsGotBy now (option_map (keys_found_at now) kept)
 got_when_found now None = tt
 got_when_found now (Some kept) = earlier_than_now now kept.got_at
 
 not_later : (a b c : ℤ) → IsTrue (int_le a b) → IsTrue (int_le b c) → IsTrue (int_le a c)
 not_later a b c first second = search (rules, first, second, signed_arith)
 
-same_age : (now moment : ℤ) (kept : Option KeptKeys) → IsGotBy moment kept → IsTrue (int_le moment now) → option_map (aged now) kept ≡ kept
+same_age : (now moment : ℤ) (kept : Option KeptKeys) → IsGotBy moment kept → IsTrue (int_le moment now) → option_map (keys_found_at now) kept ≡ kept
 same_age now moment None got le = refl
 same_age now moment (Some kept) got le =
     ap (λ (g : ℤ). Some (record kept { got_at = g })) (stays now kept.got_at (not_later kept.got_at moment now got le))

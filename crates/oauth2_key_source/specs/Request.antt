@@ -67,15 +67,15 @@ keys_answer rule reply =
 
 module _ {RE T : Type 0} where
   -- the key set, or why there is none
-  abbrev pub told : {D : Type 0} → Result (Result D OtherReply) (RequestTokenError RE T) → Result D (KeySetError RE T)
-  told (Ok (Ok keys)) = Ok keys
-  told (Ok (Err reply)) = Err (Status reply)
-  told (Err error) = Err (Reply error)
+  abbrev pub key_set_result : {D : Type 0} → Result (Result D OtherReply) (RequestTokenError RE T) → Result D (KeySetError RE T)
+  key_set_result (Ok (Ok keys)) = Ok keys
+  key_set_result (Ok (Err reply)) = Err (Status reply)
+  key_set_result (Err error) = Err (Reply error)
 
   -- the GET is asked for once, and the result is what its answer says
   abbrev pub AsksForKeys : {F C : Type 0} → (T → F) → (C → HttpRequest → Result HttpResponse RE → C → Type 0)
       → KeySetQuery → C → Result (List ListedKey) (KeySetError RE T) → C → Type 0
   AsksForKeys error_meaning step query before result after =
-      (outcome : Result (Result (List ListedKey) OtherReply) (RequestTokenError RE T)) × (result ≡ told outcome)
+      (outcome : Result (Result (List ListedKey) OtherReply) (RequestTokenError RE T)) × (result ≡ key_set_result outcome)
       × AsksOnce (found_seen (λ keys. keys)) error_meaning step (keys_answer query.reply_rule)
       IsGetOf (serialize query.url) before outcome after

@@ -38,13 +38,13 @@ abbrev pub earlier : ℤ → ℤ → ℤ
 earlier now moment = if int_lt now moment then now else moment
 
 -- the kept set, which was got at the moment of the call at the latest
-abbrev pub aged : ℤ → KeptKeys → KeptKeys
-aged now kept = record kept { got_at = earlier now kept.got_at }
+abbrev pub keys_found_at : ℤ → KeptKeys → KeptKeys
+keys_found_at now kept = record kept { got_at = earlier now kept.got_at }
 
 -- what a call finds
 abbrev pub found_at : Source → ℤ → Source
 found_at source now = record source {
-  kept = option_map (aged now) source.kept;
+  kept = option_map (keys_found_at now) source.kept;
   asked_at = option_map (earlier now) source.asked_at;
 }
 
@@ -97,12 +97,12 @@ is_given source now = is_fresh source.lifetime now source.kept || (source.uses_o
 -- ---- a call
 
 -- the source after a request at this moment that brought these keys
-abbrev pub renewed : Source → ℤ → List ListedKey → Source
-renewed source now keys = record source { kept = Some (record { keys = keys; got_at = now }); asked_at = Some now }
+abbrev pub after_renewal : Source → ℤ → List ListedKey → Source
+after_renewal source now keys = record source { kept = Some (record { keys = keys; got_at = now }); asked_at = Some now }
 
 -- the source after a request at this moment that brought no keys
-abbrev pub asked : Source → ℤ → Source
-asked source now = record source { asked_at = Some now }
+abbrev pub after_failed_request : Source → ℤ → Source
+after_failed_request source now = record source { asked_at = Some now }
 
 -- the end of the wait, where it is a moment that there is
 abbrev pub IsUntil : ℤ → Option Timestamp → Type 0
@@ -120,9 +120,9 @@ module _ {RE T C : Type 0} (asks : KeySetQuery → C → Result (List ListedKey)
   -- a request, and what is kept after it
   abbrev pub Renews : Source → ℤ → C → Result Unit (KeySourceError RE T) → C → Source → Type 0
   Renews source now before (Ok done) after kept =
-      (keys : List ListedKey) × asks source.query before (Ok keys) after × (kept ≡ renewed source now keys)
+      (keys : List ListedKey) × asks source.query before (Ok keys) after × (kept ≡ after_renewal source now keys)
   Renews source now before (Err (Request error)) after kept =
-      asks source.query before (Err error) after × (kept ≡ asked source now)
+      asks source.query before (Err error) after × (kept ≡ after_failed_request source now)
   Renews source now before (Err (Waits until)) after kept = ⊥
 
   -- a call at a moment that asks for a key of this name, or for no certain one, by what it finds

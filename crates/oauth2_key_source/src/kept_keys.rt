@@ -2,7 +2,13 @@
 
 ghost use Rattle.std.specs.Prelude.{◌≡◌, Some, None, option_copied, option_map};
 ghost use Rattle.std.specs.Duration.{as_nanos};
-ghost use Rattle.oauth2_key_source.specs.Source.{aged, earlier, has_key, is_fresh, is_named};
+ghost use Rattle.oauth2_key_source.specs.Source.{
+  keys_found_at,
+  earlier,
+  has_key,
+  is_fresh,
+  is_named,
+};
 ghost use Rattle.oauth2_key_source.specs.Source.{knows, name_of, suffices};
 
 use jiff::Timestamp;
@@ -29,7 +35,7 @@ impl Model for KeptKeys {
 impl KeptKeys {
     // Counts the age from a call that comes before the moment from which it counted.
     pub(crate) fn note_clock(&mut self, now: Timestamp)
-        ensures { self.new ≡ aged now.nanosecond self.old }
+        ensures { self.new ≡ keys_found_at now.nanosecond self.old }
     {
         self.got_at = earlier(now, self.got_at);
     }

@@ -25,7 +25,7 @@ ghost use Rattle.oauth2_key_source.specs.Source.{
   SourceAnswers,
   SourceCalls,
   SourceVerifies,
-  aged,
+  keys_found_at,
   earlier,
   found_at,
   is_due,
@@ -134,7 +134,7 @@ impl KeySource {
 
     fn note_age(&mut self, now: Timestamp)
         ensures { self.new ≡ record self.old {
-          kept = option_map (aged now.nanosecond) self.old.kept;
+          kept = option_map (keys_found_at now.nanosecond) self.old.kept;
         } }
     {
         if let Some(kept) = &mut self.kept {

@@ -24,8 +24,9 @@ pub record Stored : Type 0 where
 
 -- the stored token with these parts; the time is in nanoseconds since 1970, the lifetime in
 -- nanoseconds
-abbrev pub stored : List ℕ → ℤ → ℕ → Option (List ℕ) → Option (List ℕ) → Option (List ℕ) → Stored
-stored access_token accepted_at lifetime refresh_token client_id token_url = record {
+abbrev pub stored_token : List ℕ → ℤ → ℕ
+    → Option (List ℕ) → Option (List ℕ) → Option (List ℕ) → Stored
+stored_token access_token accepted_at lifetime refresh_token client_id token_url = record {
   token = record { access_token = access_token; accepted_at = accepted_at; lifetime = lifetime };
   refresh_token = refresh_token;
   client_id = client_id;
@@ -96,7 +97,7 @@ stored_table =
 
 -- a stored token, read from the members of its JSON object; other members are ignored
 abbrev pub stored_row : Members → Reading Stored
-stored_row ms = table_reading stored_table (Ok stored) ms
+stored_row ms = table_reading stored_table (Ok stored_token) ms
 
 -- a stored token, read from a JSON value, which must be an object
 abbrev pub stored_reading : Data → Reading Stored

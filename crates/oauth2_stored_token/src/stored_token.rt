@@ -29,11 +29,11 @@ pub struct StoredToken {
 impl Model for StoredToken {
     ghost use Rattle.std.specs.Prelude.{option_map, string_bytes};
     ghost use Rattle.std.specs.Duration.{as_nanos};
-    ghost use Rattle.oauth2_stored_token.specs.Stored.{Stored, stored};
+    ghost use Rattle.oauth2_stored_token.specs.Stored.{Stored, stored_token};
 
     ghost Value = { Stored };
 
-    ghost view = { λ s. stored s.access_token s.accepted_at.nanosecond (as_nanos s.lifetime)
+    ghost view = { λ s. stored_token s.access_token s.accepted_at.nanosecond (as_nanos s.lifetime)
         s.refresh_token s.client_id (option_map string_bytes s.token_url) };
 }
 

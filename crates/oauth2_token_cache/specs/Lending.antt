@@ -13,5 +13,5 @@ module _ (K N : RattleType) (name : HashMembers N.Denot) where
   abbrev pub LendsKeeper : MutBor (TokenCache K.Denot N.Denot) → (N.Denot → Bool) → Option (MutBor K.Denot) → Fml
   LendsKeeper cache test lent =
       LendsIf (the_row K N (record {}) (record { eq = name.eq }) (record { hash_input = name.hash_input })) K cache lent
-      (λ left. record cache.now { keepers = lru_cache (runs.lent test cache.now.keepers.entries left) cache.now.keepers.cap })
+      (λ left. record cache.now { keepers = lru_cache (runs.after_lending test cache.now.keepers.entries left) cache.now.keepers.cap })
       cache.now
