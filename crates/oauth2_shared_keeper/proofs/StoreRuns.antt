@@ -20,7 +20,7 @@ use Rattle.oauth2_shared_token.specs.Event.{SharedEvent, Asked, Marked, Sent, Gi
 use Rattle.oauth2_shared_token.specs.Run.{times_stored}
 use Rattle.oauth2_shared_token.specs.Renewal.{stored_of, looked_at, read_again, sent_if, returned_if, next_turn, IsSo}
 use Rattle.oauth2_shared_token.specs.Fleet as fleet
-use Rattle.oauth2_shared_token.specs.Fleet.{Fleet, Request, ToMark, ToKeep, ToReturn, phase_of, Turned, Took, SignsIn, LogsIn, LogsOut, CanOccur, requests_of, taken, later, events_in, fleet_of, IsFleetRun, all_events}
+use Rattle.oauth2_shared_token.specs.Fleet.{Fleet, Request, ToMark, ToKeep, ToReturn, phase_of, Turned, Took, SignsIn, LogsIn, LogsOut, CanOccur, requests_of, after_taking, later, events_in, fleet_of, IsFleetRun, all_events}
 use Rattle.oauth2_shared_token.proofs.Places.{put-other, none_in_nothing}
 use Rattle.oauth2_shared_keeper.specs.Call.{Call, Load, Replace, Refresh, ToReplace, request_of, told_by}
 use Rattle.oauth2_shared_keeper.specs.Renewal.{AsksInTurn, asked_again, asked_by}
@@ -253,7 +253,7 @@ module _ {T : Type 0} (view : T → Token) where
         | inr same ↦ subst (λ (x : StoredValue T). Contains (all ++ seen q ∷ []) (seen x)) same (Contains-push all (seen q))
       ]
 
-  follows_put : (f : Fleet) (w : World T) (v : ℕ) (c : Content T) → Follows f w → Follows (taken f (seen (value (v + 1) c))) (world_with w v c)
+  follows_put : (f : Fleet) (w : World T) (v : ℕ) (c : Content T) → Follows f w → Follows (after_taking f (seen (value (v + 1) c))) (world_with w v c)
   follows_put f w v c h = record {
     now = refl;
     held = Contains-push w.past (value (v + 1) c);
@@ -350,7 +350,7 @@ module _ {T : Type 0} (view : T → Token) where
   record IsDone (f : Fleet) (v : ℕ) (c : Content T) : Type 0 where
     it : fleet.Happening
     can : CanOccur f it
-    leads : later f it ≡ taken f (seen (value (v + 1) c))
+    leads : later f it ≡ after_taking f (seen (value (v + 1) c))
     quiet : IsNoTurn it
     counts : (r : List ℕ) → times_stored r (events_in f it) ≤ rests_in view r c
 
@@ -360,7 +360,7 @@ module _ {T : Type 0} (view : T → Token) where
       record {
         it = Took (ToKeep i w (view t));
         can = (keeps, fits ∙ is);
-        leads = ap (λ (n : ℕ). taken f (at_rest n (view t))) e;
+        leads = ap (λ (n : ℕ). after_taking f (at_rest n (view t))) e;
         quiet = tt;
         counts = λ r. omega arith;
       }
@@ -369,7 +369,7 @@ module _ {T : Type 0} (view : T → Token) where
       record {
         it = Took (ToReturn i w (view t));
         can = (returns, fits ∙ is);
-        leads = ap (λ (n : ℕ). taken f (at_rest n (view t))) e;
+        leads = ap (λ (n : ℕ). after_taking f (at_rest n (view t))) e;
         quiet = tt;
         counts = λ r. omega arith;
       }
@@ -432,7 +432,7 @@ module _ {T : Type 0} (view : T → Token) where
     pub put : (r : List ℕ) → times_stored r (all_events f (happenings_of view events)) ≤ times_put view r hs
 
   after_done : (f : Fleet) (w : World T) (v : ℕ) (c : Content T) (rest : List (StoreEvent T)) (done : IsDone f v c)
-      (k : IsFollowed (taken f (seen (value (v + 1) c))) (world_with w v c) rest) (r : List ℕ)
+      (k : IsFollowed (after_taking f (seen (value (v + 1) c))) (world_with w v c) rest) (r : List ℕ)
       → times_stored r (all_events f (done.it ∷ happenings_of view k.events)) ≤ rests_in view r c + times_put view r rest
   after_done f w v c rest done k r =
       let sum = times_stored-append r (events_in f done.it) (all_events (later f done.it) (happenings_of view k.events)) in
@@ -456,7 +456,7 @@ module _ {T : Type 0} (view : T → Token) where
   follow (Takes v c ∷ rest) f w h run =
       let fits : f.store.version ≡ v = ap (λ (s : Stored). s.version) h.now ∙ run.0.1 in
       let done = takes f v c fits (h.asked v c run.0.0) in
-      let k = follow rest (taken f (seen (value (v + 1) c))) (world_with w v c) (follows_put f w v c h) run.1 in
+      let k = follow rest (after_taking f (seen (value (v + 1) c))) (world_with w v c) (follows_put f w v c h) run.1 in
       record {
         events = Other done.it ∷ k.events;
         turns = (done.quiet, k.turns);
@@ -468,7 +468,7 @@ module _ {T : Type 0} (view : T → Token) where
       }
   follow (Puts v token ∷ rest) f w h run =
       let done = puts_some f w v token h run.0 in
-      let k = follow rest (taken f (seen (value (v + 1) (content_put token)))) (world_with w v (content_put token)) (follows_put f w v (content_put token) h) run.1 in
+      let k = follow rest (after_taking f (seen (value (v + 1) (content_put token)))) (world_with w v (content_put token)) (follows_put f w v (content_put token) h) run.1 in
       record {
         events = Other done.it ∷ k.events;
         turns = (done.quiet, k.turns);

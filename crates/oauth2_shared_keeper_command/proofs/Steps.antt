@@ -15,7 +15,7 @@ use Rattle.oauth2_request_commands.specs.declared.status.RunStatus.{RunStatus}
 use Rattle.oauth2_request_commands.proofs.Joined.{joined-assoc, joined-nothing}
 use Rattle.oauth2_shared_keeper_command.specs.Effect.{Effect, end_events, load_effect, replace_effect}
 use Rattle.oauth2_shared_keeper_command.specs.Refreshing.{IsRefreshed}
-use Rattle.oauth2_shared_keeper_command.specs.Renewal.{over, going_on, turn_of, turned}
+use Rattle.oauth2_shared_keeper_command.specs.Renewal.{over, going_on, turn_of, after_turn}
 use Rattle.oauth2_shared_keeper_command.specs.SharedKeeper.{Standing, IsEffect, without_effect, refresh_text, told_of, with_given, coming, around, IsSending, IsAction, IsStep, AreSteps, says, with_renewal}
 use Rattle.oauth2_shared_keeper_command.specs.declared.action.Action.{Action}
 use Rattle.oauth2_shared_keeper_command.specs.declared.action.Action.TheVariants as action
@@ -68,7 +68,7 @@ pub sending_told : (client : Settings) (url : Addressed) (s : Standing) (keeper 
     (sent : Output) (given : Option (List ℕ)) (left : List Reply) (what : Told ℕ)
     (stored : Stored) (tokens : List (List ℕ)) (renewals : List Renewal)
     → IsRefreshed client url (slice_index_or s.tokens token []) (coming is_told s.replies) sent given left
-    → what ≡ told_of s.tokens given → stored ≡ s.stored → tokens ≡ with_given s.tokens given → renewals ≡ slice_set s.renewals keeper (turned renewal what)
+    → what ≡ told_of s.tokens given → stored ≡ s.stored → tokens ≡ with_given s.tokens given → renewals ≡ slice_set s.renewals keeper (after_turn renewal what)
     → (old mid after new : List Event) (status : RunStatus) → mid ≡ old ++ stepped keeper (refresh_text s.tokens token) ∷ []
     → AddsOutput mid after status sent → new ≡ after ++ end_events (with_given s.tokens given) keeper (turn_of renewal what).step
     → (o : Output) × IsSending client url s keeper renewal token is_told o (record { stored = stored; tokens = tokens; renewals = renewals; replies = left })

@@ -42,8 +42,8 @@ abbrev pub turn_of : Renewal → Told ℕ → Turn ℕ
 turn_of renewal told = next_turn renewal.name renewal.phase told
 
 -- the renewal after that turn
-abbrev pub turned : Renewal → Told ℕ → Renewal
-turned renewal told = record {
+abbrev pub after_turn : Renewal → Told ℕ → Renewal
+after_turn renewal told = record {
   name = renewal.name;
   phase = (turn_of renewal told).phase;
   action = action_of renewal.action renewal.name (turn_of renewal told).step;

@@ -16,7 +16,7 @@ use Rattle.oauth2_request_commands.specs.Out.{Output, nothing, both_outputs}
 use Rattle.oauth2_request_commands.specs.declared.status.RunStatus.TheVariants as status
 use Rattle.oauth2_shared_keeper_command.specs.Effect.{Effect, token_text, end_events, load_effect, replace_effect}
 use Rattle.oauth2_shared_keeper_command.specs.Refreshing.{IsRefreshed}
-use Rattle.oauth2_shared_keeper_command.specs.Renewal.{over, going_on, turn_of, turned}
+use Rattle.oauth2_shared_keeper_command.specs.Renewal.{over, going_on, turn_of, after_turn}
 use Rattle.oauth2_shared_keeper_command.specs.declared.action.Action.{Action}
 use Rattle.oauth2_shared_keeper_command.specs.declared.action.Action.TheVariants as action
 use Rattle.oauth2_shared_keeper_command.specs.declared.action.Stored.{Stored}
@@ -40,7 +40,7 @@ says events = record { events = events; status = status.Answered }
 
 -- a keeper did this at the store, and its renewal takes its turn
 abbrev pub after_effect : Standing → ℕ → Renewal → Effect → Standing
-after_effect s keeper renewal effect = with_renewal (record s { stored = effect.stored }) keeper (turned renewal effect.told)
+after_effect s keeper renewal effect = with_renewal (record s { stored = effect.stored }) keeper (after_turn renewal effect.told)
 
 -- the events of that: the step, and the end of the renewal, if this ends it
 abbrev pub effect_output : Standing → ℕ → Renewal → Effect → Output
@@ -87,7 +87,7 @@ IsSending client url s keeper renewal token is_told o kept =
     × IsRefreshed client url (slice_index_or s.tokens token []) (coming is_told s.replies) sent given left
     × (o ≡ around (stepped keeper (refresh_text s.tokens token) ∷ []) sent
     (end_events (with_given s.tokens given) keeper (turn_of renewal (told_of s.tokens given)).step))
-    × (kept ≡ with_renewal (record s { tokens = with_given s.tokens given; replies = left }) keeper (turned renewal (told_of s.tokens given)))
+    × (kept ≡ with_renewal (record s { tokens = with_given s.tokens given; replies = left }) keeper (after_turn renewal (told_of s.tokens given)))
 
 -- ---- steps
 

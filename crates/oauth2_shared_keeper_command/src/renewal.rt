@@ -1,7 +1,13 @@
 //! A renewal of a keeper.
 
 ghost use Rattle.std.specs.Prelude.{◌≡◌};
-ghost use Rattle.oauth2_shared_keeper_command.specs.Renewal.{begun, over, going_on, turn_of, turned};
+ghost use Rattle.oauth2_shared_keeper_command.specs.Renewal.{
+  begun,
+  over,
+  going_on,
+  turn_of,
+  after_turn,
+};
 
 use crate::action::{Action, action_of};
 use oauth2_shared_token::{Phase, Step, Told, Turn, next_turn};
@@ -76,8 +82,8 @@ impl Renewal {
     }
 
     /// The renewal after it was told this, and the step that it takes.
-    pub fn turned(self, told: Told<usize>) -> (Renewal, Step<usize>)
-        ensures renewal { result.0 ≡ turned self told }
+    pub fn after_turn(self, told: Told<usize>) -> (Renewal, Step<usize>)
+        ensures renewal { result.0 ≡ after_turn self told }
         ensures step { result.1 ≡ (turn_of self told).step }
     {
         let Turn { phase, step } = next_turn(self.name, self.phase, told);

@@ -4,7 +4,7 @@ ghost use Rattle.std.specs.Prelude.{◌≡◌, ◌++◌, List, OnOk, IfOk, slice
 ghost use Rattle.oauth2_request_commands.specs.Out.{AddsOutput, Output};
 ghost use Rattle.oauth2_script.specs.Replies.{Reply};
 ghost use Rattle.oauth2_shared_keeper_command.specs.Effect.{end_events};
-ghost use Rattle.oauth2_shared_keeper_command.specs.Renewal.{turn_of, turned};
+ghost use Rattle.oauth2_shared_keeper_command.specs.Renewal.{turn_of, after_turn};
 ghost use Rattle.oauth2_shared_keeper_command.specs.SharedKeeper as spec;
 ghost use Rattle.oauth2_shared_keeper_command.specs.private.Standing.{standing};
 
@@ -41,11 +41,11 @@ pub fn take_turn(
     ensures events { OnOk result (events.new ≡ events.old
         ++ end_events fleet.old.tokens.items going.keeper (turn_of going.renewal told).step) }
     ensures renewals { OnOk result (fleet.new.renewals.items
-        ≡ slice_set fleet.old.renewals.items going.keeper (turned going.renewal told)) }
+        ≡ slice_set fleet.old.renewals.items going.keeper (after_turn going.renewal told)) }
     ensures stored { OnOk result (fleet.new.stored ≡ fleet.old.stored) }
     ensures tokens { OnOk result (fleet.new.tokens ≡ fleet.old.tokens) }
 {
-    let (renewal, step) = going.renewal.turned(told);
+    let (renewal, step) = going.renewal.after_turn(told);
     add_end(alloc, events, fleet.tokens.as_slice(), going.keeper, &step)?;
     fleet.put(going.keeper, renewal);
     Ok(())

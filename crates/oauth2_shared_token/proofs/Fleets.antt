@@ -14,11 +14,11 @@ use Rattle.oauth2_shared_token.specs.declared.renewal.Told.{Told}
 use Rattle.oauth2_shared_token.specs.declared.renewal.Told.TheVariants as told
 use Rattle.oauth2_shared_token.specs.declared.renewal.Step.{Step}
 use Rattle.oauth2_shared_token.specs.declared.renewal.Step.TheVariants as step
-use Rattle.oauth2_shared_token.specs.State.{Token, token_in, Stored, at_rest, marked, empty, Stage, NotBegun, Asking, Marking, Sending, Holding, Returning, Done, put, Shared, stage_of, begin}
-use Rattle.oauth2_shared_token.specs.Event.{SharedEvent, Asked, Marked, Sent, Given, Kept, Withdrew, GivenBack, SignedIn, Allowed, LoggedIn, LoggedOut, CanHappen, Fits, WasMarked, WasFree, WasStored, stored, gone_on, after}
+use Rattle.oauth2_shared_token.specs.State.{Token, token_in, Stored, at_rest, in_use, empty, Stage, NotBegun, Asking, Marking, Sending, Holding, Returning, Done, put, Shared, stage_of, begin}
+use Rattle.oauth2_shared_token.specs.Event.{SharedEvent, Asked, Marked, Sent, Given, Kept, Withdrew, GivenBack, SignedIn, Allowed, LoggedIn, LoggedOut, CanHappen, Fits, WasMarked, WasFree, WasStored, with_stored, gone_on, after}
 use Rattle.oauth2_shared_token.specs.Run.{IsRun, at_last}
 use Rattle.oauth2_shared_token.specs.Renewal.{turn_of, looked_at, read_again, sent_if, returned_if, again_in, stored_of, Knows, IsSo, IsOfOthers, events_of, next_turn}
-use Rattle.oauth2_shared_token.specs.Fleet.{Request, ToMark, ToKeep, ToReturn, Fleet, phase_of, Happening, Turned, Took, SignsIn, Allows, LogsIn, LogsOut, CanOccur, turned, taken, later, events_in, fleet_of, IsFleetRun, fleet_at_last, all_events, handed_out, EachFleetRuns, EachFleetSendsOnce, EachHandedOutWasStored}
+use Rattle.oauth2_shared_token.specs.Fleet.{Request, ToMark, ToKeep, ToReturn, Fleet, phase_of, Happening, Turned, Took, SignsIn, Allows, LogsIn, LogsOut, CanOccur, after_turn, after_taking, later, events_in, fleet_of, IsFleetRun, fleet_at_last, all_events, handed_out, EachFleetRuns, EachFleetSendsOnce, EachHandedOutWasStored}
 use Rattle.oauth2_shared_token.proofs.Places.{put-same, put-other, only_one, none_in_nothing}
 use Rattle.oauth2_shared_token.proofs.Lists.{run-append, at_last-append}
 use Rattle.oauth2_shared_token.proofs.Loads.{each_read_was_stored}
@@ -79,7 +79,7 @@ open_further s j x y r none was (inl waits) =
     ]
 
 -- the store took what was waited for
-open_taken : (s : Shared) (new : Stored) (j : ℕ) (x y : Stage) (at : ℕ) (r : Request) → waited_at y ≡ Some at → s.store.version ≡ at → new.version ≡ at + 1 → stage_of s j ≡ y → IsOpen s r → IsOpen (gone_on (stored s new) j x) r
+open_taken : (s : Shared) (new : Stored) (j : ℕ) (x y : Stage) (at : ℕ) (r : Request) → waited_at y ≡ Some at → s.store.version ≡ at → new.version ≡ at + 1 → stage_of s j ≡ y → IsOpen s r → IsOpen (gone_on (with_stored s new) j x) r
 open_taken s new j x y at r some fits next was (inr beyond) = inr (omega (arith, beyond, fits, next))
 open_taken s new j x y at r some fits next was (inl waits) =
     elim (still_waits s j x y r was waits) [
@@ -91,13 +91,13 @@ open_taken s new j x y at r some fits next was (inl waits) =
     ]
 
 -- the store took what a caller asked
-open_replaced : (s : Shared) (new : Stored) (version : ℕ) (r : Request) → s.store.version ≡ version → new.version ≡ version + 1 → IsOpen s r → IsOpen (stored s new) r
+open_replaced : (s : Shared) (new : Stored) (version : ℕ) (r : Request) → s.store.version ≡ version → new.version ≡ version + 1 → IsOpen s r → IsOpen (with_stored s new) r
 open_replaced s new version r fits next (inl waits) = inl waits
 open_replaced s new version r fits next (inr beyond) = inr (omega (arith, beyond, fits, next))
 
 open_after : (s : Shared) (event : SharedEvent) (r : Request) → CanHappen s event → IsOpen s r → IsOpen (after s event) r
 open_after s (Asked j v t) r can h = open_further s j (Asking v t) NotBegun r refl can.0 h
-open_after s (Marked j v t) r can h = open_taken s (marked (v + 1) t j) j (Marking v t) (Asking v t) v r refl can.1 refl can.0 h
+open_after s (Marked j v t) r can h = open_taken s (in_use (v + 1) t j) j (Marking v t) (Asking v t) v r refl can.1 refl can.0 h
 open_after s (Sent j v t) r can h = open_further s j (Sending v) (Marking v t) r refl can h
 open_after s (Given j v n) r can h = open_further s j (Holding v n) (Sending v) r refl can h
 open_after s (Kept j v n) r can h = open_taken s (at_rest (v + 2) n) j Done (Holding v n) (v + 1) r refl can.1 (omega arith) can.0 h
@@ -118,7 +118,7 @@ pub record Agrees (f : Fleet) (s : Shared) : Type 0 where
 
 module _ (f : Fleet) (s : Shared) (a : Agrees f s) where
   -- the store takes something by an event that is no renewal's own
-  agrees_taken : (event : SharedEvent) (new : Stored) → CanHappen s event → ((i : ℕ) → IsOfOthers i event) → new ≡ (after s event).store → s.past ++ new ∷ [] ≡ (after s event).past → Agrees (taken f new) (after s event)
+  agrees_taken : (event : SharedEvent) (new : Stored) → CanHappen s event → ((i : ℕ) → IsOfOthers i event) → new ≡ (after s event).store → s.past ++ new ∷ [] ≡ (after s event).past → Agrees (after_taking f new) (after s event)
   agrees_taken event new can others store past =
       record {
         store = store;
@@ -166,7 +166,7 @@ module _ (f : Fleet) (s : Shared) (a : Agrees f s) where
   the_only : {A : Type 0} (x y : A) → Contains (x ∷ []) y → y ≡ x
   the_only {A} x y h = only_one x y h.0 h.1 h.2
 
-  agrees_step : (i : ℕ) (p : Phase Token) (step : Step Token) → IsRun s (events_of i step) → Knows (at_last s (events_of i step)) i p → Agrees (turned f i (turn_of p step)) (at_last s (events_of i step))
+  agrees_step : (i : ℕ) (p : Phase Token) (step : Step Token) → IsRun s (events_of i step) → Knows (at_last s (events_of i step)) i p → Agrees (after_turn f i (turn_of p step)) (at_last s (events_of i step))
   agrees_step i p step.Look run known = agrees_silent i p known
   agrees_step i p (step.Mark version token) run known =
       agrees_turned i p (Asked i version token) (ToMark i version token ∷ []) run.0 known (λ j ne. ne) refl refl (λ r h.
@@ -205,7 +205,7 @@ module _ (f : Fleet) (s : Shared) (a : Agrees f s) where
       (run, agrees_step i (next_turn i (phase_of f i) told).phase (next_turn i (phase_of f i) told).step run (step_is_known s i (phase_of f i) told (a.knows i)))
   happens (Took (ToMark i version token)) can =
       let this : CanHappen s (Marked i version token) = (waits_still (ToMark i version token) can.0 can.1, fits_still version can.1) in
-      ((this, tt), agrees_taken (Marked i version token) (marked (version + 1) token i) this (λ j. tt) refl refl)
+      ((this, tt), agrees_taken (Marked i version token) (in_use (version + 1) token i) this (λ j. tt) refl refl)
   happens (Took (ToKeep i version new)) can =
       let this : CanHappen s (Kept i version new) = (waits_still (ToKeep i version new) can.0 can.1, fits_still (version + 1) can.1) in
       ((this, tt), agrees_taken (Kept i version new) (at_rest (version + 2) new) this (λ j. tt) refl refl)
@@ -216,7 +216,7 @@ module _ (f : Fleet) (s : Shared) (a : Agrees f s) where
       let this : CanHappen s (SignedIn i version new) = (subst (λ (xs : List Stored). WasMarked xs version i) a.past can.0, fits_still version can.1) in
       ((this, tt), agrees_taken (SignedIn i version new) (at_rest (version + 1) new) this (λ j. tt) refl refl)
   happens (Allows i version token) can =
-      let this : CanHappen s (Allowed i version token) = (subst (λ (xs : List Stored). Contains xs (marked version token i)) a.past can.0, fits_still version can.1) in
+      let this : CanHappen s (Allowed i version token) = (subst (λ (xs : List Stored). Contains xs (in_use version token i)) a.past can.0, fits_still version can.1) in
       ((this, tt), agrees_taken (Allowed i version token) (at_rest (version + 1) token) this (λ j. tt) refl refl)
   happens (LogsIn version new) can =
       let this : CanHappen s (LoggedIn version new) = (subst (λ (xs : List Stored). WasFree xs version) a.past can.0, fits_still version can.1) in

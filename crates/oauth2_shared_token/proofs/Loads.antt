@@ -3,7 +3,7 @@ use Rattle.std.proofs.Common.{◌≡◌, ◌+◌, List, [], ◌∷◌, ◌++◌,
 use Rattle.std.proofs.lemmas.List.{append-nil}
 use Rattle.std.specs.List.{Contains}
 use Rattle.std.proofs.lemmas.List.Elements.{Contains-append_left, Contains-push}
-use Rattle.oauth2_shared_token.specs.State.{Token, token_in, Stored, at_rest, marked, empty, Shared, begin}
+use Rattle.oauth2_shared_token.specs.State.{Token, token_in, Stored, at_rest, in_use, empty, Shared, begin}
 use Rattle.oauth2_shared_token.specs.Event.{SharedEvent, Asked, Marked, Sent, Given, Kept, Withdrew, GivenBack, SignedIn, Allowed, LoggedIn, LoggedOut, after}
 use Rattle.oauth2_shared_token.specs.Run.{IsRun, at_last, tokens_stored}
 use Rattle.oauth2_shared_token.specs.Laws.{EachReadWasStored}
@@ -50,7 +50,7 @@ seen_from s (Sent i v u ∷ events) seen sound is run p t h e = seen_from (after
 seen_from s (Given i v n ∷ events) seen sound is run p t h e = seen_from (after s (Given i v n)) events seen (sound_after s (Given i v n) sound run.0) is run.1 p t h e
 seen_from s (Withdrew i v u ∷ events) seen sound is run p t h e = seen_from (after s (Withdrew i v u)) events seen (sound_after s (Withdrew i v u) sound run.0) is run.1 p t h e
 seen_from s (Marked i v u ∷ events) seen sound is run p t h e =
-    seen_from (after s (Marked i v u)) events seen (sound_after s (Marked i v u) sound run.0) (seen_again s.store (marked (v + 1) u i) s.past seen is (λ k f. is.now k (sym (ap (λ (q : Stored). token_in q.content) (asked_is_stored s i v u sound run.0)) ∙ f))) run.1 p t h e
+    seen_from (after s (Marked i v u)) events seen (sound_after s (Marked i v u) sound run.0) (seen_again s.store (in_use (v + 1) u i) s.past seen is (λ k f. is.now k (sym (ap (λ (q : Stored). token_in q.content) (asked_is_stored s i v u sound run.0)) ∙ f))) run.1 p t h e
 seen_from s (GivenBack i v u ∷ events) seen sound is run p t h e =
     seen_from (after s (GivenBack i v u)) events seen (sound_after s (GivenBack i v u) sound run.0) (seen_again s.store (at_rest (v + 2) u) s.past seen is (λ k f. is.now k (sym (ap (λ (q : Stored). token_in q.content) (returned_is_stored s i v u sound run.0)) ∙ f))) run.1 p t h e
 seen_from s (LoggedOut v ∷ events) seen sound is run p t h e =

@@ -5,7 +5,7 @@ use Rattle.std.proofs.Math.Decide.{dec_le}
 use Rattle.std.proofs.lemmas.List.{append-nil}
 use Rattle.std.specs.List.{Contains}
 use Rattle.std.proofs.lemmas.List.Elements.{Contains-append_left, Contains-push}
-use Rattle.oauth2_shared_token.specs.State.{Token, Content, AtRest, InUse, Empty, token_in, user_of, Stored, empty, at_rest, marked, Stage, NotBegun, Asking, Marking, Sending, Holding, Returning, Done, put, Shared, stage_of, begin}
+use Rattle.oauth2_shared_token.specs.State.{Token, Content, AtRest, InUse, Empty, token_in, user_of, Stored, empty, at_rest, in_use, Stage, NotBegun, Asking, Marking, Sending, Holding, Returning, Done, put, Shared, stage_of, begin}
 use Rattle.oauth2_shared_token.specs.Event.{SharedEvent, Asked, Marked, Sent, Given, Kept, Withdrew, GivenBack, SignedIn, Allowed, LoggedIn, LoggedOut, CanHappen, after}
 use Rattle.oauth2_shared_token.specs.Run.{IsRun, at_last}
 use Rattle.oauth2_shared_token.specs.Laws.{WasAnswered, Stands, NoneIsLostUntold, OneRunsAtOnce}
@@ -51,9 +51,9 @@ over_more : (p q : Stored) (sofar : List SharedEvent) (event : SharedEvent) (i v
 over_more p q sofar event i version le over = record { beyond = omega arith; answered = answered_more sofar event i version over.answered }
 
 -- who read what is stored now read it as it is
-pub seen_is_stored : (s : Shared) (i version : ℕ) (token : Token) → IsSound s → Contains s.past (marked version token i) → s.store.version ≡ version → marked version token i ≡ s.store
+pub seen_is_stored : (s : Shared) (i version : ℕ) (token : Token) → IsSound s → Contains s.past (in_use version token i) → s.store.version ≡ version → in_use version token i ≡ s.store
 seen_is_stored s i version token sound seen fits =
-    elim (sound.reads (marked version token i) seen) [
+    elim (sound.reads (in_use version token i) seen) [
       | inl less ↦ absurd (omega (arith, less, fits))
       | inr same ↦ same
     ]
@@ -95,7 +95,7 @@ module _ (s : Shared) (sofar : List SharedEvent) (told : IsTold s sofar) where
               | inl here ↦ (let e : version ≡ w = cc in let f : Some i ≡ Some j = ap (λ (k : ℕ). Some k) (sym here.0) in inl (record { next = omega (arith, e); by = f }))
               | inr there ↦ elim (told.marking j w there.1) [
                 | inl standing ↦ absurd (let e = standing.by in cc)
-                | inr over ↦ inr (over_more s.store (marked (version + 1) token i) sofar _ j w (omega (arith, can.1)) over)
+                | inr over ↦ inr (over_more s.store (in_use (version + 1) token i) sofar _ j w (omega (arith, can.1)) over)
               ]
             ];
         given = given_more (after s (Marked i version token)) (Marked i version token) (λ j w n is. inl (stays-put s.renewals i j _ (Asking version token) (Holding w n) can.0 (λ e. cc) is)) (λ j w n e. absurd cc);
@@ -230,7 +230,7 @@ used_is (AtRest token) i e = absurd cc
 used_is (InUse token j) i e = (token, (let place : j ≡ i = cc in rw place refl))
 used_is Empty i e = absurd cc
 
-standing_is : (p : Stored) (i version : ℕ) → IsStanding p i version → (token : Token) × (p ≡ marked (version + 1) token i)
+standing_is : (p : Stored) (i version : ℕ) → IsStanding p i version → (token : Token) × (p ≡ in_use (version + 1) token i)
 standing_is p i version standing =
     let used = used_is p.content i standing.by in
     (used.0, (let e = standing.next in let f = used.1 in rw (← e, ← f) refl))

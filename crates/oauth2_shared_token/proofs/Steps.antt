@@ -11,7 +11,7 @@ use Rattle.oauth2_shared_token.specs.declared.renewal.Phase.{Phase}
 use Rattle.oauth2_shared_token.specs.declared.renewal.Phase.TheVariants as phase
 use Rattle.oauth2_shared_token.specs.declared.renewal.Told.{Told}
 use Rattle.oauth2_shared_token.specs.declared.renewal.Told.TheVariants as told
-use Rattle.oauth2_shared_token.specs.State.{Token, user_of, Stored, at_rest, marked, empty, Stage, NotBegun, Asking, Marking, Sending, Holding, Returning, Done, put, Shared, stage_of, begin}
+use Rattle.oauth2_shared_token.specs.State.{Token, user_of, Stored, at_rest, in_use, empty, Stage, NotBegun, Asking, Marking, Sending, Holding, Returning, Done, put, Shared, stage_of, begin}
 use Rattle.oauth2_shared_token.specs.Event.{SharedEvent, Asked, Marked, Sent, Given, Kept, Withdrew, GivenBack, SignedIn, Allowed, LoggedIn, LoggedOut, CanHappen, after}
 use Rattle.oauth2_shared_token.specs.Run.{IsRun, at_last}
 use Rattle.oauth2_shared_token.specs.Renewal.{looked_at, past_or_open, seen_in, read_again, sent_if, returned_if, again_in, stored_of, IsReached, Knows, IsSo, events_of, EachStepCanHappen, next_turn}
@@ -29,7 +29,7 @@ is_early Done = false
 
 -- a renewal whose mark was stored is past that
 abbrev pub MarksAreTaken : Shared → Type 0
-MarksAreTaken s = (j w : ℕ) (t : Token) → Contains s.past (marked w t j) → is_early (stage_of s j) ≡ false
+MarksAreTaken s = (j w : ℕ) (t : Token) → Contains s.past (in_use w t j) → is_early (stage_of s j) ≡ false
 
 early-put : (xs : List Stage) (i j : ℕ) (x : Stage) → is_early x ≡ false → is_early (get_or xs j NotBegun) ≡ false → is_early (get_or (put NotBegun xs i x) j NotBegun) ≡ false
 early-put xs i j x here before =
@@ -48,16 +48,16 @@ early-begun xs i j x none before =
       | inr other ↦ sym (ap is_early other.1) ∙ before
     ]
 
-not_empty : (v w j : ℕ) (t : Token) → marked w t j ≡ empty v → ⊥
+not_empty : (v w j : ℕ) (t : Token) → in_use w t j ≡ empty v → ⊥
 not_empty v w j t e = let by : Some j ≡ None = ap (λ (p : Stored). user_of p.content) e in cc
 
-not_at_rest : (v w j : ℕ) (t u : Token) → marked w t j ≡ at_rest v u → ⊥
+not_at_rest : (v w j : ℕ) (t u : Token) → in_use w t j ≡ at_rest v u → ⊥
 not_at_rest v w j t u e = let by : Some j ≡ None = ap (λ (p : Stored). user_of p.content) e in cc
 
 pub taken_after : (s : Shared) (event : SharedEvent) → MarksAreTaken s → CanHappen s event → MarksAreTaken (after s event)
 taken_after s (Asked i version token) taken can j w t h = early-begun s.renewals i j (Asking version token) can.0 (taken j w t h)
 taken_after s (Marked i version token) taken can j w t h =
-    elim (in_one_more s.past (marked (version + 1) token i) (marked w t j) h) [
+    elim (in_one_more s.past (in_use (version + 1) token i) (in_use w t j) h) [
       | inl before ↦ early-put s.renewals i j (Marking version token) refl (taken j w t before)
       | inr here ↦
           let by : Some j ≡ Some i = ap (λ (p : Stored). user_of p.content) here in
@@ -69,33 +69,33 @@ taken_after s (Sent i version token) taken can j w t h =
 taken_after s (Given i version new) taken can j w t h =
     early-put s.renewals i j (Holding version new) refl (taken j w t h)
 taken_after s (Kept i version new) taken can j w t h =
-    elim (in_one_more s.past (at_rest (version + 2) new) (marked w t j) h) [
+    elim (in_one_more s.past (at_rest (version + 2) new) (in_use w t j) h) [
       | inl before ↦ early-put s.renewals i j Done refl (taken j w t before)
       | inr here ↦ absurd (not_at_rest (version + 2) w j t new here)
     ]
 taken_after s (Withdrew i version token) taken can j w t h = early-put s.renewals i j (Returning version token) refl (taken j w t h)
 taken_after s (GivenBack i version token) taken can j w t h =
-    elim (in_one_more s.past (at_rest (version + 2) token) (marked w t j) h) [
+    elim (in_one_more s.past (at_rest (version + 2) token) (in_use w t j) h) [
       | inl before ↦ early-put s.renewals i j Done refl (taken j w t before)
       | inr here ↦ absurd (not_at_rest (version + 2) w j t token here)
     ]
 taken_after s (SignedIn i version new) taken can j w t h =
-    elim (in_one_more s.past (at_rest (version + 1) new) (marked w t j) h) [
+    elim (in_one_more s.past (at_rest (version + 1) new) (in_use w t j) h) [
       | inl before ↦ taken j w t before
       | inr here ↦ absurd (not_at_rest (version + 1) w j t new here)
     ]
 taken_after s (Allowed i version token) taken can j w t h =
-    elim (in_one_more s.past (at_rest (version + 1) token) (marked w t j) h) [
+    elim (in_one_more s.past (at_rest (version + 1) token) (in_use w t j) h) [
       | inl before ↦ taken j w t before
       | inr here ↦ absurd (not_at_rest (version + 1) w j t token here)
     ]
 taken_after s (LoggedIn version new) taken can j w t h =
-    elim (in_one_more s.past (at_rest (version + 1) new) (marked w t j) h) [
+    elim (in_one_more s.past (at_rest (version + 1) new) (in_use w t j) h) [
       | inl before ↦ taken j w t before
       | inr here ↦ absurd (not_at_rest (version + 1) w j t new here)
     ]
 taken_after s (LoggedOut version) taken can j w t h =
-    elim (in_one_more s.past (empty (version + 1)) (marked w t j) h) [
+    elim (in_one_more s.past (empty (version + 1)) (in_use w t j) h) [
       | inl before ↦ taken j w t before
       | inr here ↦ absurd (not_empty (version + 1) w j t here)
     ]
@@ -105,13 +105,13 @@ taken_at_last s [] taken run = taken
 taken_at_last s (event ∷ events) taken run = taken_at_last (after s event) events (taken_after s event taken run.0) run.1
 
 pub taken_begin : (start : Token) → MarksAreTaken (begin start)
-taken_begin start j w t h = absurd (not_at_rest 0 w j t start (only_one (at_rest 0 start) (marked w t j) h.0 h.1 h.2))
+taken_begin start j w t h = absurd (not_at_rest 0 w j t start (only_one (at_rest 0 start) (in_use w t j) h.0 h.1 h.2))
 
 pub taken_where_reached : (s : Shared) → IsReached s → MarksAreTaken s
 taken_where_reached s reached =
     subst MarksAreTaken (sym reached.is) (taken_at_last (begin reached.start) reached.events (taken_begin reached.start) reached.run)
 
-pub can_send : (s : Shared) (name version w : ℕ) (t u : Token) → MarksAreTaken s → Contains s.past (marked w u name) → (stage_of s name ≡ Asking version t) ⊎ (stage_of s name ≡ Marking version t) → stage_of s name ≡ Marking version t
+pub can_send : (s : Shared) (name version w : ℕ) (t u : Token) → MarksAreTaken s → Contains s.past (in_use w u name) → (stage_of s name ≡ Asking version t) ⊎ (stage_of s name ≡ Marking version t) → stage_of s name ≡ Marking version t
 can_send s name version w t u taken seen (inl asking) =
     absurd (let late = taken name w u seen in let early : is_early (stage_of s name) ≡ true = ap is_early asking in cc)
 can_send s name version w t u taken seen (inr marking) = marking
@@ -121,11 +121,11 @@ open_is_not_taken : (is_past : Bool) → past_or_open is_past ≡ learnt.Taken �
 open_is_not_taken true e = cc
 open_is_not_taken false e = cc
 
-seen_is_own : (past : List Stored) (name w : ℕ) (is_past : Bool) (c : Content Token) → Contains past (stored_of (record { version = w; content = c })) → seen_in name is_past c ≡ learnt.Taken → (t : Token) × Contains past (marked w t name)
+seen_is_own : (past : List Stored) (name w : ℕ) (is_past : Bool) (c : Content Token) → Contains past (stored_of (record { version = w; content = c })) → seen_in name is_past c ≡ learnt.Taken → (t : Token) × Contains past (in_use w t name)
 seen_is_own past name w is_past (content.AtRest token) seen e = absurd (open_is_not_taken is_past e)
 seen_is_own past name w is_past (content.Marked token other) seen e =
     elim (eqb_tells other name) [
-      | inl mine ↦ (token, subst (λ (k : ℕ). Contains past (marked w token k)) mine.1 seen)
+      | inl mine ↦ (token, subst (λ (k : ℕ). Contains past (in_use w token k)) mine.1 seen)
       | inr theirs ↦ absurd (open_is_not_taken is_past (ap (λ (b : Bool). if b then learnt.Taken else past_or_open is_past) (sym theirs.0) ∙ e))
     ]
 seen_is_own past name w is_past content.Empty seen e = absurd (open_is_not_taken is_past e)

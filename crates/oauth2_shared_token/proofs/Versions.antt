@@ -2,8 +2,8 @@
 use Rattle.std.proofs.Common.{◌≡◌, ◌≢◌, ℕ, ◌+◌, ◌<◌, List, [], ◌∷◌, ◌++◌, get_or, None, refl, ap, sym, subst, arith, ◌⊎◌, inl, inr}
 use Rattle.std.specs.List.{Contains}
 use Rattle.std.proofs.lemmas.List.Elements.{Contains-append_left, Contains-push}
-use Rattle.oauth2_shared_token.specs.State.{Token, Stored, user_of, at_rest, marked, empty, Stage, NotBegun, Asking, Marking, Sending, Holding, Returning, Done, put, Shared, stage_of, begin}
-use Rattle.oauth2_shared_token.specs.Event.{SharedEvent, Asked, Marked, Sent, Given, Kept, Withdrew, GivenBack, SignedIn, Allowed, LoggedIn, LoggedOut, WasFree, CanHappen, stored, gone_on, after}
+use Rattle.oauth2_shared_token.specs.State.{Token, Stored, user_of, at_rest, in_use, empty, Stage, NotBegun, Asking, Marking, Sending, Holding, Returning, Done, put, Shared, stage_of, begin}
+use Rattle.oauth2_shared_token.specs.Event.{SharedEvent, Asked, Marked, Sent, Given, Kept, Withdrew, GivenBack, SignedIn, Allowed, LoggedIn, LoggedOut, WasFree, CanHappen, with_stored, gone_on, after}
 use Rattle.oauth2_shared_token.specs.Run.{IsRun, at_last}
 use Rattle.oauth2_shared_token.proofs.Places.{read-put, in_one_more, only_one}
 
@@ -18,7 +18,7 @@ IsUnsent stage version token = (stage ≡ Marking version token) ⊎ (stage ≡ 
 pub record IsSound (s : Shared) : Type 0 where
   pub reads : (p : Stored) → Contains s.past p → IsOld p s.store
   pub asks : (i version : ℕ) (token : Token) → stage_of s i ≡ Asking version token → IsOld (at_rest version token) s.store
-  pub unsent : (i version : ℕ) (token : Token) → IsUnsent (stage_of s i) version token → Contains s.past (marked (version + 1) token i)
+  pub unsent : (i version : ℕ) (token : Token) → IsUnsent (stage_of s i) version token → Contains s.past (in_use (version + 1) token i)
 
 old_next : (p a b : Stored) → b.version ≡ a.version + 1 → IsOld p a → IsOld p b
 old_next p a b next (inl lt) = inl (omega (arith, next, lt))
@@ -34,20 +34,20 @@ old_stored s new sound next p h =
 same_asked : (v w : ℕ) (t u : Token) → Asking v t ≡ Asking w u → at_rest v t ≡ at_rest w u
 same_asked v w t u e = cc
 
-still_unsent : (s : Shared) (i j : ℕ) (stage : Stage) (v : ℕ) (t : Token) → IsSound s → ((w : ℕ) (u : Token) → IsUnsent stage w u → Contains s.past (marked (w + 1) u i)) → IsUnsent (get_or (put NotBegun s.renewals i stage) j NotBegun) v t → Contains s.past (marked (v + 1) t j)
+still_unsent : (s : Shared) (i j : ℕ) (stage : Stage) (v : ℕ) (t : Token) → IsSound s → ((w : ℕ) (u : Token) → IsUnsent stage w u → Contains s.past (in_use (w + 1) u i)) → IsUnsent (get_or (put NotBegun s.renewals i stage) j NotBegun) v t → Contains s.past (in_use (v + 1) t j)
 still_unsent s i j stage v t sound unsent is =
     elim (read-put NotBegun s.renewals i j stage (get_or (put NotBegun s.renewals i stage) j NotBegun) refl) [
-      | inl here ↦ subst (λ (k : ℕ). Contains s.past (marked (v + 1) t k)) (sym here.0) (unsent v t (subst (λ (x : Stage). IsUnsent x v t) here.1 is))
+      | inl here ↦ subst (λ (k : ℕ). Contains s.past (in_use (v + 1) t k)) (sym here.0) (unsent v t (subst (λ (x : Stage). IsUnsent x v t) here.1 is))
       | inr there ↦ sound.unsent j v t (subst (λ (x : Stage). IsUnsent x v t) (sym there.1) is)
     ]
 
 -- a renewal that gets to a stage where nothing is unsent
-nothing_unsent : (s : Shared) (i : ℕ) (stage : Stage) → ((v : ℕ) (t : Token) → Marking v t ≢ stage) → ((v : ℕ) (t : Token) → Returning v t ≢ stage) → (v : ℕ) (t : Token) → IsUnsent stage v t → Contains s.past (marked (v + 1) t i)
+nothing_unsent : (s : Shared) (i : ℕ) (stage : Stage) → ((v : ℕ) (t : Token) → Marking v t ≢ stage) → ((v : ℕ) (t : Token) → Returning v t ≢ stage) → (v : ℕ) (t : Token) → IsUnsent stage v t → Contains s.past (in_use (v + 1) t i)
 nothing_unsent s i stage no_mark no_return v t (inl e) = absurd (no_mark v t (sym e))
 nothing_unsent s i stage no_mark no_return v t (inr e) = absurd (no_return v t (sym e))
 
 -- a renewal gets further than to ask, or asks for what was read
-sound_further : (s : Shared) (i : ℕ) (stage : Stage) → IsSound s → ((v : ℕ) (t : Token) → Asking v t ≡ stage → IsOld (at_rest v t) s.store) → ((v : ℕ) (t : Token) → IsUnsent stage v t → Contains s.past (marked (v + 1) t i)) → IsSound (gone_on s i stage)
+sound_further : (s : Shared) (i : ℕ) (stage : Stage) → IsSound s → ((v : ℕ) (t : Token) → Asking v t ≡ stage → IsOld (at_rest v t) s.store) → ((v : ℕ) (t : Token) → IsUnsent stage v t → Contains s.past (in_use (v + 1) t i)) → IsSound (gone_on s i stage)
 sound_further s i stage sound new unsent =
     record {
       reads = sound.reads;
@@ -59,7 +59,7 @@ sound_further s i stage sound new unsent =
       unsent = λ j v t is. still_unsent s i j stage v t sound unsent is;
     }
 
-sound_stored : (s : Shared) (new : Stored) → IsSound s → new.version ≡ s.store.version + 1 → IsSound (stored s new)
+sound_stored : (s : Shared) (new : Stored) → IsSound s → new.version ≡ s.store.version + 1 → IsSound (with_stored s new)
 sound_stored s new sound next =
     record {
       reads = old_stored s new sound next;
@@ -67,18 +67,18 @@ sound_stored s new sound next =
       unsent = λ j version token is. Contains-append_left s.past (new ∷ []) _ (sound.unsent j version token is);
     }
 
-same_mark : (i v w : ℕ) (t u : Token) → Marking v t ≡ Marking w u → marked (v + 1) t i ≡ marked (w + 1) u i
+same_mark : (i v w : ℕ) (t u : Token) → Marking v t ≡ Marking w u → in_use (v + 1) t i ≡ in_use (w + 1) u i
 same_mark i v w t u e = let at : v ≡ w = cc in let what : t ≡ u = cc in rw (at, what) refl
 
-same_return : (i v w : ℕ) (t u : Token) → Returning v t ≡ Returning w u → marked (v + 1) t i ≡ marked (w + 1) u i
+same_return : (i v w : ℕ) (t u : Token) → Returning v t ≡ Returning w u → in_use (v + 1) t i ≡ in_use (w + 1) u i
 same_return i v w t u e = let at : v ≡ w = cc in let what : t ≡ u = cc in rw (at, what) refl
 
-unsent_marked : (s : Shared) (i version : ℕ) (token : Token) (v : ℕ) (t : Token) → IsUnsent (Marking version token) v t → Contains (s.past ++ marked (version + 1) token i ∷ []) (marked (v + 1) t i)
+unsent_marked : (s : Shared) (i version : ℕ) (token : Token) (v : ℕ) (t : Token) → IsUnsent (Marking version token) v t → Contains (s.past ++ in_use (version + 1) token i ∷ []) (in_use (v + 1) t i)
 unsent_marked s i version token v t (inl e) =
-    subst (Contains (s.past ++ marked (version + 1) token i ∷ [])) (same_mark i version v token t e) (Contains-push s.past (marked (version + 1) token i))
+    subst (Contains (s.past ++ in_use (version + 1) token i ∷ [])) (same_mark i version v token t e) (Contains-push s.past (in_use (version + 1) token i))
 unsent_marked s i version token v t (inr e) = absurd cc
 
-unsent_withdrawn : (s : Shared) (i version : ℕ) (token : Token) → IsSound s → stage_of s i ≡ Marking version token → (v : ℕ) (t : Token) → IsUnsent (Returning version token) v t → Contains s.past (marked (v + 1) t i)
+unsent_withdrawn : (s : Shared) (i version : ℕ) (token : Token) → IsSound s → stage_of s i ≡ Marking version token → (v : ℕ) (t : Token) → IsUnsent (Returning version token) v t → Contains s.past (in_use (v + 1) t i)
 unsent_withdrawn s i version token sound is v t (inl e) = absurd cc
 unsent_withdrawn s i version token sound is v t (inr e) =
     subst (Contains s.past) (same_return i version v token t e) (sound.unsent i version token (inl is))
@@ -87,14 +87,14 @@ pub sound_after : (s : Shared) (event : SharedEvent) → IsSound s → CanHappen
 sound_after s (Asked i version token) sound can =
     sound_further s i (Asking version token) sound (λ v t e. subst (λ (p : Stored). IsOld p s.store) (same_asked version v token t (sym e)) (sound.reads (at_rest version token) can.1)) (nothing_unsent s i (Asking version token) (λ v t e. cc) (λ v t e. cc))
 sound_after s (Marked i version token) sound can =
-    sound_further (stored s (marked (version + 1) token i)) i (Marking version token) (sound_stored s (marked (version + 1) token i) sound (omega (arith, can.1))) (λ v t e. absurd cc) (unsent_marked s i version token)
+    sound_further (with_stored s (in_use (version + 1) token i)) i (Marking version token) (sound_stored s (in_use (version + 1) token i) sound (omega (arith, can.1))) (λ v t e. absurd cc) (unsent_marked s i version token)
 sound_after s (Sent i version token) sound can = sound_further s i (Sending version) sound (λ v t e. absurd cc) (nothing_unsent s i (Sending version) (λ v t e. cc) (λ v t e. cc))
 sound_after s (Given i version new) sound can = sound_further s i (Holding version new) sound (λ v t e. absurd cc) (nothing_unsent s i (Holding version new) (λ v t e. cc) (λ v t e. cc))
 sound_after s (Kept i version new) sound can =
-    sound_further (stored s (at_rest (version + 2) new)) i Done (sound_stored s (at_rest (version + 2) new) sound (omega (arith, can.1))) (λ v t e. absurd cc) (nothing_unsent (stored s (at_rest (version + 2) new)) i Done (λ v t e. cc) (λ v t e. cc))
+    sound_further (with_stored s (at_rest (version + 2) new)) i Done (sound_stored s (at_rest (version + 2) new) sound (omega (arith, can.1))) (λ v t e. absurd cc) (nothing_unsent (with_stored s (at_rest (version + 2) new)) i Done (λ v t e. cc) (λ v t e. cc))
 sound_after s (Withdrew i version token) sound can = sound_further s i (Returning version token) sound (λ v t e. absurd cc) (unsent_withdrawn s i version token sound can)
 sound_after s (GivenBack i version token) sound can =
-    sound_further (stored s (at_rest (version + 2) token)) i Done (sound_stored s (at_rest (version + 2) token) sound (omega (arith, can.1))) (λ v t e. absurd cc) (nothing_unsent (stored s (at_rest (version + 2) token)) i Done (λ v t e. cc) (λ v t e. cc))
+    sound_further (with_stored s (at_rest (version + 2) token)) i Done (sound_stored s (at_rest (version + 2) token) sound (omega (arith, can.1))) (λ v t e. absurd cc) (nothing_unsent (with_stored s (at_rest (version + 2) token)) i Done (λ v t e. cc) (λ v t e. cc))
 sound_after s (SignedIn i version new) sound can =
     sound_stored s (at_rest (version + 1) new) sound (omega (arith, can.1))
 sound_after s (Allowed i version token) sound can =
@@ -117,9 +117,9 @@ asked_is_stored s i version token sound can =
     ]
 
 -- what is given back is what is stored
-pub returned_is_stored : (s : Shared) (i version : ℕ) (token : Token) → IsSound s → CanHappen s (GivenBack i version token) → marked (version + 1) token i ≡ s.store
+pub returned_is_stored : (s : Shared) (i version : ℕ) (token : Token) → IsSound s → CanHappen s (GivenBack i version token) → in_use (version + 1) token i ≡ s.store
 returned_is_stored s i version token sound can =
-    elim (sound.reads (marked (version + 1) token i) (sound.unsent i version token (inr can.0))) [
+    elim (sound.reads (in_use (version + 1) token i) (sound.unsent i version token (inr can.0))) [
       | inl less ↦ absurd (omega (arith, less, can.1))
       | inr same ↦ same
     ]

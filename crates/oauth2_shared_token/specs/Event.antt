@@ -2,7 +2,7 @@
 -- renewal that crashed or is paused is one that has no event.
 use Rattle.std.specs.Prelude.{◌≡◌, ℕ, ◌+◌, List, [], ◌∷◌, ◌++◌, ◌⊎◌}
 use Rattle.std.specs.List.{Contains}
-use Rattle.oauth2_shared_token.specs.State.{Token, Stored, at_rest, marked, empty, put}
+use Rattle.oauth2_shared_token.specs.State.{Token, Stored, at_rest, in_use, empty, put}
 use Rattle.oauth2_shared_token.specs.State.{Stage, NotBegun, Asking, Marking, Sending, Holding, Returning, Done, Shared, stage_of}
 
 -- each but the last two has the name of a renewal first, and each has a version
@@ -36,7 +36,7 @@ Fits store version = store.version ≡ version
 
 -- somebody read this version marked by this renewal
 abbrev pub WasMarked : List Stored → ℕ → ℕ → Type 0
-WasMarked past version renewal = (token : Token) × Contains past (marked version token renewal)
+WasMarked past version renewal = (token : Token) × Contains past (in_use version token renewal)
 
 -- somebody read it at rest, or empty
 abbrev pub WasFree : List Stored → ℕ → Type 0
@@ -56,13 +56,13 @@ CanHappen s (Kept i version new) = (stage_of s i ≡ Holding version new) × Fit
 CanHappen s (Withdrew i version token) = stage_of s i ≡ Marking version token
 CanHappen s (GivenBack i version token) = (stage_of s i ≡ Returning version token) × Fits s.store (version + 1)
 CanHappen s (SignedIn i version new) = WasMarked s.past version i × Fits s.store version
-CanHappen s (Allowed i version token) = Contains s.past (marked version token i) × Fits s.store version
+CanHappen s (Allowed i version token) = Contains s.past (in_use version token i) × Fits s.store version
 CanHappen s (LoggedIn version new) = WasFree s.past version × Fits s.store version
 CanHappen s (LoggedOut version) = WasStored s.past version × Fits s.store version
 
 -- the store takes something
-abbrev pub stored : Shared → Stored → Shared
-stored s new = record { store = new; past = s.past ++ new ∷ []; renewals = s.renewals }
+abbrev pub with_stored : Shared → Stored → Shared
+with_stored s new = record { store = new; past = s.past ++ new ∷ []; renewals = s.renewals }
 
 -- a renewal gets further
 abbrev pub gone_on : Shared → ℕ → Stage → Shared
@@ -71,13 +71,13 @@ gone_on s i stage = record { store = s.store; past = s.past; renewals = put NotB
 -- what each event changes
 abbrev pub after : Shared → SharedEvent → Shared
 after s (Asked i version token) = gone_on s i (Asking version token)
-after s (Marked i version token) = gone_on (stored s (marked (version + 1) token i)) i (Marking version token)
+after s (Marked i version token) = gone_on (with_stored s (in_use (version + 1) token i)) i (Marking version token)
 after s (Sent i version token) = gone_on s i (Sending version)
 after s (Given i version new) = gone_on s i (Holding version new)
-after s (Kept i version new) = gone_on (stored s (at_rest (version + 2) new)) i Done
+after s (Kept i version new) = gone_on (with_stored s (at_rest (version + 2) new)) i Done
 after s (Withdrew i version token) = gone_on s i (Returning version token)
-after s (GivenBack i version token) = gone_on (stored s (at_rest (version + 2) token)) i Done
-after s (SignedIn i version new) = stored s (at_rest (version + 1) new)
-after s (Allowed i version token) = stored s (at_rest (version + 1) token)
-after s (LoggedIn version new) = stored s (at_rest (version + 1) new)
-after s (LoggedOut version) = stored s (empty (version + 1))
+after s (GivenBack i version token) = gone_on (with_stored s (at_rest (version + 2) token)) i Done
+after s (SignedIn i version new) = with_stored s (at_rest (version + 1) new)
+after s (Allowed i version token) = with_stored s (at_rest (version + 1) token)
+after s (LoggedIn version new) = with_stored s (at_rest (version + 1) new)
+after s (LoggedOut version) = with_stored s (empty (version + 1))

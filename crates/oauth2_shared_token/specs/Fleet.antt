@@ -8,7 +8,7 @@ use Rattle.oauth2_shared_token.specs.declared.renewal.Told.{Told}
 use Rattle.oauth2_shared_token.specs.declared.renewal.Step.{Step}
 use Rattle.oauth2_shared_token.specs.declared.renewal.Step.TheVariants as step
 use Rattle.oauth2_shared_token.specs.declared.renewal.Turn.{Turn}
-use Rattle.oauth2_shared_token.specs.State.{Token, Stored, at_rest, marked, empty, put, begin}
+use Rattle.oauth2_shared_token.specs.State.{Token, Stored, at_rest, in_use, empty, put, begin}
 use Rattle.oauth2_shared_token.specs.Event.{SharedEvent, Marked, Kept, GivenBack, SignedIn, Allowed, LoggedIn}
 use Rattle.oauth2_shared_token.specs.Event.{LoggedOut, Fits, WasMarked, WasFree, WasStored}
 use Rattle.oauth2_shared_token.specs.Run.{IsRun, at_last, has_refresh, times_sent, times_stored, tokens_stored}
@@ -58,7 +58,7 @@ CanOccur f (Took (ToMark i version token)) = Contains f.requests (ToMark i versi
 CanOccur f (Took (ToKeep i version new)) = Contains f.requests (ToKeep i version new) × Fits f.store (version + 1)
 CanOccur f (Took (ToReturn i version token)) = Contains f.requests (ToReturn i version token) × Fits f.store (version + 1)
 CanOccur f (SignsIn i version new) = WasMarked f.past version i × Fits f.store version
-CanOccur f (Allows i version token) = Contains f.past (marked version token i) × Fits f.store version
+CanOccur f (Allows i version token) = Contains f.past (in_use version token i) × Fits f.store version
 CanOccur f (LogsIn version new) = WasFree f.past version × Fits f.store version
 CanOccur f (LogsOut version) = WasStored f.past version × Fits f.store version
 
@@ -75,8 +75,8 @@ requests_of i step.LoggedOut = []
 requests_of i step.End = []
 
 -- a machine has taken this turn
-abbrev pub turned : Fleet → ℕ → Turn Token → Fleet
-turned f i turn =
+abbrev pub after_turn : Fleet → ℕ → Turn Token → Fleet
+after_turn f i turn =
     record {
       store = f.store;
       past = f.past;
@@ -85,19 +85,19 @@ turned f i turn =
     }
 
 -- the store has taken this
-abbrev pub taken : Fleet → Stored → Fleet
-taken f new = record { store = new; past = f.past ++ new ∷ []; phases = f.phases; requests = f.requests }
+abbrev pub after_taking : Fleet → Stored → Fleet
+after_taking f new = record { store = new; past = f.past ++ new ∷ []; phases = f.phases; requests = f.requests }
 
 -- what is there after it happened
 abbrev pub later : Fleet → Happening → Fleet
-later f (Turned i told) = turned f i (next_turn i (phase_of f i) told)
-later f (Took (ToMark i version token)) = taken f (marked (version + 1) token i)
-later f (Took (ToKeep i version new)) = taken f (at_rest (version + 2) new)
-later f (Took (ToReturn i version token)) = taken f (at_rest (version + 2) token)
-later f (SignsIn i version new) = taken f (at_rest (version + 1) new)
-later f (Allows i version token) = taken f (at_rest (version + 1) token)
-later f (LogsIn version new) = taken f (at_rest (version + 1) new)
-later f (LogsOut version) = taken f (empty (version + 1))
+later f (Turned i told) = after_turn f i (next_turn i (phase_of f i) told)
+later f (Took (ToMark i version token)) = after_taking f (in_use (version + 1) token i)
+later f (Took (ToKeep i version new)) = after_taking f (at_rest (version + 2) new)
+later f (Took (ToReturn i version token)) = after_taking f (at_rest (version + 2) token)
+later f (SignsIn i version new) = after_taking f (at_rest (version + 1) new)
+later f (Allows i version token) = after_taking f (at_rest (version + 1) token)
+later f (LogsIn version new) = after_taking f (at_rest (version + 1) new)
+later f (LogsOut version) = after_taking f (empty (version + 1))
 
 -- the events that it makes
 abbrev pub events_in : Fleet → Happening → List SharedEvent

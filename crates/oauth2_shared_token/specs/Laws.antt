@@ -1,7 +1,7 @@
 -- The laws of a shared token, over each finished list of events.
 use Rattle.std.specs.Prelude.{◌≡◌, ℕ, ◌+◌, ◌≤◌, List, ◌∷◌, ◌++◌, Some, None, ◌⊎◌}
 use Rattle.std.specs.List.{Contains}
-use Rattle.oauth2_shared_token.specs.State.{Token, Stored, token_in, user_of, begin, marked, stage_of, Sending}
+use Rattle.oauth2_shared_token.specs.State.{Token, Stored, token_in, user_of, begin, in_use, stage_of, Sending}
 use Rattle.oauth2_shared_token.specs.Event.{SharedEvent, Given, Kept, SignedIn, Allowed, LoggedIn, LoggedOut}
 use Rattle.oauth2_shared_token.specs.Run.{IsRun, at_last, has_refresh, times_sent, times_stored}
 use Rattle.oauth2_shared_token.specs.Run.{tokens_stored, newest, newest_given}
@@ -49,7 +49,7 @@ WasAnswered events i version =
 abbrev pub Stands : Token → List SharedEvent → ℕ → ℕ → Type 0
 Stands start events i version =
     (token : Token) × (newest (Some start) events ≡ Some token)
-    × ((at_last (begin start) events).store ≡ marked (version + 1) token i)
+    × ((at_last (begin start) events).store ≡ in_use (version + 1) token i)
 
 -- a token that was given is kept, or the mark stands still, or a caller answered
 abbrev pub NoneIsLostUntold : Type 0

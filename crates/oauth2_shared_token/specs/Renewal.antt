@@ -14,7 +14,7 @@ use Rattle.oauth2_shared_token.specs.declared.renewal.Turn.{Turn}
 use Rattle.oauth2_shared_token.specs.declared.renewal.Learnt.{Learnt}
 use Rattle.oauth2_shared_token.specs.declared.renewal.Learnt.TheVariants as learnt
 use Rattle.oauth2_shared_token.specs.State as state
-use Rattle.oauth2_shared_token.specs.State.{Token, Stored, marked, NotBegun, Asking, Marking, Sending}
+use Rattle.oauth2_shared_token.specs.State.{Token, Stored, in_use, NotBegun, Asking, Marking, Sending}
 use Rattle.oauth2_shared_token.specs.State.{Holding, Returning, Done, Shared, stage_of, begin}
 use Rattle.oauth2_shared_token.specs.Event.{SharedEvent, Asked, Marked, Sent, Given, Kept, Withdrew, GivenBack}
 use Rattle.oauth2_shared_token.specs.Event.{SignedIn, Allowed, LoggedIn, LoggedOut, CanHappen, after}
@@ -147,8 +147,8 @@ IsSo past name phase told.Nothing = Unit {0}
 IsSo past name phase (told.Answer new) = Unit {0}
 IsSo past name phase told.Stop = Unit {0}
 IsSo past name phase.Looking told.Done = Unit {0}
-IsSo past name (phase.Asking version token) told.Done = Contains past (marked (version + 1) token name)
-IsSo past name (phase.Leaving version token) told.Done = Contains past (marked (version + 1) token name)
+IsSo past name (phase.Asking version token) told.Done = Contains past (in_use (version + 1) token name)
+IsSo past name (phase.Leaving version token) told.Done = Contains past (in_use (version + 1) token name)
 IsSo past name (phase.Sending version) told.Done = Unit {0}
 IsSo past name (phase.Keeping version new) told.Done = Unit {0}
 IsSo past name (phase.Returning version token) told.Done = Unit {0}
