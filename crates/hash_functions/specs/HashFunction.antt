@@ -6,10 +6,10 @@ use Rattle.hash_functions.specs.declared.hash_function.HashFunction.{HashFunctio
 use Rattle.hash_functions.specs.declared.hash_function.HashFunction.TheVariants.{Sha256, Sha384, Sha512}
 
 -- the digest of a message: Hash (M) in RFC 8017, H in RFC 2104
-abbrev pub hashed : HashFunction → List ℕ → List ℕ
-hashed Sha256 message = sha256 message
-hashed Sha384 message = sha384 message
-hashed Sha512 message = sha512 message
+abbrev pub digest_of : HashFunction → List ℕ → List ℕ
+digest_of Sha256 message = sha256 message
+digest_of Sha384 message = sha384 message
+digest_of Sha512 message = sha512 message
 
 -- the size of a digest in octets (FIPS 180-4, figure 1): hLen in RFC 8017, L in RFC 2104
 abbrev pub hash_size : HashFunction → ℕ

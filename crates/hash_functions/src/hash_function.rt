@@ -1,7 +1,7 @@
 //! The hash functions that signatures are made with.
 
 ghost use Rattle.std.specs.Prelude.{◌≡◌, ◌≤◌, ◌++◌, length, take};
-ghost use Rattle.hash_functions.specs.HashFunction.{block_size, hash_size, hashed};
+ghost use Rattle.hash_functions.specs.HashFunction.{block_size, hash_size, digest_of};
 
 use sha2::{Digest, Sha256, Sha384, Sha512};
 
@@ -56,7 +56,7 @@ impl HashFunction {
     /// result; the others mean nothing.
     pub fn digest(self, first: &[u8], second: &[u8], third: &[u8]) -> [u8; 64]
         ensures { take (hash_size self) result
-            ≡ hashed self (first.now ++ second.now ++ third.now) }
+            ≡ digest_of self (first.now ++ second.now ++ third.now) }
     {
         match self {
             HashFunction::Sha256 => {

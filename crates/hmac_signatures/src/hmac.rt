@@ -13,7 +13,7 @@ ghost use Rattle.std.specs.Prelude.{
   bit_xor,
   IsTrue,
 };
-ghost use Rattle.hash_functions.specs.HashFunction.{block_size, hash_size, hashed};
+ghost use Rattle.hash_functions.specs.HashFunction.{block_size, hash_size, digest_of};
 ghost use Rattle.hmac_signatures.specs.Hmac.{hmac, hmac_of_block, zero_filled};
 
 use hash_functions::HashFunction;
@@ -36,7 +36,7 @@ fn padded_key(key: &[u8], with: u8) -> [u8; LARGEST_BLOCK]
 // The digest of the padded key followed by the text: the first octets of the result.
 fn digest_after_key(hash: HashFunction, key: &[u8], with: u8, text: &[u8]) -> [u8; 64]
     requires { length key.now ≤ block_size hash }
-    ensures { take (hash_size hash) result ≡ hashed hash
+    ensures { take (hash_size hash) result ≡ digest_of hash
         (map (λ octet. bit_xor octet with) (zero_filled hash key.now) ++ text.now) }
 {
     let padded = padded_key(key, with);

@@ -4,20 +4,20 @@ use Rattle.std.proofs.lemmas.Bool.{cases_lt}
 use Rattle.std.proofs.lemmas.List.{get_or_append_left, get_or-append_right, get_or-take}
 use Rattle.hash_functions.specs.declared.hash_function.HashFunction.{HashFunction}
 use Rattle.hash_functions.specs.declared.hash_function.HashFunction.TheVariants.{Sha256, Sha384, Sha512}
-use Rattle.hash_functions.specs.HashFunction.{hashed, hash_size}
+use Rattle.hash_functions.specs.HashFunction.{digest_of, hash_size}
 use Rattle.rsa_signatures.specs.Octets.{octets_of}
-use Rattle.rsa_signatures.specs.Pss.{mask_blocks, mgf1, xored, with_zero_bits}
-use Rattle.hash_functions.proofs.Digests.{length-hashed}
+use Rattle.rsa_signatures.specs.Pss.{mask_blocks, mgf1, exclusive_or, with_zero_bits}
+use Rattle.hash_functions.proofs.Digests.{length-digest_of}
 
 -- octet k of a mask
 abbrev pub mask_octet : HashFunction → List ℕ → ℕ → ℕ
-mask_octet hash seed k = get_or (hashed hash (seed ++ octets_of 4 (k / hash_size hash))) (k % hash_size hash) 0
+mask_octet hash seed k = get_or (digest_of hash (seed ++ octets_of 4 (k / hash_size hash))) (k % hash_size hash) 0
 
 length-mask_blocks : (hash : HashFunction) (seed : List ℕ) (n : ℕ) → length (mask_blocks hash seed n) ≡ n * hash_size hash
 unfolding mask_blocks
 length-mask_blocks hash seed zero = omega arith
 length-mask_blocks hash seed (suc n) =
-    omega (arith, length-append (mask_blocks hash seed n) (hashed hash (seed ++ octets_of 4 n)), length-mask_blocks hash seed n, length-hashed hash (seed ++ octets_of 4 n))
+    omega (arith, length-append (mask_blocks hash seed n) (digest_of hash (seed ++ octets_of 4 n)), length-mask_blocks hash seed n, length-digest_of hash (seed ++ octets_of 4 n))
 
 -- the place of an octet in block n
 place : (hash : HashFunction) (n k : ℕ) → n * hash_size hash ≤ k → k < suc n * hash_size hash → (n ≡ k / hash_size hash) × (k - n * hash_size hash ≡ k % hash_size hash)
@@ -32,12 +32,12 @@ mask_blocks-at hash seed (suc n) k l =
     let blocks = mask_blocks hash seed n in
     let all : length blocks ≡ n * hash_size hash = length-mask_blocks hash seed n in
     elim (cases_lt k (n * hash_size hash)) [
-      | inl h ↦ get_or_append_left blocks (hashed hash (seed ++ octets_of 4 n)) 0 k (omega arith) ∙ mask_blocks-at hash seed n k h
+      | inl h ↦ get_or_append_left blocks (digest_of hash (seed ++ octets_of 4 n)) 0 k (omega arith) ∙ mask_blocks-at hash seed n k h
       | inr g ↦
           let p = place hash n k g l in
-          let same : get_or (hashed hash (seed ++ octets_of 4 n)) (k - n * hash_size hash) 0 ≡ mask_octet hash seed k =
-          λ j. get_or (hashed hash (seed ++ octets_of 4 (p.0 j))) (p.1 j) 0 in
-          get_or-append_right blocks (hashed hash (seed ++ octets_of 4 n)) (n * hash_size hash) k 0 all g ∙ same
+          let same : get_or (digest_of hash (seed ++ octets_of 4 n)) (k - n * hash_size hash) 0 ≡ mask_octet hash seed k =
+          λ j. get_or (digest_of hash (seed ++ octets_of 4 (p.0 j))) (p.1 j) 0 in
+          get_or-append_right blocks (digest_of hash (seed ++ octets_of 4 n)) (n * hash_size hash) k 0 all g ∙ same
     ]
 
 enough_blocks : (hash : HashFunction) (size : ℕ) → size ≤ (size + hash_size hash - 1) / hash_size hash * hash_size hash
@@ -61,8 +61,8 @@ same_block Sha384 i h = omega (arith, h)
 same_block Sha512 i h = omega (arith, h)
 
 pub xored_is : (ys xs ms : List ℕ) → length ys ≡ length xs → length xs ≤ length ms
-    → ((k : ℕ) → k < length xs → get_or ys k 0 ≡ bit_xor (get_or xs k 0) (get_or ms k 0)) → ys ≡ xored xs ms
-unfolding xored
+    → ((k : ℕ) → k < length xs → get_or ys k 0 ≡ bit_xor (get_or xs k 0) (get_or ms k 0)) → ys ≡ exclusive_or xs ms
+unfolding exclusive_or
 xored_is [] [] ms e l h = refl
 xored_is [] (x ∷ xs) ms e l h = absurd (omega arith)
 xored_is (y ∷ ys) [] ms e l h = absurd (omega arith)

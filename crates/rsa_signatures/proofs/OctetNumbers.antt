@@ -9,7 +9,7 @@ use Rattle.std.specs.Int.{byte_at}
 use Rattle.modular_arithmetic.specs.Octets.{number_onto, number, AreOctets}
 use Rattle.rsa_signatures.specs.Octets.{octets_of}
 use Rattle.rsa_signatures.specs.Octets.{HasBits, HasOctets}
-use Rattle.rsa_signatures.specs.Pkcs1.{padded}
+use Rattle.rsa_signatures.specs.Pkcs1.{with_padding}
 use Rattle.modular_arithmetic.proofs.LimbValues.{zeros}
 use Rattle.modular_arithmetic.proofs.Congruences.{pow-pow}
 
@@ -44,15 +44,15 @@ pub pushed_is : (k : ℕ) (prefix digest : List ℕ)
     → ((((0 ∷ 1 ∷ []) ++ replicate k 255) ++ 0 ∷ []) ++ prefix) ++ digest ≡ 0 ∷ 1 ∷ (replicate k 255 ++ 0 ∷ (prefix ++ digest))
 pushed_is k prefix digest = simp append_assoc
 
-pub padded-octets : (size : ℕ) (t : List ℕ) → AreOctets t → AreOctets (padded size t)
-padded-octets size t h =
+pub with_padding-octets : (size : ℕ) (t : List ℕ) → AreOctets t → AreOctets (with_padding size t)
+with_padding-octets size t h =
     let ones : List ℕ = replicate (size - length t - 3) 255 in
     let end : AreOctets (0 ∷ t) = AreOctets-cons 0 t (lit< tt) h in
     let rest : AreOctets (ones ++ 0 ∷ t) = AreOctets-append ones (0 ∷ t) (AreOctets-replicate (size - length t - 3) 255 (lit< tt)) end in
     AreOctets-cons 0 (1 ∷ (ones ++ 0 ∷ t)) (lit< tt) (AreOctets-cons 1 (ones ++ 0 ∷ t) (lit< tt) rest)
 
-pub length-padded : (size : ℕ) (t : List ℕ) → length t + 3 ≤ size → length (padded size t) ≡ size
-length-padded size t h =
+pub length-with_padding : (size : ℕ) (t : List ℕ) → length t + 3 ≤ size → length (with_padding size t) ≡ size
+length-with_padding size t h =
     let ones : List ℕ = replicate (size - length t - 3) 255 in
     let count : length ones ≡ size - length t - 3 = length-replicate (size - length t - 3) 255 in
     omega (arith, length-append ones (0 ∷ t), count)

@@ -2,23 +2,23 @@
 -- salt as long as a digest (RFC 7518, 3.5).
 use Rattle.std.specs.Prelude.{◌≡◌, ℕ, zero, suc, ◌+◌, ◌-◌, ◌*◌, ◌/◌, ◌%◌, ◌^◌, ◌<◌, List, [], ◌∷◌, ◌++◌, length, take, drop, replicate, bit_xor, slice_index}
 use Rattle.hash_functions.specs.declared.hash_function.HashFunction.{HashFunction}
-use Rattle.hash_functions.specs.HashFunction.{hashed, hash_size}
+use Rattle.hash_functions.specs.HashFunction.{digest_of, hash_size}
 use Rattle.rsa_signatures.specs.Octets.{HasBits, octets_of}
 
 -- the first blocks of a mask: Hash (seed || 00 00 00 00) || Hash (seed || 00 00 00 01) || ..
 unfoldable pub mask_blocks : HashFunction → List ℕ → ℕ → List ℕ
 mask_blocks hash seed zero = []
-mask_blocks hash seed (suc counter) = mask_blocks hash seed counter ++ hashed hash (seed ++ octets_of 4 counter)
+mask_blocks hash seed (suc counter) = mask_blocks hash seed counter ++ digest_of hash (seed ++ octets_of 4 counter)
 
 -- MGF1 (B.2.1): a mask of `size` octets, cut from as many blocks as it takes
 abbrev pub mgf1 : HashFunction → List ℕ → ℕ → List ℕ
 mgf1 hash seed size = take size (mask_blocks hash seed ((size + hash_size hash - 1) / hash_size hash))
 
 -- the exclusive or of two lists of octets, as long as the shorter one
-unfoldable pub xored : List ℕ → List ℕ → List ℕ
-xored [] ys = []
-xored (x ∷ xs) [] = []
-xored (x ∷ xs) (y ∷ ys) = bit_xor x y ∷ xored xs ys
+unfoldable pub exclusive_or : List ℕ → List ℕ → List ℕ
+exclusive_or [] ys = []
+exclusive_or (x ∷ xs) [] = []
+exclusive_or (x ∷ xs) (y ∷ ys) = bit_xor x y ∷ exclusive_or xs ys
 
 -- the octets, with the first `unused` bits (at most 8) set to zero
 abbrev pub with_zero_bits : ℕ → List ℕ → List ℕ
@@ -37,7 +37,7 @@ hash_part hash em = take (hash_size hash) (drop (block_size hash em) em)
 abbrev pub data_block : HashFunction → ℕ → List ℕ → List ℕ
 data_block hash unused em =
     let size = block_size hash em in
-    with_zero_bits unused (xored (take size em) (mgf1 hash (hash_part hash em) size))
+    with_zero_bits unused (exclusive_or (take size em) (mgf1 hash (hash_part hash em) size))
 
 -- where the salt starts in DB, in octets (step 11)
 abbrev pub salt_start : HashFunction → List ℕ → ℕ
@@ -53,7 +53,7 @@ pub record IsPssEncoding (hash : HashFunction) (unused : ℕ) (message em : List
   -- step 10
   pub padding : take (salt_start hash em) (data_block hash unused em) ≡ replicate (salt_start hash em - 1) 0 ++ 0x01 ∷ []
   -- steps 2 and 11 to 14: H is the digest of M'
-  pub hash_is : hash_part hash em ≡ hashed hash (replicate 8 0 ++ hashed hash message ++ drop (salt_start hash em) (data_block hash unused em))
+  pub hash_is : hash_part hash em ≡ digest_of hash (replicate 8 0 ++ digest_of hash message ++ drop (salt_start hash em) (data_block hash unused em))
 
 -- emLen, the size of an encoding in octets: emBits / 8, rounded up
 abbrev pub em_size : ℕ → ℕ

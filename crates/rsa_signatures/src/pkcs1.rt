@@ -2,7 +2,7 @@
 
 ghost use Rattle.std.specs.Prelude.{◌≡◌, ◌+◌, ◌*◌, ◌≤◌, ◌++◌, ◌↔◌, length, IsTrue};
 ghost use Rattle.modular_arithmetic.specs.Octets.{number};
-ghost use Rattle.rsa_signatures.specs.Pkcs1.{digest_prefix, padded, pkcs1_encoded};
+ghost use Rattle.rsa_signatures.specs.Pkcs1.{digest_prefix, with_padding, pkcs1_encoded};
 ghost use Rattle.modular_arithmetic.specs.Limbs.{value_below};
 
 use crate::octets::{LIMBS, push_repeated};
@@ -33,7 +33,7 @@ fn padded_number(prefix: &[u8], digest: &[u8], size: usize, len: usize) -> [u64;
     requires len { len ≤ LIMBS }
     requires size { length prefix.now + length digest.now + 3 ≤ size }
     requires fits { size ≤ 8 * len }
-    ensures { value_below result len ≡ number (padded size (prefix.now ++ digest.now)) }
+    ensures { value_below result len ≡ number (with_padding size (prefix.now ++ digest.now)) }
 {
     let mut limbs = [0u64; LIMBS];
     push_all(&mut limbs, len, &[0x00, 0x01]);

@@ -22,7 +22,7 @@ ghost use Rattle.std.specs.Prelude.{
   IsTrue,
   EachIndex,
 };
-ghost use Rattle.hash_functions.specs.HashFunction.{hashed, hash_size};
+ghost use Rattle.hash_functions.specs.HashFunction.{digest_of, hash_size};
 ghost use Rattle.rsa_signatures.specs.Octets.{HasBits, octets_of};
 ghost use Rattle.rsa_signatures.specs.Pss.{
   IsPssEncoding,
@@ -30,7 +30,7 @@ ghost use Rattle.rsa_signatures.specs.Pss.{
   block_size,
   data_block,
   mgf1,
-  xored,
+  exclusive_or,
 };
 ghost use Rattle.modular_arithmetic.specs.Limbs.{value_below};
 
@@ -40,7 +40,7 @@ use hash_functions::HashFunction;
 // A block of MGF1's mask (RFC 8017, B.2.1): the first `hash.size()` octets of the result.
 fn mask_block(hash: HashFunction, seed: &[u8], counter: usize) -> [u8; 64]
     requires { counter < 2 ^ 32 }
-    ensures { take (hash_size hash) result ≡ hashed hash (seed.now ++ octets_of 4 counter) }
+    ensures { take (hash_size hash) result ≡ digest_of hash (seed.now ++ octets_of 4 counter) }
 {
     hash.digest(seed, &(counter as u32).to_be_bytes(), &[])
 }
@@ -49,9 +49,9 @@ fn mask_block(hash: HashFunction, seed: &[u8], counter: usize) -> [u8; 64]
 fn block_at(hash: HashFunction, seed: &[u8], i: usize, before: [u8; 64]) -> [u8; 64]
     requires i { i < 2 ^ 32 }
     requires before { (i % hash_size hash ≡ 0 → ⊥) → take (hash_size hash) before
-        ≡ hashed hash (seed.now ++ octets_of 4 (i / hash_size hash)) }
+        ≡ digest_of hash (seed.now ++ octets_of 4 (i / hash_size hash)) }
     ensures { take (hash_size hash) result
-        ≡ hashed hash (seed.now ++ octets_of 4 (i / hash_size hash)) }
+        ≡ digest_of hash (seed.now ++ octets_of 4 (i / hash_size hash)) }
 {
     if i % hash.size() == 0 {
         mask_block(hash, seed, i / hash.size())
@@ -64,7 +64,7 @@ fn block_at(hash: HashFunction, seed: &[u8], i: usize, before: [u8; 64]) -> [u8;
 fn without_mask(hash: HashFunction, seed: &[u8], masked: &[u8]) -> [u8; OCTETS]
     requires { length masked.now ≤ OCTETS }
     ensures { take (length masked.now) result
-        ≡ xored masked.now (mgf1 hash seed.now (length masked.now)) }
+        ≡ exclusive_or masked.now (mgf1 hash seed.now (length masked.now)) }
 {
     let size = hash.size();
     let mut block = [0u8; 64];
@@ -118,7 +118,7 @@ fn is_padding(octets: &[u8]) -> bool
 fn is_salted_digest(hash: HashFunction, message: &[u8], salt: &[u8], found: &[u8]) -> bool
     ensures { IsTrue result
         ↔ (found.now
-        ≡ hashed hash (replicate 8 0 ++ hashed hash message.now ++ salt.now)) }
+        ≡ digest_of hash (replicate 8 0 ++ digest_of hash message.now ++ salt.now)) }
 {
     let digest = hash.digest(message, &[], &[]);
     let expected = hash.digest(&[0; 8], &digest[..hash.size()], salt);

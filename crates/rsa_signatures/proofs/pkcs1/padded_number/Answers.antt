@@ -1,10 +1,10 @@
 use Rattle.std.proofs.Common.{◌≡◌, ℕ, List, ◌+◌, ◌-◌, ◌%◌, ◌≤◌, [], ◌∷◌, ◌++◌, replicate, length, length-append, ap, ◌∙◌, sym, arith, rules}
 use Rattle.modular_arithmetic.specs.Octets.{number_onto, number, AreOctets}
-use Rattle.rsa_signatures.specs.Pkcs1.{padded}
+use Rattle.rsa_signatures.specs.Pkcs1.{with_padding}
 use Rattle.modular_arithmetic.specs.Limbs.{limb_weight, value_below}
 use Rattle.modular_arithmetic.proofs.LimbValues.{value_below-lt, value_below_zeros, zeros_are_limbs}
 use Rattle.modular_arithmetic.proofs.OctetNumbers.{exact, number_fits}
-use Rattle.rsa_signatures.proofs.OctetNumbers.{push_more, pushed_is, padded-octets, length-padded, AreOctets-append}
+use Rattle.rsa_signatures.proofs.OctetNumbers.{push_more, pushed_is, with_padding-octets, length-with_padding, AreOctets-append}
 use Rattle.rsa_signatures.proofs.pkcs1.padded_number.Goals as goal
 
 pub push_all-requires-clause-limbs : goal.push_all-requires-clause-limbs
@@ -31,10 +31,10 @@ returns c =
     let e4 = push_more v3 v4 (((0 ∷ 1 ∷ []) ++ ones) ++ 0 ∷ []) prefix w e3 c.push_all-3.ensures.value in
     let e5 = push_more v4 v5 ((((0 ∷ 1 ∷ []) ++ ones) ++ 0 ∷ []) ++ prefix) digest w e4 c.push_all-4.ensures.value in
     let count-is : count ≡ size - length t - 3 = ap (λ l. size - l - 3) (sym (length-append prefix digest)) in
-    let all : number (((((0 ∷ 1 ∷ []) ++ ones) ++ 0 ∷ []) ++ prefix) ++ digest) ≡ number (padded size t) =
+    let all : number (((((0 ∷ 1 ∷ []) ++ ones) ++ 0 ∷ []) ++ prefix) ++ digest) ≡ number (with_padding size t) =
     ap number (pushed_is count prefix digest) ∙ ap (λ k. number (0 ∷ 1 ∷ (replicate k 255 ++ 0 ∷ t))) count-is in
     let octets : AreOctets t = AreOctets-append prefix digest (λ i. search rules) (λ i. search rules) in
     let room : length t + 3 ≤ size = omega (arith, length-append prefix digest) in
-    exact v5 (number (padded size t)) w (value_below-lt c.push_all-4.new.limbs len c.push_all-4.ensures.limbs)
-    (number_fits (padded size t) len (padded-octets size t octets) (rw (length-padded size t room) c.requires.fits))
+    exact v5 (number (with_padding size t)) w (value_below-lt c.push_all-4.new.limbs len c.push_all-4.ensures.limbs)
+    (number_fits (with_padding size t) len (with_padding-octets size t octets) (rw (length-with_padding size t room) c.requires.fits))
     (e5 ∙ ap (λ t. t % w) all)

@@ -2,7 +2,7 @@ use Rattle.std.proofs.Common.{◌≡◌, ℕ, ◌%◌, ◌<◌, ◌≤◌, ◌++
 use Rattle.std.proofs.Math.Nat.{zero-mod}
 use Rattle.std.proofs.Math.ListN.{length-set}
 use Rattle.std.proofs.lemmas.List.{get_or-take, length-replicate}
-use Rattle.hash_functions.specs.HashFunction.{hashed, hash_size}
+use Rattle.hash_functions.specs.HashFunction.{digest_of, hash_size}
 use Rattle.rsa_signatures.specs.Octets.{octets_of}
 use Rattle.rsa_signatures.specs.Pss.{mgf1}
 use Rattle.rsa_signatures.proofs.Masks.{mask_octet, mgf1-at, length-mgf1, same_block, xored_is}
@@ -34,7 +34,7 @@ loop-i-preserved c =
     record {
       done = below_more P i (λ k h. get_or-set_other l.octets i k value 0 (λ e. omega arith) ∙ l.invariant.done k h)
           (get_or-set_same l.octets i value 0 within ∙ ap (bit_xor (get_or masked i 0)) octet);
-      block = λ n. c.block_at-block.ensures ∙ ap (λ t. hashed hash (seed ++ octets_of 4 t)) (same_block hash i n);
+      block = λ n. c.block_at-block.ensures ∙ ap (λ t. digest_of hash (seed ++ octets_of 4 t)) (same_block hash i n);
       room = length-set l.octets i value ∙ l.invariant.room;
     }
 
