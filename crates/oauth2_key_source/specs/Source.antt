@@ -130,6 +130,7 @@ module _ {RE T C : Type 0} (asks : KeySetQuery → C → Result (List ListedKey)
   CallsIf true source now before result after kept = Renews source now before result after kept
   CallsIf false source now before result after kept = Rests source now result × (after ≡ before) × (kept ≡ source)
 
+  -- a call: a request is made if one is due, by what the call finds at this moment
   abbrev pub SourceCalls : Source → Option (List ℕ) → ℤ → C → Result Unit (KeySourceError RE T) → C → Source → Type 0
   SourceCalls source key_id now before result after kept =
       let found = found_at source now in CallsIf (is_due found key_id now) found now before result after kept

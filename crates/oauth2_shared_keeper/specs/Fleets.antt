@@ -44,12 +44,13 @@ TurnsAreCalls [] = Unit {0}
 TurnsAreCalls (Made i call ∷ events) = TurnsAreCalls events
 TurnsAreCalls (Other happening ∷ events) = IsNoTurn happening × TurnsAreCalls events
 
--- the same, with each token as the fleet has it
+-- the content of a version, with each token as `view` shows it
 abbrev pub content_as : {T U : Type 0} → (T → U) → Content T → Content U
 content_as view (content.AtRest token) = content.AtRest (view token)
 content_as view (content.Marked token other) = content.Marked (view token) other
 content_as view content.Empty = content.Empty
 
+-- what a renewal is told, with each token as `view` shows it
 abbrev pub told_as : {T U : Type 0} → (T → U) → Told T → Told U
 told_as view (told.Stored p) = told.Stored (record { version = p.version; content = content_as view p.content })
 told_as view told.Done = told.Done
@@ -69,12 +70,13 @@ pub record IsFleet {T : Type 0} (view : T → Token) (start : Token) (events : L
   pub turns : TurnsAreCalls events
   pub run : IsFleetRun (fleet_of start) (happenings_of view events)
 
--- how often a call sends this refresh token, and how often the calls of all renewals do
+-- how often a call sends this refresh token (RFC 6749, 6): once, or not at all
 abbrev pub sends_of : {T : Type 0} → (T → Token) → List ℕ → Call T → ℕ
 sends_of view r (Load shown) = 0
 sends_of view r (Replace version content done) = 0
 sends_of view r (Refresh token given) = has_refresh r (view token)
 
+-- how often the calls of all renewals send this refresh token
 abbrev pub times_refreshed : {T : Type 0} → (T → Token) → List ℕ → List (Event T) → ℕ
 times_refreshed view r [] = 0
 times_refreshed view r (Made i call ∷ events) = sends_of view r call + times_refreshed view r events

@@ -21,13 +21,13 @@ token_told version token (Ok replaced.Done) = logged_in.Done
 token_told version token (Ok replaced.Refused) = logged_in.Refused token
 token_told version token (Err error) = logged_in.Unclear version token
 
--- the same, of one who asked it to drop this version, which had this
+-- what the store's answer means to one who asked it to drop this version, which had this content
 abbrev pub content_told : {T E : Type 0} → ℕ → Content T → Result Replaced E → LoggedOut T
 content_told version content (Ok replaced.Done) = logged_out.Done content
 content_told version content (Ok replaced.Refused) = logged_out.Refused
 content_told version content (Err error) = logged_out.Unclear version content
 
--- somebody else was first
+-- a login was refused: somebody else replaced the version first
 abbrev pub is_refused_login : {T : Type 0} → LoggedIn T → Bool
 is_refused_login logged_in.Done = false
 is_refused_login (logged_in.Refused token) = true
@@ -35,6 +35,7 @@ is_refused_login (logged_in.Unclear version token) = false
 is_refused_login (logged_in.Unread token) = false
 is_refused_login (logged_in.NoNextVersion token) = false
 
+-- a logout was refused: somebody else replaced the version first
 abbrev pub is_refused_logout : {T : Type 0} → LoggedOut T → Bool
 is_refused_logout (logged_out.Done content) = false
 is_refused_logout logged_out.Refused = true
@@ -77,13 +78,14 @@ module _ {T S E : Type 0} (loads : S → List ℕ → Result (StoredValue T) E �
       (shown : Option (StoredValue T)) × (loaded : S) × Shows before shown loaded
       × LogsInOver (LogsIn tries token) token shown loaded told after
 
-  -- the same of a logout
+  -- a logout over what a load showed: one try, and, if somebody else was first, all `again`
   abbrev pub LogsOutOver : (S → LoggedOut T → S → Type 0) → Option (StoredValue T) → S → LoggedOut T → S → Type 0
   LogsOutOver again None before told after = (told ≡ logged_out.Unread) × (after ≡ before)
   LogsOutOver again (Some p) before told after =
       ((is_refused_logout told ≡ false) × DropsAt replaces name p.version p.content before told after)
       ⊎ ((next : S) × DropsAt replaces name p.version p.content before logged_out.Refused next × again next told after)
 
+  -- a logout in so many tries, each over what a load shows
   abbrev pub LogsOut : ℕ → S → LoggedOut T → S → Type 0
   LogsOut zero before told after = (told ≡ logged_out.Refused) × (after ≡ before)
   LogsOut (suc tries) before told after =

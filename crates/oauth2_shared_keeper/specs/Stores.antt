@@ -12,7 +12,7 @@ use Rattle.oauth2_shared_keeper.specs.Call.{Call, Load, Replace, Refresh, ToRepl
 use Rattle.oauth2_shared_keeper.specs.Renewal.{asked_by, first_turn}
 use Rattle.oauth2_shared_keeper.specs.Fleets.{Event, Made, Other, IsFleet, sends_of}
 
--- this, under this version
+-- a stored value: this content, under this version
 abbrev pub value : {T : Type 0} → ℕ → Content T → StoredValue T
 value version content = record { version = version; content = content }
 
@@ -43,7 +43,7 @@ TellsTruth past (Replace version content true) = Contains past (value (version +
 TellsTruth past (Replace version content false) = Unit {0}
 TellsTruth past (Refresh token given) = Unit {0}
 
--- what somebody else puts there is no mark
+-- the content that somebody else puts into the store: a token at rest, or nothing, but no mark
 abbrev pub content_put : {T : Type 0} → Option T → Content T
 content_put (Some token) = content.AtRest token
 content_put None = content.Empty
@@ -64,7 +64,7 @@ world_with w version content = record w { now = value (version + 1) content; pas
 abbrev pub turns_after : {T : Type 0} → (ℕ → Turn T) → ℕ → Turn T → ℕ → Turn T
 turns_after turns i turn j = if j == i then turn else turns j
 
--- what is there afterwards
+-- the store, the requests and the turns after an event
 abbrev pub world_after : {T : Type 0} → World T → StoreEvent T → World T
 world_after w (Asks i version content) = record w { asked = w.asked ++ (version, content) ∷ [] }
 world_after w (Takes version content) = world_with w version content
@@ -85,12 +85,13 @@ world_of token = record {
   turns = λ i. first_turn;
 }
 
--- how often this refresh token is put there at rest, and how often it is sent
+-- how often this content has this refresh token at rest: once, or not at all
 abbrev pub rests_in : {T : Type 0} → (T → Token) → List ℕ → Content T → ℕ
 rests_in view r (content.AtRest token) = has_refresh r (view token)
 rests_in view r (content.Marked token other) = 0
 rests_in view r content.Empty = 0
 
+-- how often these events put this refresh token into the store, at rest
 abbrev pub times_put : {T : Type 0} → (T → Token) → List ℕ → List (StoreEvent T) → ℕ
 times_put view r [] = 0
 times_put view r (Asks i version content ∷ rest) = times_put view r rest
@@ -98,6 +99,7 @@ times_put view r (Takes version content ∷ rest) = rests_in view r content + ti
 times_put view r (Ends i call ∷ rest) = times_put view r rest
 times_put view r (Puts version token ∷ rest) = rests_in view r (content_put token) + times_put view r rest
 
+-- how often the calls that ended sent this refresh token (RFC 6749, 6)
 abbrev pub refreshes_sent : {T : Type 0} → (T → Token) → List ℕ → List (StoreEvent T) → ℕ
 refreshes_sent view r [] = 0
 refreshes_sent view r (Asks i version content ∷ rest) = refreshes_sent view r rest
@@ -105,7 +107,7 @@ refreshes_sent view r (Takes version content ∷ rest) = refreshes_sent view r r
 refreshes_sent view r (Ends i call ∷ rest) = sends_of view r call + refreshes_sent view r rest
 refreshes_sent view r (Puts version token ∷ rest) = refreshes_sent view r rest
 
--- the calls that ended, each with the name of its renewal, and those of a fleet
+-- the calls that ended, each with the name of its renewal
 abbrev pub calls_ended : {T : Type 0} → List (StoreEvent T) → List (ℕ × Call T)
 calls_ended [] = []
 calls_ended (Asks i version content ∷ rest) = calls_ended rest
@@ -113,6 +115,7 @@ calls_ended (Takes version content ∷ rest) = calls_ended rest
 calls_ended (Ends i call ∷ rest) = (i, call) ∷ calls_ended rest
 calls_ended (Puts version token ∷ rest) = calls_ended rest
 
+-- the calls that the renewals of a fleet made, each with the name of its renewal
 abbrev pub calls_made : {T : Type 0} → List (Event T) → List (ℕ × Call T)
 calls_made [] = []
 calls_made (Made i call ∷ events) = (i, call) ∷ calls_made events

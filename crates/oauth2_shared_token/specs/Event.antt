@@ -60,7 +60,7 @@ CanHappen s (Allowed i version token) = Contains s.past (in_use version token i)
 CanHappen s (LoggedIn version new) = WasFree s.past version × Fits s.store version
 CanHappen s (LoggedOut version) = WasStored s.past version × Fits s.store version
 
--- the store takes something
+-- the state after the store took this value
 abbrev pub with_stored : Shared → Stored → Shared
 with_stored s new = record { store = new; past = s.past ++ new ∷ []; renewals = s.renewals }
 

@@ -74,7 +74,7 @@ requests_of i (step.InUse other token) = []
 requests_of i step.LoggedOut = []
 requests_of i step.End = []
 
--- a machine has taken this turn
+-- the fleet after the machine of this name took this turn
 abbrev pub after_turn : Fleet → ℕ → Turn Token → Fleet
 after_turn f i turn =
     record {
@@ -84,7 +84,7 @@ after_turn f i turn =
       requests = f.requests ++ requests_of i turn.step;
     }
 
--- the store has taken this
+-- the fleet after the store took this value
 abbrev pub after_taking : Fleet → Stored → Fleet
 after_taking f new = record { store = new; past = f.past ++ new ∷ []; phases = f.phases; requests = f.requests }
 

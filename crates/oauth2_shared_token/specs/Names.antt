@@ -46,10 +46,11 @@ abbrev pub over_names : ℕ → (ℕ → ℕ) → ℕ
 over_names zero f = 0
 over_names (suc n) f = over_names n f + f n
 
--- how often a refresh token is sent under all names below this one, and how often it came to be stored
+-- how often a refresh token is sent, under all names below this one
 abbrev pub sent_over_names : ℕ → (ℕ → Token) → List AtName → List ℕ → ℕ
 sent_over_names names starts all r = over_names names (λ n. times_sent r (events_at starts all n))
 
+-- how often a refresh token came to be stored, under all names below this one
 abbrev pub stored_over_names : ℕ → (ℕ → Token) → List AtName → List ℕ → ℕ
 stored_over_names names starts all r =
     over_names names (λ n. has_refresh r (starts n) + times_stored r (events_at starts all n))

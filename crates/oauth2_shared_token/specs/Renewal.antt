@@ -24,13 +24,13 @@ use Rattle.oauth2_shared_token.specs.Run.{IsRun, at_last}
 abbrev pub turn_of : {T : Type 0} → Phase T → Step T → Turn T
 turn_of phase step = record { phase = phase; step = step }
 
--- by what a version holds
+-- the next turn after reading a version: it asks to mark a token at rest, and else it ends
 abbrev pub looked_at : {T : Type 0} → ℕ → Content T → Turn T
 looked_at version (content.AtRest token) = turn_of (phase.Asking version token) (step.Mark version token)
 looked_at version (content.Marked token other) = turn_of phase.Over (step.InUse other token)
 looked_at version content.Empty = turn_of phase.Over step.LoggedOut
 
--- what is at rest is asked for
+-- the next turn of a renewal that looks: it acts on the value that it read, looks again, or ends
 abbrev pub after_looking : {T : Type 0} → Told T → Turn T
 after_looking (told.Stored p) = looked_at p.version p.content
 after_looking told.Done = turn_of phase.Looking step.Look
@@ -42,6 +42,7 @@ after_looking told.Stop = turn_of phase.Over step.End
 abbrev pub past_or_open : Bool → Learnt
 past_or_open is_past = if is_past then learnt.Lost else learnt.Open
 
+-- what the content of a value says of the mark: it was taken if it has the name of this renewal
 abbrev pub seen_in : {T : Type 0} → ℕ → Bool → Content T → Learnt
 seen_in name is_past (content.AtRest token) = past_or_open is_past
 seen_in name is_past (content.Marked token other) = if other == name then learnt.Taken else past_or_open is_past
@@ -57,6 +58,7 @@ sent_if version token learnt.Taken = turn_of (phase.Sending version) (step.Send 
 sent_if version token learnt.Lost = turn_of phase.Over step.End
 sent_if version token learnt.Open = turn_of (phase.Asking version token) step.Look
 
+-- the next turn after asking for the mark: it sends the refresh token, ends, looks again, or leaves
 abbrev pub after_asking : {T : Type 0} → ℕ → ℕ → T → Told T → Turn T
 after_asking name version token (told.Stored p) = sent_if version token (read_again name version p)
 after_asking name version token told.Done = sent_if version token learnt.Taken
@@ -70,6 +72,7 @@ returned_if version token learnt.Taken = turn_of (phase.Returning version token)
 returned_if version token learnt.Lost = turn_of phase.Over step.End
 returned_if version token learnt.Open = turn_of (phase.Leaving version token) step.Look
 
+-- the next turn of a renewal that leaves: it gives back a mark that was taken, ends, or looks again
 abbrev pub after_leaving : {T : Type 0} → ℕ → ℕ → T → Told T → Turn T
 after_leaving name version token (told.Stored p) = returned_if version token (read_again name version p)
 after_leaving name version token told.Done = returned_if version token learnt.Taken
@@ -85,7 +88,7 @@ after_sending version told.Nothing = turn_of phase.Over step.End
 after_sending version (told.Answer new) = turn_of (phase.Keeping version new) (step.Keep version new)
 after_sending version told.Stop = turn_of phase.Over step.End
 
--- the same is asked again in this phase while nothing is told of it
+-- the next turn in this phase: the last request is repeated while no reply comes; then it ends
 abbrev pub again_in : {T : Type 0} → Phase T → Told T → Turn T
 again_in now told.Nothing = turn_of now step.Repeat
 again_in now (told.Stored p) = turn_of phase.Over step.End
@@ -93,9 +96,11 @@ again_in now told.Done = turn_of phase.Over step.End
 again_in now (told.Answer new) = turn_of phase.Over step.End
 again_in now told.Stop = turn_of phase.Over step.End
 
+-- the next turn after asking to store the new token: it asks again while no reply comes
 abbrev pub after_keeping : {T : Type 0} → ℕ → T → Told T → Turn T
 after_keeping version new told = again_in (phase.Keeping version new) told
 
+-- the next turn after giving the mark back: it asks again while no reply comes
 abbrev pub after_returning : {T : Type 0} → ℕ → T → Told T → Turn T
 after_returning version token told = again_in (phase.Returning version token) told
 
@@ -109,12 +114,13 @@ next_turn name (phase.Keeping version new) told = after_keeping version new told
 next_turn name (phase.Returning version token) told = after_returning version token told
 next_turn name phase.Over told = turn_of phase.Over step.End
 
--- what a version holds, and a value, as the events have them
+-- the content of a version, as the events describe it
 abbrev pub content_of : Content Token → state.Content
 content_of (content.AtRest token) = state.AtRest token
 content_of (content.Marked token other) = state.InUse token other
 content_of content.Empty = state.Empty
 
+-- a stored value, its version and its content, as the events describe it
 abbrev pub stored_of : StoredValue Token → Stored
 stored_of p = record { version = p.version; content = content_of p.content }
 

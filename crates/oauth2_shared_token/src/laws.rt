@@ -43,7 +43,8 @@ pub fn what_is_stored_is_the_newest()
     ensures { WhatIsStoredIsTheNewest }
 {}
 
-/// A token that was given is kept, or its mark stands, or a caller answered `Unfinished` for it.
+/// A token that the server gave to a renewal was stored, or the mark of that renewal is still in
+/// the store, or a caller replaced the mark: by a login, by allowing the old token, or by a logout.
 pub fn none_is_lost_untold()
     ensures { NoneIsLostUntold }
 {}
@@ -64,7 +65,7 @@ pub fn each_step_is_known()
     ensures { EachStepIsKnown }
 {}
 
-/// It stays so, whatever the others and the store do.
+/// What a renewal knows of itself stays so, whatever the other renewals and the store do.
 pub fn what_is_known_stays()
     ensures { WhatIsKnownStays }
 {}
@@ -95,7 +96,8 @@ pub fn each_logout_holds()
     ensures { EachLogoutHolds }
 {}
 
-/// Two requests run at once only where a caller answered `Unfinished` for one of them.
+/// Two renewals wait for the server at once only if a caller replaced the mark of one of them: by a
+/// login, by allowing the old token, or by a logout.
 pub fn one_runs_at_once()
     ensures { OneRunsAtOnce }
 {}
