@@ -61,7 +61,7 @@ module _ {K V : Type 0} (eq : K → K → Bool) where
   IsAsLeft left (Lent key found now) = left ≡ Some found
   IsAsLeft left (Removed key) = Unit {0}
 
-  -- the events about one key are those of a value of its own: each time it is lent it is as it was left
+  -- the events about one key are those of a single value: each time it is lent, it is as it was left
   abbrev pub IsOwnRun : K → Option V → List (Event K V) → Type 0
   IsOwnRun key left [] = Unit {0}
   IsOwnRun key left (event ∷ events) =

@@ -54,7 +54,7 @@ abbrev pub names_key_set : Option (List ℕ) → Bool
 names_key_set None = false
 names_key_set (Some value) = is_key_set_type value
 
--- the Content-Type that the rule judges: one that names a key set is as none
+-- the Content-Type that the rule judges: none, if it is that of a key set
 abbrev pub judged_type : Option (List ℕ) → Option (List ℕ)
 judged_type content_type = if names_key_set content_type then None else content_type
 

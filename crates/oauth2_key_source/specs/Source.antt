@@ -135,7 +135,7 @@ module _ {RE T C : Type 0} (asks : KeySetQuery → C → Result (List ListedKey)
   SourceCalls source key_id now before result after kept =
       let found = found_at source now in CallsIf (is_due found key_id now) found now before result after kept
 
-  -- the same where the answer is one that the kept set may give
+  -- a call whose answer comes from the set that is kept after it
   abbrev pub SourceAnswers : {A : Type 0} → (List ListedKey → A → Type 0)
       → Source → Option (List ℕ) → ℤ → C → Result A (KeySourceError RE T) → C → Source → Type 0
   SourceAnswers Gives source key_id now before (Ok value) after kept =

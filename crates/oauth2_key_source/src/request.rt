@@ -89,8 +89,8 @@ impl KeySetRequest {
         Ok(Request::from_parts(head, Vec::new(alloc)))
     }
 
-    /// Sends the request, once, and reads its reply. A reply whose status is not 200 is told by
-    /// that.
+    /// Sends the request, once, and reads its reply. A reply whose status is not 200 is returned as
+    /// the error `Status`.
     pub fn request<C: SyncHttpClient>(
         &self,
         alloc: Global,

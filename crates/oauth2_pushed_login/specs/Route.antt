@@ -30,7 +30,7 @@ abbrev pub endpoint_refusal : Bool → Option Addressed → Option LoginRouteErr
 endpoint_refusal required None = if required then Some NoPushEndpoint else None
 endpoint_refusal required (Some endpoint) = option_map PushEndpoint (push_cause endpoint.url)
 
--- the same of the two members of metadata
+-- why there is no push, by the two members of the metadata
 abbrev pub push_refusal : PushMembers → Option LoginRouteError
 push_refusal m = endpoint_refusal (requires_push m) m.pushed_authorization_request_endpoint
 

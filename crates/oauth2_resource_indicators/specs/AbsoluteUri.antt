@@ -20,7 +20,7 @@ begins_with_letter (b ∷ after) = is_ascii_alphabetic b
 abbrev pub is_scheme : List ℕ → Bool
 is_scheme text = begins_with_letter text && list_all is_scheme_byte text
 
--- the characters of a URI (RFC 3986, section 2), but for the number sign, which begins a fragment
+-- the characters of a URI (RFC 3986, section 2), except the number sign, which begins a fragment
 abbrev pub is_uri_byte : ℕ → Bool
 is_uri_byte b =
     is_ascii_alphanumeric b || list_any (λ mark. mark == b) (codes "-._~:/?[]@!$&'()*+,;=%")

@@ -40,7 +40,7 @@ abbrev pub Gives : {X Y : Type 0} → (X → Y) → Result X PartError → Readi
 Gives view (Ok x) wanted = wanted ≡ Ok (view x)
 Gives view (Err e) wanted = TellsPartError e wanted
 
--- an error is not for want of memory
+-- the error is not that memory ran out
 abbrev pub IsBad : PartError → Type 0
 IsBad (errors.Bad f) = Unit {0}
 IsBad errors.Memory = ⊥

@@ -44,7 +44,7 @@ pub data Round (T E : Type 0) : Type 0 where
   Blind : Round T E
   -- its load showed this, and the clock read so
   Seen : StoredValue T → Timestamp → Round T E
-  -- the same; then the renewal of this name made these calls and ended so
+  -- its load showed this, at this time; then the renewal of this name made these calls and ended so
   Renewing : StoredValue T → Timestamp → ℕ → List (Call T) → Renewed T E → Round T E
 
 module _ {T E : Type 0} (is_good : T → ℤ → ℕ → Bool) (settings : KeeperSettings) where

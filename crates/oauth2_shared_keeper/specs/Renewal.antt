@@ -15,7 +15,7 @@ use Rattle.oauth2_shared_keeper.specs.declared.renewed.Renewed.TheVariants.{Unan
 use Rattle.oauth2_shared_keeper.specs.Call.{Request, ToLoad, ToReplace, ToRefresh, Call, Load, Replace, Refresh}
 use Rattle.oauth2_shared_keeper.specs.Call.{request_of, told_by, loads_in, replacements_in}
 
--- what the step `Repeat` asks for: the same as before, which the phase has
+-- what the step `Repeat` asks for: the last request, as the phase keeps it
 abbrev pub asked_again : {T : Type 0} → Phase T → Option (Request T)
 asked_again phase.Looking = None
 asked_again (phase.Asking version token) = None

@@ -17,13 +17,13 @@ pub data SharedEvent : Type 0 where
   Given : ℕ → ℕ → Token → SharedEvent
   -- the store takes that in the place of the renewal's mark
   Kept : ℕ → ℕ → Token → SharedEvent
-  -- a renewal, told the same before it sent anything, asks to take its mark off, and sends nothing
+  -- a renewal whose mark was taken has sent nothing yet, and asks to take the mark off instead
   Withdrew : ℕ → ℕ → Token → SharedEvent
   -- the store takes the old token in the place of the renewal's mark
   GivenBack : ℕ → ℕ → Token → SharedEvent
   -- somebody read this version marked by this renewal and logged in anew, and the store takes what that gave
   SignedIn : ℕ → ℕ → Token → SharedEvent
-  -- somebody read the same and said that the old token may be used again, and the store takes that
+  -- somebody read this version marked by this renewal and allowed the old token; the store takes it
   Allowed : ℕ → ℕ → Token → SharedEvent
   -- somebody read this version at rest or empty and logged in anew, and the store takes what that gave
   LoggedIn : ℕ → Token → SharedEvent

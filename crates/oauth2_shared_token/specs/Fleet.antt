@@ -43,7 +43,7 @@ pub data Happening : Type 0 where
   Took : Request → Happening
   -- somebody read this version marked by this renewal and logged in anew, and the store takes that
   SignsIn : ℕ → ℕ → Token → Happening
-  -- somebody read the same and said that the old token may be used again, and the store takes that
+  -- somebody read this version marked by this renewal and allowed the old token; the store takes it
   Allows : ℕ → ℕ → Token → Happening
   -- somebody read this version at rest or empty and logged in anew, and the store takes that
   LogsIn : ℕ → Token → Happening
@@ -88,7 +88,7 @@ after_turn f i turn =
 abbrev pub after_taking : Fleet → Stored → Fleet
 after_taking f new = record { store = new; past = f.past ++ new ∷ []; phases = f.phases; requests = f.requests }
 
--- what is there after it happened
+-- the fleet after this happened
 abbrev pub later : Fleet → Happening → Fleet
 later f (Turned i told) = after_turn f i (next_turn i (phase_of f i) told)
 later f (Took (ToMark i version token)) = after_taking f (in_use (version + 1) token i)
@@ -119,7 +119,7 @@ abbrev pub IsFleetRun : Fleet → List Happening → Type 0
 IsFleetRun f [] = Unit {0}
 IsFleetRun f (happening ∷ rest) = CanOccur f happening × IsFleetRun (later f happening) rest
 
--- what is there after all of it
+-- the fleet after all of this happened
 abbrev pub fleet_at_last : Fleet → List Happening → Fleet
 fleet_at_last f [] = f
 fleet_at_last f (happening ∷ rest) = fleet_at_last (later f happening) rest
@@ -130,7 +130,7 @@ all_events f [] = []
 all_events f (happening ∷ rest) = events_in f happening ++ all_events (later f happening) rest
 
 -- whatever happens in a fleet, its events are a finished list of events, so that all laws hold of them,
--- and the same is stored at last
+-- and both leave the same value in the store
 abbrev pub EachFleetRuns : Type 0
 EachFleetRuns =
     (start : Token) (happenings : List Happening) →

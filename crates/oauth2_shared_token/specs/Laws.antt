@@ -59,7 +59,7 @@ NoneIsLostUntold =
     Contains events (Given i version new) →
     Contains events (Kept i version new) ⊎ (Stands start events i version ⊎ WasAnswered events i version)
 
--- no caller answered for a renewal that was given a token all the same
+-- no caller replaced the mark of a renewal to which the server gave a token
 abbrev pub NoneCameLate : List SharedEvent → Type 0
 NoneCameLate events =
     (i version : ℕ) (new : Token) → Contains events (Given i version new) → WasAnswered events i version → ⊥

@@ -9,7 +9,7 @@ abbrev pub IsRun : Shared → List SharedEvent → Type 0
 IsRun s [] = Unit {0}
 IsRun s (event ∷ events) = CanHappen s event × IsRun (after s event) events
 
--- what is there after all of them
+-- the state after all of these events
 abbrev pub at_last : Shared → List SharedEvent → Shared
 at_last s [] = s
 at_last s (event ∷ events) = at_last (after s event) events

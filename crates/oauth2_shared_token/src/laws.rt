@@ -49,8 +49,8 @@ pub fn none_is_lost_untold()
     ensures { NoneIsLostUntold }
 {}
 
-/// If no caller answered for a renewal that was given a token all the same, what is at rest is the
-/// newest that any keeper was given.
+/// If no caller replaced the mark of a renewal to which the server gave a token, what is at rest is
+/// the newest token that anybody was given.
 pub fn the_newest_given_is_stored()
     ensures { TheNewestGivenIsStored }
 {}

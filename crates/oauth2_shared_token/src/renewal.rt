@@ -40,7 +40,7 @@ pub enum Phase<T> {
     Looking,
     /// It asked to mark this version, which holds this token.
     Asking(u64, T),
-    /// It asked for the same, and is to send nothing.
+    /// It asked to mark this version, which holds this token, and must not send anything.
     Leaving(u64, T),
     /// It sent the refresh token of this version.
     Sending(u64),
@@ -80,7 +80,7 @@ pub enum Step<T> {
     Keep(u64, T),
     /// Ask the store to put the old token, unsent, in the place of the mark on this version.
     GiveBack(u64, T),
-    /// Ask the store for the same again.
+    /// Repeat the last request to the store.
     Repeat,
     /// The refresh token is in use by this renewal, or was and nobody ended that. The old token is
     /// handed out, whose access token may still be good.
