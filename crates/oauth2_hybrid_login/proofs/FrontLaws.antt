@@ -12,7 +12,8 @@ use Rattle.oauth2_openid.specs.declared.read_error.IdTokenReadError.{IdTokenRead
 use Rattle.oauth2_openid.specs.declared.read_error.IdTokenReadError.TheVariants as read
 use Rattle.oauth2_openid.specs.Claims.{Expectation}
 use Rattle.oauth2_openid.specs.Reading.{compact_token_reading}
-use Rattle.oauth2_openid.specs.Rules.{Verdict, rule, ◌then◌, party_of, nonce_of, age_of, issuer_rule, audience_rule, trust_rule, party_rule, expiry_rule, issued_rule, nonce_rule, age_rule, claims_checked, ClaimsHold}
+use Rattle.oauth2_openid.specs.Checks.{Verdict, rule, ◌then◌}
+use Rattle.oauth2_openid.specs.Rules.{party_of, nonce_of, age_of, issuer_rule, audience_rule, trust_rule, party_rule, expiry_rule, issued_rule, nonce_rule, age_rule, claims_checked, ClaimsHold}
 use Rattle.oauth2_openid.specs.Token.{DecodedToken, TokenErrsAs, decoded_token, with_others, not_three_parts, not_base64, at_fault}
 use Rattle.oauth2_openid.specs.TokenRules.{algorithm_of, algorithm_rule, critical_rule, half_digest, told_hash, hash_rule, tenant_of, token_checked, IsAlgorithm, Holds}
 use Rattle.oauth2_openid.proofs.TokenRuleLaws.{succeeds}
@@ -29,7 +30,7 @@ never-rule : (met : Bool) (named other : ClaimsError) → (named ≡ other → �
 never-rule true named other differ is = cc
 never-rule false named other differ is = differ (cc)
 
-never-then : {A : Type 0} (first : Verdict) (later : Result A ClaimsError) (other : ClaimsError) → (first ≡ Err other → ⊥) → (later ≡ Err other → ⊥) → first then later ≡ Err other → ⊥
+never-then : {A : Type 0} (first : Verdict ClaimsError) (later : Result A ClaimsError) (other : ClaimsError) → (first ≡ Err other → ⊥) → (later ≡ Err other → ⊥) → first then later ≡ Err other → ⊥
 never-then (Ok u) later other no_first no_later is = no_later is
 never-then (Err named) later other no_first no_later is = no_first (cc)
 
@@ -70,7 +71,7 @@ module _ (expected : Expectation) (now : ℤ) (token : DecodedToken) where
 
 -- ---- the rules for any token are these, and then the one for the hash
 
-then-assoc : {A : Type 0} (first second : Verdict) (later : Result A ClaimsError) → first then (second then later) ≡ (first then second) then later
+then-assoc : {A : Type 0} (first second : Verdict ClaimsError) (later : Result A ClaimsError) → first then (second then later) ≡ (first then second) then later
 then-assoc (Ok u) second later = refl
 then-assoc (Err e) second later = refl
 
@@ -95,7 +96,7 @@ hash-only : (algorithm access_token : List ℕ) (told : Option (List ℕ)) (erro
 hash-only algorithm access_token None error is = absurd (cc)
 hash-only algorithm access_token (Some told) error is = told-only told (half_digest algorithm access_token) error is
 
-verdict-ok : (verdict : Verdict) (later : Result AccessTokenHash ClaimsError) (outcome : AccessTokenHash) → Ok outcome ≡ verdict then later → Ok tt ≡ verdict
+verdict-ok : (verdict : Verdict ClaimsError) (later : Result AccessTokenHash ClaimsError) (outcome : AccessTokenHash) → Ok outcome ≡ verdict then later → Ok tt ≡ verdict
 verdict-ok (Ok u) later outcome is = refl
 verdict-ok (Err e) later outcome is = absurd (cc)
 
@@ -118,7 +119,7 @@ told-unless errors.OtherNonce differ = refl
 told-unless errors.NoAuthTime differ = refl
 told-unless errors.AuthTooOld differ = refl
 
-verdict-error : (verdict : Verdict) (later : Result AccessTokenHash ClaimsError) (error : ClaimsError) → (later ≡ Err error → error ≡ errors.OtherAccessToken) → (verdict ≡ Err errors.OtherAccessToken → ⊥) → Err error ≡ verdict then later → unless_hash error ≡ verdict
+verdict-error : (verdict : Verdict ClaimsError) (later : Result AccessTokenHash ClaimsError) (error : ClaimsError) → (later ≡ Err error → error ≡ errors.OtherAccessToken) → (verdict ≡ Err errors.OtherAccessToken → ⊥) → Err error ≡ verdict then later → unless_hash error ≡ verdict
 verdict-error (Ok u) later error only never is = ap unless_hash (only (sym is))
 verdict-error (Err other) later error only never is =
     let same : error ≡ other = cc in

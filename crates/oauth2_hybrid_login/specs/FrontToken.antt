@@ -1,10 +1,12 @@
 -- The ID token that comes through the front channel (OpenID Connect Core 1.0, 3.3.2.8 to 3.3.2.12).
 use Rattle.std.specs.Prelude.{◌≡◌, ◌≢◌, ℕ, ℤ, List, ◌++◌, codes, false, IsTrue, Some, None, IsSomeAnd, Result, Ok, Err}
 use Rattle.serde_json.specs.Find.{get}
+use Rattle.oauth2_openid.specs.declared.claims_error.ClaimsError.{ClaimsError}
 use Rattle.oauth2_openid.specs.declared.id_token.IdToken.{IdToken}
 use Rattle.oauth2_openid.specs.Claims.{Expectation}
 use Rattle.oauth2_openid.specs.ErrorTexts.{claims_error_text, id_token_read_error_text}
-use Rattle.oauth2_openid.specs.Rules.{Verdict, ◌then◌, claims_checked, ClaimsHold}
+use Rattle.oauth2_openid.specs.Checks.{Verdict, ◌then◌}
+use Rattle.oauth2_openid.specs.Rules.{claims_checked, ClaimsHold}
 use Rattle.oauth2_openid.specs.Reading.{compact_token_reading}
 use Rattle.oauth2_openid.specs.Seen.{token_of}
 use Rattle.oauth2_openid.specs.Token.{DecodedToken, TokenFault, not_three_parts}
@@ -18,7 +20,7 @@ use Rattle.oauth2_hybrid_login.specs.CodeHash.{code_hash_told, is_code_hash}
 
 -- 3.3.2.12: the rules of 3.1.3.7 for a token that came without an access token, in this order: the
 -- first broken rule is the error
-abbrev pub front_rules : Expectation → ℤ → DecodedToken → Verdict
+abbrev pub front_rules : Expectation → ℤ → DecodedToken → Verdict ClaimsError
 front_rules expected now token =
     algorithm_rule expected token.header.own
     then critical_rule token.header

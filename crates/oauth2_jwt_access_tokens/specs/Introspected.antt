@@ -1,7 +1,7 @@
 -- A verified token as the response of an introspection (RFC 7662, 2.2), and the scope of a token.
 use Rattle.std.specs.Prelude.{ℕ, List, Bool, true, false, Option, Some, None}
 use Rattle.oauth2_introspection.specs.Introspection.{Introspection, introspection}
-use Rattle.oauth2_openid.specs.Rules.{is_among}
+use Rattle.oauth2_openid.specs.Checks.{is_among}
 use Rattle.oauth2_jwt_access_tokens.specs.AccessToken.{AccessToken}
 
 -- whether a scope is one of those of the token, byte for byte; none is if the token has no scopes

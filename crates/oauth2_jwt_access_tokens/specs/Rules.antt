@@ -1,9 +1,9 @@
 -- What a resource server expects of a JWT access token, and the rules for one (RFC 9068, 4). They
 -- are tried in the order of this file, and the first broken rule is the fault.
-use Rattle.std.specs.Prelude.{◌≡◌, ◌⊎◌, ℕ, ℤ, pos, ◌+ℤ◌, ◌<ℤ◌, ◌≤ℤ◌, int_lt, int_le, List, map, Contains, Bool, false, not, ◌||◌, if◌then◌else◌, Option, Some, None, is_some, option_and_then, IfSome, IsSomeAnd, Result, Ok, Err, bytes_eq, codes}
+use Rattle.std.specs.Prelude.{◌≡◌, ◌⊎◌, ℕ, ℤ, pos, ◌+ℤ◌, ◌<ℤ◌, ◌≤ℤ◌, int_lt, int_le, List, map, Contains, Bool, false, not, ◌||◌, Option, Some, None, is_some, option_and_then, IfSome, IsSomeAnd, Ok, Err, bytes_eq, codes}
 use Rattle.std.specs.Char.{to_ascii_lowercase}
 use Rattle.serde_json.specs.Find.{get, as_str}
-use Rattle.oauth2_openid.specs.Rules.{is_among}
+use Rattle.oauth2_openid.specs.Checks.{Verdict, rule, ◌then◌, is_among}
 use Rattle.oauth2_openid.specs.Token.{DecodedToken}
 use Rattle.oauth2_keys.specs.declared.algorithm.SignatureAlgorithm.{SignatureAlgorithm}
 use Rattle.oauth2_keys.specs.declared.json_web_key.ListedKey.{ListedKey}
@@ -20,20 +20,6 @@ pub record Expectation : Type 0 where
   pub algorithm : SignatureAlgorithm
   pub leeway : ℕ
 
--- the outcome of a rule: `Ok` if it holds, else the fault that names it
-abbrev pub Verdict : Type 0
-Verdict = Result Unit AccessTokenFault
-
--- the outcome of a rule: `Ok` if its condition is met, else this fault
-abbrev pub rule : Bool → AccessTokenFault → Verdict
-rule is_met error = if is_met then Ok tt else Err error
-
--- one rule and then another: if both are broken, the first is the fault
-infixr 20 ◌then◌
-abbrev pub ◌then◌ : Verdict → Verdict → Verdict
-(Ok u) then later = later
-(Err e) then later = Err e
-
 -- whether a type is that of an access token: `at+jwt` or `application/at+jwt`, in any case of
 -- letters (RFC 9068, 2.1 and 4; RFC 7515, 4.1.9)
 abbrev pub names_access_token : Option (List ℕ) → Bool
@@ -47,43 +33,43 @@ abbrev pub type_of : DecodedToken → Option (List ℕ)
 type_of token = option_and_then as_str (get (codes "typ") token.header.others)
 
 -- RFC 9068, 4: the type in the header is that of an access token
-abbrev pub type_rule : DecodedToken → Verdict
+abbrev pub type_rule : DecodedToken → Verdict AccessTokenFault
 type_rule token = rule (names_access_token (type_of token)) fault.OtherType
 
 -- RFC 9068, 4: the algorithm is the expected one, which is never `none`
-abbrev pub algorithm_rule : Expectation → DecodedToken → Verdict
+abbrev pub algorithm_rule : Expectation → DecodedToken → Verdict AccessTokenFault
 algorithm_rule expected token =
     rule (bytes_eq token.header.own.algorithm (algorithm_name expected.algorithm)) fault.OtherAlgorithm
 
 -- RFC 7515, 4.1.11: the header has no `crit`, which names extensions that have to be understood
-abbrev pub critical_rule : DecodedToken → Verdict
+abbrev pub critical_rule : DecodedToken → Verdict AccessTokenFault
 critical_rule token = rule (not (is_some (get (codes "crit") token.header.others))) fault.CriticalExtension
 
 -- RFC 9068, 4: the claim `iss` is the expected issuer, byte for byte
-abbrev pub issuer_rule : Expectation → DecodedToken → Verdict
+abbrev pub issuer_rule : Expectation → DecodedToken → Verdict AccessTokenFault
 issuer_rule expected token = rule (bytes_eq token.claims.own.issuer expected.issuer) fault.OtherIssuer
 
 -- RFC 9068, 4: the resource server is one of the audiences (`aud`), byte for byte
-abbrev pub audience_rule : Expectation → DecodedToken → Verdict
+abbrev pub audience_rule : Expectation → DecodedToken → Verdict AccessTokenFault
 audience_rule expected token = rule (is_among expected.audience token.claims.own.audience) fault.OtherAudience
 
 -- RFC 9068, 4: the moment `now` is before the expiry (`exp`) plus the leeway
-abbrev pub expiry_rule : Expectation → ℤ → DecodedToken → Verdict
+abbrev pub expiry_rule : Expectation → ℤ → DecodedToken → Verdict AccessTokenFault
 expiry_rule expected now token =
     rule (int_lt now (token.claims.own.expires_at +ℤ pos expected.leeway)) fault.Expired
 
 -- RFC 7519, 4.1.5: the moment before which the token must not be accepted, if it has one, is not
 -- after the moment `now` plus the leeway
-abbrev pub start_of : ℕ → ℤ → Option ℤ → Verdict
+abbrev pub start_of : ℕ → ℤ → Option ℤ → Verdict AccessTokenFault
 start_of leeway now None = Ok tt
 start_of leeway now (Some start) = rule (int_le start (now +ℤ pos leeway)) fault.NotYetValid
 
 -- RFC 7519, 4.1.5: that rule for the claim `nbf` and the expected leeway
-abbrev pub start_rule : Expectation → ℤ → AccessToken → Verdict
+abbrev pub start_rule : Expectation → ℤ → AccessToken → Verdict AccessTokenFault
 start_rule expected now t = start_of expected.leeway now t.own.not_before
 
 -- all rules except that of the signature, in this order: the first broken rule is the fault
-abbrev pub access_token_checked : Expectation → ℤ → AccessToken → Verdict
+abbrev pub access_token_checked : Expectation → ℤ → AccessToken → Verdict AccessTokenFault
 access_token_checked expected now t =
     type_rule t.token
     then algorithm_rule expected t.token
@@ -99,7 +85,8 @@ IsSignatureFault keys algorithm token (fault.Signature error) = IsRefusal keys a
 IsSignatureFault keys algorithm token other = ⊥
 
 -- the fault is that of the first broken rule, or that of the signature if no other rule is broken
-abbrev pub FaultsBy : Verdict → List ListedKey → SignatureAlgorithm → DecodedToken → AccessTokenFault → Type 0
+abbrev pub FaultsBy : Verdict AccessTokenFault → List ListedKey → SignatureAlgorithm → DecodedToken
+    → AccessTokenFault → Type 0
 FaultsBy (Ok u) keys algorithm token named = IsSignatureFault keys algorithm token named
 FaultsBy (Err first) keys algorithm token named = named ≡ first
 

@@ -12,7 +12,7 @@ ghost use Rattle.std.specs.Prelude.{
 };
 ghost use Rattle.std.specs.Fmt.{DisplaysOnOk, WritesStyledOnOk};
 ghost use Rattle.serde_json.specs.View.{view};
-ghost use Rattle.oauth2_openid.specs.Rules.{is_among};
+ghost use Rattle.oauth2_openid.specs.Checks.{is_among};
 ghost use Rattle.oauth2_openid.specs.Seen.{token_of};
 ghost use Rattle.oauth2_openid.specs.Token.{TokenReadsAs, compact_of};
 ghost use Rattle.oauth2_jwt_access_tokens.specs.AccessToken.{access_token_reading, own_reading};

@@ -1,16 +1,7 @@
 //! The rules for a JWT access token at a resource server (RFC 9068, 4).
 
-ghost use Rattle.std.specs.Prelude.{
-  ◌≡◌,
-  ◌↔◌,
-  IfErr,
-  IsOk,
-  map,
-  option_copied,
-  string_bytes,
-};
+ghost use Rattle.std.specs.Prelude.{◌≡◌, ◌↔◌, IfErr, IsOk, option_copied};
 ghost use Rattle.oauth2_keys.specs.Verified.{IsVerified};
-ghost use Rattle.oauth2_openid.specs.Rules.{is_among};
 ghost use Rattle.oauth2_jwt_access_tokens.specs.Rules.{
   AccessTokenHolds,
   IsFirstFault,
@@ -33,6 +24,7 @@ use crate::expected::ExpectedAccessToken;
 use crate::fault::AccessTokenFault;
 use jiff::Timestamp;
 use oauth2_keys::JsonWebKeySet;
+use oauth2_openid::texts::is_among;
 use oauth2_times::nanosecond_after;
 use serde_json::Value;
 use std::time::Duration;
@@ -196,15 +188,4 @@ fn names_access_token(token_type: Option<&str>) -> bool
         }
         None => false,
     }
-}
-
-fn is_among(texts: &[String], text: &str) -> bool
-    ensures { result ≡ is_among text.now (map string_bytes texts.now) }
-{
-    for each in texts {
-        if each.as_str() == text {
-            return true;
-        }
-    }
-    false
 }

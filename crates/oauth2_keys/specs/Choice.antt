@@ -1,6 +1,6 @@
 -- Which key of a set a signature is checked with (OpenID Connect Core 1.0, 10.1; RFC 7517, 4).
 use Rattle.std.specs.Prelude.{ℕ, List, [], ◌∷◌, codes, bytes_eq, Bool, true, false, ◌&&◌, if◌then◌else◌, Option, Some, None, is_some, Result, Ok, Err}
-use Rattle.oauth2_openid.specs.Rules.{is_among}
+use Rattle.oauth2_openid.specs.Checks.{is_among}
 use Rattle.oauth2_keys.specs.declared.algorithm.SignatureAlgorithm.{SignatureAlgorithm}
 use Rattle.oauth2_keys.specs.declared.public_key.PublicKey.{PublicKey}
 use Rattle.oauth2_keys.specs.declared.public_key.PublicKey.TheVariants.{Rsa, Ecdsa, Eddsa}

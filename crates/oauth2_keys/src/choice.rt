@@ -11,7 +11,6 @@ ghost use Rattle.std.specs.Prelude.{
   string_bytes,
   MatchOption,
 };
-ghost use Rattle.oauth2_openid.specs.Rules.{is_among};
 ghost use Rattle.oauth2_keys.specs.Choice.{
   candidates,
   chosen_key,
@@ -30,6 +29,7 @@ use crate::json_web_key::ListedKey;
 use crate::key_error::KeyError;
 use crate::public_key::PublicKey;
 use crate::signature_error::SignatureError;
+use oauth2_openid::texts::is_among;
 
 pub(crate) fn fits_use(key_use: Option<&str>) -> bool
     ensures { result ≡ fits_use (option_copied key_use.entry) }
@@ -40,23 +40,12 @@ pub(crate) fn fits_use(key_use: Option<&str>) -> bool
     }
 }
 
-fn is_among(text: &str, texts: &[String]) -> bool
-    ensures { result ≡ is_among text.now (map string_bytes texts.now) }
-{
-    for each in texts {
-        if each.as_str() == text {
-            return true;
-        }
-    }
-    false
-}
-
 pub(crate) fn fits_operations(operations: Option<&[String]>) -> bool
     ensures { result
         ≡ fits_operations (option_map (λ list. map string_bytes list.now) operations.entry) }
 {
     match operations {
-        Some(operations) => is_among("verify", operations),
+        Some(operations) => is_among(operations, "verify"),
         None => true,
     }
 }

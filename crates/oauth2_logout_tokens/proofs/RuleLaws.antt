@@ -1,11 +1,10 @@
 -- The rules for a logout token are met exactly where it is as the standard says.
-use Rattle.std.proofs.Common.{◌≡◌, ◌↔◌, ◌⊎◌, inl, inr, ℕ, suc, zero, ℤ, pos, ◌+ℤ◌, ◌<◌, int_lt, int_le, List, [], ◌∷◌, length, get_or, map, All, Contains, Bool, true, false, true≢false, not, ◌&&◌, ◌||◌, T, Option, Some, None, is_some, IsSomeAnd, Ok, Err, bytes_eq, codes, refl, sym, subst, arith}
-use Rattle.std.proofs.lemmas.List.Elements.{All-head, All-tail, All-cons, All-nil}
+use Rattle.std.proofs.Common.{◌≡◌, ◌↔◌, ◌⊎◌, inl, inr, ℕ, ℤ, pos, ◌+ℤ◌, int_lt, int_le, List, ◌∷◌, map, Bool, true, true≢false, not, ◌||◌, Option, Some, None, is_some, IsSomeAnd, Ok, Err, bytes_eq, codes, refl, sym}
 use Rattle.std.proofs.lemmas.Slice.Eq.{bytes_eq-Decides}
 use Rattle.std.specs.Char.{to_ascii_lowercase}
 use Rattle.serde_json.specs.Data.{Data}
 use Rattle.serde_json.specs.Find.{get, as_str}
-use Rattle.oauth2_openid.specs.Rules.{is_among, are_among}
+use Rattle.oauth2_openid.proofs.CheckLaws.{rule_held, both, tested, untested, or_left, or_right, which, absent_held, is_one, one_is, among_Contains, contained_among, all_among, among_all}
 use Rattle.oauth2_keys.specs.declared.json_web_key.ListedKey.{ListedKey}
 use Rattle.oauth2_keys.specs.Algorithm.{algorithm_name}
 use Rattle.oauth2_keys.specs.Verified.{IsVerified}
@@ -14,55 +13,9 @@ use Rattle.oauth2_logout_tokens.specs.declared.fault.LogoutTokenFault.TheVariant
 use Rattle.oauth2_logout_tokens.specs.declared.type_rule.TypeRule.{TypeRule}
 use Rattle.oauth2_logout_tokens.specs.declared.type_rule.TypeRule.TheVariants.{OnlyLogout, LogoutOrPlain}
 use Rattle.oauth2_logout_tokens.specs.LogoutToken.{DecodedLogoutToken, as_id_token}
-use Rattle.oauth2_logout_tokens.specs.Rules.{Expectation, Verdict, rule, ◌then◌, names_logout, names_plain, takes_string, takes_type, logout_token_checked, IsLogoutType, IsPlainType, IsTaken, LogoutTokenHolds}
-
-rule_held : (b : Bool) (e : LogoutTokenFault) → rule b e ≡ Ok tt → b ≡ true
-rule_held true e h = refl
-rule_held false e h = absurd (cc)
-
-both : (v r : Verdict) → v then r ≡ Ok tt → (v ≡ Ok tt) × (r ≡ Ok tt)
-both (Ok u) r h = (refl, h)
-both (Err e) r h = absurd (cc)
-
-tested : (b : Bool) → b ≡ true → T b
-tested b h = subst T (sym h) tt
-
-untested : (b : Bool) → T b → b ≡ true
-untested true h = refl
-untested false h = absurd h
-
-or_left : (a b : Bool) → a ≡ true → a || b ≡ true
-or_left a b h = rw h refl
-
-or_right : (a b : Bool) → b ≡ true → a || b ≡ true
-or_right true b h = refl
-or_right false b h = h
-
-which : (a b : Bool) → a || b ≡ true → (a ≡ true) ⊎ (b ≡ true)
-which true b h = inl refl
-which false b h = inr h
-
-and_left : (a b : Bool) → a && b ≡ true → a ≡ true
-and_left true b h = refl
-and_left false b h = h
-
-and_right : (a b : Bool) → a && b ≡ true → b ≡ true
-and_right true b h = h
-and_right false b h = absurd (true≢false (sym h))
-
-both_true : (a b : Bool) → a ≡ true → b ≡ true → a && b ≡ true
-both_true true b h g = g
-both_true false b h g = h
+use Rattle.oauth2_logout_tokens.specs.Rules.{Expectation, names_logout, names_plain, takes_string, takes_type, logout_token_checked, IsLogoutType, IsPlainType, IsTaken, LogoutTokenHolds}
 
 -- ---- the type
-
-is_one : (x a b : List ℕ) → (bytes_eq x a ≡ true) ⊎ (bytes_eq x b ≡ true) → (x ≡ a) ⊎ (x ≡ b)
-is_one x a b (inl h) = inl ((bytes_eq-Decides x a).0 h)
-is_one x a b (inr h) = inr ((bytes_eq-Decides x b).0 h)
-
-one_is : (x a b : List ℕ) → (x ≡ a) ⊎ (x ≡ b) → bytes_eq x a || bytes_eq x b ≡ true
-one_is x a b (inl h) = or_left (bytes_eq x a) (bytes_eq x b) ((bytes_eq-Decides x a).1 h)
-one_is x a b (inr h) = or_right (bytes_eq x a) (bytes_eq x b) ((bytes_eq-Decides x b).1 h)
 
 logout_held : (typ : List ℕ) → names_logout typ ≡ true → IsLogoutType typ
 logout_held typ h =
@@ -117,40 +70,6 @@ held_type OnlyLogout (Some d) h = held_text OnlyLogout (as_str d) h
 held_type LogoutOrPlain None h = refl
 held_type LogoutOrPlain (Some d) h = held_text LogoutOrPlain (as_str d) h
 
--- ---- a member that is absent
-
-absent_held : (o : Option Data) → not (is_some o) ≡ true → o ≡ None
-absent_held None h = refl
-absent_held (Some d) h = absurd (true≢false (sym h))
-
--- ---- the audience
-
-among_at : (b : Bool) (x a : List ℕ) (list : List (List ℕ)) → bytes_eq a x ≡ b → b || is_among x list ≡ true → (is_among x list ≡ true → Contains list x) → Contains (a ∷ list) x
-among_at true x a list e h later = (zero, omega arith, (bytes_eq-Decides a x).0 e)
-among_at false x a list e h later = let k = later h in (suc k.0, omega (arith, k.1), k.2)
-
-among_Contains : (x : List ℕ) (list : List (List ℕ)) → is_among x list ≡ true → Contains list x
-among_Contains x [] h = absurd (true≢false (sym h))
-among_Contains x (a ∷ list) h = among_at (bytes_eq a x) x a list refl h (among_Contains x list)
-
-at_among : (x : List ℕ) (list : List (List ℕ)) (k : ℕ) → k < length list → get_or list k x ≡ x → is_among x list ≡ true
-at_among x [] k less same = absurd (omega (arith, less))
-at_among x (a ∷ list) zero less same = or_left (bytes_eq a x) (is_among x list) ((bytes_eq-Decides a x).1 same)
-at_among x (a ∷ list) (suc k) less same = or_right (bytes_eq a x) (is_among x list) (at_among x list k (omega (arith, less)) same)
-
-contained_among : (x : List ℕ) (list : List (List ℕ)) → Contains list x → is_among x list ≡ true
-contained_among x list h = at_among x list h.0 h.1 h.2
-
-all_among : (known list : List (List ℕ)) → are_among list known ≡ true → All (Contains known) list
-all_among known [] h = All-nil (Contains known)
-all_among known (a ∷ list) h =
-    All-cons (Contains known) a list (among_Contains a known (and_left (is_among a known) (are_among list known) h)) (all_among known list (and_right (is_among a known) (are_among list known) h))
-
-among_all : (known list : List (List ℕ)) → All (Contains known) list → are_among list known ≡ true
-among_all known [] h = refl
-among_all known (a ∷ list) h =
-    both_true (is_among a known) (are_among list known) (contained_among a known (All-head (Contains known) a list h)) (among_all known list (All-tail (Contains known) a list h))
-
 -- ---- the user and the session
 
 held_session : (a b : Bool) → (a ≡ true) ⊎ (b ≡ true) → a || b ≡ true
@@ -161,16 +80,16 @@ held_session a b (inr h) = or_right a b h
 
 rules_held : (w : Expectation) (k : List ListedKey) (n : ℤ) (t : DecodedLogoutToken) → logout_token_checked w n t ≡ Ok tt → IsVerified k w.algorithm (as_id_token t) → LogoutTokenHolds w k n t
 rules_held w k n t h verified =
-    let header = both _ _ h in
-    let later = both _ _ header.1 in
-    let y = both _ _ header.0 in
-    let a = both _ _ y.1 in
-    let i = both _ _ later.0 in
-    let u = both _ _ i.1 in
-    let r = both _ _ u.1 in
-    let e = both _ _ r.1 in
-    let s = both _ _ later.1 in
-    let v = both _ _ s.1 in
+    let header = both _ _ _ h in
+    let later = both _ _ _ header.1 in
+    let y = both _ _ _ header.0 in
+    let a = both _ _ _ y.1 in
+    let i = both _ _ _ later.0 in
+    let u = both _ _ _ i.1 in
+    let r = both _ _ _ u.1 in
+    let e = both _ _ _ r.1 in
+    let s = both _ _ _ later.1 in
+    let v = both _ _ _ s.1 in
     let end : ℤ = t.claims.own.expires_at +ℤ pos w.leeway in
     let latest : ℤ = n +ℤ pos w.leeway in
     record {

@@ -1,10 +1,10 @@
 -- What a client expects of a logout token, and the rules for one (OpenID Connect Back-Channel Logout
 -- 1.0, 2.6). They are tried in the order of this file, and the first broken rule is the fault.
-use Rattle.std.specs.Prelude.{◌≡◌, ◌⊎◌, ℕ, ℤ, pos, ◌+ℤ◌, ◌<ℤ◌, ◌≤ℤ◌, int_lt, int_le, List, ◌∷◌, map, All, Contains, Bool, true, false, not, ◌||◌, if◌then◌else◌, Option, Some, None, is_some, option_and_then, IfSome, IsSome, IsSomeAnd, Result, Ok, Err, bytes_eq, codes}
+use Rattle.std.specs.Prelude.{◌≡◌, ◌⊎◌, ℕ, ℤ, pos, ◌+ℤ◌, ◌<ℤ◌, ◌≤ℤ◌, int_lt, int_le, List, ◌∷◌, map, All, Contains, Bool, true, false, not, ◌||◌, Option, Some, None, is_some, option_and_then, IfSome, IsSome, IsSomeAnd, Ok, Err, bytes_eq, codes}
 use Rattle.std.specs.Char.{to_ascii_lowercase}
 use Rattle.serde_json.specs.Data.{Data}
 use Rattle.serde_json.specs.Find.{get, as_object, as_str}
-use Rattle.oauth2_openid.specs.Rules.{is_among, are_among}
+use Rattle.oauth2_openid.specs.Checks.{Verdict, rule, ◌then◌, is_among, are_among}
 use Rattle.oauth2_openid.specs.Token.{DecodedToken}
 use Rattle.oauth2_keys.specs.declared.algorithm.SignatureAlgorithm.{SignatureAlgorithm}
 use Rattle.oauth2_keys.specs.declared.json_web_key.ListedKey.{ListedKey}
@@ -24,20 +24,6 @@ pub record Expectation : Type 0 where
   pub algorithm : SignatureAlgorithm
   pub type_rule : TypeRule
   pub leeway : ℕ
-
--- the outcome of a rule: `Ok` if it holds, else the fault that names it
-abbrev pub Verdict : Type 0
-Verdict = Result Unit LogoutTokenFault
-
--- the outcome of a rule: `Ok` if its condition is met, else this fault
-abbrev pub rule : Bool → LogoutTokenFault → Verdict
-rule is_met error = if is_met then Ok tt else Err error
-
--- one rule and then another: if both are broken, the first is the fault
-infixr 20 ◌then◌
-abbrev pub ◌then◌ : Verdict → Verdict → Verdict
-(Ok u) then later = later
-(Err e) then later = Err e
 
 -- whether a type is that of a logout token: `logout+jwt` or `application/logout+jwt`, in any case of
 -- letters (2.4; RFC 7515, 4.1.9)
@@ -75,42 +61,42 @@ takes_type types None = takes_untyped types
 takes_type types (Some typ) = takes_string types (as_str typ)
 
 -- 2.4: the type (`typ`) in the header is one that the client takes
-abbrev pub type_rule : Expectation → DecodedLogoutToken → Verdict
+abbrev pub type_rule : Expectation → DecodedLogoutToken → Verdict LogoutTokenFault
 type_rule expected t = rule (takes_type expected.type_rule (get (codes "typ") t.header.others)) fault.OtherType
 
 -- 2.6, 3: the algorithm is the registered one, which is never `none`
-abbrev pub algorithm_rule : Expectation → DecodedLogoutToken → Verdict
+abbrev pub algorithm_rule : Expectation → DecodedLogoutToken → Verdict LogoutTokenFault
 algorithm_rule expected t =
     rule (bytes_eq t.header.own.algorithm (algorithm_name expected.algorithm)) fault.OtherAlgorithm
 
 -- RFC 7515, 4.1.11: the header has no `crit`, which names extensions that have to be understood
-abbrev pub critical_rule : DecodedLogoutToken → Verdict
+abbrev pub critical_rule : DecodedLogoutToken → Verdict LogoutTokenFault
 critical_rule t = rule (not (is_some (get (codes "crit") t.header.others))) fault.CriticalExtension
 
 -- 2.6, 4: the claim `iss` is the expected issuer, byte for byte (OpenID Connect Core 1.0, 3.1.3.7, 2)
-abbrev pub issuer_rule : Expectation → DecodedLogoutToken → Verdict
+abbrev pub issuer_rule : Expectation → DecodedLogoutToken → Verdict LogoutTokenFault
 issuer_rule expected t = rule (bytes_eq t.claims.own.issuer expected.issuer) fault.OtherIssuer
 
 -- 2.6, 4: the client is one of the audiences, byte for byte (OpenID Connect Core 1.0, 3.1.3.7, 3)
-abbrev pub audience_rule : Expectation → DecodedLogoutToken → Verdict
+abbrev pub audience_rule : Expectation → DecodedLogoutToken → Verdict LogoutTokenFault
 audience_rule expected t = rule (is_among expected.client t.claims.own.audience) fault.OtherAudience
 
 -- 2.6, 4: each audience is the client or one that it trusts (OpenID Connect Core 1.0, 3.1.3.7, 3)
-abbrev pub trust_rule : Expectation → DecodedLogoutToken → Verdict
+abbrev pub trust_rule : Expectation → DecodedLogoutToken → Verdict LogoutTokenFault
 trust_rule expected t =
     rule (are_among t.claims.own.audience (expected.client ∷ expected.other_audiences)) fault.UntrustedAudience
 
 -- 2.6, 4: the moment `now` is before the expiry plus the leeway (OpenID Connect Core 1.0, 3.1.3.7, 9)
-abbrev pub expiry_rule : Expectation → ℤ → DecodedLogoutToken → Verdict
+abbrev pub expiry_rule : Expectation → ℤ → DecodedLogoutToken → Verdict LogoutTokenFault
 expiry_rule expected now t = rule (int_lt now (t.claims.own.expires_at +ℤ pos expected.leeway)) fault.Expired
 
 -- 2.6, 4: the token was not issued after the moment `now` plus the leeway (OpenID Connect Core 1.0,
 -- 3.1.3.7, 10)
-abbrev pub issued_rule : Expectation → ℤ → DecodedLogoutToken → Verdict
+abbrev pub issued_rule : Expectation → ℤ → DecodedLogoutToken → Verdict LogoutTokenFault
 issued_rule expected now t = rule (int_le t.claims.own.issued_at (now +ℤ pos expected.leeway)) fault.IssuedLater
 
 -- 2.6, 5: the token has the claim `sub`, the claim `sid`, or both
-abbrev pub session_rule : DecodedLogoutToken → Verdict
+abbrev pub session_rule : DecodedLogoutToken → Verdict LogoutTokenFault
 session_rule t = rule (is_some t.claims.own.subject || is_some t.claims.own.session_id) fault.NoSession
 
 -- 2.4: the name that declares that a JSON Web Token is a logout token
@@ -122,19 +108,19 @@ abbrev pub told_event : Data → Option Data
 told_event other_claims = option_and_then (get logout_event) (get (codes "events") other_claims)
 
 -- 2.6, 6, and 2.4: the claim `events` is an object that has the member, and the member is an object
-abbrev pub event_rule : DecodedLogoutToken → Verdict
+abbrev pub event_rule : DecodedLogoutToken → Verdict LogoutTokenFault
 event_rule t = rule (is_some (option_and_then as_object (told_event t.claims.others))) fault.NoLogoutEvent
 
 -- 2.6, 7: the token has no claim `nonce`, not even one that is null
-abbrev pub nonce_rule : DecodedLogoutToken → Verdict
+abbrev pub nonce_rule : DecodedLogoutToken → Verdict LogoutTokenFault
 nonce_rule t = rule (not (is_some (get (codes "nonce") t.claims.others))) fault.HasNonce
 
 -- the rules for the header, in this order: the first broken rule is the fault
-abbrev pub header_checked : Expectation → DecodedLogoutToken → Verdict
+abbrev pub header_checked : Expectation → DecodedLogoutToken → Verdict LogoutTokenFault
 header_checked expected t = type_rule expected t then algorithm_rule expected t then critical_rule t
 
 -- the rules for the claims of any token, in this order: the first broken rule is the fault
-abbrev pub claims_checked : Expectation → ℤ → DecodedLogoutToken → Verdict
+abbrev pub claims_checked : Expectation → ℤ → DecodedLogoutToken → Verdict LogoutTokenFault
 claims_checked expected now t =
     issuer_rule expected t
     then audience_rule expected t
@@ -143,11 +129,11 @@ claims_checked expected now t =
     then issued_rule expected now t
 
 -- the rules for what is told to be logged out, in this order: the first broken rule is the fault
-abbrev pub logout_checked : DecodedLogoutToken → Verdict
+abbrev pub logout_checked : DecodedLogoutToken → Verdict LogoutTokenFault
 logout_checked t = session_rule t then event_rule t then nonce_rule t
 
 -- all rules except that of the signature, in this order: the first broken rule is the fault
-abbrev pub logout_token_checked : Expectation → ℤ → DecodedLogoutToken → Verdict
+abbrev pub logout_token_checked : Expectation → ℤ → DecodedLogoutToken → Verdict LogoutTokenFault
 logout_token_checked expected now t =
     header_checked expected t then claims_checked expected now t then logout_checked t
 
@@ -157,7 +143,8 @@ IsSignatureFault keys algorithm token (fault.Signature error) = IsRefusal keys a
 IsSignatureFault keys algorithm token other = ⊥
 
 -- the fault is that of the first broken rule, or that of the signature if no other rule is broken
-abbrev pub FaultsBy : Verdict → List ListedKey → SignatureAlgorithm → DecodedToken → LogoutTokenFault → Type 0
+abbrev pub FaultsBy : Verdict LogoutTokenFault → List ListedKey → SignatureAlgorithm → DecodedToken
+    → LogoutTokenFault → Type 0
 FaultsBy (Ok u) keys algorithm token named = IsSignatureFault keys algorithm token named
 FaultsBy (Err first) keys algorithm token named = named ≡ first
 

@@ -1,18 +1,8 @@
 //! The rules for a logout token at a client (OpenID Connect Back-Channel Logout 1.0, 2.6).
 
-ghost use Rattle.std.specs.Prelude.{
-  ◌≡◌,
-  ◌↔◌,
-  ◌∷◌,
-  IfErr,
-  IsOk,
-  map,
-  option_map,
-  string_bytes,
-};
+ghost use Rattle.std.specs.Prelude.{◌≡◌, ◌↔◌, IfErr, IsOk, option_map};
 ghost use Rattle.serde_json.specs.View.{view};
 ghost use Rattle.oauth2_keys.specs.Verified.{IsRefusal, IsVerified};
-ghost use Rattle.oauth2_openid.specs.Rules.{are_among, is_among};
 ghost use Rattle.oauth2_logout_tokens.specs.LogoutToken.{as_id_token};
 ghost use Rattle.oauth2_logout_tokens.specs.Rules.{
   IsFirstFault,
@@ -42,6 +32,7 @@ use crate::fault::LogoutTokenFault;
 use crate::logout_token::LogoutToken;
 use jiff::Timestamp;
 use oauth2_keys::{JsonWebKeySet, SignatureAlgorithm, SignatureError};
+use oauth2_openid::texts::{are_known, is_among};
 use oauth2_times::nanosecond_after;
 use serde_json::Value;
 use std::ops::Deref;
@@ -283,35 +274,4 @@ impl LogoutToken {
             Err(SignatureError::WrongSignature)
         }
     }
-}
-
-fn is_among(texts: &[String], text: &str) -> bool
-    ensures { result ≡ is_among text.now (map string_bytes texts.now) }
-{
-    for each in texts {
-        if each.as_str() == text {
-            return true;
-        }
-    }
-    false
-}
-
-// Whether each of the texts is the first, or one of the others.
-fn are_known(texts: &[String], first: &str, others: &[String]) -> bool
-    ensures { result ≡ are_among (map string_bytes texts.now)
-        (first.now ∷ map string_bytes others.now) }
-{
-    for each in texts {
-        if !is_known(each.as_str(), first, others) {
-            return false;
-        }
-    }
-    true
-}
-
-// Whether a text is the first, or one of the others.
-fn is_known(text: &str, first: &str, others: &[String]) -> bool
-    ensures { result ≡ is_among text.now (first.now ∷ map string_bytes others.now) }
-{
-    first == text || is_among(others, text)
 }

@@ -4,5 +4,6 @@ pub mod Parts
 pub mod Times
 pub mod Left
 pub mod Joined
+pub mod CheckLaws
 pub mod RuleLaws
 pub mod TokenRuleLaws

@@ -1,75 +1,12 @@
 -- The rules for the claims are met exactly where the claims are as the standard says.
-use Rattle.std.proofs.Common.{◌≡◌, ℕ, suc, zero, ℤ, pos, ◌+ℤ◌, ◌≤ℤ◌, ◌<◌, int_lt, int_le, nat_le, List, [], ◌∷◌, ◌++◌, length, get_or, All, Contains, Bool, true, false, true≢false, ◌&&◌, ◌||◌, T, Option, Some, None, option_map, IfSome, IsSome, IsSomeAnd, Result, Ok, Err, bytes_eq, refl, sym, ap, subst, arith}
+use Rattle.std.proofs.Common.{◌≡◌, ℕ, ℤ, pos, ◌+ℤ◌, ◌≤ℤ◌, ◌<◌, int_lt, int_le, nat_le, List, ◌∷◌, ◌++◌, length, Contains, Bool, true, false, true≢false, Option, Some, None, option_map, IfSome, IsSome, IsSomeAnd, Ok, refl, sym, ap, arith}
 use borrow.Author.Tests.{leb-true, leb-false}
-use Rattle.std.proofs.lemmas.List.Elements.{All-head, All-tail, All-cons, All-nil}
 use Rattle.std.proofs.lemmas.Slice.Eq.{bytes_eq-Decides}
 use Rattle.sha2.specs.Sha256.{sha256}
-use Rattle.oauth2_openid.specs.declared.claims_error.ClaimsError.{ClaimsError}
 use Rattle.oauth2_openid.specs.declared.claims_error.ClaimsError.TheVariants as errors
 use Rattle.oauth2_openid.specs.Claims.{Claims, Expectation, NamedIssuers, is, one_of, per_tenant}
-use Rattle.oauth2_openid.specs.Rules.{Verdict, rule, ◌then◌, is_among, are_among, is_issuer, party_of, nonce_of, age_of, claims_checked, IsIssuer, ClaimsHold}
-
-pub rule_held : (b : Bool) (e : ClaimsError) → rule b e ≡ Ok tt → b ≡ true
-rule_held true e h = refl
-rule_held false e h = absurd (cc)
-
-pub both : {A : Type 0} (v : Verdict) (r : Result A ClaimsError) (a : A) → v then r ≡ Ok a → (v ≡ Ok tt) × (r ≡ Ok a)
-both (Ok u) r a h = (refl, h)
-both (Err e) r a h = absurd (cc)
-
-tested : (b : Bool) → b ≡ true → T b
-tested b h = subst T (sym h) tt
-
-untested : (b : Bool) → T b → b ≡ true
-untested true h = refl
-untested false h = absurd h
-
--- ---- the audience
-
-among_at : (b : Bool) (x a : List ℕ) (list : List (List ℕ)) → bytes_eq a x ≡ b → b || is_among x list ≡ true → (is_among x list ≡ true → Contains list x) → Contains (a ∷ list) x
-among_at true x a list e h later = (zero, omega arith, (bytes_eq-Decides a x).0 e)
-among_at false x a list e h later = let k = later h in (suc k.0, omega (arith, k.1), k.2)
-
-among_Contains : (x : List ℕ) (list : List (List ℕ)) → is_among x list ≡ true → Contains list x
-among_Contains x [] h = absurd (true≢false (sym h))
-among_Contains x (a ∷ list) h = among_at (bytes_eq a x) x a list refl h (among_Contains x list)
-
-or_left : (a b : Bool) → a ≡ true → a || b ≡ true
-or_left a b h = rw h refl
-
-or_right : (a b : Bool) → b ≡ true → a || b ≡ true
-or_right true b h = refl
-or_right false b h = h
-
-at_among : (x : List ℕ) (list : List (List ℕ)) (k : ℕ) → k < length list → get_or list k x ≡ x → is_among x list ≡ true
-at_among x [] k less same = absurd (omega (arith, less))
-at_among x (a ∷ list) zero less same = or_left (bytes_eq a x) (is_among x list) ((bytes_eq-Decides a x).1 same)
-at_among x (a ∷ list) (suc k) less same = or_right (bytes_eq a x) (is_among x list) (at_among x list k (omega (arith, less)) same)
-
-and_left : (a b : Bool) → a && b ≡ true → a ≡ true
-and_left true b h = refl
-and_left false b h = h
-
-and_right : (a b : Bool) → a && b ≡ true → b ≡ true
-and_right true b h = h
-and_right false b h = absurd (true≢false (sym h))
-
-both_true : (a b : Bool) → a ≡ true → b ≡ true → a && b ≡ true
-both_true true b h g = g
-both_true false b h g = h
-
-all_among : (known list : List (List ℕ)) → are_among list known ≡ true → All (Contains known) list
-all_among known [] h = All-nil (Contains known)
-all_among known (a ∷ list) h =
-    All-cons (Contains known) a list (among_Contains a known (and_left (is_among a known) (are_among list known) h)) (all_among known list (and_right (is_among a known) (are_among list known) h))
-
-contained_among : (x : List ℕ) (list : List (List ℕ)) → Contains list x → is_among x list ≡ true
-contained_among x list h = at_among x list h.0 h.1 h.2
-
-among_all : (known list : List (List ℕ)) → All (Contains known) list → are_among list known ≡ true
-among_all known [] h = refl
-among_all known (a ∷ list) h =
-    both_true (is_among a known) (are_among list known) (contained_among a known (All-head (Contains known) a list h)) (among_all known list (All-tail (Contains known) a list h))
+use Rattle.oauth2_openid.proofs.CheckLaws.{rule_held, both, tested, untested, among_Contains, contained_among, all_among, among_all}
+use Rattle.oauth2_openid.specs.Rules.{is_issuer, party_of, nonce_of, age_of, claims_checked, IsIssuer, ClaimsHold}
 
 -- ---- the issuer
 

@@ -1,8 +1,7 @@
 -- All rules of a token are met exactly where it is as the standard says.
-use Rattle.std.proofs.Common.{◌≡◌, ◌≢◌, ℕ, ℤ, ◌↔◌, List, [], map, Bool, ◌||◌, true, false, true≢false, not, Option, Some, None, is_some, IfSome, Result, Ok, Err, IsOk, bytes_eq, codes, if◌then◌else◌, refl, sym}
+use Rattle.std.proofs.Common.{◌≡◌, ◌≢◌, ℕ, ℤ, ◌↔◌, List, [], map, Bool, ◌||◌, true, false, true≢false, not, Option, Some, None, IfSome, Result, Ok, Err, IsOk, bytes_eq, codes, if◌then◌else◌, refl, sym}
 use Rattle.std.proofs.lemmas.Slice.Eq.{bytes_eq-Decides}
 use Rattle.std.specs.Char.{to_ascii_lowercase}
-use Rattle.serde_json.specs.Data.{Data}
 use Rattle.serde_json.specs.Find.{get}
 use Rattle.oauth2_types.specs.Pkce.{base64url}
 use Rattle.oauth2_openid.specs.declared.claims_error.ClaimsError.{ClaimsError}
@@ -10,10 +9,10 @@ use Rattle.oauth2_openid.specs.declared.claims_error.ClaimsError.TheVariants as 
 use Rattle.oauth2_openid.specs.declared.access_token_hash.AccessTokenHash.{AccessTokenHash}
 use Rattle.oauth2_openid.specs.declared.access_token_hash.AccessTokenHash.TheVariants as hash
 use Rattle.oauth2_openid.specs.Claims.{Expectation}
-use Rattle.oauth2_openid.specs.Rules.{rule}
 use Rattle.oauth2_openid.specs.Token.{DecodedToken}
 use Rattle.oauth2_openid.specs.TokenRules.{algorithm_of, half_digest, told_hash, hash_rule, tenant_of, token_checked, IsAlgorithm, IsHashOf, Holds}
-use Rattle.oauth2_openid.proofs.RuleLaws.{rule_held, both, claims_held, held_claims}
+use Rattle.oauth2_openid.proofs.CheckLaws.{rule_held, both, absent_held}
+use Rattle.oauth2_openid.proofs.RuleLaws.{claims_held, held_claims}
 
 -- ---- the algorithm
 
@@ -39,12 +38,6 @@ held_algorithm : (o : Option (List ℕ)) (a : List ℕ) → IsAlgorithm o a → 
 held_algorithm None a h =
     rw (unequal a [] (bytes_eq a []) refl h.0, unequal (map to_ascii_lowercase a) (codes "none") (bytes_eq (map to_ascii_lowercase a) (codes "none")) refl h.1) refl
 held_algorithm (Some r) a h = rw ((bytes_eq-Decides a r).1 h) refl
-
--- ---- the extension
-
-absent_held : (o : Option Data) → rule (not (is_some o)) errors.CriticalExtension ≡ Ok tt → o ≡ None
-absent_held None h = refl
-absent_held (Some d) h = absurd (cc)
 
 -- ---- the hash
 
@@ -77,7 +70,7 @@ held w a n t v h =
     let c = both _ _ _ x.1 in
     record {
       algorithm = algorithm_held w.algorithm t.header.own.algorithm g.0;
-      no_extension = absent_held (get (codes "crit") t.header.others) x.0;
+      no_extension = absent_held (get (codes "crit") t.header.others) (rule_held _ _ x.0);
       claims = claims_held w n (tenant_of t.claims.others) t.claims.own c.0;
       hash = hash_held t.header.own.algorithm a t.claims.own.access_token_hash v c.1;
     }

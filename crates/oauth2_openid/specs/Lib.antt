@@ -1,5 +1,6 @@
 pub mod Claims
 pub mod Issuers
+pub mod Checks
 pub mod Rules
 pub mod TokenRules
 pub mod Token

@@ -1,35 +1,12 @@
 -- The rules for the claims of an ID token (OpenID Connect Core 1.0, 3.1.3.7). They are tried in the
 -- order of this file, and the first broken rule is the error.
-use Rattle.std.specs.Prelude.{◌≡◌, ℕ, ℤ, pos, ◌+ℤ◌, ◌<ℤ◌, ◌≤ℤ◌, ◌<◌, int_lt, int_le, nat_le, List, [], ◌∷◌, ◌++◌, length, All, Contains, Bool, true, false, ◌&&◌, ◌||◌, if◌then◌else◌, Option, Some, None, IfSome, IsSome, IsSomeAnd, option_map, Result, Ok, Err, bytes_eq}
+use Rattle.std.specs.Prelude.{◌≡◌, ℕ, ℤ, pos, ◌+ℤ◌, ◌<ℤ◌, ◌≤ℤ◌, ◌<◌, int_lt, int_le, nat_le, List, ◌∷◌, ◌++◌, length, All, Contains, Bool, false, Option, Some, None, IfSome, IsSome, IsSomeAnd, option_map, Ok, Err, bytes_eq}
 use Rattle.sha2.specs.Sha256.{sha256}
 use Rattle.oauth2_types.specs.Digest.{digest_eq}
 use Rattle.oauth2_openid.specs.declared.claims_error.ClaimsError.{ClaimsError}
 use Rattle.oauth2_openid.specs.declared.claims_error.ClaimsError.TheVariants as errors
+use Rattle.oauth2_openid.specs.Checks.{Verdict, rule, ◌then◌, is_among, are_among}
 use Rattle.oauth2_openid.specs.Claims.{Claims, Expectation, NamedIssuers, is, one_of, per_tenant}
-
--- the outcome of a rule: `Ok` if it holds, else the error that names it
-abbrev pub Verdict : Type 0
-Verdict = Result Unit ClaimsError
-
--- the outcome of a rule: `Ok` if its condition is met, else this error
-abbrev pub rule : Bool → ClaimsError → Verdict
-rule is_met error = if is_met then Ok tt else Err error
-
--- one rule and then another: if both are broken, the first is the error
-infixr 20 ◌then◌
-abbrev pub ◌then◌ : {A : Type 0} → Verdict → Result A ClaimsError → Result A ClaimsError
-(Ok u) then later = later
-(Err e) then later = Err e
-
--- whether the text is one of the list, byte for byte
-abbrev pub is_among : List ℕ → List (List ℕ) → Bool
-is_among text [] = false
-is_among text (first ∷ later) = bytes_eq first text || is_among text later
-
--- whether each text of the first list is in the second
-abbrev pub are_among : List (List ℕ) → List (List ℕ) → Bool
-are_among [] known = true
-are_among (first ∷ later) known = is_among first known && are_among later known
 
 -- 3.1.3.7, 2: the issuer is an expected one, byte for byte
 abbrev pub is_issuer : NamedIssuers → Option (List ℕ) → List ℕ → Bool
@@ -39,63 +16,63 @@ is_issuer (per_tenant before after) None issuer = false
 is_issuer (per_tenant before after) (Some tenant) issuer = bytes_eq issuer (before ++ tenant ++ after)
 
 -- 3.1.3.7, 2: the claim `iss` is an expected issuer, for a token that names this tenant
-abbrev pub issuer_rule : Expectation → Option (List ℕ) → Claims → Verdict
+abbrev pub issuer_rule : Expectation → Option (List ℕ) → Claims → Verdict ClaimsError
 issuer_rule expected tenant claims = rule (is_issuer expected.issuer tenant claims.issuer) errors.OtherIssuer
 
 -- 3.1.3.7, 3: the client is one of the audiences
-abbrev pub audience_rule : Expectation → Claims → Verdict
+abbrev pub audience_rule : Expectation → Claims → Verdict ClaimsError
 audience_rule expected claims = rule (is_among expected.client claims.audience) errors.OtherAudience
 
 -- 3.1.3.7, 3: each audience is the client or one that it trusts
-abbrev pub trust_rule : Expectation → Claims → Verdict
+abbrev pub trust_rule : Expectation → Claims → Verdict ClaimsError
 trust_rule expected claims =
     rule (are_among claims.audience (expected.client ∷ expected.other_audiences)) errors.UntrustedAudience
 
 -- 3.1.3.7, 4 and 5: a token with several audiences has an authorized party, and an authorized party
 -- is one of `parties`
-abbrev pub party_of : List (List ℕ) → List (List ℕ) → Option (List ℕ) → Verdict
+abbrev pub party_of : List (List ℕ) → List (List ℕ) → Option (List ℕ) → Verdict ClaimsError
 party_of parties audience None = rule (nat_le (length audience) 1) errors.NoAuthorizedParty
 party_of parties audience (Some party) = rule (is_among party parties) errors.OtherAuthorizedParty
 
 -- 3.1.3.7, 4 and 5: that rule for the claim `azp`; the parties are the client and those it names
-abbrev pub party_rule : Expectation → Claims → Verdict
+abbrev pub party_rule : Expectation → Claims → Verdict ClaimsError
 party_rule expected claims =
     party_of (expected.client ∷ expected.authorized_parties) claims.audience claims.authorized_party
 
 -- 3.1.3.7, 9: the moment `now` is before the expiry plus the leeway
-abbrev pub expiry_rule : Expectation → ℤ → Claims → Verdict
+abbrev pub expiry_rule : Expectation → ℤ → Claims → Verdict ClaimsError
 expiry_rule expected now claims = rule (int_lt now (claims.expires_at +ℤ pos expected.leeway)) errors.Expired
 
 -- 3.1.3.7, 10: the token was not issued after the moment `now` plus the leeway
-abbrev pub issued_rule : Expectation → ℤ → Claims → Verdict
+abbrev pub issued_rule : Expectation → ℤ → Claims → Verdict ClaimsError
 issued_rule expected now claims = rule (int_le claims.issued_at (now +ℤ pos expected.leeway)) errors.IssuedLater
 
 -- 3.1.3.7, 11, and section 2: the token has a nonce exactly if one was sent, and both have the same
 -- SHA-256 digest
-abbrev pub nonce_of : Option (List ℕ) → Option (List ℕ) → Verdict
+abbrev pub nonce_of : Option (List ℕ) → Option (List ℕ) → Verdict ClaimsError
 nonce_of None None = Ok tt
 nonce_of None (Some told) = Err errors.NonceNotSent
 nonce_of (Some sent) None = Err errors.NoNonce
 nonce_of (Some sent) (Some told) = rule (digest_eq told sent) errors.OtherNonce
 
 -- 3.1.3.7, 11, and section 2: that rule for the nonce that was sent and the claim `nonce`
-abbrev pub nonce_rule : Expectation → Claims → Verdict
+abbrev pub nonce_rule : Expectation → Claims → Verdict ClaimsError
 nonce_rule expected claims = nonce_of expected.nonce claims.nonce
 
 -- 3.1.3.7, 13, and section 2: if a maximum age was sent, the token says when the user logged in,
 -- and the moment `now` is not later than that plus the age and the leeway
-abbrev pub age_of : ℕ → ℤ → Option ℕ → Option ℤ → Verdict
+abbrev pub age_of : ℕ → ℤ → Option ℕ → Option ℤ → Verdict ClaimsError
 age_of leeway now None auth_time = Ok tt
 age_of leeway now (Some greatest_age) None = Err errors.NoAuthTime
 age_of leeway now (Some greatest_age) (Some auth_time) =
     rule (int_le now (auth_time +ℤ pos greatest_age +ℤ pos leeway)) errors.AuthTooOld
 
 -- 3.1.3.7, 13, and section 2: that rule for the `max_age` that was sent and the claim `auth_time`
-abbrev pub age_rule : Expectation → ℤ → Claims → Verdict
+abbrev pub age_rule : Expectation → ℤ → Claims → Verdict ClaimsError
 age_rule expected now claims = age_of expected.leeway now expected.greatest_age claims.auth_time
 
 -- all rules for the claims, in this order: the first broken rule is the error
-abbrev pub claims_checked : Expectation → ℤ → Option (List ℕ) → Claims → Verdict
+abbrev pub claims_checked : Expectation → ℤ → Option (List ℕ) → Claims → Verdict ClaimsError
 claims_checked expected now tenant claims =
     issuer_rule expected tenant claims
     then audience_rule expected claims

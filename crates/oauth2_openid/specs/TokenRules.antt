@@ -12,7 +12,8 @@ use Rattle.oauth2_openid.specs.declared.claims_error.ClaimsError.TheVariants as 
 use Rattle.oauth2_openid.specs.declared.access_token_hash.AccessTokenHash.{AccessTokenHash}
 use Rattle.oauth2_openid.specs.declared.access_token_hash.AccessTokenHash.TheVariants as hash
 use Rattle.oauth2_openid.specs.Claims.{Expectation}
-use Rattle.oauth2_openid.specs.Rules.{Verdict, rule, ◌then◌, is_among, claims_checked, ClaimsHold}
+use Rattle.oauth2_openid.specs.Checks.{Verdict, rule, ◌then◌, is_among}
+use Rattle.oauth2_openid.specs.Rules.{claims_checked, ClaimsHold}
 use Rattle.oauth2_openid.specs.Token.{Header, WithOthers, DecodedToken}
 
 -- whether the algorithm means no signature: it is empty, or `none` in any case of letters
@@ -22,16 +23,16 @@ names_no_signature algorithm =
 
 -- 3.1.3.7, 7, and section 2: the algorithm is the registered one; if the client names none, it is
 -- any that means a signature
-abbrev pub algorithm_of : Option (List ℕ) → List ℕ → Verdict
+abbrev pub algorithm_of : Option (List ℕ) → List ℕ → Verdict ClaimsError
 algorithm_of None algorithm = rule (not (names_no_signature algorithm)) errors.NoSignature
 algorithm_of (Some registered) algorithm = rule (bytes_eq algorithm registered) errors.OtherAlgorithm
 
 -- 3.1.3.7, 7, and section 2: that rule for the expected algorithm and the header's `alg`
-abbrev pub algorithm_rule : Expectation → Header → Verdict
+abbrev pub algorithm_rule : Expectation → Header → Verdict ClaimsError
 algorithm_rule expected header = algorithm_of expected.algorithm header.algorithm
 
 -- RFC 7515, 4.1.11: the header has no `crit`, which names extensions that have to be understood
-abbrev pub critical_rule : WithOthers Header → Verdict
+abbrev pub critical_rule : WithOthers Header → Verdict ClaimsError
 critical_rule header = rule (not (is_some (get (codes "crit") header.others))) errors.CriticalExtension
 
 -- the algorithms whose hash is SHA-256 (RFC 7518, 3.1)

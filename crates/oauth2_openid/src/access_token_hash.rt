@@ -14,7 +14,7 @@ ghost use Rattle.std.specs.Prelude.{
 ghost use Rattle.sha2.specs.Sha256.{sha256};
 ghost use Rattle.sha2.specs.Sha512.{sha384, sha512};
 ghost use Rattle.oauth2_types.specs.Pkce.{base64url};
-ghost use Rattle.oauth2_openid.specs.Rules.{is_among};
+ghost use Rattle.oauth2_openid.specs.Checks.{is_among};
 ghost use Rattle.oauth2_openid.specs.TokenRules.{
   sha256_algorithms,
   sha384_algorithms,

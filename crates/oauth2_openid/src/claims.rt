@@ -16,8 +16,8 @@ ghost use Rattle.oauth2_openid.specs.Rules.{
 
 use crate::claims_error::ClaimsError;
 use crate::expected::Expected;
-use crate::issuer_rule::{are_known, is_among, is_known};
 use crate::nonce::Nonce;
+use crate::texts::{are_known, is_among, is_known};
 use jiff::Timestamp;
 use oauth2_times::nanosecond_after;
 use std::marker::Model;

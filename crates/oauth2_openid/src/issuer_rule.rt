@@ -5,16 +5,15 @@ ghost use Rattle.std.specs.Prelude.{
   ◌≢◌,
   ℕ,
   List,
-  ◌∷◌,
   ◌++◌,
   MatchOption,
   bytes_eq,
-  map,
   option_copied,
-  string_bytes,
 };
 ghost use Rattle.oauth2_openid.specs.Issuers.{named_issuers};
-ghost use Rattle.oauth2_openid.specs.Rules.{are_among, is_among, is_issuer};
+ghost use Rattle.oauth2_openid.specs.Rules.{is_issuer};
+
+use crate::texts::is_among;
 
 /// The issuers that a client expects. Texts are compared byte for byte.
 #[derive(Debug, Drop)]
@@ -68,36 +67,4 @@ fn is_joined(text: &str, first: &str, second: &str, third: &str) -> bool
         },
         None => false,
     }
-}
-
-/// Whether a text is one of these.
-pub(crate) fn is_among(texts: &[String], text: &str) -> bool
-    ensures { result ≡ is_among text.now (map string_bytes texts.now) }
-{
-    for each in texts {
-        if each.as_str() == text {
-            return true;
-        }
-    }
-    false
-}
-
-// Whether a text is the first, or one of the others.
-pub(crate) fn is_known(text: &str, first: &str, others: &[String]) -> bool
-    ensures { result ≡ is_among text.now (first.now ∷ map string_bytes others.now) }
-{
-    first == text || is_among(others, text)
-}
-
-// Whether each of the texts is the first, or one of the others.
-pub(crate) fn are_known(texts: &[String], first: &str, others: &[String]) -> bool
-    ensures { result ≡ are_among (map string_bytes texts.now)
-        (first.now ∷ map string_bytes others.now) }
-{
-    for each in texts {
-        if !is_known(each.as_str(), first, others) {
-            return false;
-        }
-    }
-    true
 }

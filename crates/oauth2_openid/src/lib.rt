@@ -18,6 +18,7 @@ mod law;
 mod nonce;
 mod numeric_date;
 mod read_error;
+pub mod texts;
 mod unneeded;
 
 pub use access_token_hash::AccessTokenHash;

@@ -1,6 +1,6 @@
 -- The errors of an ID token, as errors of the front channel.
 use Rattle.std.specs.Prelude.{Ok, Err}
-use Rattle.oauth2_openid.specs.Rules.{Verdict}
+use Rattle.oauth2_openid.specs.Checks.{Verdict}
 use Rattle.oauth2_openid.specs.declared.claims_error.ClaimsError.{ClaimsError}
 use Rattle.oauth2_openid.specs.declared.claims_error.ClaimsError.TheVariants as errors
 use Rattle.oauth2_openid.specs.declared.read_error.IdTokenReadError.{IdTokenReadError}
@@ -16,6 +16,6 @@ unread_as (read.Fault part fault) = Read (read.Fault part fault)
 unread_as read.Memory = Memory
 
 -- the outcome of the rules without the one for the access token, by the first broken rule
-abbrev pub unless_hash : ClaimsError → Verdict
+abbrev pub unless_hash : ClaimsError → Verdict ClaimsError
 unless_hash errors.OtherAccessToken = Ok tt
 unless_hash error = Err error

@@ -1,5 +1,5 @@
 use Rattle.std.proofs.Common.{◌≡◌, drop}
-use Rattle.oauth2_openid.specs.Rules.{is_among}
+use Rattle.oauth2_openid.specs.Checks.{is_among}
 use Rattle.oauth2_jwt_access_tokens.proofs.access_token.is_scope_among.Given as goal
 
 abbrev pub invariant-loop-each : goal.invariant-loop-each
