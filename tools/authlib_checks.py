@@ -115,6 +115,8 @@ CLASSES = [
     Class('empty and expected', '3.1.3.7, 2, 3', 'Authlib refuses an empty issuer or audience, though it is the expected one',
           is_empty_but_expected),
     Class('hash of another algorithm', '3.1.3.8', 'Authlib cuts the name of a digest from that of any algorithm', is_unknown_hash),
+    Class('hash by EdDSA', '3.1.3.6', 'Authlib knows no hash of EdDSA, so it compares none',
+          lambda it: said('the hash is that of another access token')(it) and it.header['alg'] == 'EdDSA'),
     Class('nbf', 'RFC 7519, 4.1.5', 'Authlib judges nbf, which OpenID Connect Core 1.0 does not have in an ID token',
           lambda it: it.ours is None and 'nbf' in it.claims and (it.theirs in refused_for('nbf') or it.theirs.startswith('invalid_token')))]
 

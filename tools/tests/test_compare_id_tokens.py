@@ -88,7 +88,8 @@ BUGS = [('not LETTERS.issuperset(text) or', ''), ('or len(text) % 4 == 1', ''), 
         ("'at_hash' not in claims", "not claims.get('at_hash')"), ('[:hashed.digest_size // 2]', ''),
         ('digest()[:hashed.digest_size // 2]', 'digest()[hashed.digest_size // 2:]'),
         ('digest()[:hashed.digest_size // 2]', 'digest()[:16]'), ("!= claims['at_hash']", "!= claims['at_hash'].rstrip('=')"),
-        ("hashlib.new('sha' + size)", 'hashlib.sha256()'), ("header['alg'] not in HASHES", "header['alg'].upper() not in HASHES"),
+        ("hashlib.new('sha' + size)", 'hashlib.sha256()'), ('= hashlib.sha512()', '= hashlib.sha256()'),
+        ("header['alg'] not in HASHES", "header['alg'].upper() not in HASHES"),
         ("HASHES[header['alg']].copy()", "HASHES['RS256'].copy()"), ("('HS', 'RS', 'ES', 'PS')", "('HS', 'RS', 'ES')"),
         ('access_token.encode()', "access_token.encode('latin-1', 'replace')"),
         ("return 'not_checked'", "raise Fault('the hash is that of another access token')"),
@@ -168,8 +169,9 @@ class IdTokens(unittest.TestCase):
     def test_the_hash_of_appendix_a_3(self):
         claims = CLAIMS[:-1] + ',"at_hash":"77QmUPtjPfzWtF2AnpK9RQ"}'
         self.assertIn('"matches"', self.read(claims=claims)[0])
-        self.assertIn('"not_checked"', self.read('{"alg":"EdDSA"}', claims)[0])
-        self.assertIn('another access token', self.read('{"alg":"RS512"}', claims)[0])
+        self.assertIn('"not_checked"', self.read('{"alg":"ES256K"}', claims)[0])
+        for algorithm in 'RS512', 'EdDSA':
+            self.assertIn('another access token', self.read('{"alg":"%s"}' % algorithm, claims)[0])
 
     def compared(self, told, number):
         """How many tokens differ, and what was printed."""
@@ -214,7 +216,14 @@ class IdTokens(unittest.TestCase):
             differences, said = self.beside_authlib(authlib_checks.verdicts, 3000)
         self.assertEqual(differences, 0)
         for it in authlib_checks.CLASSES:
-            self.assertTrue(it.name in ('nbf', 'auth_time 0') or any('  %s (%s): ' % (it.name, it.section) in line for line in said), it.name)
+            is_rare = it.name in ('nbf', 'auth_time 0', 'hash by EdDSA')
+            self.assertTrue(is_rare or any('  %s (%s): ' % (it.name, it.section) in line for line in said), it.name)
+
+    def test_a_hash_by_eddsa_beside_authlib(self):
+        params, fault = {'access_token': 't', 'issuer': 'i'}, 'the hash is that of another access token'
+        for algorithm, name in ('EdDSA', 'hash by EdDSA'), ('RS512', None):
+            found = authlib_checks.class_of(authlib_checks.Judged('c', params, 0, {'alg': algorithm}, {'at_hash': 'x'}, fault, None))
+            self.assertEqual(found and found.name, name)
 
     def test_each_end_is_met_often(self):
         tokens = TOOL.Tokens(1)

@@ -30,7 +30,11 @@ fn has_sha384(algorithm: &str) -> bool
 fn has_sha512(algorithm: &str) -> bool
     ensures { result ≡ is_among algorithm.now sha512_algorithms }
 {
-    "RS512" == algorithm || "ES512" == algorithm || "PS512" == algorithm || "HS512" == algorithm
+    "RS512" == algorithm
+        || "ES512" == algorithm
+        || "PS512" == algorithm
+        || "HS512" == algorithm
+        || "EdDSA" == algorithm
 }
 
 // Whether `told` is these bytes in base64url.

@@ -36,8 +36,8 @@ pub enum AccessTokenHash {
     Absent,
     /// It is the hash of that access token.
     Matches,
-    /// It was not compared: the ID token's algorithm is none of the twelve of RFC 7518, 3.1, that
-    /// have a hash.
+    /// It was not compared: the ID token's algorithm is neither one of the twelve of RFC 7518, 3.1,
+    /// that have a hash, nor `EdDSA`.
     NotChecked,
 }
 
@@ -56,7 +56,11 @@ fn has_sha384(algorithm: &str) -> bool
 fn has_sha512(algorithm: &str) -> bool
     ensures { result ≡ is_among algorithm.now sha512_algorithms }
 {
-    "RS512" == algorithm || "ES512" == algorithm || "PS512" == algorithm || "HS512" == algorithm
+    "RS512" == algorithm
+        || "ES512" == algorithm
+        || "PS512" == algorithm
+        || "HS512" == algorithm
+        || "EdDSA" == algorithm
 }
 
 // Whether `told` is these bytes in base64url.

@@ -160,7 +160,7 @@ fn names_the_rule_that_the_claims_break(rt: HostRuntime) {
 }
 
 // The header, the members that are added, and what the check returns.
-const HEADERS: [(&str, &str, &str); 24] = [
+const HEADERS: [(&str, &str, &str); 26] = [
     (r#"{"alg":"none"}"#, "", "NoSignature"),
     (r#"{"alg":"none"}"#, r#","iss":"x""#, "NoSignature"),
     (r#"{"alg":"None"}"#, "", "NoSignature"),
@@ -245,6 +245,16 @@ const HEADERS: [(&str, &str, &str); 24] = [
     ),
     (
         r#"{"alg":"EdDSA"}"#,
+        r#","at_hash":"q7nS86GgvvFaZkzALLWqJYaJIKw2wCDAVfCAsm5CrBM""#,
+        "Matches",
+    ),
+    (
+        r#"{"alg":"EdDSA"}"#,
+        r#","at_hash":"77QmUPtjPfzWtF2AnpK9RQ""#,
+        "OtherAccessToken",
+    ),
+    (
+        r#"{"alg":"ES256K"}"#,
         r#","at_hash":"77QmUPtjPfzWtF2AnpK9RQ""#,
         "NotChecked",
     ),
