@@ -64,7 +64,7 @@ def tries_of(name):
     if name == 'check_access_token':
         keys = {'keys': [{'kty': 'RSA', 'n': encoded((P * Q).to_bytes(SIZE, 'big')), 'e': 'AQAB'}]}
         tokens = {access_token(CLAIMS): 'may read: true\n', access_token(dict(CLAIMS, scope='write')): 'may read: false\n',
-                  access_token(CLAIMS, 1): 'refused: the signature is not one by the key\n'}
+                  access_token(CLAIMS, 1): 'refused: the signature is wrong\n'}
         return Tries({'keys.json': json.dumps(keys)}, [(token + '\n', printed) for token, printed in tokens.items()])
     return Tries({}, [('', '(?s).*')])
 

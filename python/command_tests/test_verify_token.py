@@ -64,7 +64,7 @@ class Tests(stand_in.Case):
 
     def test_a_token_of_another_key(self):
         params = {'access_token': self.token(), 'issuer': self.issuer, 'audience': 'api', 'leeway': 60}
-        fault = {'kind': 'bad_access_token', 'text': 'no key is for the token'}
+        fault = {'kind': 'bad_access_token', 'text': 'no key of the set is for the token'}
         said = access_tokens.advice_of(fault, params, int(time.time()))
         self.assertIn('are the keys those of this issuer?', said)
 

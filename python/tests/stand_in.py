@@ -274,7 +274,7 @@ class Stand:
             if not holds:
                 fault('bad_access_token', why)
         if not [it for it in self.params['keys']['keys'] if it['kid'] == header['kid']]:
-            fault('bad_access_token', 'no key is for the token')
+            fault('bad_access_token', 'no key of the set is for the token')
         names = ('iss', 'sub', 'exp', 'iat', 'client_id', 'scope', 'jti')
         end(0, 'answer', answer={'active': True, 'aud': [claims['aud']], **{it: claims[it] for it in names}})
 

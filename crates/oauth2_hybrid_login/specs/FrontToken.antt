@@ -75,7 +75,7 @@ front_token_error_text (Claims error) = codes "ID token: " ++ claims_error_text 
 front_token_error_text NoCodeHash = codes "ID token: no hash of the code"
 front_token_error_text OtherCode = codes "ID token: the hash is that of another code"
 front_token_error_text (Signature error) = codes "ID token: " ++ signature_error_text error
-front_token_error_text Memory = codes "Out of memory"
+front_token_error_text Memory = codes "out of memory"
 
 -- 3.3.3.6: the claims `iss` and `sub` are identical in both tokens
 abbrev pub IsSameUser : DecodedToken → DecodedToken → Type 0

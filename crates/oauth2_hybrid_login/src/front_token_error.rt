@@ -40,7 +40,7 @@ impl fmt::Display for FrontTokenError {
             FrontTokenError::Signature(error) => {
                 write_display(f, format_args!("ID token: {error}"))
             }
-            FrontTokenError::Memory => f.write_str("Out of memory"),
+            FrontTokenError::Memory => f.write_str("out of memory"),
         }
     }
 }

@@ -1,18 +1,8 @@
 -- The texts that `Display` writes for the faults.
 use Rattle.std.specs.Prelude.{ℕ, List, codes}
-use Rattle.oauth2_keys.specs.declared.signature_error.SignatureError.{SignatureError}
-use Rattle.oauth2_keys.specs.declared.signature_error.SignatureError.TheVariants as signature
+use Rattle.oauth2_keys.specs.ErrorTexts.{signature_error_text}
 use Rattle.oauth2_jwt_access_tokens.specs.declared.fault.AccessTokenFault.{AccessTokenFault}
 use Rattle.oauth2_jwt_access_tokens.specs.declared.fault.AccessTokenFault.TheVariants as fault
-
--- the text for each reason why a signature is refused
-abbrev pub signature_error_text : SignatureError → List ℕ
-signature_error_text signature.OtherAlgorithm = codes "the algorithm is not the registered one"
-signature_error_text signature.NoKey = codes "no key is for the token"
-signature_error_text signature.AmbiguousKey = codes "several keys are for the token"
-signature_error_text (signature.UnusableKey error) = codes "the key that the token names is of no use"
-signature_error_text signature.ShortSecret = codes "the secret is too short"
-signature_error_text signature.WrongSignature = codes "the signature is not one by the key"
 
 -- the text for each rule that an access token can break
 abbrev pub access_token_fault_text : AccessTokenFault → List ℕ

@@ -1,12 +1,10 @@
 //! Why a JWT access token is refused.
 
-ghost use Rattle.std.specs.Prelude.{◌≡◌, Some};
-ghost use Rattle.oauth2_jwt_access_tokens.specs.ErrorTexts.{
-  access_token_fault_text,
-  signature_error_text,
-};
+ghost use Rattle.std.specs.Prelude.{Some};
+ghost use Rattle.oauth2_jwt_access_tokens.specs.ErrorTexts.{access_token_fault_text};
 
 use oauth2_keys::SignatureError;
+use oauth2_types::display::write_display;
 use std::fmt;
 
 /// The first rule for a JWT access token that does not hold. The rules are tried in the order of
@@ -35,45 +33,28 @@ pub enum AccessTokenFault {
     Signature(SignatureError),
 }
 
-fn signature_error_text(error: SignatureError) -> &'static str
-    ensures { result.now ≡ signature_error_text error }
-{
-    match error {
-        SignatureError::OtherAlgorithm => "the algorithm is not the registered one",
-        SignatureError::NoKey => "no key is for the token",
-        SignatureError::AmbiguousKey => "several keys are for the token",
-        SignatureError::UnusableKey(_) => "the key that the token names is of no use",
-        SignatureError::ShortSecret => "the secret is too short",
-        SignatureError::WrongSignature => "the signature is not one by the key",
-    }
-}
-
-impl AccessTokenFault {
-    fn text(self) -> &'static str
-        ensures { result.now ≡ access_token_fault_text self }
-    {
-        match self {
-            AccessTokenFault::OtherType => "the type is not that of an access token",
-            AccessTokenFault::OtherAlgorithm => "the algorithm is not the registered one",
-            AccessTokenFault::CriticalExtension => {
-                "the header has an extension that has to be understood"
-            }
-            AccessTokenFault::OtherIssuer => "the issuer is another one",
-            AccessTokenFault::OtherAudience => "the resource server is not in the audience",
-            AccessTokenFault::Expired => "the token has expired",
-            AccessTokenFault::NotYetValid => "the token is not valid yet",
-            AccessTokenFault::Signature(error) => signature_error_text(error),
-        }
-    }
-}
-
 impl fmt::Display for AccessTokenFault {
     ghost output = { λ fault. Some (access_token_fault_text fault) };
 
     ghost styled_output = { λ fault _. Some (access_token_fault_text fault) };
 
     fn fmt<W: fmt::Write>(&self, f: &mut fmt::Formatter<W>) -> fmt::Result {
-        f.write_str(self.text())
+        match self {
+            AccessTokenFault::OtherType => f.write_str("the type is not that of an access token"),
+            AccessTokenFault::OtherAlgorithm => f.write_str(
+                "the algorithm is not the registered one",
+            ),
+            AccessTokenFault::CriticalExtension => f.write_str(
+                "the header has an extension that has to be understood",
+            ),
+            AccessTokenFault::OtherIssuer => f.write_str("the issuer is another one"),
+            AccessTokenFault::OtherAudience => f.write_str(
+                "the resource server is not in the audience",
+            ),
+            AccessTokenFault::Expired => f.write_str("the token has expired"),
+            AccessTokenFault::NotYetValid => f.write_str("the token is not valid yet"),
+            AccessTokenFault::Signature(error) => write_display(f, error),
+        }
     }
 }
 

@@ -1,12 +1,10 @@
 //! Why a logout token is refused.
 
-ghost use Rattle.std.specs.Prelude.{◌≡◌, Some};
-ghost use Rattle.oauth2_logout_tokens.specs.ErrorTexts.{
-  logout_token_fault_text,
-  signature_error_text,
-};
+ghost use Rattle.std.specs.Prelude.{Some};
+ghost use Rattle.oauth2_logout_tokens.specs.ErrorTexts.{logout_token_fault_text};
 
 use oauth2_keys::SignatureError;
+use oauth2_types::display::write_display;
 use std::fmt;
 
 /// The first rule for a logout token that does not hold. The rules are tried in the order of these
@@ -44,49 +42,32 @@ pub enum LogoutTokenFault {
     Signature(SignatureError),
 }
 
-fn signature_error_text(error: SignatureError) -> &'static str
-    ensures { result.now ≡ signature_error_text error }
-{
-    match error {
-        SignatureError::OtherAlgorithm => "the algorithm is not the registered one",
-        SignatureError::NoKey => "no key is for the token",
-        SignatureError::AmbiguousKey => "several keys are for the token",
-        SignatureError::UnusableKey(_) => "the key that the token names is of no use",
-        SignatureError::ShortSecret => "the secret is too short",
-        SignatureError::WrongSignature => "the signature is not one by the key",
-    }
-}
-
-impl LogoutTokenFault {
-    fn text(self) -> &'static str
-        ensures { result.now ≡ logout_token_fault_text self }
-    {
-        match self {
-            LogoutTokenFault::OtherType => "the type is not that of a logout token",
-            LogoutTokenFault::OtherAlgorithm => "the algorithm is not the registered one",
-            LogoutTokenFault::CriticalExtension => {
-                "the header has an extension that has to be understood"
-            }
-            LogoutTokenFault::OtherIssuer => "the issuer is another one",
-            LogoutTokenFault::OtherAudience => "the client is not in the audience",
-            LogoutTokenFault::UntrustedAudience => "an audience is not trusted",
-            LogoutTokenFault::Expired => "the token has expired",
-            LogoutTokenFault::IssuedLater => "the token was issued in the future",
-            LogoutTokenFault::NoSession => "the token names neither a user nor a session",
-            LogoutTokenFault::NoLogoutEvent => "the token has no logout event",
-            LogoutTokenFault::HasNonce => "the token has a nonce",
-            LogoutTokenFault::Signature(error) => signature_error_text(error),
-        }
-    }
-}
-
 impl fmt::Display for LogoutTokenFault {
     ghost output = { λ fault. Some (logout_token_fault_text fault) };
 
     ghost styled_output = { λ fault _. Some (logout_token_fault_text fault) };
 
     fn fmt<W: fmt::Write>(&self, f: &mut fmt::Formatter<W>) -> fmt::Result {
-        f.write_str(self.text())
+        match self {
+            LogoutTokenFault::OtherType => f.write_str("the type is not that of a logout token"),
+            LogoutTokenFault::OtherAlgorithm => f.write_str(
+                "the algorithm is not the registered one",
+            ),
+            LogoutTokenFault::CriticalExtension => f.write_str(
+                "the header has an extension that has to be understood",
+            ),
+            LogoutTokenFault::OtherIssuer => f.write_str("the issuer is another one"),
+            LogoutTokenFault::OtherAudience => f.write_str("the client is not in the audience"),
+            LogoutTokenFault::UntrustedAudience => f.write_str("an audience is not trusted"),
+            LogoutTokenFault::Expired => f.write_str("the token has expired"),
+            LogoutTokenFault::IssuedLater => f.write_str("the token was issued in the future"),
+            LogoutTokenFault::NoSession => f.write_str(
+                "the token names neither a user nor a session",
+            ),
+            LogoutTokenFault::NoLogoutEvent => f.write_str("the token has no logout event"),
+            LogoutTokenFault::HasNonce => f.write_str("the token has a nonce"),
+            LogoutTokenFault::Signature(error) => write_display(f, error),
+        }
     }
 }
 

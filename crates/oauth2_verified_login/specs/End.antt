@@ -23,7 +23,7 @@ use Rattle.oauth2_verified_login.specs.declared.login_error.VerifiedLoginError.{
 use Rattle.oauth2_verified_login.specs.declared.login_error.VerifiedLoginError.TheVariants.{Login, Signature}
 use Rattle.oauth2_verified_login.specs.Provider.{Verifying}
 use Rattle.oauth2_verified_login.specs.Signature.{IsSigned, IsSignatureRefusal}
-use Rattle.oauth2_verified_login.specs.Unverified.{Unverified, signature_error_text}
+use Rattle.oauth2_verified_login.specs.Unverified.{Unverified, unverified_text}
 
 module _ {D RE T : Type 0} where
   -- the result of the login without the check of its signature
@@ -35,7 +35,7 @@ module _ {D RE T : Type 0} where
   -- the text that `Display` writes of an error, where `text` is that of the server's error
   abbrev pub verified_login_error_text : (T → Option (List ℕ)) → VerifiedLoginError D RE T → Option (List ℕ)
   verified_login_error_text text (Login error) = openid_login_error_text text error
-  verified_login_error_text text (Signature unverified) = Some (signature_error_text unverified.error)
+  verified_login_error_text text (Signature unverified) = Some (unverified_text unverified.error)
 
   -- the debug text of an error, which hides what it holds
   abbrev pub verified_login_error_debug : VerifiedLoginError D RE T → List ℕ

@@ -1,8 +1,8 @@
 -- The end of a login, before and after its signature is checked.
-use Rattle.std.specs.Prelude.{◌≡◌, ℕ, List, codes, Result, Ok, Err}
+use Rattle.std.specs.Prelude.{◌≡◌, ℕ, List, ◌++◌, codes, Result, Ok, Err}
 use Rattle.oauth2_openid.specs.Seen.{token_of}
 use Rattle.oauth2_keys.specs.declared.signature_error.SignatureError.{SignatureError}
-use Rattle.oauth2_keys.specs.declared.signature_error.SignatureError.TheVariants as errors
+use Rattle.oauth2_keys.specs.ErrorTexts.{signature_error_text}
 use Rattle.oauth2_openid_login.specs.declared.login_end.OpenIdLoginEnd.{OpenIdLoginEnd}
 use Rattle.oauth2_verified_login.specs.Signature.{Check, IsSigned, IsSignatureRefusal}
 
@@ -19,11 +19,6 @@ module _ {D : Type 0} where
   Verifies check end (Err unverified) =
       (unverified.end ≡ end) × IsSignatureRefusal check (token_of end.id_token) unverified.error
 
--- the text of the error of a signature
-abbrev pub signature_error_text : SignatureError → List ℕ
-signature_error_text errors.OtherAlgorithm = codes "ID token: the algorithm is not the registered one"
-signature_error_text errors.NoKey = codes "ID token: no key is for it"
-signature_error_text errors.AmbiguousKey = codes "ID token: several keys are for it"
-signature_error_text (errors.UnusableKey fault) = codes "ID token: its key is of no use"
-signature_error_text errors.ShortSecret = codes "ID token: the client's secret is too short"
-signature_error_text errors.WrongSignature = codes "ID token: the signature is wrong"
+-- the text for a login whose ID token has a refused signature: why it is refused
+abbrev pub unverified_text : SignatureError → List ℕ
+unverified_text error = codes "ID token: " ++ signature_error_text error

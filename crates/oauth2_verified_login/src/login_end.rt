@@ -3,12 +3,13 @@
 ghost use Rattle.std.specs.Fmt.{DisplaysOnOk, WritesStyledOnOk};
 ghost use Rattle.std.specs.Prelude.{◌≡◌, Some, codes};
 ghost use Rattle.oauth2_verified_login.specs.Signature.{check_of};
-ghost use Rattle.oauth2_verified_login.specs.Unverified.{Verifies, signature_error_text};
+ghost use Rattle.oauth2_verified_login.specs.Unverified.{Verifies, unverified_text};
 
 use crate::signature_check::SignatureCheck;
 use oauth2_keys::SignatureError;
 use oauth2_openid::{AccessTokenHash, IdToken};
 use oauth2_openid_login::OpenIdLoginEnd;
+use oauth2_types::display::write_display;
 use std::fmt;
 use std::marker::Model;
 
@@ -142,27 +143,14 @@ pub(crate) fn verify_end<TR>(
     }
 }
 
-// The text of the error of a signature.
-fn error_text(error: SignatureError) -> &'static str
-    ensures { result.now ≡ signature_error_text error }
-{
-    match error {
-        SignatureError::OtherAlgorithm => "ID token: the algorithm is not the registered one",
-        SignatureError::NoKey => "ID token: no key is for it",
-        SignatureError::AmbiguousKey => "ID token: several keys are for it",
-        SignatureError::UnusableKey(_) => "ID token: its key is of no use",
-        SignatureError::ShortSecret => "ID token: the client's secret is too short",
-        SignatureError::WrongSignature => "ID token: the signature is wrong",
-    }
-}
-
 impl<TR> fmt::Display for UnverifiedLogin<TR> {
-    ghost output = { λ unverified. Some (signature_error_text unverified.error) };
+    ghost output = { λ unverified. Some (unverified_text unverified.error) };
 
-    ghost styled_output = { λ unverified _. Some (signature_error_text unverified.error) };
+    ghost styled_output = { λ unverified _. Some (unverified_text unverified.error) };
 
     fn fmt<W: fmt::Write>(&self, f: &mut fmt::Formatter<W>) -> fmt::Result {
-        f.write_str(error_text(self.error))
+        let error = &self.error;
+        write_display(f, format_args!("ID token: {error}"))
     }
 }
 
