@@ -8,7 +8,7 @@ use Rattle.oauth2_keys.specs.declared.algorithm.SignatureAlgorithm.{SignatureAlg
 use Rattle.oauth2_keys.specs.declared.json_web_key.ListedKey.{ListedKey}
 use Rattle.oauth2_jwt_access_tokens.specs.AccessToken.{AccessToken, access_token_reading}
 use Rattle.oauth2_jwt_access_tokens.specs.ErrorTexts.{access_token_fault_text}
-use Rattle.oauth2_jwt_access_tokens.specs.Introspected.{introspected}
+use Rattle.oauth2_jwt_access_tokens.specs.Introspection.{introspection_of}
 use Rattle.oauth2_jwt_access_tokens.specs.Rules.{Expectation, AccessTokenHolds, IsFirstFault}
 use Rattle.oauth2_jwt_access_tokens.specs.declared.fault.AccessTokenFault.{AccessTokenFault}
 use Rattle.oauth2_world.specs.Clock.{Clock, reading_of}
@@ -27,7 +27,7 @@ access_token_expectation p algorithm =
 -- a token (RFC 7662, 2.2); else the first rule that does not hold (RFC 9068, 4)
 abbrev pub IsJudgedOutput : Expectation → List ListedKey → ℤ → AccessToken → Output → Type 0
 IsJudgedOutput expected keys now token o =
-    (AccessTokenHolds expected keys now token × (o ≡ success_output (introspection_json (introspected token tt))))
+    (AccessTokenHolds expected keys now token × (o ≡ success_output (introspection_json (introspection_of token tt))))
     ⊎ ((fault : AccessTokenFault) × IsFirstFault expected keys now token fault × (o ≡ failure_output BadAccessToken (access_token_fault_text fault)))
 
 -- the output of a token for a resource server that has these keys: why they are no key set, or

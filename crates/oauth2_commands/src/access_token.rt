@@ -3,7 +3,7 @@
 ghost use Rattle.std.specs.Prelude.{IfOk, string_bytes};
 ghost use Rattle.oauth2_commands.specs.AccessToken as spec;
 ghost use Rattle.oauth2_commands.specs.IdToken.{signature_algorithm};
-ghost use Rattle.oauth2_jwt_access_tokens.specs.Introspected.{introspected};
+ghost use Rattle.oauth2_jwt_access_tokens.specs.Introspection.{introspection_of};
 ghost use Rattle.oauth2_jwt_access_tokens.specs.Seen.{access_token_of, verified_token_of};
 ghost use Rattle.oauth2_keys.specs.KeySet.{set_reading};
 ghost use Rattle.oauth2_request_commands.specs.Introspect.{introspection_json};
@@ -29,7 +29,7 @@ fn show_introspection(
     token: &VerifiedAccessToken,
 ) -> Result<RunStatus, AllocError>
     ensures { IfOk result (λ status. AddsOutput events.old events.new
-        status (success_output (introspection_json (introspected (verified_token_of token.now)
+        status (success_output (introspection_json (introspection_of (verified_token_of token.now)
         tt)))) }
 {
     let response: BasicTokenIntrospectionResponse = token.introspection(

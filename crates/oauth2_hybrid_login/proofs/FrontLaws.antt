@@ -20,7 +20,7 @@ use Rattle.oauth2_openid.proofs.TokenRuleLaws.{succeeds}
 use Rattle.oauth2_verified_login.specs.Signature.{Check}
 use Rattle.oauth2_hybrid_login.specs.declared.front_token_error.FrontTokenError.{FrontTokenError}
 use Rattle.oauth2_hybrid_login.specs.declared.front_token_error.FrontTokenError.TheVariants.{Read, Claims, NoCodeHash, OtherCode, Signature, Memory}
-use Rattle.oauth2_hybrid_login.specs.CodeHash.{code_hash_told, is_code_hash}
+use Rattle.oauth2_hybrid_login.specs.CodeHash.{code_hash_of, is_code_hash}
 use Rattle.oauth2_hybrid_login.specs.FrontToken.{front_rules, IsFrontRefusal, JudgesFrontToken}
 use Rattle.oauth2_hybrid_login.specs.private.Unread.{unless_hash, unread_as}
 
@@ -172,8 +172,8 @@ module _ (expected : Expectation) (now : ℤ) (token : DecodedToken) (met : fron
 -- ---- the result for a text
 
 -- a hash that was found and compared
-pub found_hash : (token : DecodedToken) (code told algorithm bytes : List ℕ) → Some told ≡ code_hash_told token → algorithm ≡ token.header.own.algorithm → bytes ≡ code
-    → is_code_hash algorithm bytes told ≡ true → IsSomeAnd (code_hash_told token) (λ hash. IsTrue (is_code_hash token.header.own.algorithm code hash))
+pub found_hash : (token : DecodedToken) (code told algorithm bytes : List ℕ) → Some told ≡ code_hash_of token → algorithm ≡ token.header.own.algorithm → bytes ≡ code
+    → is_code_hash algorithm bytes told ≡ true → IsSomeAnd (code_hash_of token) (λ hash. IsTrue (is_code_hash token.header.own.algorithm code hash))
 found_hash token code told algorithm bytes found named read is =
     let here : is_code_hash token.header.own.algorithm code told ≡ true =
     ap (λ (a : List ℕ). is_code_hash a code told) (sym named) ∙ ap (λ (b : List ℕ). is_code_hash algorithm b told) (sym read) ∙ is in

@@ -7,8 +7,8 @@ use Rattle.oauth2_openid.specs.Token.{DecodedToken}
 use Rattle.oauth2_openid.specs.TokenRules.{half_digest}
 
 -- 3.3.2.11: the claim `c_hash`, if the token has it and it is a text
-abbrev pub code_hash_told : DecodedToken → Option (List ℕ)
-code_hash_told token = option_and_then as_str (get (codes "c_hash") token.claims.others)
+abbrev pub code_hash_of : DecodedToken → Option (List ℕ)
+code_hash_of token = option_and_then as_str (get (codes "c_hash") token.claims.others)
 
 -- whether the text is that half of a digest in base64url; without a half it is not
 abbrev pub encodes_half : List ℕ → Option (List ℕ) → Bool

@@ -16,7 +16,7 @@ use Rattle.oauth2_openid_login.specs.End.{fault_told}
 use Rattle.oauth2_verified_login.specs.Signature.{Check, IsSigned, IsSignatureRefusal}
 use Rattle.oauth2_hybrid_login.specs.declared.front_token_error.FrontTokenError.{FrontTokenError}
 use Rattle.oauth2_hybrid_login.specs.declared.front_token_error.FrontTokenError.TheVariants.{Read, Claims, NoCodeHash, OtherCode, Signature, Memory}
-use Rattle.oauth2_hybrid_login.specs.CodeHash.{code_hash_told, is_code_hash}
+use Rattle.oauth2_hybrid_login.specs.CodeHash.{code_hash_of, is_code_hash}
 
 -- 3.3.2.12: the rules of 3.1.3.7 for a token that came without an access token, in this order: the
 -- first broken rule is the error
@@ -33,7 +33,7 @@ pub record FrontHolds (expected : Expectation) (code : List ℕ) (now : ℤ) (to
   pub algorithm : IsAlgorithm expected.algorithm token.header.own.algorithm
   pub no_extension : get (codes "crit") token.header.others ≡ None
   pub claims : ClaimsHold expected now (tenant_of token.claims.others) token.claims.own
-  pub code_hash : IsSomeAnd (code_hash_told token) (λ told. IsTrue (is_code_hash token.header.own.algorithm code told))
+  pub code_hash : IsSomeAnd (code_hash_of token) (λ told. IsTrue (is_code_hash token.header.own.algorithm code told))
 
 -- the error says what is wrong first with a token that was read: a rule of 3.1.3.7, its `c_hash`,
 -- or its signature
@@ -41,10 +41,10 @@ abbrev pub IsFrontRefusal : Expectation → Check → List ℕ → ℤ → Decod
 IsFrontRefusal expected check code now token (Read error) = ⊥
 IsFrontRefusal expected check code now token (Claims error) = front_rules expected now token ≡ Err error
 IsFrontRefusal expected check code now token NoCodeHash =
-    (front_rules expected now token ≡ Ok tt) × (code_hash_told token ≡ None)
+    (front_rules expected now token ≡ Ok tt) × (code_hash_of token ≡ None)
 IsFrontRefusal expected check code now token OtherCode =
     (front_rules expected now token ≡ Ok tt)
-    × IsSomeAnd (code_hash_told token) (λ told. is_code_hash token.header.own.algorithm code told ≡ false)
+    × IsSomeAnd (code_hash_of token) (λ told. is_code_hash token.header.own.algorithm code told ≡ false)
 IsFrontRefusal expected check code now token (Signature error) =
     FrontHolds expected code now token × IsSignatureRefusal check token error
 IsFrontRefusal expected check code now token Memory = ⊥

@@ -5,7 +5,7 @@ ghost use Rattle.std.specs.Prelude.{◌≡◌, ◌↔◌, ℤ, IsTrue, Ok, optio
 ghost use Rattle.oauth2_openid.specs.Claims.{Expectation};
 ghost use Rattle.oauth2_openid.specs.Seen.{token_of};
 ghost use Rattle.oauth2_verified_login.specs.Signature.{check_of};
-ghost use Rattle.oauth2_hybrid_login.specs.CodeHash.{code_hash_told};
+ghost use Rattle.oauth2_hybrid_login.specs.CodeHash.{code_hash_of};
 ghost use Rattle.oauth2_hybrid_login.specs.FrontToken.{
   ChecksFrontToken,
   IsSameUser,
@@ -131,7 +131,7 @@ fn without_hash_error(error: ClaimsError) -> Result<(), ClaimsError>
 
 // The claim `c_hash`, if the token has it and it is a text.
 fn code_hash(token: &IdToken) -> Option<&str>
-    ensures { option_copied result ≡ code_hash_told (token_of token.now) }
+    ensures { option_copied result ≡ code_hash_of (token_of token.now) }
 {
     token.other_claims().get("c_hash").and_then(Value::as_str)
 }

@@ -1,5 +1,5 @@
 pub mod AccessToken
 pub mod Seen
 pub mod Rules
-pub mod Introspected
+pub mod Introspection
 pub mod ErrorTexts

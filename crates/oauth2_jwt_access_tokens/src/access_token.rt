@@ -16,7 +16,7 @@ ghost use Rattle.oauth2_openid.specs.Checks.{is_among};
 ghost use Rattle.oauth2_openid.specs.Seen.{token_of};
 ghost use Rattle.oauth2_openid.specs.Token.{TokenReadsAs, compact_of};
 ghost use Rattle.oauth2_jwt_access_tokens.specs.AccessToken.{access_token_reading, own_reading};
-ghost use Rattle.oauth2_jwt_access_tokens.specs.Introspected.{is_in_scope};
+ghost use Rattle.oauth2_jwt_access_tokens.specs.Introspection.{is_in_scope};
 ghost use Rattle.oauth2_jwt_access_tokens.specs.Seen.{access_token_of};
 
 use crate::own_claims::{AccessTokenClaims, own_claims};

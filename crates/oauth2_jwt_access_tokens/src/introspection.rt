@@ -1,7 +1,7 @@
 //! A verified token as the response of an introspection (RFC 7662, 2.2).
 
 ghost use Rattle.std.specs.Prelude.{◌≡◌, IfOk, map, option_map, string_bytes};
-ghost use Rattle.oauth2_jwt_access_tokens.specs.Introspected.{introspected};
+ghost use Rattle.oauth2_jwt_access_tokens.specs.Introspection.{introspection_of};
 ghost use Rattle.oauth2_jwt_access_tokens.specs.Seen.{access_token_of, verified_token_of};
 
 use crate::access_token::JwtAccessToken;
@@ -75,7 +75,7 @@ impl VerifiedAccessToken {
         alloc: Global,
         extra_fields: EF,
     ) -> Result<StandardTokenIntrospectionResponse<EF, TT>, AllocError>
-        ensures { IfOk result (λ r. r ≡ introspected (verified_token_of self.now) extra_fields) }
+        ensures { IfOk result (λ r. r ≡ introspection_of (verified_token_of self.now) extra_fields) }
     {
         let token = self.token();
         let parties = parties_of(alloc, token)?;

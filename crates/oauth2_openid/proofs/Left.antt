@@ -6,7 +6,7 @@ use Rattle.oauth2_json.specs.Reading.{Reading, Fault, ErrsAs}
 use Rattle.oauth2_json.specs.Values.{each_text, text_list}
 use Rattle.oauth2_json.specs.declared.read.ReadError.{ReadError}
 use Rattle.oauth2_json.specs.declared.read.ReadError.TheVariants as errors
-use Rattle.oauth2_openid.specs.Reading.{unneeded}
+use Rattle.oauth2_openid.specs.Reading.{unneeded_member}
 use Rattle.oauth2_openid.specs.private.Left.{are_texts}
 
 read : (ds : Items) → are_texts ds ≡ true → (list : List (List ℕ)) × (each_text ds ≡ Ok list)
@@ -30,7 +30,7 @@ unread (item (object ms) ds) h = (_, refl)
 abbrev as_read : {A : Type 0} → A → Reading A
 as_read a = Ok a
 
-pub texts_left : (ds : Items) → false ≡ are_texts ds → as_read (unneeded text_list (Some (array ds))) ≡ Ok (None, Some (array ds))
+pub texts_left : (ds : Items) → false ≡ are_texts ds → as_read (unneeded_member text_list (Some (array ds))) ≡ Ok (None, Some (array ds))
 texts_left ds h = rw ((unread ds (sym h)).1) refl
 
 pub texts_memory : {A : Type 0} (name : List ℕ) (ds : Items) (e : ReadError) (a : A) → true ≡ are_texts ds → ErrsAs e (optional_member text_list name (Some (array ds))) → ErrsAs e (Ok a)

@@ -34,10 +34,10 @@ said_or_left d (Ok a) = (Some a, None)
 said_or_left d (Err fault) = (None, Some d)
 
 -- a member that holds such a claim; absent and null are no claim
-abbrev pub unneeded : {A : Type 0} → (Data → Reading A) → Option Data → Option A × Option Data
-unneeded kind None = (None, None)
-unneeded kind (Some null) = (None, None)
-unneeded kind (Some d) = said_or_left d (kind d)
+abbrev pub unneeded_member : {A : Type 0} → (Data → Reading A) → Option Data → Option A × Option Data
+unneeded_member kind None = (None, None)
+unneeded_member kind (Some null) = (None, None)
+unneeded_member kind (Some d) = said_or_left d (kind d)
 
 -- for each claim its name, how it is read, and how it is shown as JSON
 abbrev pub id_token_table : Table Claims
@@ -47,10 +47,10 @@ id_token_table =
     ▸ column (codes "aud") (needed_member texts) (λ c. Some (array (text_items c.audience)))
     ▸ column (codes "exp") (needed_member time) (λ c. Some (second_data c.expires_at))
     ▸ column (codes "iat") (needed_member time) (λ c. Some (second_data c.issued_at))
-    ▸ column (codes "auth_time") (λ name found. Ok (unneeded time found)) (λ c. option_map second_data c.auth_time)
+    ▸ column (codes "auth_time") (λ name found. Ok (unneeded_member time found)) (λ c. option_map second_data c.auth_time)
     ▸ column (codes "nonce") (optional_member text) (λ c. option_map string c.nonce)
-    ▸ column (codes "acr") (λ name found. Ok (unneeded text found)) (λ c. option_map string c.authentication_context_class)
-    ▸ column (codes "amr") (λ name found. Ok (unneeded text_list found)) (λ c. option_map (λ list. array (text_items list)) c.authentication_methods)
+    ▸ column (codes "acr") (λ name found. Ok (unneeded_member text found)) (λ c. option_map string c.authentication_context_class)
+    ▸ column (codes "amr") (λ name found. Ok (unneeded_member text_list found)) (λ c. option_map (λ list. array (text_items list)) c.authentication_methods)
     ▸ column (codes "azp") (optional_member text) (λ c. option_map string c.authorized_party)
     ▸ column (codes "at_hash") (optional_member text) (λ c. option_map string c.access_token_hash)
     ▸ end

@@ -8,7 +8,7 @@ ghost use Rattle.serde_json.specs.View.{view, items_view};
 ghost use Rattle.oauth2_json.specs.Reading.{ReadsAs};
 ghost use Rattle.oauth2_json.specs.Values.{text, text_list};
 ghost use Rattle.oauth2_openid.specs.Times.{time};
-ghost use Rattle.oauth2_openid.specs.Reading.{unneeded};
+ghost use Rattle.oauth2_openid.specs.Reading.{unneeded_member};
 ghost use Rattle.oauth2_openid.specs.private.Left.{are_texts, put_back};
 
 use crate::numeric_date::moment_of;
@@ -35,7 +35,7 @@ impl ReadKind for UnneededText {
 
     ghost meaning = { λ u. (option_map string_bytes u.said, option_map view u.left) };
 
-    ghost reading = { λ name found. Ok (unneeded text found) };
+    ghost reading = { λ name found. Ok (unneeded_member text found) };
 
     fn read(
         _alloc: Global,
@@ -62,7 +62,7 @@ impl ReadKind for UnneededTime {
 
     ghost meaning = { λ u. (option_map (λ t. t.nanosecond) u.said, option_map view u.left) };
 
-    ghost reading = { λ name found. Ok (unneeded time found) };
+    ghost reading = { λ name found. Ok (unneeded_member time found) };
 
     fn read(
         _alloc: Global,
@@ -93,7 +93,7 @@ impl ReadKind for UnneededTexts {
     ghost meaning = { λ u.
         (option_map (λ list. map string_bytes list.items) u.said, option_map view u.left) };
 
-    ghost reading = { λ name found. Ok (unneeded text_list found) };
+    ghost reading = { λ name found. Ok (unneeded_member text_list found) };
 
     fn read(
         alloc: Global,
@@ -122,7 +122,7 @@ fn texts_of(
 ) -> Result<Unneeded<Vec<String>>, ReadError>
     ensures { ReadsAs
         (λ u. (option_map (λ list. map string_bytes list.items) u.said, option_map view u.left))
-        result (Ok (unneeded text_list (Some (array (items_view items.items))))) }
+        result (Ok (unneeded_member text_list (Some (array (items_view items.items))))) }
 {
     if are_texts(items.as_slice()) {
         match members::optional_text_list(alloc, name, Some(Value::Array(items))) {

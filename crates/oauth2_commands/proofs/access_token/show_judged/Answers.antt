@@ -1,7 +1,7 @@
 use Rattle.std.proofs.Common.{refl, inl, inr, subst}
 use Rattle.std.proofs.lemmas.Result.{IfOk-weaker}
 use Rattle.oauth2_jwt_access_tokens.specs.AccessToken.{AccessToken}
-use Rattle.oauth2_jwt_access_tokens.specs.Introspected.{introspected}
+use Rattle.oauth2_jwt_access_tokens.specs.Introspection.{introspection_of}
 use Rattle.oauth2_request_commands.specs.Introspect.{introspection_json}
 use Rattle.oauth2_request_commands.specs.Out.{AddsOutput, success_output}
 use Rattle.oauth2_commands.proofs.IdTokens.{added}
@@ -13,7 +13,7 @@ returns-in-Ok c =
     (λ status printed.
     added _ _ status _ (inl (c.in-Ok.ensures.succeeds.0 refl, refl))
     (subst
-    (λ (t : AccessToken). AddsOutput (c.args.events.now) c.show_introspection.new.events status (success_output (introspection_json (introspected t tt))))
+    (λ (t : AccessToken). AddsOutput (c.args.events.now) c.show_introspection.new.events status (success_output (introspection_json (introspection_of t tt))))
     c.in-Ok.ensures.same printed))
     c.show_introspection.ensures
 
