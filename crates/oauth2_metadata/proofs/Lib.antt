@@ -2,6 +2,5 @@ pub mod PlaceLaws
 pub mod ReplyLaws
 pub mod Addresses
 pub mod TextLists
-pub mod Faults
-pub mod Grouped
+pub mod ReadAddresses
 pub mod BackLaws

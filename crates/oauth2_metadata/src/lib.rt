@@ -7,15 +7,13 @@ mod endpoint_error;
 mod endpoint_fault;
 mod endpoints;
 mod groups;
-mod groups_read;
-mod groups_write;
 mod issuer;
-mod kinds;
 mod metadata;
 mod metadata_error;
 mod metadata_json;
 mod reply;
 mod request;
+mod rows;
 
 pub use endpoint_error::EndpointError;
 pub use endpoint_fault::{Endpoint, EndpointCause, EndpointFault};

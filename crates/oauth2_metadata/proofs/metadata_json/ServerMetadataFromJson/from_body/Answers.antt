@@ -1,22 +1,25 @@
-use Rattle.std.proofs.Common.{subst, sym, ◌∙◌}
+use Rattle.std.proofs.lemmas.Iterator.Adapters.{option_map_id}
 use Rattle.std.proofs.lemmas.Result.{err_from_is_err_and}
-use Rattle.oauth2_json.specs.Reading.{ReadsAs}
-use Rattle.oauth2_body_members.specs.Object.{Keeps, object_members}
-use Rattle.oauth2_body_members.proofs.Keeping.{body_rows, body_refused}
-use Rattle.oauth2_metadata.specs.Metadata.{metadata_seen, metadata_row}
-use Rattle.oauth2_metadata.proofs.Grouped.{kept_rows}
+use Rattle.oauth2_member_rows.proofs.Tables.{body_built, body_errs}
+use Rattle.oauth2_metadata.specs.Metadata.{Metadata, metadata, metadata_names, metadata_row, metadata_table}
+use Rattle.oauth2_metadata.proofs.Addresses.{seen_address}
+use Rattle.oauth2_metadata.proofs.ReadAddresses.{body_addresses}
 use Rattle.oauth2_metadata.proofs.metadata_json.ServerMetadataFromJson.from_body.Goals as goal
 
-pub returns-in_err-object : goal.returns-in_err-object
-returns-in_err-object g c =
+pub returns-in_err-values : goal.returns-in_err-values
+unfolding metadata_names metadata_row
+returns-in_err-values g c =
     let E = g.EF.FromJson in
     let p = err_from_is_err_and c.from_residual.result c.from_residual.ensures.1 in
-    rw (p.1, p.2) (body_refused (metadata_row E.reading) c.args.bytes.now c.in_err-object.field-0.0 c.in_err-object.ensures)
+    rw (p.1, p.2) (body_errs (Metadata E.Meaning) (metadata_table {E = E.Meaning}) metadata E.reading c.args.bytes.now c.in_err-values.field-0.0 c.in_err-values.ensures)
 
 pub returns : goal.returns
+unfolding metadata_names metadata_row
 returns g c =
     let E = g.EF.FromJson in
-    let k = c.in_ok-object.ensures in
-    let kept = subst (λ names. Keeps names c.reads_members.result k.0 (object_members c.in_ok-object.object)) c.own_names.ensures k.2 in
-    subst (ReadsAs (metadata_seen E.meaning) c.from_members.result)
-    (kept_rows E.reading c.reads_members.result k.0 (object_members c.in_ok-object.object) kept c.reads_members.ensures ∙ sym (body_rows (metadata_row E.reading) c.args.bytes.now k.0 k.1)) c.from_members.ensures
+    simp option_map_id at (body_built (Metadata E.Meaning) (metadata_table {E = E.Meaning}) metadata E.reading c.args.bytes.now _ c.in_ok-values.ensures)
+
+pub invariant_of-result : goal.invariant_of-result
+invariant_of-result g c =
+    let is = body_addresses g.EF.FromJson.reading _ _ c.args.bytes.now c.in_ok-values.ensures in
+    (seen_address _ is.0, seen_address _ is.1, seen_address _ is.2, seen_address _ is.3, seen_address _ is.4)
