@@ -4,15 +4,15 @@ use Rattle.std.specs.Prelude.{IsSome}
 use Rattle.std.specs.Cmp.{IsEquivalence}
 use Rattle.std.specs.Map.{lookup}
 use Rattle.lru.specs.LruCache.{LruCache, promoted}
-use Rattle.lru_laws.specs.Runs.{Event, Put, Lent, Removed, key_of, left_by, after, CanHappen, IsRun, at_last, last_left, IsAsLeft, IsOwnRun, EachKeyHasItsOwnValue, EachValueFoundWasLeft}
+use Rattle.lru_laws.specs.Runs.{MapEvent, Put, Lent, Removed, key_of, left_by, after, CanHappen, IsRun, at_last, last_left, IsAsLeft, IsOwnRun, EachKeyHasItsOwnValue, EachValueFoundWasLeft}
 use Rattle.lru_laws.proofs.LastUse.{IsNoneOr, Tracks, same_class, lookup-promoted, tracks-promoted, tracks-removed, tracks-put, tracks-set, tracks-nothing}
 
 module _ {K V : Type 0} {eq : K → K → Bool} (laws : IsEquivalence eq) where
   -- what is known of each key after one event
-  abbrev knowing : (K → Option V) → Event K V → K → Option V
+  abbrev knowing : (K → Option V) → MapEvent K V → K → Option V
   knowing known event key = cond (eq key (key_of event)) (left_by event) (known key)
 
-  tracks-event : (map : LruCache K V) (event : Event K V) (known : K → Option V) → CanHappen eq map event → Tracks eq map.entries known
+  tracks-event : (map : LruCache K V) (event : MapEvent K V) (known : K → Option V) → CanHappen eq map event → Tracks eq map.entries known
       → Tracks eq (after eq map event).entries (knowing known event)
   tracks-event map (Put key value) known happens is = tracks-put laws map key value known is
   tracks-event map (Lent key found left) known happens is =
@@ -29,14 +29,14 @@ module _ {K V : Type 0} {eq : K → K → Bool} (laws : IsEquivalence eq) where
       never e = cc
   is_known found known v (inr same) there = sym same ∙ there
 
-  as_left : (map : LruCache K V) (event : Event K V) (known : K → Option V) (key : K) → CanHappen eq map event → Tracks eq map.entries known
+  as_left : (map : LruCache K V) (event : MapEvent K V) (known : K → Option V) (key : K) → CanHappen eq map event → Tracks eq map.entries known
       → eq key (key_of event) ≡ true → IsAsLeft eq (known key) event
   as_left map (Put k value) known key happens is same = tt
   as_left map (Lent k found left) known key happens is same =
       is_known (lookup (eq key) map.entries) (known key) found (is.1 key) (same_class laws key k same map.entries ∙ happens)
   as_left map (Removed k) known key happens is same = tt
 
-  own : (map : LruCache K V) (events : List (Event K V)) (known : K → Option V) (key : K) → Tracks eq map.entries known → IsRun eq map events
+  own : (map : LruCache K V) (events : List (MapEvent K V)) (known : K → Option V) (key : K) → Tracks eq map.entries known → IsRun eq map events
       → IsOwnRun eq key (known key) events
   own map [] known key is run = tt
   own map (event ∷ events) known key is (happens, rest) = (
@@ -44,7 +44,7 @@ module _ {K V : Type 0} {eq : K → K → Bool} (laws : IsEquivalence eq) where
     own (after eq map event) events (knowing known event) key (tracks-event map event known happens is) rest,
   )
 
-  ends : (map : LruCache K V) (events : List (Event K V)) (known : K → Option V) (key : K) → Tracks eq map.entries known → IsRun eq map events
+  ends : (map : LruCache K V) (events : List (MapEvent K V)) (known : K → Option V) (key : K) → Tracks eq map.entries known → IsRun eq map events
       → IsNoneOr (lookup (eq key) (at_last eq map events).entries) (last_left eq key (known key) events)
   ends map [] known key is run = is.1 key
   ends map (event ∷ events) known key is (happens, rest) =

@@ -7,13 +7,13 @@ use Rattle.oauth2_wire.specs.declared.content_type.ReplyRule.{ReplyRule}
 use Rattle.oauth2_wire.specs.declared.error.RequestTokenError.{RequestTokenError}
 use Rattle.oauth2_wire.specs.Request.{RequestView}
 use Rattle.oauth2_introspection_cache.specs.Cache.{Cache, KeptAnswer, Outcome, remembered, active, inactive, failed, is_good_at, good_of, good_answer, forgetting, kept_after}
-use Rattle.oauth2_introspection_cache.specs.Runs.{Event, asked, forgotten, token_of, known_after, last_word, CacheRuns, EachAnswerWasTold, EachForgottenTokenIsAskedAbout, EachOutcomeIsKept}
+use Rattle.oauth2_introspection_cache.specs.Runs.{CacheEvent, asked, forgotten, token_of, known_after, last_word, CacheRuns, EachAnswerWasTold, EachForgottenTokenIsAskedAbout, EachOutcomeIsKept}
 use Rattle.oauth2_introspection_cache.proofs.Kept.{digest_laws, still_kept, now_kept}
 use Rattle.lru_laws.proofs.LastUse.{IsNoneOr, Tracks, tracks-promoted, tracks-removed, tracks-put, tracks-nothing}
 
 module _ {D : Type 0} where
   -- what is known of each token after one event
-  abbrev knowing : (List ℕ → Option (KeptAnswer D)) → Event D → List ℕ → Option (KeptAnswer D)
+  abbrev knowing : (List ℕ → Option (KeptAnswer D)) → CacheEvent D → List ℕ → Option (KeptAnswer D)
   knowing known event token = cond (digest_eq token (token_of event)) (known_after event (known token)) (known token)
 
   tracks-same : (es : List (List ℕ × KeptAnswer D)) (f g : List ℕ → Option (KeptAnswer D)) → ((q : List ℕ) → f q ≡ g q) → Tracks digest_eq es f → Tracks digest_eq es g
@@ -62,13 +62,13 @@ module _ {D : Type 0} where
       by_test false test is = cc
 
   -- what came before a token was forgotten is not known after it
-  word_since : (token : List ℕ) (before : Option (KeptAnswer D)) (earlier later : List (Event D)) → last_word token before (earlier ++ forgotten token ∷ later) ≡ last_word token None later
+  word_since : (token : List ℕ) (before : Option (KeptAnswer D)) (earlier later : List (CacheEvent D)) → last_word token before (earlier ++ forgotten token ∷ later) ≡ last_word token None later
   word_since token before [] later = ap (λ b. last_word token (cond b None before) later) (digest_laws.refl token)
   word_since token before (event ∷ earlier) later = word_since token (cond (digest_eq token (token_of event)) (known_after event before) before) earlier later
 
 module _ {D T RE C : Type 0} (asks : ReplyRule → (List ℕ → RequestView → Type 0) → List ℕ → C → Result D (RequestTokenError RE T) → C → Type 0)
     (is_active : D → Bool) (expires : D → Option ℤ) where
-  tracks-run : (events : List (Event D)) (cache end : Cache D) (before after : C) (known : List ℕ → Option (KeptAnswer D)) → Tracks digest_eq cache.kept.entries known
+  tracks-run : (events : List (CacheEvent D)) (cache end : Cache D) (before after : C) (known : List ℕ → Option (KeptAnswer D)) → Tracks digest_eq cache.kept.entries known
       → CacheRuns asks is_active expires cache before events after end
       → Tracks digest_eq end.kept.entries (λ token. last_word token (known token) events) × (end.longest ≡ cache.longest)
   tracks-run [] cache end before after known is (same, stays) =

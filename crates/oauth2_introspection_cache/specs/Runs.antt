@@ -8,19 +8,19 @@ use Rattle.oauth2_introspection_cache.specs.Cache.{Cache, KeptAnswer, Outcome, r
 
 -- what happens to a cache: a call for a token at a moment, with its outcome; or it is told to forget
 -- a token
-pub data Event (D : Type 0) : Type 0 where
-  asked : List ℕ → ℤ → Outcome D → Event D
-  forgotten : List ℕ → Event D
+pub data CacheEvent (D : Type 0) : Type 0 where
+  asked : List ℕ → ℤ → Outcome D → CacheEvent D
+  forgotten : List ℕ → CacheEvent D
 
 module _ {D : Type 0} where
   -- the token that an event is about
-  abbrev pub token_of : Event D → List ℕ
+  abbrev pub token_of : CacheEvent D → List ℕ
   token_of (asked token now outcome) = token
   token_of (forgotten token) = token
 
   -- what is known of a token after an event about it, if `before` was known: a call that sends nothing
   -- tells nothing new
-  abbrev pub known_after : Event D → Option (KeptAnswer D) → Option (KeptAnswer D)
+  abbrev pub known_after : CacheEvent D → Option (KeptAnswer D) → Option (KeptAnswer D)
   known_after (asked token now (remembered answer)) before = before
   known_after (asked token now (active answer)) before = Some (record { answer = answer; asked_at = now })
   known_after (asked token now inactive) before = None
@@ -29,7 +29,7 @@ module _ {D : Type 0} where
 
   -- what is known of a token after these events, if `before` was known: the server's last answer that it
   -- is active, if no other answer, no failure and no word to forget it came since
-  abbrev pub last_word : List ℕ → Option (KeptAnswer D) → List (Event D) → Option (KeptAnswer D)
+  abbrev pub last_word : List ℕ → Option (KeptAnswer D) → List (CacheEvent D) → Option (KeptAnswer D)
   last_word token before [] = before
   last_word token before (event ∷ events) =
       last_word token (if digest_eq token (token_of event) then known_after event before else before) events
@@ -45,7 +45,7 @@ module _ {D T RE C : Type 0} (asks : ReplyRule → (List ℕ → RequestView →
     (is_active : D → Bool) (expires : D → Option ℤ) where
   -- events one after another, from what is kept and the client's state before the first to those after
   -- the last
-  abbrev pub CacheRuns : Cache D → C → List (Event D) → C → Cache D → Type 0
+  abbrev pub CacheRuns : Cache D → C → List (CacheEvent D) → C → Cache D → Type 0
   CacheRuns cache before [] after end = (after ≡ before) × (end ≡ cache)
   CacheRuns cache before (asked token now outcome ∷ events) after end =
       (result : Result Bool (RequestTokenError RE T)) × (middle : C) × IsOutcome asks is_active expires cache token now before result middle outcome
@@ -56,14 +56,14 @@ module _ {D T RE C : Type 0} (asks : ReplyRule → (List ℕ → RequestView →
   -- less than the longest time ago, and the token has not expired
   abbrev pub EachAnswerWasTold : Type 0
   EachAnswerWasTold =
-      (cache end : Cache D) (before after : C) (events : List (Event D)) (token : List ℕ) (now : ℤ) (answer : D)
+      (cache end : Cache D) (before after : C) (events : List (CacheEvent D)) (token : List ℕ) (now : ℤ) (answer : D)
       → cache.kept.entries ≡ [] → CacheRuns cache before events after end → good_answer expires end token now ≡ Some answer
       → (kept : KeptAnswer D) × (last_word token None events ≡ Some kept) × (kept.answer ≡ answer) × IsTrue (is_good_at expires cache.longest now kept)
 
   -- after a token was forgotten, the next call for it asks the server, whatever happens to others between
   abbrev pub EachForgottenTokenIsAskedAbout : Type 0
   EachForgottenTokenIsAskedAbout =
-      (cache end : Cache D) (before after : C) (earlier later : List (Event D)) (token : List ℕ) (now : ℤ)
+      (cache end : Cache D) (before after : C) (earlier later : List (CacheEvent D)) (token : List ℕ) (now : ℤ)
       → cache.kept.entries ≡ [] → CacheRuns cache before (earlier ++ forgotten token ∷ later) after end
       → last_word token None later ≡ None → good_answer expires end token now ≡ None
 

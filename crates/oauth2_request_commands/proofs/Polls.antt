@@ -25,7 +25,7 @@ use Rattle.oauth2_device.specs.Poll.{DeviceError, device_answer, device_error, c
 use Rattle.oauth2_world.specs.Clock.{reading_of, readings_of}
 use Rattle.oauth2_request_commands.specs.DevicePoll.{calls_of, last_call, poll_answer, class_of_call, AreEventsOf, device_error_members, shown_at, IsPolled}
 use Rattle.oauth2_request_commands.specs.Exchange.{BasicToken, token_json}
-use Rattle.oauth2_world.specs.Events.{PollCall as ShownEvent, exchanged, slept}
+use Rattle.oauth2_world.specs.Events.{Event as ShownEvent, exchanged, slept}
 use Rattle.oauth2_request_commands.specs.Out.{Output, after, success_output, no_memory_output, other_output, refused_output, unsent_output, AddsOutput, Adds}
 use Rattle.oauth2_world.specs.Replies.{next_reply}
 use Rattle.oauth2_world.specs.Replay.{ReplaysOrStarves, reply_seen, client_replies}

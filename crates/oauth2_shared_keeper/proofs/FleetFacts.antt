@@ -25,7 +25,7 @@ use Rattle.oauth2_shared_token.proofs.Places.{put-same, put-other, none_in_nothi
 use Rattle.oauth2_shared_token.proofs.Fleets.{each_fleet_sends_once}
 use Rattle.oauth2_shared_keeper.specs.Call.{ToRefresh, Call, Load, Replace, Refresh, request_of, told_by, refreshes_in}
 use Rattle.oauth2_shared_keeper.specs.Renewal.{AsksInTurn, asked_again, asked_by, first_turn}
-use Rattle.oauth2_shared_keeper.specs.Fleets.{Event, Made, Other, calls_of, IsNoTurn, TurnsAreCalls, content_as, told_as, happenings_of, IsFleet, times_refreshed, EachRefreshIsOfTheFleet, EachRefreshTokenIsSentOnce}
+use Rattle.oauth2_shared_keeper.specs.Fleets.{FleetEvent, Made, Other, calls_of, IsNoTurn, TurnsAreCalls, content_as, told_as, happenings_of, IsFleet, times_refreshed, EachRefreshIsOfTheFleet, EachRefreshTokenIsSentOnce}
 use Rattle.oauth2_shared_keeper.proofs.History.{the_only, none_given, sends_few, state_after}
 use Rattle.oauth2_shared_keeper.proofs.Runs.{refreshes_in-append}
 
@@ -167,13 +167,13 @@ module _ {T : Type 0} (view : T → Token) (i : ℕ) where
       ∙ ap (λ (k : Turn Token). k.phase) (next-as view i turn.phase said))
 
   -- the calls of this renewal after this one, if it is its own
-  pub calls_mine : (j : ℕ) (call : Call T) (events : List (Event T)) → (i == j) ≡ true → calls_of i (Made j call ∷ events) ≡ call ∷ calls_of i events
+  pub calls_mine : (j : ℕ) (call : Call T) (events : List (FleetEvent T)) → (i == j) ≡ true → calls_of i (Made j call ∷ events) ≡ call ∷ calls_of i events
   calls_mine j call events mine = ap (λ (b : Bool). if b then call ∷ calls_of i events else calls_of i events) mine
 
-  pub calls_theirs : (j : ℕ) (call : Call T) (events : List (Event T)) → (i == j) ≡ false → calls_of i (Made j call ∷ events) ≡ calls_of i events
+  pub calls_theirs : (j : ℕ) (call : Call T) (events : List (FleetEvent T)) → (i == j) ≡ false → calls_of i (Made j call ∷ events) ≡ calls_of i events
   calls_theirs j call events theirs = ap (λ (b : Bool). if b then call ∷ calls_of i events else calls_of i events) theirs
 
-  follow : (f : Fleet) (sofar : List SharedEvent) (events : List (Event T)) (turn last : Turn T) (token : T) (given : Option T) → TurnsAreCalls events
+  follow : (f : Fleet) (sofar : List SharedEvent) (events : List (FleetEvent T)) (turn last : Turn T) (token : T) (given : Option T) → TurnsAreCalls events
       → AsksInTurn i turn (calls_of i events) last → phase_of f i ≡ phase_as view turn.phase → IsSent sofar turn
       → Contains events (Made i (Refresh token given)) → HasEvent (sofar ++ all_events f (happenings_of view events)) token
   follow f sofar [] turn last token given turns asks in_phase sent has = absurd (none_in_nothing (Made i (Refresh token given)) has)
@@ -282,7 +282,7 @@ module _ (r : List ℕ) (same : bytes_eq r r ≡ true) where
       ]
 
 -- two calls that send it are of one renewal
-of_one_renewal : {T : Type 0} (view : T → Token) (start : Token) (events : List (Event T)) (r : List ℕ) (i j : ℕ) (token other : T) (given gotten : Option T)
+of_one_renewal : {T : Type 0} (view : T → Token) (start : Token) (events : List (FleetEvent T)) (r : List ℕ) (i j : ℕ) (token other : T) (given gotten : Option T)
     → IsFleet view start events
     → has_refresh r start + times_stored r (all_events (fleet_of start) (happenings_of view events)) ≤ 1
     → Contains events (Made i (Refresh token given)) → Contains events (Made j (Refresh other gotten))
@@ -299,7 +299,7 @@ at_most_one false = omega arith
 
 -- the calls of one renewal, and those of all
 module _ {T : Type 0} where
-  own_calls : (events : List (Event T)) (i : ℕ) (call : Call T) → Contains events (Made i call) → Contains (calls_of i events) call
+  own_calls : (events : List (FleetEvent T)) (i : ℕ) (call : Call T) → Contains events (Made i call) → Contains (calls_of i events) call
   own_calls [] i call has = absurd (none_in_nothing (Made i call) has)
   own_calls (Other h ∷ events) i call has =
       elim (Contains-append_cases (Other h ∷ []) events (Made i call) has) [
@@ -328,7 +328,7 @@ module _ {T : Type 0} where
             ])
       ]
 
-  fewer : (events : List (Event T)) (i j : ℕ) (made : Call T) → refreshes_in (calls_of i (Made j made ∷ events)) ≤ 1 → refreshes_in (calls_of i events) ≤ 1
+  fewer : (events : List (FleetEvent T)) (i j : ℕ) (made : Call T) → refreshes_in (calls_of i (Made j made ∷ events)) ≤ 1 → refreshes_in (calls_of i events) ≤ 1
   fewer events i j made few =
       elim (eqb_tells i j) [
         | inl mine ↦ (
@@ -340,7 +340,7 @@ module _ {T : Type 0} where
 
   module _ (view : T → Token) (r : List ℕ) where
     -- no call sends it
-    abbrev NoneSends : List (Event T) → Type 0
+    abbrev NoneSends : List (FleetEvent T) → Type 0
     NoneSends events = (j : ℕ) (u : T) (given : Option T) → Contains events (Made j (Refresh u given)) → (view u).refresh ≡ r → ⊥
 
     -- it is this one, or another
@@ -350,7 +350,7 @@ module _ {T : Type 0} where
       go true is = inl (sym ((bytes_eq-Decides r (view token).refresh).0 is))
       go false is = inr (ap (λ (b : Bool). if b then 1 else 0) is)
 
-    none_sent : (events : List (Event T)) → NoneSends events → times_refreshed view r events ≡ 0
+    none_sent : (events : List (FleetEvent T)) → NoneSends events → times_refreshed view r events ≡ 0
     none_sent [] none = refl
     none_sent (Other h ∷ events) none = none_sent events (λ j u given has is. none j u given (Contains-append_right (Other h ∷ []) events _ has) is)
     none_sent (Made i (Load shown) ∷ events) none =
@@ -367,16 +367,16 @@ module _ {T : Type 0} where
         ]
 
     -- all that send it are of one renewal
-    abbrev OneSends : List (Event T) → Type 0
+    abbrev OneSends : List (FleetEvent T) → Type 0
     OneSends events =
         (i j : ℕ) (t u : T) (given gotten : Option T) → Contains events (Made i (Refresh t given)) → Contains events (Made j (Refresh u gotten))
         → (view t).refresh ≡ r → (view u).refresh ≡ r → i ≡ j
 
-    one_later : (e : Event T) (events : List (Event T)) → OneSends (e ∷ events) → OneSends events
+    one_later : (e : FleetEvent T) (events : List (FleetEvent T)) → OneSends (e ∷ events) → OneSends events
     one_later e events one i j t u given gotten has gets is its =
         one i j t u given gotten (Contains-append_right (e ∷ []) events _ has) (Contains-append_right (e ∷ []) events _ gets) is its
 
-    few_sent : (events : List (Event T)) → OneSends events → ((i : ℕ) → refreshes_in (calls_of i events) ≤ 1) → times_refreshed view r events ≤ 1
+    few_sent : (events : List (FleetEvent T)) → OneSends events → ((i : ℕ) → refreshes_in (calls_of i events) ≤ 1) → times_refreshed view r events ≤ 1
     few_sent [] one each = omega arith
     few_sent (Other h ∷ events) one each = few_sent events (one_later (Other h) events one) each
     few_sent (Made i (Load shown) ∷ events) one each =

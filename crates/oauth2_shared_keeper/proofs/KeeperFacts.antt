@@ -21,14 +21,14 @@ use Rattle.oauth2_shared_keeper.specs.Call.{Call, Load, Refresh, refreshes_in}
 use Rattle.oauth2_shared_keeper.specs.Renewal.{first_turn, IsEnd}
 use Rattle.oauth2_shared_keeper.specs.Laws.{new_token_in}
 use Rattle.oauth2_shared_keeper.specs.Keeper.{Round, Blind, Seen, Renewing, at_rest_if, marked_if, after_renewal, content_verdict, IsRound}
-use Rattle.oauth2_shared_keeper.specs.Keeper.{Holds, calls_of, calls_in, Event, Reading, Slept, Drawn, events_of, events_in}
+use Rattle.oauth2_shared_keeper.specs.Keeper.{Holds, calls_of, calls_in, WorldCall, Reading, Slept, Drawn, events_of, events_in}
 use Rattle.oauth2_shared_keeper.specs.KeeperLaws.{renewals_in, slept_in, token_in, HandsOut}
 use Rattle.oauth2_shared_keeper.specs.private.Turns.{told_by}
 use Rattle.oauth2_shared_keeper.proofs.Runs.{refreshes_in-append}
 use Rattle.oauth2_shared_keeper.proofs.History.{the_only, state_after, sends_few, none_given, kept_was_given, handed_over}
 use Rattle.oauth2_shared_keeper.proofs.Unsent.{waiting_unsent}
 
-slept_in-append : (xs ys : List Event) → slept_in (xs ++ ys) ≡ slept_in xs + slept_in ys
+slept_in-append : (xs ys : List WorldCall) → slept_in (xs ++ ys) ≡ slept_in xs + slept_in ys
 slept_in-append [] ys = omega arith
 slept_in-append (Reading now ∷ xs) ys = slept_in-append xs ys
 slept_in-append (Slept wait ∷ xs) ys = let e = slept_in-append xs ys in omega arith

@@ -12,12 +12,12 @@ use Rattle.oauth2_shared_keeper.specs.declared.settings.KeeperSettings.{KeeperSe
 use Rattle.oauth2_shared_keeper.specs.Call.{Call, Load, Refresh}
 use Rattle.oauth2_shared_keeper.specs.Renewal.{IsRenewal}
 use Rattle.oauth2_shared_keeper.specs.Keeper.{Round, Blind, Seen, Renewing, IsRound, Holds, calls_of, calls_in}
-use Rattle.oauth2_shared_keeper.specs.Keeper.{Event, Reading, Slept, Drawn, events_of, events_in}
+use Rattle.oauth2_shared_keeper.specs.Keeper.{WorldCall, Reading, Slept, Drawn, events_of, events_in}
 use Rattle.oauth2_shared_keeper.proofs.History.{the_only, none_given}
 use Rattle.oauth2_shared_keeper.proofs.KeeperFacts.{waits_unsent}
 
 -- a refresh is sent in a renewal whose name was drawn among these calls
-abbrev IsOfARenewal : (E : Type 0) {T : Type 0} → KeeperSettings → T → Option T → List Event → Type 0
+abbrev IsOfARenewal : (E : Type 0) {T : Type 0} → KeeperSettings → T → Option T → List WorldCall → Type 0
 IsOfARenewal E {T} settings token given events =
     (name : ℕ) × (calls : List (Call T)) × (end : Renewed T E) × Contains events (Drawn name)
     × IsRenewal name settings.limits calls end × Contains calls (Refresh token given)

@@ -11,7 +11,7 @@ use Rattle.oauth2_shared_keeper.specs.declared.outcome.Outcome.TheVariants.{Wait
 use Rattle.oauth2_shared_keeper.specs.declared.replaced.Replaced.{Replaced}
 use Rattle.oauth2_shared_keeper.specs.declared.settings.KeeperSettings.{KeeperSettings}
 use Rattle.oauth2_shared_keeper.specs.Call.{Call, StoreLeads, ClientLeads}
-use Rattle.oauth2_shared_keeper.specs.Keeper.{Round, IsRound, Holds, calls_of, calls_in, Event, Reading, Slept, Drawn, events_of, events_in}
+use Rattle.oauth2_shared_keeper.specs.Keeper.{Round, IsRound, Holds, calls_of, calls_in, WorldCall, Reading, Slept, Drawn, events_of, events_in}
 use Rattle.oauth2_shared_keeper.specs.Keeper.{WorldLeads}
 use Rattle.oauth2_shared_keeper.specs.private.Turns.{EachWaits, slept_events}
 use Rattle.oauth2_shared_keeper.proofs.Runs.{store-append, client-append}
@@ -27,14 +27,14 @@ module _ {T E : Type 0} where
   events_in-push wait [] r = refl
   events_in-push wait (x ∷ []) r = sym (append_assoc (events_of x) (Slept wait ∷ []) (events_of r))
   events_in-push wait (x ∷ y ∷ ys) r =
-      ap (λ (l : List Event). events_of x ++ Slept wait ∷ l) (events_in-push wait (y ∷ ys) r)
+      ap (λ (l : List WorldCall). events_of x ++ Slept wait ∷ l) (events_in-push wait (y ∷ ys) r)
       ∙ sym (append_assoc (events_of x) (Slept wait ∷ slept_events wait (y ∷ ys)) (events_of r))
 
   slept_events-push : (wait : Duration) (xs : List (Round T E)) (r : Round T E)
       → slept_events wait (xs ++ r ∷ []) ≡ slept_events wait xs ++ (events_of r ++ Slept wait ∷ [])
   slept_events-push wait [] r = refl
   slept_events-push wait (x ∷ xs) r =
-      ap (λ (l : List Event). events_of x ++ Slept wait ∷ l) (slept_events-push wait xs r)
+      ap (λ (l : List WorldCall). events_of x ++ Slept wait ∷ l) (slept_events-push wait xs r)
       ∙ sym (append_assoc (events_of x) (Slept wait ∷ slept_events wait xs) (events_of r ++ Slept wait ∷ []))
 
   -- a round more, of the store and of the client
@@ -55,7 +55,7 @@ module _ {T E : Type 0} where
       (client-append refreshes c mid last (calls_in xs) (calls_of r) first then)
 
 module _ {W : Type 0} (reads : W → Timestamp → W → Type 0) (sleeps : W → Duration → W → Type 0) (draws : W → ℕ → W → Type 0) where
-  world-append : (w mid last : W) (e f : List Event) → WorldLeads reads sleeps draws w e mid → WorldLeads reads sleeps draws mid f last
+  world-append : (w mid last : W) (e f : List WorldCall) → WorldLeads reads sleeps draws w e mid → WorldLeads reads sleeps draws mid f last
       → WorldLeads reads sleeps draws w (e ++ f) last
   world-append w mid last [] f first then = subst (λ (u : W). WorldLeads reads sleeps draws u f last) (sym first) then
   world-append w mid last (Reading now ∷ e) f (next, h, first) then = (next, h, world-append next mid last e f first then)
@@ -67,7 +67,7 @@ module _ {W : Type 0} (reads : W → Timestamp → W → Type 0) (sleeps : W →
       → WorldLeads reads sleeps draws w (slept_events wait xs) mid → WorldLeads reads sleeps draws mid (events_of r) last
       → WorldLeads reads sleeps draws w (events_in wait (xs ++ r ∷ [])) last
   world-last w mid last wait xs r first then =
-      subst (λ (l : List Event). WorldLeads reads sleeps draws w l last) (sym (events_in-push wait xs r))
+      subst (λ (l : List WorldCall). WorldLeads reads sleeps draws w l last) (sym (events_in-push wait xs r))
       (world-append w mid last (slept_events wait xs) (events_of r) first then)
 
   pub world-slept : {T E : Type 0} (w mid next last : W) (wait : Duration) (xs : List (Round T E)) (r : Round T E)
@@ -75,7 +75,7 @@ module _ {W : Type 0} (reads : W → Timestamp → W → Type 0) (sleeps : W →
       → sleeps next wait last
       → WorldLeads reads sleeps draws w (slept_events wait (xs ++ r ∷ [])) last
   world-slept w mid next last wait xs r first then slept =
-      subst (λ (l : List Event). WorldLeads reads sleeps draws w l last) (sym (slept_events-push wait xs r))
+      subst (λ (l : List WorldCall). WorldLeads reads sleeps draws w l last) (sym (slept_events-push wait xs r))
       (world-append w mid last (slept_events wait xs) (events_of r ++ Slept wait ∷ []) first
       (world-append mid next last (events_of r) (Slept wait ∷ []) then (last, slept, refl)))
 

@@ -24,7 +24,7 @@ use Rattle.oauth2_shared_token.specs.Fleet.{Fleet, Request, ToMark, ToKeep, ToRe
 use Rattle.oauth2_shared_token.proofs.Places.{put-other, none_in_nothing}
 use Rattle.oauth2_shared_keeper.specs.Call.{Call, Load, Replace, Refresh, ToReplace, request_of, told_by}
 use Rattle.oauth2_shared_keeper.specs.Renewal.{AsksInTurn, asked_again, asked_by}
-use Rattle.oauth2_shared_keeper.specs.Fleets.{Event, Made, Other, calls_of, IsNoTurn, TurnsAreCalls, content_as, told_as, happenings_of, times_refreshed}
+use Rattle.oauth2_shared_keeper.specs.Fleets.{FleetEvent, Made, Other, calls_of, IsNoTurn, TurnsAreCalls, content_as, told_as, happenings_of, times_refreshed}
 use Rattle.oauth2_shared_keeper.specs.Stores as stores
 use Rattle.oauth2_shared_keeper.specs.Stores.{value, World, StoreEvent, Asks, Takes, Ends, Puts, content_put, world_with, turns_after, world_after, IsStoreRun, world_of, rests_in, times_put, refreshes_sent, calls_ended, calls_made, EachStoreHasAFleet, EachTokenOfAStoreIsSentOnce}
 use Rattle.oauth2_shared_keeper.proofs.FleetFacts.{phase_as, step_as, next-as, phase_now, calls_mine, calls_theirs, each_refresh_token_is_sent_once}
@@ -423,7 +423,7 @@ module _ {T : Type 0} (view : T → Token) where
 
   -- a fleet does all that happens
   record IsFollowed (f : Fleet) (w : World T) (hs : List (StoreEvent T)) : Type 0 where
-    pub events : List (Event T)
+    pub events : List (FleetEvent T)
     pub turns : TurnsAreCalls events
     pub run : IsFleetRun f (happenings_of view events)
     pub asks : (i : ℕ) → (last : Turn T) × AsksInTurn i (w.turns i) (calls_of i events) last
@@ -494,7 +494,7 @@ module _ {T : Type 0} (view : T → Token) where
             omega (arith, e, those);
       }
     where
-      asks_made : (w : World T) (i : ℕ) (call : Call T) (events : List (Event T)) → asked_by i (w.turns i).phase (w.turns i).step ≡ Some (request_of call)
+      asks_made : (w : World T) (i : ℕ) (call : Call T) (events : List (FleetEvent T)) → asked_by i (w.turns i).phase (w.turns i).step ≡ Some (request_of call)
           → (j : ℕ) → ((last : Turn T) × AsksInTurn j (turns_after w.turns i (next_turn i (w.turns i).phase (told_by call)) j) (calls_of j events) last)
           → (last : Turn T) × AsksInTurn j (w.turns j) (calls_of j (Made i call ∷ events)) last
       asks_made w i call events asked j (last, asks) =

@@ -15,7 +15,7 @@ use Rattle.oauth2_shared_keeper.specs.declared.renewed.Renewed.TheVariants.{Kept
 use Rattle.oauth2_shared_keeper.specs.declared.renewed.Renewed.TheVariants.{Unanswered, Unclear, Unread, NoNextVersion}
 use Rattle.oauth2_shared_keeper.specs.declared.settings.KeeperSettings.{KeeperSettings}
 use Rattle.oauth2_shared_keeper.specs.Keeper.{Round, Blind, Seen, Renewing, at_rest_if, marked_if, after_renewal, content_verdict}
-use Rattle.oauth2_shared_keeper.specs.Keeper.{IsRound, Holds, Event, Slept, events_of, events_in}
+use Rattle.oauth2_shared_keeper.specs.Keeper.{IsRound, Holds, WorldCall, Slept, events_of, events_in}
 use Rattle.oauth2_shared_keeper.specs.KeeperLaws.{GoesOn}
 use Rattle.oauth2_shared_keeper.proofs.KeeperFacts.{some_left}
 
@@ -82,7 +82,7 @@ module _ {T E : Type 0} where
     round_waits (Renewing p now name calls end) outcome is = ap ends_unfinished is.2 ∙ renewed_waits name end
 
     -- after a round the clock is no earlier
-    after_round : (r : Round T E) (from : ℤ) (rest : List Event) → GoesOn from (events_of r ++ rest)
+    after_round : (r : Round T E) (from : ℤ) (rest : List WorldCall) → GoesOn from (events_of r ++ rest)
         → (later : ℤ) × (from ≤ℤ later) × GoesOn later rest
     after_round Blind from rest goes = (from, omega (arith, ints), goes)
     after_round (Seen p now) from rest goes = (now.nanosecond, goes.0, goes.1)

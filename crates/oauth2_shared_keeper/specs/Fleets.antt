@@ -15,18 +15,18 @@ use Rattle.oauth2_shared_keeper.specs.Call.{Call, Load, Replace, Refresh, told_b
 use Rattle.oauth2_shared_keeper.specs.Renewal.{AsksInTurn, first_turn}
 
 -- what happens where renewals run: the one of this name makes a call; or something else happens in the fleet
-pub data Event (T : Type 0) : Type 0 where
-  Made : ℕ → Call T → Event T
-  Other : Happening → Event T
+pub data FleetEvent (T : Type 0) : Type 0 where
+  Made : ℕ → Call T → FleetEvent T
+  Other : Happening → FleetEvent T
 
 -- the calls of one renewal, in order
-abbrev pub calls_of : {T : Type 0} → ℕ → List (Event T) → List (Call T)
+abbrev pub calls_of : {T : Type 0} → ℕ → List (FleetEvent T) → List (Call T)
 calls_of i [] = []
 calls_of i (Made j call ∷ events) = if i == j then call ∷ calls_of i events else calls_of i events
 calls_of i (Other happening ∷ events) = calls_of i events
 
 -- each renewal makes the calls that it asks for, and may stop anywhere
-abbrev pub AreRenewals : {T : Type 0} → List (Event T) → Type 0
+abbrev pub AreRenewals : {T : Type 0} → List (FleetEvent T) → Type 0
 AreRenewals {T} events = (i : ℕ) → (last : Turn T) × AsksInTurn i first_turn (calls_of i events) last
 
 -- it is no turn of a renewal
@@ -39,7 +39,7 @@ IsNoTurn (LogsIn version new) = Unit {0}
 IsNoTurn (LogsOut version) = Unit {0}
 
 -- renewals take their turns by calls alone
-abbrev pub TurnsAreCalls : {T : Type 0} → List (Event T) → Type 0
+abbrev pub TurnsAreCalls : {T : Type 0} → List (FleetEvent T) → Type 0
 TurnsAreCalls [] = Unit {0}
 TurnsAreCalls (Made i call ∷ events) = TurnsAreCalls events
 TurnsAreCalls (Other happening ∷ events) = IsNoTurn happening × TurnsAreCalls events
@@ -59,13 +59,13 @@ told_as view (told.Answer new) = told.Answer (view new)
 told_as view told.Stop = told.Stop
 
 -- what happens in the fleet: a call is a turn of its renewal, which is told what the call told
-abbrev pub happenings_of : {T : Type 0} → (T → Token) → List (Event T) → List Happening
+abbrev pub happenings_of : {T : Type 0} → (T → Token) → List (FleetEvent T) → List Happening
 happenings_of view [] = []
 happenings_of view (Made i call ∷ events) = Turned i (told_as view (told_by call)) ∷ happenings_of view events
 happenings_of view (Other happening ∷ events) = happening ∷ happenings_of view events
 
 -- renewals over one store that begins with this token, where all that they are told is so (`CanOccur`)
-pub record IsFleet {T : Type 0} (view : T → Token) (start : Token) (events : List (Event T)) : Type 0 where
+pub record IsFleet {T : Type 0} (view : T → Token) (start : Token) (events : List (FleetEvent T)) : Type 0 where
   pub renewals : AreRenewals events
   pub turns : TurnsAreCalls events
   pub run : IsFleetRun (fleet_of start) (happenings_of view events)
@@ -77,7 +77,7 @@ sends_of view r (Replace version content done) = 0
 sends_of view r (Refresh token given) = has_refresh r (view token)
 
 -- how often the calls of all renewals send this refresh token
-abbrev pub times_refreshed : {T : Type 0} → (T → Token) → List ℕ → List (Event T) → ℕ
+abbrev pub times_refreshed : {T : Type 0} → (T → Token) → List ℕ → List (FleetEvent T) → ℕ
 times_refreshed view r [] = 0
 times_refreshed view r (Made i call ∷ events) = sends_of view r call + times_refreshed view r events
 times_refreshed view r (Other happening ∷ events) = times_refreshed view r events
@@ -86,7 +86,7 @@ module _ (T : Type 0) where
   -- each call that sends a refresh token is a sending of the fleet, so that its laws hold of them
   abbrev pub EachRefreshIsOfTheFleet : Type 0
   EachRefreshIsOfTheFleet =
-      (view : T → Token) (start : Token) (events : List (Event T)) (i : ℕ) (token : T) (given : Option T) →
+      (view : T → Token) (start : Token) (events : List (FleetEvent T)) (i : ℕ) (token : T) (given : Option T) →
       IsFleet view start events →
       Contains events (Made i (Refresh token given)) →
       (version : ℕ) × Contains (all_events (fleet_of start) (happenings_of view events)) (Sent i version (view token))
@@ -94,7 +94,7 @@ module _ (T : Type 0) where
   -- so the calls of all renewals send a refresh token that came to be stored once at most once
   abbrev pub EachRefreshTokenIsSentOnce : Type 0
   EachRefreshTokenIsSentOnce =
-      (view : T → Token) (start : Token) (events : List (Event T)) (r : List ℕ) →
+      (view : T → Token) (start : Token) (events : List (FleetEvent T)) (r : List ℕ) →
       IsFleet view start events →
       has_refresh r start + times_stored r (all_events (fleet_of start) (happenings_of view events)) ≤ 1 →
       times_refreshed view r events ≤ 1

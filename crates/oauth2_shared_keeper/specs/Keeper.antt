@@ -90,26 +90,26 @@ calls_in [] = []
 calls_in (round ∷ rounds) = calls_of round ++ calls_in rounds
 
 -- a call to the world: it read the clock so, slept so long, or drew this name
-pub data Event : Type 0 where
-  Reading : Timestamp → Event
-  Slept : Duration → Event
-  Drawn : ℕ → Event
+pub data WorldCall : Type 0 where
+  Reading : Timestamp → WorldCall
+  Slept : Duration → WorldCall
+  Drawn : ℕ → WorldCall
 
 -- the calls of a round to its world
-abbrev pub events_of : {T E : Type 0} → Round T E → List Event
+abbrev pub events_of : {T E : Type 0} → Round T E → List WorldCall
 events_of Blind = []
 events_of (Seen p now) = Reading now ∷ []
 events_of (Renewing p now name calls end) = Reading now ∷ Drawn name ∷ []
 
 -- those of all rounds, in order: a sleep lies between two rounds
-abbrev pub events_in : {T E : Type 0} → Duration → List (Round T E) → List Event
+abbrev pub events_in : {T E : Type 0} → Duration → List (Round T E) → List WorldCall
 events_in wait [] = []
 events_in wait (round ∷ []) = events_of round
 events_in wait (round ∷ next ∷ rounds) = events_of round ++ Slept wait ∷ events_in wait (next ∷ rounds)
 
 -- exactly these calls, in order, can lead the world from the first state to the last
 abbrev pub WorldLeads : {W : Type 0} → (W → Timestamp → W → Type 0) → (W → Duration → W → Type 0) → (W → ℕ → W → Type 0)
-    → W → List Event → W → Type 0
+    → W → List WorldCall → W → Type 0
 WorldLeads {W} reads sleeps draws w [] last = w ≡ last
 WorldLeads {W} reads sleeps draws w (Reading now ∷ events) last =
     (next : W) × reads w now next × WorldLeads reads sleeps draws next events last

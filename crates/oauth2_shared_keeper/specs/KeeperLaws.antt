@@ -11,7 +11,7 @@ use Rattle.oauth2_shared_keeper.specs.declared.renewed.Renewed.{Renewed}
 use Rattle.oauth2_shared_keeper.specs.declared.settings.KeeperSettings.{KeeperSettings}
 use Rattle.oauth2_shared_keeper.specs.Call.{Call, Replace, Refresh, refreshes_in}
 use Rattle.oauth2_shared_keeper.specs.Renewal.{IsRenewal}
-use Rattle.oauth2_shared_keeper.specs.Keeper.{Round, Blind, Seen, Renewing, IsHeld, calls_in, Event, Reading, Slept, Drawn, events_in}
+use Rattle.oauth2_shared_keeper.specs.Keeper.{Round, Blind, Seen, Renewing, IsHeld, calls_in, WorldCall, Reading, Slept, Drawn, events_in}
 
 -- how many of these rounds have a renewal
 abbrev pub renewals_in : {T E : Type 0} → List (Round T E) → ℕ
@@ -21,7 +21,7 @@ renewals_in (Seen p now ∷ rounds) = renewals_in rounds
 renewals_in (Renewing p now name calls end ∷ rounds) = 1 + renewals_in rounds
 
 -- the sum of the sleeps among these calls, in nanoseconds
-abbrev pub slept_in : List Event → ℕ
+abbrev pub slept_in : List WorldCall → ℕ
 slept_in [] = 0
 slept_in (Reading now ∷ events) = slept_in events
 slept_in (Slept wait ∷ events) = as_nanos wait + slept_in events
@@ -29,7 +29,7 @@ slept_in (Drawn name ∷ events) = slept_in events
 
 -- from this moment on the clock is not set back, and no sleep is too short: no reading is earlier than what was
 -- before it, and the sleeps since then
-abbrev pub GoesOn : ℤ → List Event → Type 0
+abbrev pub GoesOn : ℤ → List WorldCall → Type 0
 GoesOn from [] = Unit {0}
 GoesOn from (Reading now ∷ events) = (from ≤ℤ now.nanosecond) × GoesOn now.nanosecond events
 GoesOn from (Slept wait ∷ events) = GoesOn (from +ℤ pos (as_nanos wait)) events

@@ -10,7 +10,7 @@ use Rattle.oauth2_shared_token.specs.Run.{has_refresh}
 use Rattle.oauth2_shared_token.specs.Renewal.{next_turn}
 use Rattle.oauth2_shared_keeper.specs.Call.{Call, Load, Replace, Refresh, ToReplace, request_of, told_by}
 use Rattle.oauth2_shared_keeper.specs.Renewal.{asked_by, first_turn}
-use Rattle.oauth2_shared_keeper.specs.Fleets.{Event, Made, Other, IsFleet, sends_of}
+use Rattle.oauth2_shared_keeper.specs.Fleets.{FleetEvent, Made, Other, IsFleet, sends_of}
 
 -- a stored value: this content, under this version
 abbrev pub value : {T : Type 0} → ℕ → Content T → StoredValue T
@@ -116,7 +116,7 @@ calls_ended (Ends i call ∷ rest) = (i, call) ∷ calls_ended rest
 calls_ended (Puts version token ∷ rest) = calls_ended rest
 
 -- the calls that the renewals of a fleet made, each with the name of its renewal
-abbrev pub calls_made : {T : Type 0} → List (Event T) → List (ℕ × Call T)
+abbrev pub calls_made : {T : Type 0} → List (FleetEvent T) → List (ℕ × Call T)
 calls_made [] = []
 calls_made (Made i call ∷ events) = (i, call) ∷ calls_made events
 calls_made (Other happening ∷ events) = calls_made events
@@ -127,7 +127,7 @@ module _ (T : Type 0) where
   EachStoreHasAFleet =
       (view : T → Token) (start : T) (events : List (StoreEvent T)) →
       IsStoreRun (world_of start) events →
-      (fleet : List (Event T)) × IsFleet view (view start) fleet × (calls_made fleet ≡ calls_ended events)
+      (fleet : List (FleetEvent T)) × IsFleet view (view start) fleet × (calls_made fleet ≡ calls_ended events)
 
   -- so a refresh token that was put there once, at first or later, is sent at most once by all renewals
   abbrev pub EachTokenOfAStoreIsSentOnce : Type 0

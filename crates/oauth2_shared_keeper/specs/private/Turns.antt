@@ -5,7 +5,7 @@ use Rattle.oauth2_shared_keeper.specs.declared.held.Held.{Held}
 use Rattle.oauth2_shared_keeper.specs.declared.outcome.Outcome.{Outcome}
 use Rattle.oauth2_shared_keeper.specs.declared.outcome.Outcome.TheVariants.{Ends, Waits}
 use Rattle.oauth2_shared_keeper.specs.declared.settings.KeeperSettings.{KeeperSettings}
-use Rattle.oauth2_shared_keeper.specs.Keeper.{Round, IsRound, Event, Slept, events_of}
+use Rattle.oauth2_shared_keeper.specs.Keeper.{Round, IsRound, WorldCall, Slept, events_of}
 
 -- what the round would tell
 abbrev pub told_by : {T E : Type 0} → Outcome T E → Held T E
@@ -24,6 +24,6 @@ EachWaits {T} {E} is_good settings (round ∷ rounds) =
     ((seen : Held T E) × IsRound is_good settings round (Waits seen)) × EachWaits is_good settings rounds
 
 -- the calls to the world of rounds after each of which the keeper slept
-abbrev pub slept_events : {T E : Type 0} → Duration → List (Round T E) → List Event
+abbrev pub slept_events : {T E : Type 0} → Duration → List (Round T E) → List WorldCall
 slept_events wait [] = []
 slept_events wait (round ∷ rounds) = events_of round ++ Slept wait ∷ slept_events wait rounds
