@@ -7,26 +7,31 @@ use Rattle.ecdsa_signatures.specs.declared.curve.EllipticCurve.TheVariants.{P256
 -- 2 ^ 384 - 2 ^ 128 - 2 ^ 96 + 2 ^ 32 - 1
 unfoldable pub prime : EllipticCurve → ℕ
 prime P256 = 0xffffffff00000001000000000000000000000000ffffffffffffffffffffffff
-prime P384 = 0xfffffffffffffffffffffffffffffffffffffffffffffffffffffffffffffffeffffffff0000000000000000ffffffff
+prime P384 =
+    0xfffffffffffffffffffffffffffffffffffffffffffffffffffffffffffffffeffffffff0000000000000000ffffffff
 
 -- n, the order of G
 unfoldable pub order : EllipticCurve → ℕ
 order P256 = 0xffffffff00000000ffffffffffffffffbce6faada7179e84f3b9cac2fc632551
-order P384 = 0xffffffffffffffffffffffffffffffffffffffffffffffffc7634d81f4372ddf581a0db248b0a77aecec196accc52973
+order P384 =
+    0xffffffffffffffffffffffffffffffffffffffffffffffffc7634d81f4372ddf581a0db248b0a77aecec196accc52973
 
 -- b of the equation; a is -3
 unfoldable pub coefficient : EllipticCurve → ℕ
 coefficient P256 = 0x5ac635d8aa3a93e7b3ebbd55769886bc651d06b0cc53b0f63bce3c3e27d2604b
-coefficient P384 = 0xb3312fa7e23ee7e4988e056be3f82d19181d9c6efe8141120314088f5013875ac656398d8a2ed19d2a85c8edd3ec2aef
+coefficient P384 =
+    0xb3312fa7e23ee7e4988e056be3f82d19181d9c6efe8141120314088f5013875ac656398d8a2ed19d2a85c8edd3ec2aef
 
 -- G's coordinates
 unfoldable pub generator_x : EllipticCurve → ℕ
 generator_x P256 = 0x6b17d1f2e12c4247f8bce6e563a440f277037d812deb33a0f4a13945d898c296
-generator_x P384 = 0xaa87ca22be8b05378eb1c71ef320ad746e1d3b628ba79b9859f741e082542a385502f25dbf55296c3a545e3872760ab7
+generator_x P384 =
+    0xaa87ca22be8b05378eb1c71ef320ad746e1d3b628ba79b9859f741e082542a385502f25dbf55296c3a545e3872760ab7
 
 unfoldable pub generator_y : EllipticCurve → ℕ
 generator_y P256 = 0x4fe342e2fe1a7f9b8ee7eb4a7c0f9e162bce33576b315ececbb6406837bf51f5
-generator_y P384 = 0x3617de4a96262c6f5d9e98bf9292dc29f8f41dbd289a147ce9da3113b5f0b8c00a60b1ce1d7e819d7a431d7c90ea0e5f
+generator_y P384 =
+    0x3617de4a96262c6f5d9e98bf9292dc29f8f41dbd289a147ce9da3113b5f0b8c00a60b1ce1d7e819d7a431d7c90ea0e5f
 
 -- the octets of a coordinate (SEC 1, 2.3.5), and of n
 unfoldable pub coordinate_size : EllipticCurve → ℕ
@@ -75,7 +80,8 @@ abbrev pub third_y : ℕ → ℕ → ℕ → ℕ → ℕ → ℕ
 third_y p slope x1 y1 x3 = difference p (slope * difference p x1 x3) y1
 
 abbrev pub third : ℕ → ℕ → ℕ → ℕ → ℕ → Point
-third p slope x1 y1 x2 = Affine (third_x p slope x1 x2) (third_y p slope x1 y1 (third_x p slope x1 x2))
+third p slope x1 y1 x2 =
+    Affine (third_x p slope x1 x2) (third_y p slope x1 y1 (third_x p slope x1 x2))
 
 -- P + Q modulo p: with the point at infinity (rules 1 and 2), of a point and its negative (rule 3), of
 -- points with different x (rule 4), of a point and itself (rule 5)

@@ -53,7 +53,8 @@ module _ {K V : Type 0} (eq : K → K → Bool) where
   -- what was left under a key by these events, if this was left before them
   abbrev pub last_left : K → Option V → List (MapEvent K V) → Option V
   last_left key left [] = left
-  last_left key left (event ∷ events) = last_left key (if eq key (key_of event) then left_by event else left) events
+  last_left key left (event ∷ events) =
+      last_left key (if eq key (key_of event) then left_by event else left) events
 
   -- an event lends what was left
   abbrev pub IsAsLeft : Option V → MapEvent K V → Type 0

@@ -16,7 +16,8 @@ module _ {E : Type 0} (adapted : Reply → Reply) (needs_memory : Reply → Bool
   IsAdapted (Err fault) result = result ≡ Err (error.Client fault)
 
 -- the adapter calls the inner client once with this request, and adapts its reply
-abbrev pub CallsAndAdapts : {C A E : Type 0} → (C → HttpRequest → Result HttpResponse E → C → Type 0)
+abbrev pub CallsAndAdapts : {C A E : Type 0}
+    → (C → HttpRequest → Result HttpResponse E → C → Type 0)
     → (A → Reply → Reply) → (A → Reply → Bool)
     → C × A → HttpRequest → Result HttpResponse (AdapterError E) → C × A → Type 0
 CallsAndAdapts {E = E} step adapted needs_memory before request result after =

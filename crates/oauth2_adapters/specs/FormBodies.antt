@@ -13,7 +13,8 @@ use Rattle.oauth2_adapters.specs.Rewriting.{object_text}
 -- the JSON value for a value of the form: a number for an `expires_in` of decimal digits (RFC 6749,
 -- 5.1), and else a string
 abbrev pub form_value : List ℕ → List ℕ → Json
-form_value name value = if bytes_eq name (codes "expires_in") && is_digits value then number value else string value
+form_value name value =
+    if bytes_eq name (codes "expires_in") && is_digits value then number value else string value
 
 -- one member for each pair, in the order of the form
 abbrev pub form_members : List Pair → Members
@@ -44,9 +45,12 @@ with_object (Some body) reply = record reply { headers = with_json_type reply.he
 
 -- the media type of the first Content-Type is that of a form
 abbrev pub is_form : Reply → Bool
-is_form reply = has_type_of (codes "application/x-www-form-urlencoded" ∷ []) (get reply.headers (codes "content-type"))
+is_form reply =
+    has_type_of (codes "application/x-www-form-urlencoded" ∷ [])
+    (get reply.headers (codes "content-type"))
 
 -- the reply with its form as a JSON object and the Content-Type of JSON; any other reply is
 -- unchanged
 abbrev pub form_as_json : Reply → Reply
-form_as_json reply = if is_form reply then with_object (form_object (pairs_of reply.body)) reply else reply
+form_as_json reply =
+    if is_form reply then with_object (form_object (pairs_of reply.body)) reply else reply

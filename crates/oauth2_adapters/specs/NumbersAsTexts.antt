@@ -31,4 +31,5 @@ number_of_digits (object ms) = None
 
 -- the change of the members with these names; any other member does not change
 abbrev pub number_under : List (List ℕ) → Change
-number_under names name value = if list_any (λ n. bytes_eq n name) names then number_of_digits value else None
+number_under names name value =
+    if list_any (λ n. bytes_eq n name) names then number_of_digits value else None

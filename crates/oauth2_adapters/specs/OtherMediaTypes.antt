@@ -26,7 +26,8 @@ has_type_of types (Some value) = list_any (is_type (media_type value.bytes)) typ
 
 -- the headers with `application/json` as their only Content-Type
 abbrev pub with_json_type : Entries FieldValue → Entries FieldValue
-with_json_type headers = insert headers (codes "content-type") (plain_value (codes "application/json"))
+with_json_type headers =
+    insert headers (codes "content-type") (plain_value (codes "application/json"))
 
 -- the reply with the Content-Type of JSON if its first Content-Type has one of these media types;
 -- any other reply is unchanged

@@ -27,7 +27,8 @@ object_text ms = print (json_tokens (object ms))
 -- the new body, if the body is one object and at least one of its members changes
 abbrev pub new_body : Change → Option Members → Option (List ℕ)
 new_body change None = None
-new_body change (Some ms) = if changes change ms then Some (object_text (changed_members change ms)) else None
+new_body change (Some ms) =
+    if changes change ms then Some (object_text (changed_members change ms)) else None
 
 -- the reply with this body; unchanged without one
 abbrev pub with_body : Option (List ℕ) → Reply → Reply

@@ -10,6 +10,8 @@ abbrev pub canned_reply : List ℕ → ReplyView
 canned_reply body = record { status = 200; content_type = None; body = body }
 
 -- a call returns the reply, unless memory runs out, and leaves the client's body as it is
-abbrev pub HandsBack : CannedClient → HttpRequest → Result HttpResponse AllocError → CannedClient → Type 0
-HandsBack before request (Ok reply) after = (reply_of reply ≡ canned_reply (string_bytes before.body)) × (after.body ≡ before.body)
+abbrev pub HandsBack : CannedClient → HttpRequest → Result HttpResponse AllocError → CannedClient
+    → Type 0
+HandsBack before request (Ok reply) after =
+    (reply_of reply ≡ canned_reply (string_bytes before.body)) × (after.body ≡ before.body)
 HandsBack before request (Err error) after = after.body ≡ before.body

@@ -13,7 +13,8 @@ status_code BadScript = 2
 -- a room begins with the text and is else as it was; if it does not fit, all of it is as it was
 abbrev pub IsPut : List ℕ → List ℕ → List ℕ → Type 0
 IsPut text old new =
-    (length text ≤ length old → new ≡ text ++ drop (length text) old) × (length old < length text → new ≡ old)
+    (length text ≤ length old → new ≡ text ++ drop (length text) old)
+    × (length old < length text → new ≡ old)
 
 -- a text of so many bytes is in the room, if it fits
 abbrev pub IsText : List ℕ → List ℕ → List ℕ → ℕ → Type 0
@@ -35,4 +36,5 @@ IsUnfed old new count status = (status ≡ pos 3) × (count ≡ 0) × (new ≡ o
 
 -- a call with this script: the room before it and after it, the count that it stores, and its result
 abbrev pub IsCall : List ℕ → List ℕ → List ℕ → ℕ → ℤ → Type 0
-IsCall script old new count status = IsRun script old new count status ⊎ IsUnfed old new count status
+IsCall script old new count status =
+    IsRun script old new count status ⊎ IsUnfed old new count status

@@ -45,7 +45,9 @@ openid_pairs client state verifier nonce =
 module _ {A E RE C : Type 0} where
   -- the HTTP client went from `before` to `after` by one call, with the token request of this login
   -- and this code, and `response` is what its reply is read as
-  abbrev pub IsAnsweredBy : (Data → Reading A) → (Data → Reading E) → (C → HttpRequest → Result HttpResponse RE → C → Type 0) → Settings → LoginView → List ℕ → C → A → C → Type 0
+  abbrev pub IsAnsweredBy : (Data → Reading A) → (Data → Reading E)
+      → (C → HttpRequest → Result HttpResponse RE → C → Type 0) → Settings → LoginView → List ℕ → C
+      → A → C → Type 0
   IsAnsweredBy reading error_reading step client login code before response after =
       (request : HttpRequest)
       × ((endpoint : Addressed) × (client.token_url ≡ Some endpoint)

@@ -24,33 +24,43 @@ module _ {E SE : Type 0} where
 module _ {C E SE : Type 0} (step : C → HttpRequest → Result HttpResponse E → C → Type 0) where
   -- the inner client is called once, with this request
   abbrev pub Sends : C → HttpRequest → Result HttpResponse (AssertingError E SE) → C → Type 0
-  Sends before sent result after = (answer : Result HttpResponse E) × step before sent answer after × (result ≡ inner_result answer)
+  Sends before sent result after =
+      (answer : Result HttpResponse E)
+      × step before sent answer after
+      × (result ≡ inner_result answer)
 
   -- the request is sent with the assertion that the source returned; without one, or if memory runs
   -- out, it is not sent
-  abbrev pub SendsWith : AssertionType → HttpRequest → Result (String Global) SE → C → Result HttpResponse (AssertingError E SE) → C → Type 0
+  abbrev pub SendsWith : AssertionType → HttpRequest → Result (String Global) SE → C
+      → Result HttpResponse (AssertingError E SE) → C → Type 0
   SendsWith kind request (Ok assertion) before result after =
       ((sent : HttpRequest) × IsExtended (assertion_pairs kind (string_bytes assertion)) (view_of request) (view_of sent) × Sends before sent result after)
       ⊎ ((result ≡ Err error.Memory) × (after ≡ before))
-  SendsWith kind request (Err fault) before result after = (result ≡ Err (error.Source fault)) × (after ≡ before)
+  SendsWith kind request (Err fault) before result after =
+      (result ≡ Err (error.Source fault)) × (after ≡ before)
 
 module _ {C S E SE : Type 0} (step : C → HttpRequest → Result HttpResponse E → C → Type 0) (asks : S → Result (String Global) SE → S → Type 0) where
   -- the source is asked once, and the request is sent with its assertion
-  abbrev pub Asserts : Asserter C S → HttpRequest → Result HttpResponse (AssertingError E SE) → Asserter C S → Type 0
+  abbrev pub Asserts : Asserter C S → HttpRequest → Result HttpResponse (AssertingError E SE)
+      → Asserter C S → Type 0
   Asserts before request result after =
       (assertion : Result (String Global) SE) × asks before.source assertion after.source
       × SendsWith step before.assertion_type request assertion before.client result after.client
 
   -- nothing is asked or sent, since the request authenticates the client already (RFC 6749, 2.3)
-  abbrev pub Refuses : Asserter C S → Result HttpResponse (AssertingError E SE) → Asserter C S → Type 0
+  abbrev pub Refuses : Asserter C S → Result HttpResponse (AssertingError E SE) → Asserter C S
+      → Type 0
   Refuses before result after = (result ≡ Err error.OtherAuthentication) × (after ≡ before)
 
   -- the request is sent as it is
-  abbrev pub Passes : Asserter C S → HttpRequest → Result HttpResponse (AssertingError E SE) → Asserter C S → Type 0
-  Passes before request result after = Sends step before.client request result after.client × (after.source ≡ before.source)
+  abbrev pub Passes : Asserter C S → HttpRequest → Result HttpResponse (AssertingError E SE)
+      → Asserter C S → Type 0
+  Passes before request result after =
+      Sends step before.client request result after.client × (after.source ≡ before.source)
 
   -- one call: an assertion is added to a POST of a form that does not authenticate the client yet
-  abbrev pub CallsAsserting : Asserter C S → HttpRequest → Result HttpResponse (AssertingError E SE) → Asserter C S → Type 0
+  abbrev pub CallsAsserting : Asserter C S → HttpRequest → Result HttpResponse (AssertingError E SE)
+      → Asserter C S → Type 0
   CallsAsserting before request result after =
       (after.assertion_type ≡ before.assertion_type)
       × MatchBool (is_form_post (view_of request))

@@ -12,4 +12,6 @@ assertion_type_text Saml2Bearer = codes "urn:ietf:params:oauth:client-assertion-
 -- the two parameters by which a client authenticates with an assertion (RFC 7521, 4.2)
 abbrev pub assertion_pairs : AssertionType → List ℕ → List Pair
 assertion_pairs kind assertion =
-    (codes "client_assertion_type", assertion_type_text kind) ∷ (codes "client_assertion", assertion) ∷ []
+    (codes "client_assertion_type", assertion_type_text kind)
+    ∷ (codes "client_assertion", assertion)
+    ∷ []

@@ -21,5 +21,7 @@ pub record IsAssertedRequest (c : Configuration) (kind : AssertionType) (asserti
 abbrev pub EachRequestIsAsserted : Type 0
 EachRequestIsAsserted =
     (c : Configuration) (text : List ℕ) (v sent : RequestView) (kind : AssertionType) (assertion : List ℕ)
-    → IsRequestOf c text v → c.client_secret ≡ None → has_credential (c.own_pairs ++ c.extra_params) ≡ false
+    → IsRequestOf c text v
+    → c.client_secret ≡ None
+    → has_credential (c.own_pairs ++ c.extra_params) ≡ false
     → IsExtended (assertion_pairs kind assertion) v sent → IsAssertedRequest c kind assertion v sent

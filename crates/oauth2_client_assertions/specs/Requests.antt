@@ -19,7 +19,9 @@ is_form_post v = bytes_eq v.method (codes "POST") && is_form (get v.headers (cod
 -- the parameter authenticates a client (RFC 6749, 2.3.1; RFC 7521, 4.2)
 abbrev pub is_credential_name : List ℕ → Bool
 is_credential_name name =
-    bytes_eq name (codes "client_secret") || bytes_eq name (codes "client_assertion") || bytes_eq name (codes "client_assertion_type")
+    bytes_eq name (codes "client_secret")
+    || bytes_eq name (codes "client_assertion")
+    || bytes_eq name (codes "client_assertion_type")
 
 -- at least one parameter does
 abbrev pub has_credential : List Pair → Bool

@@ -6,5 +6,9 @@ use Rattle.oauth2_client_refusals_tests.specs.declared.additions.Addition.TheVar
 
 -- the parameters after one addition: a scope is added to the scopes, an extra parameter goes last
 abbrev pub with_addition : Params → Addition → Params
-with_addition params (Scope text) = record params { scope = Some (with_scope params.scope text.now) }
-with_addition params (Extra name value) = record params { extra_params = params.extra_params ++ (name.now, value.now) ∷ [] }
+with_addition params (Scope text) = record params {
+  scope = Some (with_scope params.scope text.now);
+}
+with_addition params (Extra name value) = record params {
+  extra_params = params.extra_params ++ (name.now, value.now) ∷ [];
+}

@@ -22,6 +22,7 @@ pub record Counts (before : CountingClient) (request : HttpRequest) (answer : Re
 
 -- if memory ran out, the error's field `sent` says whether the client, which had not been called
 -- before, was called once or not at all
-abbrev pub TellsCalls : {D T : Type 0} → Result D (RequestTokenError NoReply T) → CountingClient → Type 0
+abbrev pub TellsCalls : {D T : Type 0} → Result D (RequestTokenError NoReply T) → CountingClient
+    → Type 0
 TellsCalls (Err (token.Memory sent)) after = after.calls ≡ (if sent then 1 else 0)
 TellsCalls result after = ⊤

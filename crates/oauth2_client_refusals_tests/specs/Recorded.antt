@@ -14,7 +14,8 @@ use Rattle.oauth2_device.specs.Events as event
 -- one event is recorded after those before it, unless there was no room for an event (`is_whole`)
 abbrev pub Notes : Recorder → Seen → Recorder → Type 0
 Notes before event after =
-    after.is_whole ≡ true → (before.is_whole ≡ true) × (after.seen.items ≡ before.seen.items ++ event ∷ [])
+    after.is_whole ≡ true → (before.is_whole ≡ true)
+    × (after.seen.items ≡ before.seen.items ++ event ∷ [])
 
 -- a reading of the clock is recorded, with the time that it returned
 abbrev pub RecordsReading : Recorder → Timestamp → Recorder → Type 0
@@ -38,4 +39,5 @@ events_seen (event.Slept duration ∷ e) = Sleep duration ∷ events_seen e
 -- these events are recorded after those before them, unless there was no room for an event
 abbrev pub Records : {RE : Type 0} → Recorder → List (PollCall RE) → Recorder → Type 0
 Records before e after =
-    after.is_whole ≡ true → (before.is_whole ≡ true) × (after.seen.items ≡ before.seen.items ++ events_seen e)
+    after.is_whole ≡ true → (before.is_whole ≡ true)
+    × (after.seen.items ≡ before.seen.items ++ events_seen e)

@@ -42,4 +42,5 @@ hs256_code secret message = hmac Sha256 secret message
 
 -- the token: what is signed, a dot, and its code in base64url (RFC 7515, 7.1)
 abbrev pub signed_jwt : List ℕ → List ℕ → List ℕ
-signed_jwt secret claims = signing_input claims ++ codes "." ++ base64url (hs256_code secret (signing_input claims))
+signed_jwt secret claims =
+    signing_input claims ++ codes "." ++ base64url (hs256_code secret (signing_input claims))

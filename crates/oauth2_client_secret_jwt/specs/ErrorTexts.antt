@@ -8,8 +8,10 @@ abbrev pub too_short_text : List ℕ
 too_short_text = codes "the client secret is shorter than 32 bytes"
 
 -- the text of an error; an error of the clock or of the generator has its own text
-abbrev pub client_secret_jwt_error_text : {K R : Type 0} → (K → Option (List ℕ)) → (R → Option (List ℕ)) → ClientSecretJwtError K R → Option (List ℕ)
+abbrev pub client_secret_jwt_error_text : {K R : Type 0} → (K → Option (List ℕ))
+    → (R → Option (List ℕ)) → ClientSecretJwtError K R → Option (List ℕ)
 client_secret_jwt_error_text clock_text generator_text (Clock error) = clock_text error
-client_secret_jwt_error_text clock_text generator_text Before1970 = Some (codes "the clock shows a time before 1970")
+client_secret_jwt_error_text clock_text generator_text Before1970 =
+    Some (codes "the clock shows a time before 1970")
 client_secret_jwt_error_text clock_text generator_text (Generator error) = generator_text error
 client_secret_jwt_error_text clock_text generator_text Memory = Some (codes "out of memory")

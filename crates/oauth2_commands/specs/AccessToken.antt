@@ -32,17 +32,21 @@ IsJudgedOutput expected keys now token o =
 
 -- the output of a token for a resource server that has these keys: why they are no key set, or
 -- what is found of the token
-abbrev pub IsKeyedOutput : Expectation → Reading (List ListedKey) → ℤ → AccessToken → Output → Type 0
+abbrev pub IsKeyedOutput : Expectation → Reading (List ListedKey) → ℤ → AccessToken → Output
+    → Type 0
 IsKeyedOutput expected (Err fault) now token o = o ≡ failure_output BadKeys (parse_fault_text fault)
 IsKeyedOutput expected (Ok keys) now token o = IsJudgedOutput expected keys now token o
 
 -- the output of a token by the algorithm of a script: that none of its signatures is checked, or
 -- what is found by the keys
-abbrev pub IsTokenOutput : AccessTokenParams → ℤ → Option SignatureAlgorithm → AccessToken → Output → Type 0
+abbrev pub IsTokenOutput : AccessTokenParams → ℤ → Option SignatureAlgorithm → AccessToken → Output
+    → Type 0
 IsTokenOutput p now None token o = o ≡ unchecked_output
-IsTokenOutput p now (Some algorithm) token o = IsKeyedOutput (access_token_expectation p algorithm) (set_reading p.keys) now token o
+IsTokenOutput p now (Some algorithm) token o =
+    IsKeyedOutput (access_token_expectation p algorithm) (set_reading p.keys) now token o
 
 -- the output of `access_token`; the clock is read once for the moment of the checks
 abbrev pub IsAccessTokenOutput : AccessTokenParams → Clock → Output → Type 0
 IsAccessTokenOutput p clock o =
-    IsReadOutput (IsTokenOutput p (reading_of clock) (signature_algorithm p.algorithm)) (access_token_reading p.access_token) o
+    IsReadOutput (IsTokenOutput p (reading_of clock) (signature_algorithm p.algorithm))
+    (access_token_reading p.access_token) o

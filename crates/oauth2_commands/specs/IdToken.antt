@@ -64,7 +64,8 @@ hash_name NotChecked = codes "not_checked"
 -- the result of the check of the access token hash, and the claims, as a JSON object
 unfoldable pub checked_data : AccessTokenHash → Claims → Data
 checked_data hash c =
-    object (put_all ((codes "access_token_hash", Some (string (hash_name hash))) ∷ (codes "claims", Some (claims_data c)) ∷ []) no_members)
+    object
+    (put_all ((codes "access_token_hash", Some (string (hash_name hash))) ∷ (codes "claims", Some (claims_data c)) ∷ []) no_members)
 
 -- the result of the check of the access token hash, and the claims, as compact JSON
 unfoldable pub checked_json : AccessTokenHash → Claims → List ℕ
@@ -91,24 +92,30 @@ unchecked_output =
 
 -- the output of a token whose claims are good, by the keys of the issuer: `good` if the signature
 -- is good, else why it is not (OpenID Connect Core 1.0, 3.1.3.7, 6)
-abbrev pub IsVerifiedOutput : Reading (List ListedKey) → Option SignatureAlgorithm → DecodedToken → Output → Output → Type 0
-IsVerifiedOutput (Err fault) algorithm token good o = o ≡ failure_output BadKeys (parse_fault_text fault)
+abbrev pub IsVerifiedOutput : Reading (List ListedKey) → Option SignatureAlgorithm → DecodedToken
+    → Output → Output → Type 0
+IsVerifiedOutput (Err fault) algorithm token good o =
+    o ≡ failure_output BadKeys (parse_fault_text fault)
 IsVerifiedOutput (Ok keys) None token good o = o ≡ unchecked_output
 IsVerifiedOutput (Ok keys) (Some algorithm) token good o =
     (IsVerified keys algorithm token × (o ≡ good))
     ⊎ ((error : SignatureError) × IsRefusal keys algorithm token error × (o ≡ failure_output BadSignature (signature_error_text error)))
 
 -- the same for keys that a script may leave out: then no signature is checked
-abbrev pub IsSignedOutput : Option Data → Option SignatureAlgorithm → DecodedToken → Output → Output → Type 0
+abbrev pub IsSignedOutput : Option Data → Option SignatureAlgorithm → DecodedToken → Output → Output
+    → Type 0
 IsSignedOutput None algorithm token good o = o ≡ good
-IsSignedOutput (Some keys) algorithm token good o = IsVerifiedOutput (set_reading keys) algorithm token good o
+IsSignedOutput (Some keys) algorithm token good o =
+    IsVerifiedOutput (set_reading keys) algorithm token good o
 
 -- the output of a token by the checks of its claims: the first rule that is broken, or that of its
 -- signature
-abbrev pub IsCheckedOutput : Option Data → Option SignatureAlgorithm → DecodedToken → Result AccessTokenHash ClaimsError → Output → Type 0
+abbrev pub IsCheckedOutput : Option Data → Option SignatureAlgorithm → DecodedToken
+    → Result AccessTokenHash ClaimsError → Output → Type 0
 IsCheckedOutput keys algorithm token (Ok hash) o =
     IsSignedOutput keys algorithm token (success_output (checked_json hash token.claims.own)) o
-IsCheckedOutput keys algorithm token (Err broken) o = o ≡ failure_output BadClaims (claims_error_text broken)
+IsCheckedOutput keys algorithm token (Err broken) o =
+    o ≡ failure_output BadClaims (claims_error_text broken)
 
 -- the output of a text: that of its token, or why the text is not a token
 abbrev pub IsReadOutput : {T : Type 0} → (T → Output → Type 0) → TokenReading T → Output → Type 0

@@ -12,11 +12,13 @@ module _ {R : Type 0} (reads : R → Option ℕ → R → Type 0) where
   -- `n` reads, each of which returned at least one byte
   unfoldable pub GivesBytes : ℕ → R → R → Type 0
   GivesBytes zero old new = new ≡ old
-  GivesBytes (suc n) old new = (mid : R) × (count : ℕ) × GivesBytes n old mid × reads mid (Some (suc count)) new
+  GivesBytes (suc n) old new =
+      (mid : R) × (count : ℕ) × GivesBytes n old mid × reads mid (Some (suc count)) new
 
   -- some reads that each returned bytes, and then a last one that returned `given`
   abbrev pub LastGives : Option ℕ → R → R → Type 0
-  LastGives given old new = (n : ℕ) × (mid : R) × (n < most_reads) × GivesBytes n old mid × reads mid given new
+  LastGives given old new =
+      (n : ℕ) × (mid : R) × (n < most_reads) × GivesBytes n old mid × reads mid given new
 
   -- some reads that each returned bytes, and then one that returned no byte: the end
   abbrev pub IsReadToItsEnd : R → R → Type 0

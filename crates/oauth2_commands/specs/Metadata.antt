@@ -60,22 +60,28 @@ metadata_output issuer (Ok m) = document_output issuer m (endpoint_fault m.endpo
 metadata_output issuer (Err (status, body)) = failure_output OtherStatus (other_reply_text status)
 
 -- the reply to a request for metadata: metadata, another status, or an error (RFC 6749, 5.2)
-abbrev pub metadata_answer : ReplyRule → ReplyView → Answer (Found BasicMetadata) (ErrorParts ErrorCode)
-metadata_answer rule = found_answer rule (metadata_reading any_object) (error_reading error_code_reading)
+abbrev pub metadata_answer : ReplyRule → ReplyView
+    → Answer (Found BasicMetadata) (ErrorParts ErrorCode)
+metadata_answer rule =
+    found_answer rule (metadata_reading any_object) (error_reading error_code_reading)
 
 -- what is shown of the GET request for metadata that has to name `issuer`
 abbrev pub IsDiscovered : ReplyRule → List ℕ → Parts → List Reply → Output → Type 0
 IsDiscovered rule issuer url =
-    IsRequestShown (metadata_output issuer) (error_members error_code_text) (metadata_answer rule) (IsGetOf (serialize url)) url
+    IsRequestShown (metadata_output issuer) (error_members error_code_text) (metadata_answer rule)
+    (IsGetOf (serialize url)) url
 
 -- the issuer that the metadata has to name: `expected_issuer` if it is given, else `issuer`
 abbrev pub expected_issuer : MetadataParams → List ℕ
 expected_issuer p = unwrap_or p.expected_issuer p.issuer
 
 -- the output for a URL: if it can be an issuer, that of a request for its metadata; else the reason
-abbrev pub IsIssuerOutput : ReplyRule → MetadataParams → List Reply → Parts → Option IssuerError → Output → Type 0
-IsIssuerOutput rule p replies url None o = IsDiscovered rule (expected_issuer p) (place p.well_known url) replies o
-IsIssuerOutput rule p replies url (Some error) o = o ≡ failure_output BadIssuer (issuer_error_text error)
+abbrev pub IsIssuerOutput : ReplyRule → MetadataParams → List Reply → Parts → Option IssuerError
+    → Output → Type 0
+IsIssuerOutput rule p replies url None o =
+    IsDiscovered rule (expected_issuer p) (place p.well_known url) replies o
+IsIssuerOutput rule p replies url (Some error) o =
+    o ≡ failure_output BadIssuer (issuer_error_text error)
 
 -- the output for a parsed issuer: a text that is not a URL is refused
 abbrev pub IsUrlOutput : ReplyRule → MetadataParams → List Reply → Parsed Parts → Output → Type 0
@@ -84,4 +90,5 @@ IsUrlOutput rule p replies (Err cause) o = o ≡ failure_output BadIssuer (issue
 
 -- the output of `metadata`; of the client only the reply rule counts
 abbrev pub IsMetadataOutput : Settings → MetadataParams → List Reply → Output → Type 0
-IsMetadataOutput client p replies o = IsUrlOutput client.reply_rule p replies (parse_url None p.issuer) o
+IsMetadataOutput client p replies o =
+    IsUrlOutput client.reply_rule p replies (parse_url None p.issuer) o

@@ -38,10 +38,12 @@ abbrev pub IsCommandOutput : Settings → Clock → List Reply → Command → O
 IsCommandOutput client clock replies (code p) o = IsCodeOutput client p replies o
 IsCommandOutput client clock replies (refresh p) o = IsRefreshOutput client p replies o
 IsCommandOutput client clock replies (password p) o = IsPasswordOutput client p replies o
-IsCommandOutput client clock replies (client_credentials p) o = IsClientCredentialsOutput client p replies o
+IsCommandOutput client clock replies (client_credentials p) o =
+    IsClientCredentialsOutput client p replies o
 IsCommandOutput client clock replies (introspect p) o = IsIntrospectOutput client p replies o
 IsCommandOutput client clock replies (revoke p) o = IsRevokeOutput client p replies o
-IsCommandOutput client clock replies (device_authorization p) o = IsDeviceAuthorizationOutput client p replies o
+IsCommandOutput client clock replies (device_authorization p) o =
+    IsDeviceAuthorizationOutput client p replies o
 IsCommandOutput client clock replies (device_poll p) o = IsDevicePollOutput client p clock replies o
 IsCommandOutput client clock replies (keeper p) o = IsKeeperOutput client p clock.moments replies o
 IsCommandOutput client clock replies (shared_keeper p) o = IsSharedKeeperOutput client p replies o
@@ -53,7 +55,8 @@ IsCommandOutput client clock replies (redirect p) o = IsRedirectOutput p o
 
 -- the output of the command of a script, of either kind
 abbrev pub IsRunOutput : Client → Clock → List Reply → ScriptCommand → Output → Type 0
-IsRunOutput client clock replies (plain command) o = IsCommandOutput (settings_of client) clock replies command o
+IsRunOutput client clock replies (plain command) o =
+    IsCommandOutput (settings_of client) clock replies command o
 IsRunOutput client clock replies (grant command) o = IsGrantOutput client replies command o
 
 -- the output for an input that is not a script, by its first bad member
@@ -64,7 +67,8 @@ bad_output fault = record { events = bad_script fault ∷ []; status = status.Ba
 abbrev pub IsScriptOutput : Result Script Fault → Output → Type 0
 IsScriptOutput (Err fault) o = o ≡ bad_output fault
 IsScriptOutput (Ok s) o =
-    IsRunOutput s.client (new_clock s.readings) (adapted_replies s.client.adapters s.replies) s.command o
+    IsRunOutput s.client (new_clock s.readings) (adapted_replies s.client.adapters s.replies)
+    s.command o
 
 -- these are the events and the status of an output that `IsOutput` allows
 abbrev pub Shows : List Event → RunStatus → (Output → Type 0) → Type 0

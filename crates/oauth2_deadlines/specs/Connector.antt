@@ -8,12 +8,14 @@ use Rattle.oauth2_deadlines.specs.declared.stream.DeadlineStream.{DeadlineStream
 
 -- the time that is so much later; no time is later than the greatest duration
 abbrev pub IsLater : Duration → Duration → Duration → Type 0
-IsLater begun most_time deadline = as_nanos deadline ≡ min (as_nanos begun + as_nanos most_time) max_nanos
+IsLater begun most_time deadline =
+    as_nanos deadline ≡ min (as_nanos begun + as_nanos most_time) max_nanos
 
 module _ {C S E K : Type 0} (tells : K → Duration → K → Type 0) (opens : C → Place → Duration → Result S E → C → Type 0) where
   -- the clock is read once, before the connection is opened, and the deadline is so much later. The
   -- opening itself takes at most that time.
-  abbrev pub OpensInTime : DeadlineConnector C K → Place → Result (DeadlineStream S K) E → DeadlineConnector C K → Type 0
+  abbrev pub OpensInTime : DeadlineConnector C K → Place → Result (DeadlineStream S K) E
+      → DeadlineConnector C K → Type 0
   OpensInTime before place (Ok opened) after =
       (after.most_time ≡ before.most_time)
       × opens before.connect place before.most_time (Ok opened.stream) after.connect

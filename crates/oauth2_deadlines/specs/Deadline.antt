@@ -29,7 +29,8 @@ module _ {S K : Type 0} (tells : K → Duration → K → Type 0) (limits : S �
 
   -- the connection made this call, within the time that was left; or it did not, and the error says
   -- why no limit was set for it
-  abbrev pub IsInTime : {A : Type 0} → (S → Result A Error → S → Type 0) → DeadlineStream S K → Result A Error → DeadlineStream S K → Type 0
+  abbrev pub IsInTime : {A : Type 0} → (S → Result A Error → S → Type 0) → DeadlineStream S K
+      → Result A Error → DeadlineStream S K → Type 0
   IsInTime does before result after =
       ((limited : DeadlineStream S K) × Limits before (Ok tt) limited
       × does limited.stream result after.stream × (after.clock ≡ limited.clock) × (after.deadline ≡ limited.deadline))

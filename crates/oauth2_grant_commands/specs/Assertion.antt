@@ -16,14 +16,19 @@ use Rattle.oauth2_script.specs.declared.assertion_params.AssertionKind.TheVarian
 -- the request by a JWT as it is (RFC 7523, 2.1), or by the XML of a SAML 2.0 assertion, which is sent
 -- in base64url (RFC 7522, 2.1)
 abbrev pub bearer_request : AssertionKind → TokenClientView → List ℕ → ExtensionRequest
-bearer_request Jwt client text = with_params (new_extension_request client jwt_bearer_grant) (jwt_bearer_pairs text)
-bearer_request Saml2 client text = with_params (new_extension_request client saml2_bearer_grant) (saml2_bearer_pairs text)
+bearer_request Jwt client text =
+    with_params (new_extension_request client jwt_bearer_grant) (jwt_bearer_pairs text)
+bearer_request Saml2 client text =
+    with_params (new_extension_request client saml2_bearer_grant) (saml2_bearer_pairs text)
 
 -- the request by the assertion of the command, with its scopes (RFC 7521, 4.1)
 abbrev pub assertion_request : Client → AssertionParams → Addressed → ExtensionRequest
-assertion_request client p url = request_with_scopes (bearer_request p.kind (token_client client url) p.assertion) p.scopes
+assertion_request client p url =
+    request_with_scopes (bearer_request p.kind (token_client client url) p.assertion) p.scopes
 
 -- the output of `assertion`: that of its request, or that no token endpoint is set
 abbrev pub IsAssertionOutput : Client → AssertionParams → List Reply → Output → Type 0
 IsAssertionOutput client p replies o =
-    WithToken (λ url o. WithExtra (IsTokenAsked replies) (assertion_request client p url) p.extra_params o) client.endpoints.token o
+    WithToken
+    (λ url o. WithExtra (IsTokenAsked replies) (assertion_request client p url) p.extra_params o)
+    client.endpoints.token o

@@ -47,24 +47,31 @@ ExchangeAnswer = Token (List ℕ) TokenCode
 
 -- a response as a JSON object; absent members are left out
 unfoldable pub exchange_data : ExchangeAnswer → Data
-exchange_data r = object (put_all (token_rows (string (token_code_text r.token_type)) r) (exchange_fields r.extra_fields))
+exchange_data r =
+    object
+    (put_all (token_rows (string (token_code_text r.token_type)) r) (exchange_fields r.extra_fields))
 
 -- a response as compact JSON
 unfoldable pub exchange_json : ExchangeAnswer → List ℕ
 exchange_json r = compact_text (exchange_data r)
 
 -- what a reply says: a response (RFC 8693, 2.2.1), or an error, which may be `invalid_target` (2.2.2)
-abbrev pub exchange_answer : ReplyRule → ReplyView → Answer ExchangeAnswer (ErrorParts ExchangeErrorCode)
+abbrev pub exchange_answer : ReplyRule → ReplyView
+    → Answer ExchangeAnswer (ErrorParts ExchangeErrorCode)
 exchange_answer rule =
-    answer_of rule (token_reading exchange_fields_reading token_code_reading) (error_reading exchange_error_code_reading)
+    answer_of rule (token_reading exchange_fields_reading token_code_reading)
+    (error_reading exchange_error_code_reading)
 
 -- the output of a request: the request, and the response or the fault
 abbrev pub IsExchangeAsked : List Reply → ExtensionRequest → Output → Type 0
 IsExchangeAsked replies r o =
-    IsPostShown exchange_json (error_members exchange_error_code_text) (exchange_answer r.base.reply_rule)
+    IsPostShown exchange_json (error_members exchange_error_code_text)
+    (exchange_answer r.base.reply_rule)
     (extension_configuration r) r.token_url replies o
 
 -- the output of `exchange_token`: that of its request, or that no token endpoint is set
 abbrev pub IsExchangeTokenOutput : Client → ExchangeTokenParams → List Reply → Output → Type 0
 IsExchangeTokenOutput client p replies o =
-    WithToken (λ url o. WithExtra (IsExchangeAsked replies) (exchange_request client p url) p.extra_params o) client.endpoints.token o
+    WithToken
+    (λ url o. WithExtra (IsExchangeAsked replies) (exchange_request client p url) p.extra_params o)
+    client.endpoints.token o

@@ -12,9 +12,12 @@ use Rattle.oauth2_script.specs.Replies.{Reply}
 
 -- the request by the grant type of the command, with its scopes (RFC 6749, 4.5 and 3.3)
 abbrev pub extension_request : Client → ExtensionParams → Addressed → ExtensionRequest
-extension_request client p url = request_with_scopes (new_extension_request (token_client client url) p.grant_type) p.scopes
+extension_request client p url =
+    request_with_scopes (new_extension_request (token_client client url) p.grant_type) p.scopes
 
 -- the output of `extension`: that of its request, or that no token endpoint is set
 abbrev pub IsExtensionOutput : Client → ExtensionParams → List Reply → Output → Type 0
 IsExtensionOutput client p replies o =
-    WithToken (λ url o. WithExtra (IsTokenAsked replies) (extension_request client p url) p.extra_params o) client.endpoints.token o
+    WithToken
+    (λ url o. WithExtra (IsTokenAsked replies) (extension_request client p url) p.extra_params o)
+    client.endpoints.token o

@@ -40,7 +40,8 @@ pushing_client client endpoint = record {
 -- what is pushed: the parameters that the authorization URL would carry (RFC 9126, 2.1), and then
 -- those of the assertion by which the client authenticates, if it has one (RFC 7521, 4.2)
 abbrev pub pairs_to_push : Client → PushParams → Addressed → List Pair
-pairs_to_push client p url = query_pairs (authorization (settings_of client) p.authorize url) ++ p.asserted
+pairs_to_push client p url =
+    query_pairs (authorization (settings_of client) p.authorize url) ++ p.asserted
 
 -- a response as compact JSON (RFC 9126, 2.2)
 unfoldable pub pushed_json : PushedAuthorization → List ℕ
@@ -50,7 +51,8 @@ pushed_json r = compact_text (object (put_all (pushed_rows r) no_members))
 -- that was pushed (RFC 9126, 4) behind its own query; and then the response
 abbrev pub pushed_output : List ℕ → Addressed → PushedAuthorization → Output
 pushed_output id url r =
-    after (sent_to (serialize (append_query_pairs url.url (reference_pairs id r.request_uri))) ∷ []) (success_output (pushed_json r))
+    after (sent_to (serialize (append_query_pairs url.url (reference_pairs id r.request_uri))) ∷ [])
+    (success_output (pushed_json r))
 
 -- what a reply says: a response, whose status is 201 (RFC 9126, 2.2), or an error (RFC 9126, 2.3)
 abbrev pub pushed_answer : ReplyRule → ReplyView → Answer PushedAuthorization (ErrorParts ErrorCode)
@@ -59,11 +61,13 @@ pushed_answer rule = pushed_answer_of rule (error_reading error_code_reading)
 -- what is shown of a push: its request, and then the URL and the response, or the fault
 abbrev pub IsPushShown : Addressed → PushedRequest → List Reply → Output → Type 0
 IsPushShown url r =
-    IsRequestShown (pushed_output r.client.client_id url) (error_members error_code_text) (pushed_answer r.client.reply_rule)
+    IsRequestShown (pushed_output r.client.client_id url) (error_members error_code_text)
+    (pushed_answer r.client.reply_rule)
     (IsRequestOf (pushed_configuration r) (serialize r.client.endpoint)) r.client.endpoint
 
 -- what is shown of a push of these parameters; no request is made if they cannot be pushed
-abbrev pub IsPushedOrRefused : PushingClientView → Addressed → List Pair → List Reply → Output → Type 0
+abbrev pub IsPushedOrRefused : PushingClientView → Addressed → List Pair → List Reply → Output
+    → Type 0
 IsPushedOrRefused client url pairs replies o =
     MatchOption (push_fault client.client_id (Some pairs)) (IsPushShown url (record { client = client; pairs = pairs }) replies o)
     (λ fault. o ≡ failure_output BadPush (push_fault_text fault))
@@ -77,4 +81,5 @@ IsPushFor client p replies url o =
 
 -- the output of `push`: that of its request, or that one of the two endpoints is not set
 abbrev pub IsPushOutput : Client → PushParams → List Reply → Output → Type 0
-IsPushOutput client p replies o = WithEndpoint (codes "authorization") (IsPushFor client p replies) client.endpoints.auth o
+IsPushOutput client p replies o =
+    WithEndpoint (codes "authorization") (IsPushFor client p replies) client.endpoints.auth o

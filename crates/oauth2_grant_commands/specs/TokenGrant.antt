@@ -34,10 +34,14 @@ has_taken_name extra = list_any (λ pair. is_taken pair.0) extra
 
 -- the output that `IsOutput` says of the request with these parameters after its own; no request is
 -- made if one of them has a name that the request sends itself
-abbrev pub WithExtra : (ExtensionRequest → Output → Type 0) → ExtensionRequest → List Pair → Output → Type 0
+abbrev pub WithExtra : (ExtensionRequest → Output → Type 0) → ExtensionRequest → List Pair → Output
+    → Type 0
 WithExtra IsOutput r extra o =
-    MatchBool (has_taken_name extra) (o ≡ failure_output TakenParameter (grant_fault_text NameIsTaken)) (IsOutput (with_params r extra) o)
+    MatchBool (has_taken_name extra)
+    (o ≡ failure_output TakenParameter (grant_fault_text NameIsTaken))
+    (IsOutput (with_params r extra) o)
 
 -- the output of a request: the request, and the token (RFC 6749, 5.1) or the fault
 abbrev pub IsTokenAsked : List Reply → ExtensionRequest → Output → Type 0
-IsTokenAsked replies r o = IsTokenShown r.base.reply_rule (extension_configuration r) r.token_url replies o
+IsTokenAsked replies r o =
+    IsTokenShown r.base.reply_rule (extension_configuration r) r.token_url replies o

@@ -15,4 +15,6 @@ default_bounds = record {
 -- times the sum of the bounds on its parts, but at most 2^64 - 1
 abbrev pub most_bytes : Bounds → ℕ
 most_bytes b =
-    min (8 * (b.limits.max_head_len + b.limits.max_extensions_len + b.limits.max_trailers_len + b.max_body)) (2 ^ 64 - 1)
+    min
+    (8 * (b.limits.max_head_len + b.limits.max_extensions_len + b.limits.max_trailers_len + b.max_body))
+    (2 ^ 64 - 1)

@@ -86,4 +86,5 @@ module _ {W : Type 0} (writes : W → Result ℕ Error → W → Type 0) (flushe
   -- is that of the last write or of the flush, or says that a write took no byte
   abbrev pub Sends : Result ⊤ Error → W → W → Type 0
   Sends (Ok done) old new = Flushes (Ok done) old new
-  Sends (Err e) old new = Fails writes e old new ⊎ Flushes (Err e) old new ⊎ TakesNone writes e old new
+  Sends (Err e) old new =
+      Fails writes e old new ⊎ Flushes (Err e) old new ⊎ TakesNone writes e old new

@@ -19,7 +19,8 @@ use Rattle.oauth2_http1.specs.declared.fault.ReplyFault.TheVariants as Fault
 -- the stream begins with these responses of status 1xx, and `now` follows them (RFC 9110, 15.2)
 abbrev pub ReadsInterims : Terms → List Response → List ℕ → List ℕ → Type 0
 ReadsInterims t [] stream now = stream ≡ now
-ReadsInterims t (m ∷ ms) stream now = (after : List ℕ) × ReadsInterim t stream m after × ReadsInterims t ms after now
+ReadsInterims t (m ∷ ms) stream now =
+    (after : List ℕ) × ReadsInterim t stream m after × ReadsInterims t ms after now
 
 -- `P` holds of the bytes after some responses of status 1xx, where the next head begins
 abbrev pub AtHead : Terms → List ℕ → (List ℕ → Type 0) → Type 0
@@ -46,7 +47,8 @@ IsHeadCut now = HasNoResponse now × MayBecomeResponse now
 
 -- the first of these bytes are refused as a body, with this error
 abbrev pub RefusesBodyAt : ℕ → Decoder → List ℕ → ReadError → Type 0
-RefusesBodyAt room d now e = (front : List ℕ) × (more : List ℕ) × (now ≡ front ++ more) × BodyError d front room e
+RefusesBodyAt room d now e =
+    (front : List ℕ) × (more : List ℕ) × (now ≡ front ++ more) × BodyError d front room e
 
 -- the lines of the chunks are valid, as far as they were received
 abbrev pub AreChunksInOrder : Decoder → List ℕ → Type 0
@@ -69,15 +71,22 @@ HeadCause t e now = RefusesHead t now e ⊎ ((e ≡ UnexpectedEof) × IsHeadCut 
 
 -- the bytes begin with a final head, and `P` holds of its framing, the head, and what follows it
 abbrev pub BehindHead : Terms → (Framing → ResponseHead → List ℕ → Type 0) → List ℕ → Type 0
-BehindHead t P now = (h : ResponseHead) × (framing : Framing) × (body : List ℕ) × HasHead t now h framing body × P framing h body
+BehindHead t P now =
+    (h : ResponseHead)
+    × (framing : Framing)
+    × (body : List ℕ)
+    × HasHead t now h framing body
+    × P framing h body
 
 -- why no reply is read from the stream, for the faults that its bytes cause
 abbrev pub HasCause : ReplyFault → Terms → List ℕ → Type 0
 HasCause (Fault.Response e) t stream =
     AtHead t stream (HeadCause t e)
-    ⊎ AtHead t stream (BehindHead t (λ framing h body. BodyCause t.room (decoder_for t.limits framing) e body))
+    ⊎ AtHead t stream
+    (BehindHead t (λ framing h body. BodyCause t.room (decoder_for t.limits framing) e body))
 HasCause Fault.EmptyLine t stream = AtHead t stream (λ now. IsTrue (begins_with_line_end now))
-HasCause Fault.TransferCoding t stream = AtHead t stream (BehindHead t (λ framing h body. IsUncoded framing h → ⊥))
+HasCause Fault.TransferCoding t stream =
+    AtHead t stream (BehindHead t (λ framing h body. IsUncoded framing h → ⊥))
 HasCause Fault.TooLong t stream = ⊤
 HasCause Fault.TooManyBytes t stream = ⊤
 HasCause Fault.TooManyReads t stream = ⊤

@@ -18,7 +18,8 @@ use Rattle.oauth2_http1.specs.declared.over.NoConnection.{NoConnection}
 
 -- the text of an error of the HTTP/1.1 writer
 abbrev pub http1_write_error_text : WriteError → List ℕ
-http1_write_error_text Write.InvalidStartLine = codes "no request line has this method and this target"
+http1_write_error_text Write.InvalidStartLine =
+    codes "no request line has this method and this target"
 http1_write_error_text Write.InvalidHeader = codes "no field has this name and this value"
 http1_write_error_text Write.Host = codes "it has a Host field of its own"
 http1_write_error_text e = codes "its fields do not fit its body"
@@ -27,10 +28,12 @@ http1_write_error_text e = codes "its fields do not fit its body"
 abbrev pub http1_request_fault_text : MessageFault → Option (List ℕ)
 http1_request_fault_text request.NoOrigin = Some (codes "request has no http or https target")
 http1_request_fault_text request.NoHost = Some (codes "request has a target without a host")
-http1_request_fault_text request.BadPort = Some (codes "request has a target whose port is no number")
+http1_request_fault_text request.BadPort =
+    Some (codes "request has a target whose port is no number")
 http1_request_fault_text request.OwnFraming = Some (codes "request frames its body itself")
 http1_request_fault_text request.Connect = Some (codes "request asks for a tunnel")
-http1_request_fault_text (request.Refused e) = Some (codes "request cannot be sent: " ++ http1_write_error_text e)
+http1_request_fault_text (request.Refused e) =
+    Some (codes "request cannot be sent: " ++ http1_write_error_text e)
 http1_request_fault_text request.Memory = Some (codes "Out of memory")
 
 -- the text of an error of the HTTP/1.1 reader
@@ -51,17 +54,21 @@ is_time_limit kind = false
 
 -- the text of a read that failed
 abbrev pub http1_read_text : Io.Error → List ℕ
-http1_read_text e = if is_time_limit (error_kind e) then codes "connection gave nothing in time" else codes "connection cannot be read"
+http1_read_text e =
+    if is_time_limit (error_kind e) then codes "connection gave nothing in time" else codes "connection cannot be read"
 
 -- the text of a write that failed
 abbrev pub http1_write_text : Io.Error → List ℕ
-http1_write_text e = if is_time_limit (error_kind e) then codes "connection took nothing in time" else codes "connection cannot be written"
+http1_write_text e =
+    if is_time_limit (error_kind e) then codes "connection took nothing in time" else codes "connection cannot be written"
 
 -- the text of a fault for which no reply is read
 abbrev pub reply_fault_text : ReplyFault → Option (List ℕ)
-reply_fault_text (reply.Response e) = Some (codes "reply cannot be read: " ++ http1_read_error_text e)
+reply_fault_text (reply.Response e) =
+    Some (codes "reply cannot be read: " ++ http1_read_error_text e)
 reply_fault_text reply.EmptyLine = Some (codes "reply begins with an empty line")
-reply_fault_text reply.TransferCoding = Some (codes "reply has a transfer coding that is not undone")
+reply_fault_text reply.TransferCoding =
+    Some (codes "reply has a transfer coding that is not undone")
 reply_fault_text reply.TooLong = Some (codes "body of the reply is longer than the bound")
 reply_fault_text reply.TooManyBytes = Some (codes "reply takes more bytes than its bounds allow")
 reply_fault_text reply.TooManyReads = Some (codes "reply takes more reads than the bound")
@@ -72,7 +79,8 @@ reply_fault_text reply.Memory = Some (codes "Out of memory")
 -- the text of an error of a call; `text` is that of the connector's error
 abbrev pub http1_error_text : {E : Type 0} → (E → Option (List ℕ)) → Http1Error E → Option (List ℕ)
 http1_error_text text (error.Request fault) = http1_request_fault_text fault
-http1_error_text text (error.Connect e) = option_map (λ bytes. codes "no connection: " ++ bytes) (text e)
+http1_error_text text (error.Connect e) =
+    option_map (λ bytes. codes "no connection: " ++ bytes) (text e)
 http1_error_text text (error.Write e) = Some (http1_write_text e)
 http1_error_text text (error.Reply fault) = reply_fault_text fault
 

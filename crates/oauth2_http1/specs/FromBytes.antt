@@ -29,7 +29,9 @@ use Rattle.oauth2_http1.specs.Client.{Writes, Opens, Exchanges, CanSend, CannotS
 abbrev pub view_of_reply : Response → ReplyView
 view_of_reply m = record {
   status = status_code m.head;
-  content_type = option_map (λ value. value.bytes) (get (entries_of (map name_and_value m.head.fields)) (codes "content-type"));
+  content_type =
+      option_map (λ value. value.bytes)
+      (get (entries_of (map name_and_value m.head.fields)) (codes "content-type"));
   body = m.body.bytes;
 }
 
@@ -39,7 +41,8 @@ pub record BeginsWith (t : Terms) (view : ReplyView) (stream : List ℕ) : Type 
   pub reply : Response
   pub rest : List ℕ
   pub reads : ReadsReply t stream reply rest
-  pub only : (another : Response) (after : List ℕ) → ReadsReply t stream another after → (another ≡ reply) × (after ≡ rest)
+  pub only : (another : Response) (after : List ℕ) → ReadsReply t stream another after
+      → (another ≡ reply) × (after ≡ rest)
   pub is : view ≡ view_of_reply reply
 
 -- why a configured request cannot be sent; it is a POST that leaves its framing to the client, so
@@ -77,7 +80,9 @@ module _ {C S E : Type 0} (opens : C → Place → Result S E → C → Type 0) 
       (after ≡ before) × (request : HttpRequest) × IsRequestOf c text (view_of request) × CannotPost fault request
   NotReplied before (http.Connect error) after =
       (after.bounds ≡ before.bounds) × (request : HttpRequest) × IsRequestOf c text (view_of request)
-      × Opens opens contents remaining reads writes flushes before.connect request (Err error) after.connect × CanSend request
+      × Opens opens contents remaining reads writes flushes before.connect request (Err error)
+      after.connect
+      × CanSend request
   NotReplied before (http.Write error) after =
       (after.bounds ≡ before.bounds) × (request : HttpRequest) × IsRequestOf c text (view_of request)
       × (opened : S) × Opens opens contents remaining reads writes flushes before.connect request (Ok opened) after.connect
@@ -89,10 +94,14 @@ module _ {C S E : Type 0} (opens : C → Place → Result S E → C → Type 0) 
   module _ {D A T X : Type 0} (meaning : D → A) (error_meaning : T → X) (says : ReplyView → Answer A X) where
     -- by the result: a value (RFC 6749, 5.1), an error response (5.2) and a fault of the body are
     -- what the received reply says; the other results say whether the request was sent
-    abbrev pub FromBytes : Http1Client C → Result D (RequestTokenError (Http1Error E) T) → Http1Client C → Type 0
-    FromBytes before (Ok value) after = Replied before after (λ view. says view ≡ accepted (meaning value))
-    FromBytes before (Err (token.ServerResponse error)) after = Replied before after (λ view. says view ≡ refused (error_meaning error))
-    FromBytes before (Err (token.Parse fault body)) after = Replied before after (λ view. says view ≡ unread (fault_of fault) body.items)
+    abbrev pub FromBytes : Http1Client C → Result D (RequestTokenError (Http1Error E) T)
+        → Http1Client C → Type 0
+    FromBytes before (Ok value) after =
+        Replied before after (λ view. says view ≡ accepted (meaning value))
+    FromBytes before (Err (token.ServerResponse error)) after =
+        Replied before after (λ view. says view ≡ refused (error_meaning error))
+    FromBytes before (Err (token.Parse fault body)) after =
+        Replied before after (λ view. says view ≡ unread (fault_of fault) body.items)
     FromBytes before (Err (token.Other what)) after =
         Replied before after (λ view. says view ≡ other (string_bytes what))
         ⊎ ((after ≡ before) × SpellsNone text × (string_bytes what ≡ not_http_text))
@@ -106,8 +115,11 @@ module _ {C S E : Type 0} (opens : C → Place → Result S E → C → Type 0) 
     {D A T X : Type 0} (meaning : D → A) (error_meaning : T → X) where
   abbrev pub EachIsFromBytes : Type 0
   EachIsFromBytes =
-      (c : Configuration) (text : List ℕ) (says : ReplyView → Answer A X) (before after : Http1Client C)
+      (c : Configuration) (text : List ℕ) (says : ReplyView
+      → Answer A X) (before after : Http1Client C)
       (result : Result D (RequestTokenError (Http1Error E) T))
-      → AsksOnce meaning error_meaning (Exchanges opens contents remaining reads writes flushes) says (IsRequestOf c) text before
+      → AsksOnce meaning error_meaning (Exchanges opens contents remaining reads writes flushes)
+      says (IsRequestOf c) text before
       result after
-      → FromBytes opens contents remaining reads writes flushes c text meaning error_meaning says before result after
+      → FromBytes opens contents remaining reads writes flushes c text meaning error_meaning says
+      before result after

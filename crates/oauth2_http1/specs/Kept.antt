@@ -34,7 +34,8 @@ is_delimited (Err e) = false
 -- the reply to a request with this method ends by itself: it has no body, a stated length or
 -- chunks, and does not run until the connection is closed (RFC 9112, 6.3)
 abbrev pub ends_itself : MethodKind → ResponseHead → Bool
-ends_itself method h = is_delimited (response_framing method (status_code h) h.minor (known_of h.fields))
+ends_itself method h =
+    is_delimited (response_framing method (status_code h) h.minor (known_of h.fields))
 
 -- the connection may be used again: the reply ended by itself, the connection persists, and no byte
 -- came beyond the reply
@@ -54,7 +55,8 @@ pub record TakesReply (t : Terms) (stream : List ℕ) (read : ReplyRead) (left :
 
 -- the reads took at most as many bytes as the bounds allow, in at most as many reads; `came` says
 -- whether they took any
-abbrev pub ReadsAny : {R : Type 0} → (R → Option (List ℕ)) → (R → Result ℕ Error → R → Type 0) → Bounds → Bool → R → R → Type 0
+abbrev pub ReadsAny : {R : Type 0} → (R → Option (List ℕ)) → (R → Result ℕ Error → R → Type 0)
+    → Bounds → Bool → R → R → Type 0
 ReadsAny remaining reads bounds came old new =
     (all : ReadsOf remaining reads old new) × (bytes_returned all.returned ≤ most_bytes bounds) × (successes all.returned ≤ bounds.max_reads)
     × (came ≡ nat_lt 0 (bytes_returned all.returned))

@@ -34,7 +34,9 @@ pub record Carries (c : Configuration) (place : Place) (uri : Uri) (seen : SeenR
 
 -- the bytes of the head of a request to a place
 abbrev pub wire_head : Place → HttpRequest → List ℕ
-wire_head place r = head_text (head_of r).method (origin_form (head_of r).uri) (sent_fields place (head_of r).headers) (body_of r).items
+wire_head place r =
+    head_text (head_of r).method (origin_form (head_of r).uri)
+    (sent_fields place (head_of r).headers) (body_of r).items
 
 -- every server that takes the head reads the bytes, whatever follows them, as one request and in
 -- only one way; that request is the configured one

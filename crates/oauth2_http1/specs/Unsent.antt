@@ -22,7 +22,8 @@ fault_of_write_error e = Fault.Refused e
 -- why the HTTP/1.1 writer (crate `http1`) refuses a head with these parts (RFC 9112, 3, 3.2 and 5)
 abbrev pub write_error : List ℕ → List ℕ → List Header → List ℕ → Option WriteError
 write_error method target fields body =
-    plan_refusal (plan_fields (method_kind method) (body_size method body) fields) (is_request_line method target 1) fields
+    plan_refusal (plan_fields (method_kind method) (body_size method body) fields)
+    (is_request_line method target 1) fields
 
 -- why a request with these parts cannot be written as bytes
 abbrev pub Unsent : MessageFault → List ℕ → List ℕ → List Header → List ℕ → Type 0
@@ -37,9 +38,12 @@ Unsent Fault.Memory method target fields body = ⊤
 -- why a request to this place cannot be written as bytes
 abbrev pub UnsentTo : {Z : Type 0} → Place → Request (Vec ℕ Z) → MessageFault → Type 0
 UnsentTo place r e =
-    Unsent e (head_of r).method (origin_form (head_of r).uri) (sent_fields place (head_of r).headers) (body_of r).items
+    Unsent e (head_of r).method (origin_form (head_of r).uri)
+    (sent_fields place (head_of r).headers) (body_of r).items
 
 -- why a request after which the connection is used again cannot be written as bytes
-abbrev pub UnsentKept : {Z : Type 0} → Option (List ℕ) → Place → Request (Vec ℕ Z) → MessageFault → Type 0
+abbrev pub UnsentKept : {Z : Type 0} → Option (List ℕ) → Place → Request (Vec ℕ Z) → MessageFault
+    → Type 0
 UnsentKept agent place r e =
-    Unsent e (head_of r).method (origin_form (head_of r).uri) (kept_fields agent place (head_of r).headers) (body_of r).items
+    Unsent e (head_of r).method (origin_form (head_of r).uri)
+    (kept_fields agent place (head_of r).headers) (body_of r).items

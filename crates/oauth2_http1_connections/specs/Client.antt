@@ -38,7 +38,8 @@ abbrev pub CannotSend : Option (List ℕ) → MessageFault → HttpRequest → T
 CannotSend agent Fault.NoOrigin request = NamesNoPlace Fault.NoOrigin (head_of request).uri
 CannotSend agent Fault.NoHost request = NamesNoPlace Fault.NoHost (head_of request).uri
 CannotSend agent Fault.BadPort request = NamesNoPlace Fault.BadPort (head_of request).uri
-CannotSend agent fault request = (place : Place) × IsPlaceOf (head_of request).uri place × UnsentKept agent place request fault
+CannotSend agent fault request =
+    (place : Place) × IsPlaceOf (head_of request).uri place × UnsentKept agent place request fault
 
 -- the request can be sent to this place, as these bytes
 pub record CanSend (agent : Option (List ℕ)) (request : HttpRequest) (place : Place) : Type 0 where
@@ -50,20 +51,27 @@ module _ {C S E : Type 0} (opens : C → Place → Result S E → C → Type 0) 
   -- the connection for a place: the idle one to it, which was used before, or else one that the
   -- connector opens
   abbrev pub Gets : Place → KeepAliveClient C S → Bool → S → KeepAliveClient C S → Type 0
-  Gets place before true stream after = (find place before.idle.kept.items ≡ Some stream) × (after.connect ≡ before.connect)
-  Gets place before false stream after = (find place before.idle.kept.items ≡ None) × opens before.connect place (Ok stream) after.connect
+  Gets place before true stream after =
+      (find place before.idle.kept.items ≡ Some stream) × (after.connect ≡ before.connect)
+  Gets place before false stream after =
+      (find place before.idle.kept.items ≡ None)
+      × opens before.connect place (Ok stream) after.connect
 
   -- no connection to the place is idle, and the connector opens none
   abbrev pub FailsToOpen : Place → KeepAliveClient C S → E → KeepAliveClient C S → Type 0
-  FailsToOpen place before error after = (find place before.idle.kept.items ≡ None) × opens before.connect place (Err error) after.connect
+  FailsToOpen place before error after =
+      (find place before.idle.kept.items ≡ None)
+      × opens before.connect place (Err error) after.connect
 
 -- the idle connections after a call: if the connection is kept, it comes first, and those used
 -- least recently are dropped
-abbrev pub HoldsAfter : {C S : Type 0} → Place → KeepAliveClient C S → S → Bool → KeepAliveClient C S → Type 0
+abbrev pub HoldsAfter : {C S : Type 0} → Place → KeepAliveClient C S → S → Bool
+    → KeepAliveClient C S → Type 0
 HoldsAfter place before stream true after =
     (own : OwnPlace) × (text_of own ≡ place)
     × (after.idle.kept.items ≡ take before.idle.most (record { place = own; stream = stream } ∷ without place before.idle.kept.items))
-HoldsAfter place before stream false after = after.idle.kept.items ≡ without place before.idle.kept.items
+HoldsAfter place before stream false after =
+    after.idle.kept.items ≡ without place before.idle.kept.items
 
 module _ {C S E : Type 0} (opens : C → Place → Result S E → C → Type 0) (contents remaining : S → Option (List ℕ))
     (reads writes : S → Result ℕ Io.Error → S → Type 0) (flushes : S → Result ⊤ Io.Error → S → Type 0) where
@@ -103,22 +111,29 @@ module _ {C S E : Type 0} (opens : C → Place → Result S E → C → Type 0) 
     pub holds : HoldsAfter place before left false after
 
   -- what was taken, written and read, by the result of the call
-  abbrev pub Calls : KeepAliveClient C S → HttpRequest → Result HttpResponse (KeepAliveError E) → KeepAliveClient C S → Type 0
+  abbrev pub Calls : KeepAliveClient C S → HttpRequest → Result HttpResponse (KeepAliveError E)
+      → KeepAliveClient C S → Type 0
   Calls before request (Ok response) after = Answers before request response after
   -- nothing was written
   Calls before request (Err (Http1 (Error.Request fault))) after =
-      (after.connect ≡ before.connect) × (after.idle.kept.items ≡ before.idle.kept.items) × CannotSend (agent_of before) fault request
+      (after.connect ≡ before.connect)
+      × (after.idle.kept.items ≡ before.idle.kept.items)
+      × CannotSend (agent_of before) fault request
   Calls before request (Err (Http1 (Error.Connect error))) after =
       (place : Place) × CanSend (agent_of before) request place × FailsToOpen opens place before error after
       × (after.idle.kept.items ≡ before.idle.kept.items)
   -- a connection that was just opened failed, or any one within a reply
-  Calls before request (Err (Http1 (Error.Write error))) after = FailsToWrite before request error false after
+  Calls before request (Err (Http1 (Error.Write error))) after =
+      FailsToWrite before request error false after
   Calls before request (Err (Http1 (Error.Reply fault))) after =
-      (used : Bool) × (came : Bool) × (used ≡ true → came ≡ true) × GetsNoReply before request fault used came after
+      (used : Bool) × (came : Bool) × (used ≡ true
+      → came ≡ true) × GetsNoReply before request fault used came after
   -- a connection that was used before failed before any byte of a reply came
   Calls before request (Err (Unanswered (Error.Request fault) again)) after = ⊥
   Calls before request (Err (Unanswered (Error.Connect error) again)) after = ⊥
   Calls before request (Err (Unanswered (Error.Write error) again)) after =
-      (again ≡ is_idempotent (head_of request).method) × FailsToWrite before request error true after
+      (again ≡ is_idempotent (head_of request).method)
+      × FailsToWrite before request error true after
   Calls before request (Err (Unanswered (Error.Reply fault) again)) after =
-      (again ≡ is_idempotent (head_of request).method) × GetsNoReply before request fault true false after
+      (again ≡ is_idempotent (head_of request).method)
+      × GetsNoReply before request fault true false after

@@ -30,7 +30,8 @@ pub record Leaves (t : Terms) (closes : Bool) (stream : List ℕ) (response : Ht
 
 -- a field of the request says that the connection ends with its reply (RFC 9112, 9.6)
 abbrev pub request_closes : Option (List ℕ) → Place → HttpRequest → Bool
-request_closes agent place request = states_close (kept_fields agent place (head_of request).headers)
+request_closes agent place request =
+    states_close (kept_fields agent place (head_of request).headers)
 
 module _ {S : Type 0} (contents remaining : S → Option (List ℕ)) (reads writes : S → Result ℕ Error → S → Type 0)
     (flushes : S → Result ⊤ Error → S → Type 0) (agent : Option (List ℕ)) (bounds : Bounds) (place : Place) (request : HttpRequest) where

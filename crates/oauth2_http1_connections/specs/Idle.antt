@@ -6,7 +6,11 @@ use Rattle.oauth2_http1_connections.specs.declared.idle.Idle.{Idle}
 
 -- an `OwnPlace` as texts
 abbrev pub text_of : OwnPlace → Place
-text_of own = record { scheme = string_bytes own.scheme; host = string_bytes own.host; port = own.port }
+text_of own = record {
+  scheme = string_bytes own.scheme;
+  host = string_bytes own.host;
+  port = own.port;
+}
 
 -- the same scheme, host and port, byte for byte; two texts of one host in upper and lower case are
 -- told apart, so at worst a connection is not used again (RFC 9110, 4.2.3 and 4.3.1)

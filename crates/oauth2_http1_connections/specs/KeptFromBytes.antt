@@ -53,12 +53,14 @@ pub record CarriesConfigured (c : Configuration) (agent : Option (List ℕ)) (pl
 -- the bytes of the head of such a request
 abbrev pub kept_head : Option (List ℕ) → Place → HttpRequest → List ℕ
 kept_head agent place r =
-    head_text (head_of r).method (origin_form (head_of r).uri) (kept_fields agent place (head_of r).headers) (body_of r).items
+    head_text (head_of r).method (origin_form (head_of r).uri)
+    (kept_fields agent place (head_of r).headers) (body_of r).items
 
 -- what a server sees of such a request
 abbrev pub kept_seen : Option (List ℕ) → Place → HttpRequest → SeenRequest
 kept_seen agent place r =
-    seen_request (head_of r).method (origin_form (head_of r).uri) (kept_fields agent place (head_of r).headers) (body_of r).items
+    seen_request (head_of r).method (origin_form (head_of r).uri)
+    (kept_fields agent place (head_of r).headers) (body_of r).items
 
 -- every server that takes the head reads the bytes, whatever follows them, as one request and in
 -- only one way; that request is the configured one
@@ -84,7 +86,8 @@ module _ {C S E : Type 0} (opens : C → Place → Result S E → C → Type 0) 
     pub is : IsRequestOf c text (view_of request)
     pub read_as : AreReadAs c (agent_of before) place request wrote.bytes
     pub follows : (history : HasHistory opens contents remaining reads writes flushes place stream)
-        → Follows opens contents remaining reads writes flushes place stream history wrote.bytes sent
+        → Follows opens contents remaining reads writes flushes place stream history wrote.bytes
+        sent
 
   -- the request was sent, and `Says` holds of the reply: the one that begins what remained then on
   -- this connection, and is the next message behind the replies to earlier requests
@@ -119,19 +122,26 @@ module _ {C S E : Type 0} (opens : C → Place → Result S E → C → Type 0) 
       × (place : Place) × CanSend (agent_of before) request place × FailsToOpen opens place before error after
   NotReplied before (Http1 (Error.Write error)) after = Unwritten before error false after
   NotReplied before (Http1 (Error.Reply fault)) after =
-      (used : Bool) × (came : Bool) × (used ≡ true → came ≡ true) × Unread before fault used came after
+      (used : Bool) × (came : Bool) × (used ≡ true
+      → came ≡ true) × Unread before fault used came after
   NotReplied before (Unanswered (Error.Request fault) again) after = ⊥
   NotReplied before (Unanswered (Error.Connect error) again) after = ⊥
-  NotReplied before (Unanswered (Error.Write error) again) after = (again ≡ false) × Unwritten before error true after
-  NotReplied before (Unanswered (Error.Reply fault) again) after = (again ≡ false) × Unread before fault true false after
+  NotReplied before (Unanswered (Error.Write error) again) after =
+      (again ≡ false) × Unwritten before error true after
+  NotReplied before (Unanswered (Error.Reply fault) again) after =
+      (again ≡ false) × Unread before fault true false after
 
   module _ {D A T X : Type 0} (meaning : D → A) (error_meaning : T → X) (says : ReplyView → Answer A X) where
     -- by the result: a value (RFC 6749, 5.1), an error response (5.2) and a fault of the body are
     -- what the received reply says; the other results say whether the request was sent
-    abbrev pub FromKeptBytes : KeepAliveClient C S → Result D (RequestTokenError (KeepAliveError E) T) → KeepAliveClient C S → Type 0
-    FromKeptBytes before (Ok value) after = Replied before after (λ view. says view ≡ accepted (meaning value))
-    FromKeptBytes before (Err (token.ServerResponse error)) after = Replied before after (λ view. says view ≡ refused (error_meaning error))
-    FromKeptBytes before (Err (token.Parse fault body)) after = Replied before after (λ view. says view ≡ unread (fault_of fault) body.items)
+    abbrev pub FromKeptBytes : KeepAliveClient C S
+        → Result D (RequestTokenError (KeepAliveError E) T) → KeepAliveClient C S → Type 0
+    FromKeptBytes before (Ok value) after =
+        Replied before after (λ view. says view ≡ accepted (meaning value))
+    FromKeptBytes before (Err (token.ServerResponse error)) after =
+        Replied before after (λ view. says view ≡ refused (error_meaning error))
+    FromKeptBytes before (Err (token.Parse fault body)) after =
+        Replied before after (λ view. says view ≡ unread (fault_of fault) body.items)
     FromKeptBytes before (Err (token.Other what)) after =
         Replied before after (λ view. says view ≡ other (string_bytes what))
         ⊎ ((after ≡ before) × SpellsNone text × (string_bytes what ≡ not_http_text))
@@ -152,9 +162,11 @@ module _ {C S E : Type 0} (opens : C → Place → Result S E → C → Type 0) 
     {D A T X : Type 0} (meaning : D → A) (error_meaning : T → X) where
   abbrev pub EachIsFromKeptBytes : Type 0
   EachIsFromKeptBytes =
-      (c : Configuration) (text : List ℕ) (says : ReplyView → Answer A X) (before after : KeepAliveClient C S)
+      (c : Configuration) (text : List ℕ) (says : ReplyView
+      → Answer A X) (before after : KeepAliveClient C S)
       (result : Result D (RequestTokenError (KeepAliveError E) T))
       → AsksOnce meaning error_meaning
       (λ before request answer after. IsSetAs before after × Calls opens contents remaining reads writes flushes before request answer after)
       says (IsRequestOf c) text before result after
-      → KeptResult opens contents remaining reads writes flushes c text meaning error_meaning says before result after
+      → KeptResult opens contents remaining reads writes flushes c text meaning error_meaning says
+      before result after

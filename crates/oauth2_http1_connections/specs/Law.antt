@@ -40,7 +40,8 @@ asked_of client request response = record {
 -- `P` holds of the first bytes of the stream, which end where `rest` begins, and of these bytes
 -- whatever follows them
 abbrev pub IsDelimited : (List ℕ → List ℕ → Type 0) → List ℕ → List ℕ → Type 0
-IsDelimited P stream rest = (used : List ℕ) × (stream ≡ used ++ rest) × ((more : List ℕ) → P (used ++ more) more)
+IsDelimited P stream rest =
+    (used : List ℕ) × (stream ≡ used ++ rest) × ((more : List ℕ) → P (used ++ more) more)
 
 module _ {S : Type 0} (contents remaining : S → Option (List ℕ)) (reads writes : S → Result ℕ Error → S → Type 0)
     (flushes : S → Result ⊤ Error → S → Type 0) (place : Place) where
@@ -49,34 +50,40 @@ module _ {S : Type 0} (contents remaining : S → Option (List ℕ)) (reads writ
   Carries [] before after = after ≡ before
   Carries (asked ∷ later) before after =
       (mid : S)
-      × Exchange contents remaining reads writes flushes asked.agent asked.bounds place asked.request before asked.response true mid
+      × Exchange contents remaining reads writes flushes asked.agent asked.bounds place
+      asked.request before asked.response true mid
       × Carries later mid after
 
   -- the bytes that were written, in the order of the exchanges
   abbrev pub sent_bytes : (all : List Asked) (before after : S) → Carries all before after → List ℕ
   sent_bytes [] before after carried = []
-  sent_bytes (asked ∷ later) before after (mid, exchange, carried) = exchange.wrote.bytes ++ sent_bytes later mid after carried
+  sent_bytes (asked ∷ later) before after (mid, exchange, carried) =
+      exchange.wrote.bytes ++ sent_bytes later mid after carried
 
   -- the bytes that were read, in the order of the exchanges
   abbrev pub read_bytes : (all : List Asked) (before after : S) → Carries all before after → List ℕ
   read_bytes [] before after carried = []
-  read_bytes (asked ∷ later) before after (mid, exchange, carried) = exchange.within.0.bytes ++ read_bytes later mid after carried
+  read_bytes (asked ∷ later) before after (mid, exchange, carried) =
+      exchange.within.0.bytes ++ read_bytes later mid after carried
 
   -- at each exchange it is known which bytes the connection gives
   abbrev pub AreKnown : (all : List Asked) (before after : S) → Carries all before after → Type 0
   AreKnown [] before after carried = ⊤
-  AreKnown (asked ∷ later) before after (mid, exchange, carried) = IsSome (remaining exchange.sent) × AreKnown later mid after carried
+  AreKnown (asked ∷ later) before after (mid, exchange, carried) =
+      IsSome (remaining exchange.sent) × AreKnown later mid after carried
 
   -- a read leaves what was written
   abbrev pub ReadsLeave : Type 0
-  ReadsLeave = (before after : S) (result : Result ℕ Error) → reads before result after → Keeps (contents before) (contents after)
+  ReadsLeave =
+      (before after : S) (result : Result ℕ Error) → reads before result after → Keeps (contents before) (contents after)
 
 -- the stream begins with the replies to these requests in their order, and `rest` follows them
 abbrev pub BeginsWithReplies : List Asked → List ℕ → List ℕ → Type 0
 BeginsWithReplies [] stream rest = stream ≡ rest
 BeginsWithReplies (asked ∷ later) stream rest =
     (reply : Response) × (after : List ℕ)
-    × ReadsReply (reply_terms asked.bounds (head_of asked.request).method) stream reply after × IsResponseOf reply asked.response
+    × ReadsReply (reply_terms asked.bounds (head_of asked.request).method) stream reply after
+    × IsResponseOf reply asked.response
     × BeginsWithReplies later after rest
 
 -- what a server sees of a request to the place
@@ -111,40 +118,54 @@ module _ {C S E : Type 0} (opens : C → Place → Result S E → C → Type 0) 
 
   -- each idle connection has such a history
   abbrev pub EachHasHistory : KeepAliveClient C S → Type 0
-  EachHasHistory client = AllByRecursion (λ (idle : Idle S). HasHistory (text_of idle.place) idle.stream) client.idle.kept.items
+  EachHasHistory client =
+      AllByRecursion (λ (idle : Idle S). HasHistory (text_of idle.place) idle.stream)
+      client.idle.kept.items
 
   -- a call leaves it so, and a connection that it uses again is one of them
   pub record KeepsHistories (before : KeepAliveClient C S) (request : HttpRequest) (result : Result HttpResponse (KeepAliveError E)) (after : KeepAliveClient C S) : Type 0 where
     pub kept : EachHasHistory after
-    pub used : (place : Place) (stream : S) → find place before.idle.kept.items ≡ Some stream → HasHistory place stream
+    pub used : (place : Place) (stream : S) → find place before.idle.kept.items ≡ Some stream
+        → HasHistory place stream
 
   -- the bytes that were written to the connection since it was opened
   abbrev pub written_since : (place : Place) (now : S) → HasHistory place now → List ℕ
-  written_since place now history = sent_bytes contents remaining reads writes flushes place history.exchanges history.opened now history.carried
+  written_since place now history =
+      sent_bytes contents remaining reads writes flushes place history.exchanges history.opened now
+      history.carried
 
   -- the bytes that were read from the connection since it was opened
   abbrev pub read_since : (place : Place) (now : S) → HasHistory place now → List ℕ
-  read_since place now history = read_bytes contents remaining reads writes flushes place history.exchanges history.opened now history.carried
+  read_since place now history =
+      read_bytes contents remaining reads writes flushes place history.exchanges history.opened now
+      history.carried
 
   -- at each exchange since then it is known which bytes the connection gives
   abbrev pub IsKnownSince : (place : Place) (now : S) → HasHistory place now → Type 0
-  IsKnownSince place now history = AreKnown contents remaining reads writes flushes place history.exchanges history.opened now history.carried
+  IsKnownSince place now history =
+      AreKnown contents remaining reads writes flushes place history.exchanges history.opened now
+      history.carried
 
   -- behind what was written to the connection since it was opened come these bytes, the next
   -- request; and behind the replies to the earlier requests comes what remains at `sent`
   pub record Follows (place : Place) (now : S) (history : HasHistory place now) (bytes : List ℕ) (sent : S) : Type 0 where
     pub written : ReadsLeave contents remaining reads writes flushes place
-        → Appends (contents history.opened) (contents sent) (written_since place now history ++ bytes)
+        → Appends (contents history.opened) (contents sent)
+        (written_since place now history ++ bytes)
     pub requests : (limits : Limits) (more : List ℕ) → TakesAll limits place history.exchanges
-        → BeginsWithRequests limits place history.exchanges ((written_since place now history ++ bytes) ++ more) (bytes ++ more)
+        → BeginsWithRequests limits place history.exchanges
+        ((written_since place now history ++ bytes) ++ more) (bytes ++ more)
     pub replies : IsKnownSince place now history
-        → IfSome (remaining sent) (λ stream. BeginsWithReplies history.exchanges (read_since place now history ++ stream) stream)
+        → IfSome (remaining sent)
+        (λ stream. BeginsWithReplies history.exchanges (read_since place now history ++ stream) stream)
 
   -- with one more exchange, its request and its reply are the next messages: the bytes that were
   -- written are those of all requests, and the bytes that were given begin with all replies
   pub record IsNext (place : Place) (now : S) (history : HasHistory place now) (asked : Asked) (bytes : List ℕ) (sent : S) : Type 0 where
     pub follows : Follows place now history bytes sent
-    pub requests : (limits : Limits) (more : List ℕ) → TakesAll limits place (history.exchanges ++ asked ∷ [])
-        → BeginsWithRequests limits place (history.exchanges ++ asked ∷ []) ((written_since place now history ++ bytes) ++ more) more
+    pub requests : (limits : Limits) (more : List ℕ)
+        → TakesAll limits place (history.exchanges ++ asked ∷ [])
+        → BeginsWithRequests limits place (history.exchanges ++ asked ∷ [])
+        ((written_since place now history ++ bytes) ++ more) more
     pub replies : IsKnownSince place now history
         → IfSome (remaining sent) (λ stream. (rest : List ℕ) × BeginsWithReplies (history.exchanges ++ asked ∷ []) (read_since place now history ++ stream) rest)

@@ -37,33 +37,41 @@ pub record FrontHolds (expected : Expectation) (code : List ℕ) (now : ℤ) (to
 
 -- the error says what is wrong first with a token that was read: a rule of 3.1.3.7, its `c_hash`,
 -- or its signature
-abbrev pub IsFrontRefusal : Expectation → Check → List ℕ → ℤ → DecodedToken → FrontTokenError → Type 0
+abbrev pub IsFrontRefusal : Expectation → Check → List ℕ → ℤ → DecodedToken → FrontTokenError
+    → Type 0
 IsFrontRefusal expected check code now token (Read error) = ⊥
-IsFrontRefusal expected check code now token (Claims error) = front_rules expected now token ≡ Err error
+IsFrontRefusal expected check code now token (Claims error) =
+    front_rules expected now token ≡ Err error
 IsFrontRefusal expected check code now token NoCodeHash =
     (front_rules expected now token ≡ Ok tt) × (code_hash_of token ≡ None)
 IsFrontRefusal expected check code now token OtherCode =
     (front_rules expected now token ≡ Ok tt)
-    × IsSomeAnd (code_hash_of token) (λ told. is_code_hash token.header.own.algorithm code told ≡ false)
+    × IsSomeAnd (code_hash_of token)
+    (λ told. is_code_hash token.header.own.algorithm code told ≡ false)
 IsFrontRefusal expected check code now token (Signature error) =
     FrontHolds expected code now token × IsSignatureRefusal check token error
 IsFrontRefusal expected check code now token Memory = ⊥
 
 -- the result for a token that was read: each rule holds and it is signed, or the error says what is
 -- wrong first
-abbrev pub ChecksFrontToken : Expectation → Check → List ℕ → ℤ → DecodedToken → Result Unit FrontTokenError → Type 0
-ChecksFrontToken expected check code now token (Ok done) = FrontHolds expected code now token × IsSigned check token
-ChecksFrontToken expected check code now token (Err error) = IsFrontRefusal expected check code now token error
+abbrev pub ChecksFrontToken : Expectation → Check → List ℕ → ℤ → DecodedToken
+    → Result Unit FrontTokenError → Type 0
+ChecksFrontToken expected check code now token (Ok done) =
+    FrontHolds expected code now token × IsSigned check token
+ChecksFrontToken expected check code now token (Err error) =
+    IsFrontRefusal expected check code now token error
 
 -- the result for the text of the front channel's ID token: the token that was read from it, which
 -- meets each rule and is signed, or an error that says what is wrong first, or `Memory`
-abbrev pub JudgesFrontToken : Expectation → Check → List ℕ → ℤ → List ℕ → Result IdToken FrontTokenError → Type 0
+abbrev pub JudgesFrontToken : Expectation → Check → List ℕ → ℤ → List ℕ
+    → Result IdToken FrontTokenError → Type 0
 JudgesFrontToken expected check code now text (Ok token) =
     (compact_token_reading text ≡ Ok (token_of token))
     × FrontHolds expected code now (token_of token) × IsSigned check (token_of token)
 JudgesFrontToken expected check code now text (Err (Read error)) =
     (fault : TokenFault) × (fault_told error ≡ Some fault) × (compact_token_reading text ≡ Err fault)
-JudgesFrontToken expected check code now text (Err Memory) = compact_token_reading text ≢ Err not_three_parts
+JudgesFrontToken expected check code now text (Err Memory) =
+    compact_token_reading text ≢ Err not_three_parts
 JudgesFrontToken expected check code now text (Err error) =
     (token : DecodedToken) × (compact_token_reading text ≡ Ok token)
     × IsFrontRefusal expected check code now token error
@@ -80,4 +88,5 @@ front_token_error_text Memory = codes "out of memory"
 -- 3.3.3.6: the claims `iss` and `sub` are identical in both tokens
 abbrev pub IsSameUser : DecodedToken → DecodedToken → Type 0
 IsSameUser front second =
-    (second.claims.own.issuer ≡ front.claims.own.issuer) × (second.claims.own.subject ≡ front.claims.own.subject)
+    (second.claims.own.issuer ≡ front.claims.own.issuer)
+    × (second.claims.own.subject ≡ front.claims.own.subject)

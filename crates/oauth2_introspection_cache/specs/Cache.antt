@@ -39,7 +39,8 @@ module _ {D : Type 0} (expires : D → Option ℤ) where
   -- token has not expired (RFC 7662, 4: not beyond the time of `exp`)
   abbrev pub is_good_at : ℕ → ℤ → KeptAnswer D → Bool
   is_good_at longest now kept =
-      int_le kept.asked_at now && (int_lt now (kept.asked_at +ℤ pos longest) && is_before now (expires kept.answer))
+      int_le kept.asked_at now
+      && (int_lt now (kept.asked_at +ℤ pos longest) && is_before now (expires kept.answer))
 
   abbrev pub good_of : ℕ → ℤ → Option (KeptAnswer D) → Option D
   good_of longest now None = None
@@ -47,7 +48,8 @@ module _ {D : Type 0} (expires : D → Option ℤ) where
 
   -- the answer that is kept for a token, if it may be used; tokens are compared by their digests
   abbrev pub good_answer : Cache D → List ℕ → ℤ → Option D
-  good_answer cache token now = good_of cache.longest now (lookup (digest_eq token) cache.kept.entries)
+  good_answer cache token now =
+      good_of cache.longest now (lookup (digest_eq token) cache.kept.entries)
 
 -- how a call ends: a good answer is kept, and nothing is sent; or the server is asked, and it says that
 -- the token is active, or that it is not; or the request fails
@@ -60,7 +62,8 @@ pub data Outcome (D : Type 0) : Type 0 where
 module _ {D : Type 0} where
   -- the answer that is kept for a token, good or not
   abbrev pub kept_answer : Cache D → List ℕ → Option D
-  kept_answer cache token = option_map (λ kept. kept.answer) (lookup (digest_eq token) cache.kept.entries)
+  kept_answer cache token =
+      option_map (λ kept. kept.answer) (lookup (digest_eq token) cache.kept.entries)
 
   -- ---- what is kept afterwards
 
@@ -83,7 +86,8 @@ module _ {D : Type 0} where
   -- what is kept after a call for a token at `now`
   abbrev pub kept_after : Cache D → List ℕ → ℤ → Outcome D → Cache D
   kept_after cache token now (remembered answer) = promoting cache token
-  kept_after cache token now (active answer) = keeping (forgetting cache token) token (record { answer = answer; asked_at = now })
+  kept_after cache token now (active answer) =
+      keeping (forgetting cache token) token (record { answer = answer; asked_at = now })
   kept_after cache token now inactive = forgetting cache token
   kept_after cache token now failed = forgetting cache token
 
@@ -94,7 +98,8 @@ module _ {D T RE C : Type 0} (asks : ReplyRule → (List ℕ → RequestView →
   abbrev pub Introspects : Cache D → List ℕ → C → Result D (RequestTokenError RE T) → C → Type 0
   Introspects cache token before answer after =
       (endpoint : Addressed) × (cache.client.introspection_url ≡ Some endpoint)
-      × asks cache.client.reply_rule (IsRequestOf (introspection_configuration (new_introspection_request cache.client endpoint token)))
+      × asks cache.client.reply_rule
+      (IsRequestOf (introspection_configuration (new_introspection_request cache.client endpoint token)))
       (serialize endpoint.url) before answer after
 
   module _ (is_active : D → Bool) (expires : D → Option ℤ) where
@@ -106,7 +111,8 @@ module _ {D T RE C : Type 0} (asks : ReplyRule → (List ℕ → RequestView →
 
     -- a call for a token at `now` with this outcome: what it does to the HTTP client, and whether the
     -- token is active
-    abbrev pub IsOutcome : Cache D → List ℕ → ℤ → C → Result Bool (RequestTokenError RE T) → C → Outcome D → Type 0
+    abbrev pub IsOutcome : Cache D → List ℕ → ℤ → C → Result Bool (RequestTokenError RE T) → C
+        → Outcome D → Type 0
     IsOutcome cache token now before result after (remembered answer) =
         (good_answer expires cache token now ≡ Some answer) × (result ≡ Ok true) × (after ≡ before)
     IsOutcome cache token now before result after (active answer) =
@@ -120,14 +126,18 @@ module _ {D T RE C : Type 0} (asks : ReplyRule → (List ℕ → RequestView →
         × ((error : RequestTokenError RE T) × (result ≡ Err error) × FailsWith cache token before error after)
 
     -- a call for a token at `now`: its result, and what is kept before and after it
-    abbrev pub CacheCalls : Cache D → List ℕ → ℤ → C → Result Bool (RequestTokenError RE T) → C → Cache D → Type 0
+    abbrev pub CacheCalls : Cache D → List ℕ → ℤ → C → Result Bool (RequestTokenError RE T) → C
+        → Cache D → Type 0
     CacheCalls cache token now before result after next =
         (outcome : Outcome D) × IsOutcome cache token now before result after outcome × (next ≡ kept_after cache token now outcome)
 
     -- a call whose value is one that `Shows` allows for the answer that is kept after it; there is none
     -- for a token that is not active
-    abbrev pub CacheAnswers : {A : Type 0} → (D → A → Type 0) → Cache D → List ℕ → ℤ → C → Result (Option A) (RequestTokenError RE T) → C → Cache D → Type 0
+    abbrev pub CacheAnswers : {A : Type 0} → (D → A → Type 0) → Cache D → List ℕ → ℤ → C
+        → Result (Option A) (RequestTokenError RE T) → C → Cache D → Type 0
     CacheAnswers Shows cache token now before (Ok (Some value)) after next =
         CacheCalls cache token now before (Ok true) after next × ((answer : D) × (kept_answer next token ≡ Some answer) × Shows answer value)
-    CacheAnswers Shows cache token now before (Ok None) after next = CacheCalls cache token now before (Ok false) after next
-    CacheAnswers Shows cache token now before (Err error) after next = CacheCalls cache token now before (Err error) after next
+    CacheAnswers Shows cache token now before (Ok None) after next =
+        CacheCalls cache token now before (Ok false) after next
+    CacheAnswers Shows cache token now before (Err error) after next =
+        CacheCalls cache token now before (Err error) after next

@@ -22,14 +22,16 @@ module _ {D : Type 0} where
   -- tells nothing new
   abbrev pub known_after : CacheEvent D → Option (KeptAnswer D) → Option (KeptAnswer D)
   known_after (asked token now (remembered answer)) before = before
-  known_after (asked token now (active answer)) before = Some (record { answer = answer; asked_at = now })
+  known_after (asked token now (active answer)) before =
+      Some (record { answer = answer; asked_at = now })
   known_after (asked token now inactive) before = None
   known_after (asked token now failed) before = None
   known_after (forgotten token) before = None
 
   -- what is known of a token after these events, if `before` was known: the server's last answer that it
   -- is active, if no other answer, no failure and no word to forget it came since
-  abbrev pub last_word : List ℕ → Option (KeptAnswer D) → List (CacheEvent D) → Option (KeptAnswer D)
+  abbrev pub last_word : List ℕ → Option (KeptAnswer D) → List (CacheEvent D)
+      → Option (KeptAnswer D)
   last_word token before [] = before
   last_word token before (event ∷ events) =
       last_word token (if digest_eq token (token_of event) then known_after event before else before) events
@@ -50,26 +52,31 @@ module _ {D T RE C : Type 0} (asks : ReplyRule → (List ℕ → RequestView →
   CacheRuns cache before (asked token now outcome ∷ events) after end =
       (result : Result Bool (RequestTokenError RE T)) × (middle : C) × IsOutcome asks is_active expires cache token now before result middle outcome
       × CacheRuns (kept_after cache token now outcome) middle events after end
-  CacheRuns cache before (forgotten token ∷ events) after end = CacheRuns (forgetting cache token) before events after end
+  CacheRuns cache before (forgotten token ∷ events) after end =
+      CacheRuns (forgetting cache token) before events after end
 
   -- an answer that is given without a request is the last word about that token, which was asked for
   -- less than the longest time ago, and the token has not expired
   abbrev pub EachAnswerWasTold : Type 0
   EachAnswerWasTold =
       (cache end : Cache D) (before after : C) (events : List (CacheEvent D)) (token : List ℕ) (now : ℤ) (answer : D)
-      → cache.kept.entries ≡ [] → CacheRuns cache before events after end → good_answer expires end token now ≡ Some answer
+      → cache.kept.entries ≡ []
+      → CacheRuns cache before events after end
+      → good_answer expires end token now ≡ Some answer
       → (kept : KeptAnswer D) × (last_word token None events ≡ Some kept) × (kept.answer ≡ answer) × IsTrue (is_good_at expires cache.longest now kept)
 
   -- after a token was forgotten, the next call for it asks the server, whatever happens to others between
   abbrev pub EachForgottenTokenIsAskedAbout : Type 0
   EachForgottenTokenIsAskedAbout =
       (cache end : Cache D) (before after : C) (earlier later : List (CacheEvent D)) (token : List ℕ) (now : ℤ)
-      → cache.kept.entries ≡ [] → CacheRuns cache before (earlier ++ forgotten token ∷ later) after end
+      → cache.kept.entries ≡ []
+      → CacheRuns cache before (earlier ++ forgotten token ∷ later) after end
       → last_word token None later ≡ None → good_answer expires end token now ≡ None
 
   -- the answer that a call has for its caller is kept after it
   abbrev pub EachOutcomeIsKept : Type 0
   EachOutcomeIsKept =
       (cache : Cache D) (token : List ℕ) (now : ℤ) (before after : C) (result : Result Bool (RequestTokenError RE T)) (outcome : Outcome D) (answer : D)
-      → IsOutcome asks is_active expires cache token now before result after outcome → answer_in outcome ≡ Some answer
+      → IsOutcome asks is_active expires cache token now before result after outcome
+      → answer_in outcome ≡ Some answer
       → kept_answer (kept_after cache token now outcome) token ≡ Some answer

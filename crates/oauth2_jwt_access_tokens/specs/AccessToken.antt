@@ -42,7 +42,9 @@ own_claims_row claims =
 
 -- the access token of a decoded JSON Web Token, with those claims read from its payload
 abbrev pub own_reading : DecodedToken → TokenReading AccessToken
-own_reading t = token_then (of_part part.Payload (own_claims_row t.claims.others)) (λ own. Ok (access_token t own))
+own_reading t =
+    token_then (of_part part.Payload (own_claims_row t.claims.others))
+    (λ own. Ok (access_token t own))
 
 -- the access token that a text in compact form holds. The claims of an ID token are read first, so
 -- `iss`, `sub`, `aud`, `exp` and `iat` have to be present, and their faults are reported first.

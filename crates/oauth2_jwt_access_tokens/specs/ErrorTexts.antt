@@ -8,7 +8,8 @@ use Rattle.oauth2_jwt_access_tokens.specs.declared.fault.AccessTokenFault.TheVar
 abbrev pub access_token_fault_text : AccessTokenFault → List ℕ
 access_token_fault_text fault.OtherType = codes "the type is not that of an access token"
 access_token_fault_text fault.OtherAlgorithm = codes "the algorithm is not the registered one"
-access_token_fault_text fault.CriticalExtension = codes "the header has an extension that has to be understood"
+access_token_fault_text fault.CriticalExtension =
+    codes "the header has an extension that has to be understood"
 access_token_fault_text fault.OtherIssuer = codes "the issuer is another one"
 access_token_fault_text fault.OtherAudience = codes "the resource server is not in the audience"
 access_token_fault_text fault.Expired = codes "the token has expired"

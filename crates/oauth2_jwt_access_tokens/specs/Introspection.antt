@@ -14,5 +14,7 @@ is_in_scope scope (Some scopes) = is_among scope scopes
 abbrev pub introspection_of : {E T : Type 0} → AccessToken → E → Introspection E T
 introspection_of t extra_fields =
     let claims = t.token.claims.own in
-    introspection true t.own.scopes (Some t.own.client_id) None None (Some claims.expires_at) (Some claims.issued_at)
-    t.own.not_before (Some claims.subject) (Some claims.audience) (Some claims.issuer) (Some t.own.token_id) extra_fields
+    introspection true t.own.scopes (Some t.own.client_id) None None (Some claims.expires_at)
+    (Some claims.issued_at)
+    t.own.not_before (Some claims.subject) (Some claims.audience) (Some claims.issuer)
+    (Some t.own.token_id) extra_fields

@@ -39,19 +39,23 @@ type_rule token = rule (names_access_token (type_of token)) fault.OtherType
 -- RFC 9068, 4: the algorithm is the expected one, which is never `none`
 abbrev pub algorithm_rule : Expectation → DecodedToken → Verdict AccessTokenFault
 algorithm_rule expected token =
-    rule (bytes_eq token.header.own.algorithm (algorithm_name expected.algorithm)) fault.OtherAlgorithm
+    rule (bytes_eq token.header.own.algorithm (algorithm_name expected.algorithm))
+    fault.OtherAlgorithm
 
 -- RFC 7515, 4.1.11: the header has no `crit`, which names extensions that have to be understood
 abbrev pub critical_rule : DecodedToken → Verdict AccessTokenFault
-critical_rule token = rule (not (is_some (get (codes "crit") token.header.others))) fault.CriticalExtension
+critical_rule token =
+    rule (not (is_some (get (codes "crit") token.header.others))) fault.CriticalExtension
 
 -- RFC 9068, 4: the claim `iss` is the expected issuer, byte for byte
 abbrev pub issuer_rule : Expectation → DecodedToken → Verdict AccessTokenFault
-issuer_rule expected token = rule (bytes_eq token.claims.own.issuer expected.issuer) fault.OtherIssuer
+issuer_rule expected token =
+    rule (bytes_eq token.claims.own.issuer expected.issuer) fault.OtherIssuer
 
 -- RFC 9068, 4: the resource server is one of the audiences (`aud`), byte for byte
 abbrev pub audience_rule : Expectation → DecodedToken → Verdict AccessTokenFault
-audience_rule expected token = rule (is_among expected.audience token.claims.own.audience) fault.OtherAudience
+audience_rule expected token =
+    rule (is_among expected.audience token.claims.own.audience) fault.OtherAudience
 
 -- RFC 9068, 4: the moment `now` is before the expiry (`exp`) plus the leeway
 abbrev pub expiry_rule : Expectation → ℤ → DecodedToken → Verdict AccessTokenFault
@@ -80,7 +84,8 @@ access_token_checked expected now t =
     then start_rule expected now t
 
 -- the fault is one of the signature, and says why it is refused
-abbrev pub IsSignatureFault : List ListedKey → SignatureAlgorithm → DecodedToken → AccessTokenFault → Type 0
+abbrev pub IsSignatureFault : List ListedKey → SignatureAlgorithm → DecodedToken → AccessTokenFault
+    → Type 0
 IsSignatureFault keys algorithm token (fault.Signature error) = IsRefusal keys algorithm token error
 IsSignatureFault keys algorithm token other = ⊥
 
@@ -100,7 +105,8 @@ IsFirstFault expected keys now t named =
 -- the type is `at+jwt` or `application/at+jwt`, in any case of letters (RFC 9068, 4)
 abbrev pub IsAccessTokenType : List ℕ → Type 0
 IsAccessTokenType typ =
-    (map to_ascii_lowercase typ ≡ codes "at+jwt") ⊎ (map to_ascii_lowercase typ ≡ codes "application/at+jwt")
+    (map to_ascii_lowercase typ ≡ codes "at+jwt")
+    ⊎ (map to_ascii_lowercase typ ≡ codes "application/at+jwt")
 
 -- the token meets RFC 9068, 4, for a resource server that expects this and has these keys of the
 -- issuer, at the moment `now` (nanoseconds since 1970-01-01T00:00:00Z)

@@ -64,7 +64,10 @@ good_until_of margin token = (token.accepted_at +ℤ pos token.lifetime) -ℤ po
 
 -- a keeper with a token that was stored, and with the refresh token that was stored with it
 abbrev pub starting_from : Keeper → AcceptedToken → Option (List ℕ) → Keeper
-starting_from keeper token refresh_token = record keeper { token = Some token; refresh_token = refresh_token }
+starting_from keeper token refresh_token = record keeper {
+  token = Some token;
+  refresh_token = refresh_token;
+}
 
 -- what a keeper uses of a reply: the access token, and its lifetime in nanoseconds and a refresh
 -- token if the reply has them (RFC 6749, 5.1)
@@ -127,7 +130,8 @@ module _ {D T RE C : Type 0} (asks : ReplyRule → (List ℕ → RequestView →
   abbrev pub Renews : Keeper → C → Result D (RequestTokenError RE T) → C → Type 0
   Renews keeper before answer after =
       (endpoint : Addressed) × (keeper.client.token_url ≡ Some endpoint)
-      × asks keeper.client.reply_rule (IsRequestOf (renewal keeper)) (serialize endpoint.url) before answer after
+      × asks keeper.client.reply_rule (IsRequestOf (renewal keeper)) (serialize endpoint.url) before
+      answer after
 
   -- the error is the request's, or memory ran out while its reply was copied
   abbrev pub FailsWith : Keeper → C → RequestTokenError RE T → C → Type 0
@@ -136,25 +140,32 @@ module _ {D T RE C : Type 0} (asks : ReplyRule → (List ℕ → RequestView →
 
   module _ (told : D → Given) where
     -- a call at `now` with this outcome: what it does to the HTTP client, and its result
-    abbrev pub IsOutcome : Keeper → ℤ → C → Result Unit (RequestTokenError RE T) → C → Outcome → Type 0
-    IsOutcome keeper now before result after quiet = IsTrue (is_good keeper now) × (result ≡ Ok tt) × (after ≡ before)
+    abbrev pub IsOutcome : Keeper → ℤ → C → Result Unit (RequestTokenError RE T) → C → Outcome
+        → Type 0
+    IsOutcome keeper now before result after quiet =
+        IsTrue (is_good keeper now) × (result ≡ Ok tt) × (after ≡ before)
     IsOutcome keeper now before result after (accepted given) =
         (is_good keeper now ≡ false) × (result ≡ Ok tt) × ((reply : D) × (given ≡ told reply) × Renews keeper before (Ok reply) after)
     IsOutcome keeper now before result after failed =
         (is_good keeper now ≡ false) × ((error : RequestTokenError RE T) × (result ≡ Err error) × FailsWith keeper before error after)
 
     -- a call at `now`: its result, and what is kept before and after it
-    abbrev pub KeeperCalls : Keeper → ℤ → C → Result Unit (RequestTokenError RE T) → C → Keeper → Type 0
+    abbrev pub KeeperCalls : Keeper → ℤ → C → Result Unit (RequestTokenError RE T) → C → Keeper
+        → Type 0
     KeeperCalls keeper now before result after kept =
         (outcome : Outcome) × IsOutcome keeper now before result after outcome × (kept ≡ kept_after keeper now outcome)
 
     -- a call at `now` whose value is one that `Gives` allows for the text of the kept token
-    abbrev pub Answers : {A : Type 0} → (List ℕ → A → Type 0) → Keeper → ℤ → C → Result A (RequestTokenError RE T) → C → Keeper → Type 0
+    abbrev pub Answers : {A : Type 0} → (List ℕ → A → Type 0) → Keeper → ℤ → C
+        → Result A (RequestTokenError RE T) → C → Keeper → Type 0
     Answers Gives keeper now before (Ok value) after kept =
-        KeeperCalls keeper now before (Ok tt) after kept × IsSomeAnd kept.token (λ token. Gives token.access_token value)
-    Answers Gives keeper now before (Err error) after kept = KeeperCalls keeper now before (Err error) after kept × (kept ≡ keeper)
+        KeeperCalls keeper now before (Ok tt) after kept
+        × IsSomeAnd kept.token (λ token. Gives token.access_token value)
+    Answers Gives keeper now before (Err error) after kept =
+        KeeperCalls keeper now before (Err error) after kept × (kept ≡ keeper)
 
 -- what a keeper uses of a token response, by the functions that read its parts
-abbrev pub given_by : {D : Type 0} → (D → List ℕ) → (D → Option ℕ) → (D → Option (List ℕ)) → D → Given
+abbrev pub given_by : {D : Type 0} → (D → List ℕ) → (D → Option ℕ) → (D → Option (List ℕ)) → D
+    → Given
 given_by access_token lifetime refresh_token reply =
     record { access_token = access_token reply; lifetime = lifetime reply; refresh_token = refresh_token reply }

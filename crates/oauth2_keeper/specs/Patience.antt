@@ -38,7 +38,8 @@ is_waiting_for wait now (Some failed_at) = int_lt now (waits_from now failed_at 
 
 -- whether a call at `now` needs a request but may not make one yet
 abbrev pub is_held_back : Patient → ℤ → Bool
-is_held_back patient now = not (is_good patient.keeper now) && is_waiting_for patient.wait now patient.failed_at
+is_held_back patient now =
+    not (is_good patient.keeper now) && is_waiting_for patient.wait now patient.failed_at
 
 -- whether the kept token may be used during a wait: this is set, and its lifetime has not ended
 abbrev pub lasts : Patient → ℤ → Bool
@@ -70,12 +71,17 @@ wait_in_force least most (Some asked) = max least (min most asked)
 
 -- what is kept after a call without an error: if a request was made, the wait has ended
 abbrev pub after_call : Patient → ℤ → Keeper → Patient
-after_call patient now kept = record patient { keeper = kept; failed_at = if is_good patient.keeper now then patient.failed_at else None }
+after_call patient now kept = record patient {
+  keeper = kept;
+  failed_at = if is_good patient.keeper now then patient.failed_at else None;
+}
 
 -- what is kept after a request at `now` failed: the wait begins, if the error counts
-abbrev pub failed_call : {RE T : Type 0} → (RE → Option ℕ) → Patient → ℤ → RequestTokenError RE T → Patient
+abbrev pub failed_call : {RE T : Type 0} → (RE → Option ℕ) → Patient → ℤ → RequestTokenError RE T
+    → Patient
 failed_call asked patient now error = record patient {
-  wait = if counts error then wait_in_force patient.least_wait patient.most_asked_wait (wait_asked_by asked error) else patient.wait;
+  wait =
+      if counts error then wait_in_force patient.least_wait patient.most_asked_wait (wait_asked_by asked error) else patient.wait;
   failed_at = if counts error then Some now else patient.failed_at;
 }
 
@@ -86,7 +92,9 @@ held_back patient now = record patient { failed_at = option_map (waits_from now)
 -- the wait in force is not shorter than the least wait, and not longer than the longer of that and
 -- the greatest that a server may ask for
 abbrev pub IsWaitBounded : Patient → Type 0
-IsWaitBounded patient = (patient.least_wait ≤ patient.wait) × (patient.wait ≤ max patient.least_wait patient.most_asked_wait)
+IsWaitBounded patient =
+    (patient.least_wait ≤ patient.wait)
+    × (patient.wait ≤ max patient.least_wait patient.most_asked_wait)
 
 -- a call: its time in nanoseconds since 1970, and whether it is held back
 pub record PatientCall : Type 0 where
@@ -97,12 +105,14 @@ pub record PatientCall : Type 0 where
 abbrev pub AreWithinTheWait : ℕ → ℤ → List PatientCall → Type 0
 AreWithinTheWait wait from [] = Unit {0}
 AreWithinTheWait wait from (call ∷ calls) =
-    IsTrue (is_waiting_for wait call.now (Some from)) × AreWithinTheWait wait (waits_from call.now from) calls
+    IsTrue (is_waiting_for wait call.now (Some from))
+    × AreWithinTheWait wait (waits_from call.now from) calls
 
 -- the times of the calls that are not held back, in order, in nanoseconds since 1970
 abbrev pub free_moments : List PatientCall → List ℤ
 free_moments [] = []
-free_moments (call ∷ calls) = if call.held then free_moments calls else call.now ∷ free_moments calls
+free_moments (call ∷ calls) =
+    if call.held then free_moments calls else call.now ∷ free_moments calls
 
 -- `asked` is the wait in nanoseconds that an error of the HTTP client says the server asks for
 module _ {D T RE C : Type 0} (asks : ReplyRule → (List ℕ → RequestView → Type 0) → List ℕ → C → Result D (RequestTokenError RE T) → C → Type 0) (told : D → Given) (asked : RE → Option ℕ) where
@@ -114,16 +124,22 @@ module _ {D T RE C : Type 0} (asks : ReplyRule → (List ℕ → RequestView →
       ((is_held_back patient now ≡ false) × KeeperCalls asks told patient.keeper now before (Ok tt) after kept.keeper × (kept ≡ after_call patient now kept.keeper))
       ⊎ (IsTrue (is_held_back patient now && lasts patient now) × (after ≡ before) × (kept ≡ held_back patient now))
   PatientCalls patient now before (Err (Request error)) after kept =
-      (is_held_back patient now ≡ false) × KeeperCalls asks told patient.keeper now before (Err error) after patient.keeper × (kept ≡ failed_call asked patient now error)
+      (is_held_back patient now ≡ false)
+      × KeeperCalls asks told patient.keeper now before (Err error) after patient.keeper
+      × (kept ≡ failed_call asked patient now error)
   PatientCalls patient now before (Err (Waits until)) after kept =
-      IsTrue (is_held_back patient now && not (lasts patient now)) × IsSomeAnd kept.failed_at (λ from. IsUntil (from +ℤ pos kept.wait) until)
+      IsTrue (is_held_back patient now && not (lasts patient now))
+      × IsSomeAnd kept.failed_at (λ from. IsUntil (from +ℤ pos kept.wait) until)
       × (after ≡ before) × (kept ≡ held_back patient now)
 
   -- a call at `now` whose value is one that `Gives` allows for the text of the kept token
-  abbrev pub PatientAnswers : {A : Type 0} → (List ℕ → A → Type 0) → Patient → ℤ → C → Result A (PatientError RE T) → C → Patient → Type 0
+  abbrev pub PatientAnswers : {A : Type 0} → (List ℕ → A → Type 0) → Patient → ℤ → C
+      → Result A (PatientError RE T) → C → Patient → Type 0
   PatientAnswers Gives patient now before (Ok value) after kept =
-      PatientCalls patient now before (Ok tt) after kept × IsSomeAnd kept.keeper.token (λ token. Gives token.access_token value)
-  PatientAnswers Gives patient now before (Err error) after kept = PatientCalls patient now before (Err error) after kept
+      PatientCalls patient now before (Ok tt) after kept
+      × IsSomeAnd kept.keeper.token (λ token. Gives token.access_token value)
+  PatientAnswers Gives patient now before (Err error) after kept =
+      PatientCalls patient now before (Err error) after kept
 
   -- these calls, one after another: what is kept, and the HTTP client, before and after them
   abbrev pub PatientRuns : Patient → C → List PatientCall → C → Patient → Type 0
@@ -150,8 +166,11 @@ module _ {D T RE C : Type 0} (asks : ReplyRule → (List ℕ → RequestView →
   abbrev pub EachFailureIsWaitedFor : Type 0
   EachFailureIsWaitedFor =
       (patient failed kept : Patient) (before middle after : C) (moment : ℤ) (error : RequestTokenError RE T) (calls : List PatientCall)
-      → PatientCalls patient moment before (Err (Request error)) middle failed → IsTrue (counts error)
-      → All (λ call. IsTrue (int_le moment call.now && int_lt call.now (moment +ℤ pos failed.wait))) calls → PatientRuns failed middle calls after kept
+      → PatientCalls patient moment before (Err (Request error)) middle failed
+      → IsTrue (counts error)
+      → All (λ call. IsTrue (int_le moment call.now && int_lt call.now (moment +ℤ pos failed.wait)))
+      calls
+      → PatientRuns failed middle calls after kept
       → (after ≡ middle) × (kept ≡ failed)
 
   -- if the error of the HTTP client tells that the server asks for a wait, calls before that wait,
@@ -160,8 +179,12 @@ module _ {D T RE C : Type 0} (asks : ReplyRule → (List ℕ → RequestView →
   abbrev pub EachAskedWaitIsHeeded : Type 0
   EachAskedWaitIsHeeded =
       (patient failed kept : Patient) (before middle after : C) (moment : ℤ) (error : RE) (wait : ℕ) (calls : List PatientCall)
-      → PatientCalls patient moment before (Err (Request (token.Request error))) middle failed → asked error ≡ Some wait
-      → All (λ call. IsTrue (int_le moment call.now && int_lt call.now (moment +ℤ pos (min patient.most_asked_wait wait)))) calls → PatientRuns failed middle calls after kept
+      → PatientCalls patient moment before (Err (Request (token.Request error))) middle failed
+      → asked error ≡ Some wait
+      → All
+      (λ call. IsTrue (int_le moment call.now && int_lt call.now (moment +ℤ pos (min patient.most_asked_wait wait))))
+      calls
+      → PatientRuns failed middle calls after kept
       → (after ≡ middle) × (kept ≡ failed)
 
   -- if the clock is set back after a failed request, the wait begins again at the earlier time, and
@@ -169,7 +192,8 @@ module _ {D T RE C : Type 0} (asks : ReplyRule → (List ℕ → RequestView →
   abbrev pub EachSetBackIsWaitedFor : Type 0
   EachSetBackIsWaitedFor =
       (patient failed kept : Patient) (before middle after : C) (moment : ℤ) (error : RequestTokenError RE T) (calls : List PatientCall)
-      → PatientCalls patient moment before (Err (Request error)) middle failed → IsTrue (counts error)
+      → PatientCalls patient moment before (Err (Request error)) middle failed
+      → IsTrue (counts error)
       → AreWithinTheWait failed.wait moment calls → PatientRuns failed middle calls after kept
       → (after ≡ middle) × (kept.keeper ≡ failed.keeper)
 
@@ -184,10 +208,12 @@ module _ {D T RE C : Type 0} (asks : ReplyRule → (List ℕ → RequestView →
   abbrev pub EachWaitEnds : Type 0
   EachWaitEnds =
       (patient kept : Patient) (before after : C) (first : PatientCall) (calls : List PatientCall) → PatientRuns patient before (first ∷ calls) after kept
-      → All (λ call. IsTrue call.held) (first ∷ calls) → All (λ call. IsTrue (int_lt call.now (first.now +ℤ pos patient.wait))) calls
+      → All (λ call. IsTrue call.held) (first ∷ calls)
+      → All (λ call. IsTrue (int_lt call.now (first.now +ℤ pos patient.wait))) calls
 
 -- the HTTP client was called once (`true`), or not at all (`false`)
-abbrev pub IsCalledIf : {RE C : Type 0} → (C → HttpRequest → Result HttpResponse RE → C → Type 0) → Bool → C → C → Type 0
+abbrev pub IsCalledIf : {RE C : Type 0} → (C → HttpRequest → Result HttpResponse RE → C → Type 0)
+    → Bool → C → C → Type 0
 IsCalledIf {RE = RE} step true before after = (request : HttpRequest) × (answer : Result HttpResponse RE) × step before request answer after
 IsCalledIf step false before after = after ≡ before
 

@@ -30,7 +30,9 @@ accepted_by failed = None
 -- the token of the last call that accepted a reply
 abbrev pub last_token : ℕ → List Call → Option AcceptedToken
 last_token default_lifetime [] = None
-last_token default_lifetime (call ∷ calls) = option_or (last_token default_lifetime calls) (option_map (accepted_token default_lifetime call.now) (accepted_by call.outcome))
+last_token default_lifetime (call ∷ calls) =
+    option_or (last_token default_lifetime calls)
+    (option_map (accepted_token default_lifetime call.now) (accepted_by call.outcome))
 
 -- the refresh token of this reply, if it has one
 abbrev pub given_refresh_token : Option Given → Option (List ℕ)
@@ -40,7 +42,8 @@ given_refresh_token (Some given) = given.refresh_token
 -- the refresh token of the last accepted reply that has one
 abbrev pub last_refresh_token : List Call → Option (List ℕ)
 last_refresh_token [] = None
-last_refresh_token (call ∷ calls) = option_or (last_refresh_token calls) (given_refresh_token (accepted_by call.outcome))
+last_refresh_token (call ∷ calls) =
+    option_or (last_refresh_token calls) (given_refresh_token (accepted_by call.outcome))
 
 -- what is kept after calls: the token of the last accepted reply, and the refresh token of the last
 -- accepted reply that has one
@@ -83,7 +86,8 @@ module _ {D T RE C : Type 0} (asks : ReplyRule → (List ℕ → RequestView →
   -- the kept token is that of the last accepted reply, and the kept refresh token that of the last
   -- accepted reply that has one; until then, each is the one that was kept before the first call
   abbrev pub EachRunKeepsTheLast : Type 0
-  EachRunKeepsTheLast = (keeper kept : Keeper) (before after : C) (calls : List Call) → Runs asks told keeper before calls after kept → kept ≡ keeps_last keeper calls
+  EachRunKeepsTheLast =
+      (keeper kept : Keeper) (before after : C) (calls : List Call) → Runs asks told keeper before calls after kept → kept ≡ keeps_last keeper calls
 
   -- which calls make a request depends only on what is kept at first, the times and the replies
   abbrev pub EachRunFollowsFromItsReplies : Type 0

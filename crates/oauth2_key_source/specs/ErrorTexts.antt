@@ -21,7 +21,8 @@ url_error_text Memory = codes "Out of memory"
 module _ {RE T : Type 0} (text : T → Option (List ℕ)) where
   abbrev pub key_set_error_text : KeySetError RE T → Option (List ℕ)
   key_set_error_text (Reply error) = fault_text text error
-  key_set_error_text (Status reply) = Some (codes "server answers the request for keys with status " ++ decimal reply.status)
+  key_set_error_text (Status reply) =
+      Some (codes "server answers the request for keys with status " ++ decimal reply.status)
 
   -- the end of a wait is not shown
   abbrev pub source_error_text : KeySourceError RE T → Option (List ℕ)

@@ -30,15 +30,19 @@ pub record KeySetQuery : Type 0 where
 
 -- the parser had no room, which says nothing of the text, or the text is no URL
 abbrev pub IsNoUrl : List ℕ → KeySetUrlError → Type 0
-IsNoUrl text NotUrl = (cause : ParseError) × (parse_url None text ≡ Err cause) × ¬ (IsOutOfRoom cause)
+IsNoUrl text NotUrl =
+    (cause : ParseError) × (parse_url None text ≡ Err cause) × ¬ (IsOutOfRoom cause)
 IsNoUrl text NotHttps = ⊥
 IsNoUrl text Memory = Unit {0}
 
 -- a request to the URL that a text is: `https`, or `http` to this machine itself (RFC 8414, 2)
 abbrev pub IsRequestTo : List ℕ → Result KeySetQuery KeySetUrlError → Type 0
 IsRequestTo text (Ok query) =
-    (parse_url None text ≡ Ok query.url) × IsTrue (is_secure query.url) × (query.reply_rule ≡ Prefix)
-IsRequestTo text (Err NotHttps) = (url : Parts) × (parse_url None text ≡ Ok url) × (is_secure url ≡ false)
+    (parse_url None text ≡ Ok query.url)
+    × IsTrue (is_secure query.url)
+    × (query.reply_rule ≡ Prefix)
+IsRequestTo text (Err NotHttps) =
+    (url : Parts) × (parse_url None text ≡ Ok url) × (is_secure url ≡ false)
 IsRequestTo text (Err NotUrl) = IsNoUrl text NotUrl
 IsRequestTo text (Err Memory) = IsNoUrl text Memory
 
@@ -47,7 +51,8 @@ IsRequestTo text (Err Memory) = IsNoUrl text Memory
 -- the media type of a key set, with any parameters (RFC 7517, 8.5.1)
 abbrev pub is_key_set_type : List ℕ → Bool
 is_key_set_type value =
-    bytes_eq (map to_ascii_lowercase (take 24 value)) (codes "application/jwk-set+json") && ends_the_type (drop 24 value)
+    bytes_eq (map to_ascii_lowercase (take 24 value)) (codes "application/jwk-set+json")
+    && ends_the_type (drop 24 value)
 
 -- whether a Content-Type is one of a key set
 abbrev pub names_key_set : Option (List ℕ) → Bool
@@ -67,13 +72,15 @@ keys_answer rule reply =
 
 module _ {RE T : Type 0} where
   -- the key set, or why there is none
-  abbrev pub key_set_result : {D : Type 0} → Result (Result D OtherReply) (RequestTokenError RE T) → Result D (KeySetError RE T)
+  abbrev pub key_set_result : {D : Type 0} → Result (Result D OtherReply) (RequestTokenError RE T)
+      → Result D (KeySetError RE T)
   key_set_result (Ok (Ok keys)) = Ok keys
   key_set_result (Ok (Err reply)) = Err (Status reply)
   key_set_result (Err error) = Err (Reply error)
 
   -- the GET is asked for once, and the result is what its answer says
-  abbrev pub AsksForKeys : {F C : Type 0} → (T → F) → (C → HttpRequest → Result HttpResponse RE → C → Type 0)
+  abbrev pub AsksForKeys : {F C : Type 0} → (T → F)
+      → (C → HttpRequest → Result HttpResponse RE → C → Type 0)
       → KeySetQuery → C → Result (List ListedKey) (KeySetError RE T) → C → Type 0
   AsksForKeys error_meaning step query before result after =
       (outcome : Result (Result (List ListedKey) OtherReply) (RequestTokenError RE T)) × (result ≡ key_set_result outcome)

@@ -20,7 +20,8 @@ AreSince moment calls = All (λ call. IsTrue (int_le moment call.now)) calls
 
 -- calls that come no earlier than a moment, and less than a wait after it
 abbrev pub AreWithin : ℕ → ℤ → List SourceCall → Type 0
-AreWithin wait moment calls = All (λ call. IsTrue (int_le moment call.now && int_lt call.now (moment +ℤ pos wait))) calls
+AreWithin wait moment calls =
+    All (λ call. IsTrue (int_le moment call.now && int_lt call.now (moment +ℤ pos wait))) calls
 
 module _ {RE T C : Type 0} (asks : KeySetQuery → C → Result (List ListedKey) (KeySetError RE T) → C → Type 0) where
   -- calls one after another, from what is kept and the client's state before the first to those after

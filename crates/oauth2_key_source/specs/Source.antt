@@ -78,7 +78,8 @@ is_fresh lifetime now (Some kept) = int_le now (kept.got_at +ℤ pos lifetime)
 -- the set is fresh, and knows this name
 abbrev pub suffices : ℕ → Option (List ℕ) → ℤ → Option KeptKeys → Bool
 suffices lifetime key_id now None = false
-suffices lifetime key_id now (Some kept) = is_fresh lifetime now (Some kept) && knows key_id kept.keys
+suffices lifetime key_id now (Some kept) =
+    is_fresh lifetime now (Some kept) && knows key_id kept.keys
 
 -- less than the wait has passed
 abbrev pub is_waiting : ℕ → ℤ → Option ℤ → Bool
@@ -88,17 +89,22 @@ is_waiting wait now (Some asked_at) = int_lt now (asked_at +ℤ pos wait)
 -- a request is made: the kept set does not do, and the wait has passed
 abbrev pub is_due : Source → Option (List ℕ) → ℤ → Bool
 is_due source key_id now =
-    not (suffices source.lifetime key_id now source.kept) && not (is_waiting source.wait now source.asked_at)
+    not (suffices source.lifetime key_id now source.kept)
+    && not (is_waiting source.wait now source.asked_at)
 
 -- without a request the kept set is handed out: it is fresh, or older ones are used too
 abbrev pub is_given : Source → ℤ → Bool
-is_given source now = is_fresh source.lifetime now source.kept || (source.uses_old && is_some source.kept)
+is_given source now =
+    is_fresh source.lifetime now source.kept || (source.uses_old && is_some source.kept)
 
 -- ---- a call
 
 -- the source after a request at this moment that brought these keys
 abbrev pub after_renewal : Source → ℤ → List ListedKey → Source
-after_renewal source now keys = record source { kept = Some (record { keys = keys; got_at = now }); asked_at = Some now }
+after_renewal source now keys = record source {
+  kept = Some (record { keys = keys; got_at = now });
+  asked_at = Some now;
+}
 
 -- the source after a request at this moment that brought no keys
 abbrev pub after_failed_request : Source → ℤ → Source
@@ -114,7 +120,8 @@ abbrev pub Rests : {RE T : Type 0} → Source → ℤ → Result Unit (KeySource
 Rests source now (Ok done) = IsTrue (is_given source now)
 Rests source now (Err (Request error)) = ⊥
 Rests source now (Err (Waits until)) =
-    (is_given source now ≡ false) × IsSomeAnd source.asked_at (λ from. IsUntil (from +ℤ pos source.wait) until)
+    (is_given source now ≡ false)
+    × IsSomeAnd source.asked_at (λ from. IsUntil (from +ℤ pos source.wait) until)
 
 module _ {RE T C : Type 0} (asks : KeySetQuery → C → Result (List ListedKey) (KeySetError RE T) → C → Type 0) where
   -- a request, and what is kept after it
@@ -126,12 +133,15 @@ module _ {RE T C : Type 0} (asks : KeySetQuery → C → Result (List ListedKey)
   Renews source now before (Err (Waits until)) after kept = ⊥
 
   -- a call at a moment that asks for a key of this name, or for no certain one, by what it finds
-  abbrev pub CallsIf : Bool → Source → ℤ → C → Result Unit (KeySourceError RE T) → C → Source → Type 0
+  abbrev pub CallsIf : Bool → Source → ℤ → C → Result Unit (KeySourceError RE T) → C → Source
+      → Type 0
   CallsIf true source now before result after kept = Renews source now before result after kept
-  CallsIf false source now before result after kept = Rests source now result × (after ≡ before) × (kept ≡ source)
+  CallsIf false source now before result after kept =
+      Rests source now result × (after ≡ before) × (kept ≡ source)
 
   -- a call: a request is made if one is due, by what the call finds at this moment
-  abbrev pub SourceCalls : Source → Option (List ℕ) → ℤ → C → Result Unit (KeySourceError RE T) → C → Source → Type 0
+  abbrev pub SourceCalls : Source → Option (List ℕ) → ℤ → C → Result Unit (KeySourceError RE T) → C
+      → Source → Type 0
   SourceCalls source key_id now before result after kept =
       let found = found_at source now in CallsIf (is_due found key_id now) found now before result after kept
 
@@ -139,12 +149,14 @@ module _ {RE T C : Type 0} (asks : KeySetQuery → C → Result (List ListedKey)
   abbrev pub SourceAnswers : {A : Type 0} → (List ListedKey → A → Type 0)
       → Source → Option (List ℕ) → ℤ → C → Result A (KeySourceError RE T) → C → Source → Type 0
   SourceAnswers Gives source key_id now before (Ok value) after kept =
-      SourceCalls source key_id now before (Ok tt) after kept × IsSomeAnd kept.kept (λ k. Gives k.keys value)
+      SourceCalls source key_id now before (Ok tt) after kept
+      × IsSomeAnd kept.kept (λ k. Gives k.keys value)
   SourceAnswers Gives source key_id now before (Err error) after kept =
       SourceCalls source key_id now before (Err error) after kept
 
   -- a token is verified by the set that is kept after such a call for its `kid`
-  abbrev pub SourceVerifies : Source → SignatureAlgorithm → DecodedToken → ℤ → C → Result Unit (VerifyError RE T) → C → Source → Type 0
+  abbrev pub SourceVerifies : Source → SignatureAlgorithm → DecodedToken → ℤ → C
+      → Result Unit (VerifyError RE T) → C → Source → Type 0
   SourceVerifies source algorithm token now before (Ok done) after kept =
       SourceCalls source token.header.own.key_id now before (Ok tt) after kept
       × IsSomeAnd kept.kept (λ k. IsVerified k.keys algorithm token)

@@ -68,13 +68,16 @@ is_eddsa algorithm = bytes_eq (algorithm_name algorithm) (codes "EdDSA")
 -- the octets are a signature of the message by the RSA key and this scheme; without a scheme, no
 -- octets are one
 abbrev pub IsSignatureIn : Option SignatureScheme → RsaKey → List ℕ → List ℕ → Type 0
-IsSignatureIn (Some scheme) key message signature = IsRsaSignature scheme key.modulus key.exponent message signature
+IsSignatureIn (Some scheme) key message signature =
+    IsRsaSignature scheme key.modulus key.exponent message signature
 IsSignatureIn None key message signature = ⊥
 
 -- the octets are a signature of the message by this algorithm and this key: by the RSA scheme of the
 -- algorithm, by ECDSA if the algorithm is the one of the key's curve, or by Ed25519 if it is EdDSA
 abbrev pub IsSignatureBy : SignatureAlgorithm → PublicKey → List ℕ → List ℕ → Type 0
-IsSignatureBy algorithm (Rsa key) message signature = IsSignatureIn (rsa_scheme algorithm) key message signature
+IsSignatureBy algorithm (Rsa key) message signature =
+    IsSignatureIn (rsa_scheme algorithm) key message signature
 IsSignatureBy algorithm (Ecdsa key) message signature =
     IsTrue (is_of_curve key.curve algorithm) × IsEcdsaSignature key message signature
-IsSignatureBy algorithm (Eddsa key) message signature = IsTrue (is_eddsa algorithm) × IsEddsaSignature key message signature
+IsSignatureBy algorithm (Eddsa key) message signature =
+    IsTrue (is_eddsa algorithm) × IsEddsaSignature key message signature

@@ -81,5 +81,6 @@ sole (k ∷ []) none = Ok k
 sole (k ∷ j ∷ ks) none = Err error.AmbiguousKey
 
 -- the key with which a token with this algorithm and this key identifier is checked
-abbrev pub chosen_key : List ListedKey → SignatureAlgorithm → Option (List ℕ) → Result PublicKey SignatureError
+abbrev pub chosen_key : List ListedKey → SignatureAlgorithm → Option (List ℕ)
+    → Result PublicKey SignatureError
 chosen_key keys algorithm told = sole (candidates algorithm told keys) (why_none told keys)

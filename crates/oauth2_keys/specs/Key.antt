@@ -29,7 +29,8 @@ pub record Key : Type 0 where
   pub public_key : PublicKey
 
 -- `Key` from its fields, in their order
-abbrev pub key : Option (List ℕ) → Option (List (List ℕ)) → Option (List ℕ) → Option (List ℕ) → PublicKey → Key
+abbrev pub key : Option (List ℕ) → Option (List (List ℕ)) → Option (List ℕ) → Option (List ℕ)
+    → PublicKey → Key
 key u o a i k = record { key_use = u; operations = o; algorithm = a; key_id = i; public_key = k }
 
 -- an RSA key, or its fault as a `KeyError`
@@ -46,7 +47,9 @@ rsa_key d =
 -- a coordinate `x` or `y`, which has as many octets as those of the curve: 32 on P-256 and 48 on
 -- P-384 (RFC 7518, 6.2.1.2 and 6.2.1.3)
 abbrev pub coordinate : EllipticCurve → KeyMember → Data → KeyReading (List ℕ)
-coordinate curve m d = key_then (octets m d) (λ c. if length c == coordinate_size curve then Ok c else Err (error.WrongSize m))
+coordinate curve m d =
+    key_then (octets m d)
+    (λ c. if length c == coordinate_size curve then Ok c else Err (error.WrongSize m))
 
 -- a key on a curve, or its fault as a `KeyError`
 abbrev pub ecdsa_of : Result EcdsaKey EcdsaKeyError → KeyReading PublicKey

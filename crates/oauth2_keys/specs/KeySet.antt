@@ -36,4 +36,5 @@ keys_reading (object ms) = wrong_type
 -- the keys of a set: an object with the member `keys`; its other members are ignored (RFC 7517, 5)
 abbrev pub set_reading : Data → Reading (List ListedKey)
 set_reading d =
-    read_then (members_of_object d) (λ ms. needed_member keys_reading (codes "keys") (get_member (codes "keys") ms))
+    read_then (members_of_object d)
+    (λ ms. needed_member keys_reading (codes "keys") (get_member (codes "keys") ms))

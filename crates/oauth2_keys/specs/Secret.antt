@@ -31,9 +31,12 @@ pub record IsVerifiedBySecret (secret : List ℕ) (algorithm : SecretAlgorithm) 
 
 -- the reasons why a token is refused, and what is true of the token for each
 abbrev pub IsSecretRefusal : List ℕ → SecretAlgorithm → DecodedToken → SignatureError → Type 0
-IsSecretRefusal secret algorithm token error.OtherAlgorithm = token.header.own.algorithm ≢ secret_algorithm_name algorithm
+IsSecretRefusal secret algorithm token error.OtherAlgorithm =
+    token.header.own.algorithm ≢ secret_algorithm_name algorithm
 IsSecretRefusal secret algorithm token error.NoKey = ⊥
 IsSecretRefusal secret algorithm token error.AmbiguousKey = ⊥
 IsSecretRefusal secret algorithm token (error.UnusableKey fault) = ⊥
-IsSecretRefusal secret algorithm token error.ShortSecret = length secret < hash_size (hash_of algorithm)
-IsSecretRefusal secret algorithm token error.WrongSignature = token.signature ≢ hmac (hash_of algorithm) secret token.signed
+IsSecretRefusal secret algorithm token error.ShortSecret =
+    length secret < hash_size (hash_of algorithm)
+IsSecretRefusal secret algorithm token error.WrongSignature =
+    token.signature ≢ hmac (hash_of algorithm) secret token.signed

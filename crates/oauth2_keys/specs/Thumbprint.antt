@@ -16,7 +16,13 @@ rsa_text e n = codes "{\"e\":\"" ++ e ++ codes "\",\"kty\":\"RSA\",\"n\":\"" ++ 
 -- 3.2 and 3.3: the same for a key on a curve
 abbrev pub elliptic_text : EllipticCurve → List ℕ → List ℕ → List ℕ
 elliptic_text curve x y =
-    codes "{\"crv\":\"" ++ curve_name curve ++ codes "\",\"kty\":\"EC\",\"x\":\"" ++ x ++ codes "\",\"y\":\"" ++ y ++ codes "\"}"
+    codes "{\"crv\":\""
+    ++ curve_name curve
+    ++ codes "\",\"kty\":\"EC\",\"x\":\""
+    ++ x
+    ++ codes "\",\"y\":\""
+    ++ y
+    ++ codes "\"}"
 
 -- that text of an RSA key; its members have to be base64url, which needs no escape in JSON
 abbrev pub rsa_canonical : Data → KeyReading (List ℕ)
@@ -25,11 +31,13 @@ rsa_canonical key = Ok rsa_text ⊛ base64_text member.Exponent key ⊛ base64_t
 -- that text of a key on this curve, if it is one of these
 abbrev pub canonical_on : Option EllipticCurve → Data → KeyReading (List ℕ)
 canonical_on None key = Err error.UnknownCurve
-canonical_on (Some curve) key = Ok (elliptic_text curve) ⊛ base64_text member.X key ⊛ base64_text member.Y key
+canonical_on (Some curve) key =
+    Ok (elliptic_text curve) ⊛ base64_text member.X key ⊛ base64_text member.Y key
 
 -- that text of an elliptic curve key
 abbrev pub elliptic_canonical : Data → KeyReading (List ℕ)
-elliptic_canonical key = key_then (needed_text member.Curve key) (λ name. canonical_on (curve_named name) key)
+elliptic_canonical key =
+    key_then (needed_text member.Curve key) (λ name. canonical_on (curve_named name) key)
 
 -- the same for a key of Ed25519 (RFC 8037, 2 and A.3)
 abbrev pub eddsa_text : List ℕ → List ℕ

@@ -10,7 +10,8 @@ use Rattle.oauth2_keys.specs.Algorithm.{algorithm_name, IsSignatureBy}
 use Rattle.oauth2_keys.specs.Choice.{chosen_key}
 
 -- a function returned the expected key, seen by `meaning`, or the expected error
-abbrev pub ChoosesAs : {T : Type 0} → (T → PublicKey) → Result T SignatureError → Result PublicKey SignatureError → Type 0
+abbrev pub ChoosesAs : {T : Type 0} → (T → PublicKey) → Result T SignatureError
+    → Result PublicKey SignatureError → Type 0
 ChoosesAs meaning (Ok key) expected = expected ≡ Ok (meaning key)
 ChoosesAs meaning (Err e) expected = expected ≡ Err e
 
@@ -24,10 +25,15 @@ pub record IsVerified (keys : List ListedKey) (algorithm : SignatureAlgorithm) (
 
 -- the reasons why a token is refused, and what is true of the token for each
 abbrev pub IsRefusal : List ListedKey → SignatureAlgorithm → DecodedToken → SignatureError → Type 0
-IsRefusal keys algorithm token error.OtherAlgorithm = token.header.own.algorithm ≢ algorithm_name algorithm
-IsRefusal keys algorithm token error.NoKey = chosen_key keys algorithm token.header.own.key_id ≡ Err error.NoKey
-IsRefusal keys algorithm token error.AmbiguousKey = chosen_key keys algorithm token.header.own.key_id ≡ Err error.AmbiguousKey
-IsRefusal keys algorithm token (error.UnusableKey fault) = chosen_key keys algorithm token.header.own.key_id ≡ Err (error.UnusableKey fault)
+IsRefusal keys algorithm token error.OtherAlgorithm =
+    token.header.own.algorithm ≢ algorithm_name algorithm
+IsRefusal keys algorithm token error.NoKey =
+    chosen_key keys algorithm token.header.own.key_id ≡ Err error.NoKey
+IsRefusal keys algorithm token error.AmbiguousKey =
+    chosen_key keys algorithm token.header.own.key_id ≡ Err error.AmbiguousKey
+IsRefusal keys algorithm token (error.UnusableKey fault) =
+    chosen_key keys algorithm token.header.own.key_id ≡ Err (error.UnusableKey fault)
 IsRefusal keys algorithm token error.ShortSecret = ⊥
 IsRefusal keys algorithm token error.WrongSignature =
-    (key : PublicKey) × (chosen_key keys algorithm token.header.own.key_id ≡ Ok key) × (IsSignatureBy algorithm key token.signed token.signature → ⊥)
+    (key : PublicKey) × (chosen_key keys algorithm token.header.own.key_id ≡ Ok key) × (IsSignatureBy algorithm key token.signed token.signature
+    → ⊥)

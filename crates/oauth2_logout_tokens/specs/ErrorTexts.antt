@@ -8,7 +8,8 @@ use Rattle.oauth2_logout_tokens.specs.declared.fault.LogoutTokenFault.TheVariant
 abbrev pub logout_token_fault_text : LogoutTokenFault → List ℕ
 logout_token_fault_text fault.OtherType = codes "the type is not that of a logout token"
 logout_token_fault_text fault.OtherAlgorithm = codes "the algorithm is not the registered one"
-logout_token_fault_text fault.CriticalExtension = codes "the header has an extension that has to be understood"
+logout_token_fault_text fault.CriticalExtension =
+    codes "the header has an extension that has to be understood"
 logout_token_fault_text fault.OtherIssuer = codes "the issuer is another one"
 logout_token_fault_text fault.OtherAudience = codes "the client is not in the audience"
 logout_token_fault_text fault.UntrustedAudience = codes "an audience is not trusted"

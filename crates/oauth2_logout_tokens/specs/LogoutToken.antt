@@ -15,7 +15,8 @@ pub record LogoutClaims : Type 0 where
   pub session_id : Option (List ℕ)
 
 -- `LogoutClaims` from its fields, in their order
-abbrev pub logout_claims : List ℕ → Option (List ℕ) → List (List ℕ) → ℤ → ℤ → List ℕ → Option (List ℕ) → LogoutClaims
+abbrev pub logout_claims : List ℕ → Option (List ℕ) → List (List ℕ) → ℤ → ℤ → List ℕ
+    → Option (List ℕ) → LogoutClaims
 logout_claims i s a t e j d =
     record { issuer = i; subject = s; audience = a; issued_at = t; expires_at = e; token_id = j; session_id = d }
 
@@ -24,7 +25,8 @@ abbrev pub DecodedLogoutToken : Type 0
 DecodedLogoutToken = DecodedCompactToken (WithOthers LogoutClaims)
 
 -- `DecodedLogoutToken` from the signed text, the header, the claims and the bytes of the signature
-abbrev pub decoded_logout_token : List ℕ → WithOthers Header → WithOthers LogoutClaims → List ℕ → DecodedLogoutToken
+abbrev pub decoded_logout_token : List ℕ → WithOthers Header → WithOthers LogoutClaims → List ℕ
+    → DecodedLogoutToken
 decoded_logout_token t h c s = decoded_compact_token t h c s
 
 -- the subject of an ID token, which has to have one: an empty text if the logout token has none

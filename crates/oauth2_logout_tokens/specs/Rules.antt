@@ -62,7 +62,8 @@ takes_type types (Some typ) = takes_string types (as_str typ)
 
 -- 2.4: the type (`typ`) in the header is one that the client takes
 abbrev pub type_rule : Expectation → DecodedLogoutToken → Verdict LogoutTokenFault
-type_rule expected t = rule (takes_type expected.type_rule (get (codes "typ") t.header.others)) fault.OtherType
+type_rule expected t =
+    rule (takes_type expected.type_rule (get (codes "typ") t.header.others)) fault.OtherType
 
 -- 2.6, 3: the algorithm is the registered one, which is never `none`
 abbrev pub algorithm_rule : Expectation → DecodedLogoutToken → Verdict LogoutTokenFault
@@ -84,20 +85,24 @@ audience_rule expected t = rule (is_among expected.client t.claims.own.audience)
 -- 2.6, 4: each audience is the client or one that it trusts (OpenID Connect Core 1.0, 3.1.3.7, 3)
 abbrev pub trust_rule : Expectation → DecodedLogoutToken → Verdict LogoutTokenFault
 trust_rule expected t =
-    rule (are_among t.claims.own.audience (expected.client ∷ expected.other_audiences)) fault.UntrustedAudience
+    rule (are_among t.claims.own.audience (expected.client ∷ expected.other_audiences))
+    fault.UntrustedAudience
 
 -- 2.6, 4: the moment `now` is before the expiry plus the leeway (OpenID Connect Core 1.0, 3.1.3.7, 9)
 abbrev pub expiry_rule : Expectation → ℤ → DecodedLogoutToken → Verdict LogoutTokenFault
-expiry_rule expected now t = rule (int_lt now (t.claims.own.expires_at +ℤ pos expected.leeway)) fault.Expired
+expiry_rule expected now t =
+    rule (int_lt now (t.claims.own.expires_at +ℤ pos expected.leeway)) fault.Expired
 
 -- 2.6, 4: the token was not issued after the moment `now` plus the leeway (OpenID Connect Core 1.0,
 -- 3.1.3.7, 10)
 abbrev pub issued_rule : Expectation → ℤ → DecodedLogoutToken → Verdict LogoutTokenFault
-issued_rule expected now t = rule (int_le t.claims.own.issued_at (now +ℤ pos expected.leeway)) fault.IssuedLater
+issued_rule expected now t =
+    rule (int_le t.claims.own.issued_at (now +ℤ pos expected.leeway)) fault.IssuedLater
 
 -- 2.6, 5: the token has the claim `sub`, the claim `sid`, or both
 abbrev pub session_rule : DecodedLogoutToken → Verdict LogoutTokenFault
-session_rule t = rule (is_some t.claims.own.subject || is_some t.claims.own.session_id) fault.NoSession
+session_rule t =
+    rule (is_some t.claims.own.subject || is_some t.claims.own.session_id) fault.NoSession
 
 -- 2.4: the name that declares that a JSON Web Token is a logout token
 abbrev pub logout_event : List ℕ
@@ -109,7 +114,8 @@ told_event other_claims = option_and_then (get logout_event) (get (codes "events
 
 -- 2.6, 6, and 2.4: the claim `events` is an object that has the member, and the member is an object
 abbrev pub event_rule : DecodedLogoutToken → Verdict LogoutTokenFault
-event_rule t = rule (is_some (option_and_then as_object (told_event t.claims.others))) fault.NoLogoutEvent
+event_rule t =
+    rule (is_some (option_and_then as_object (told_event t.claims.others))) fault.NoLogoutEvent
 
 -- 2.6, 7: the token has no claim `nonce`, not even one that is null
 abbrev pub nonce_rule : DecodedLogoutToken → Verdict LogoutTokenFault
@@ -138,7 +144,8 @@ logout_token_checked expected now t =
     header_checked expected t then claims_checked expected now t then logout_checked t
 
 -- the fault is one of the signature, and says why it is refused
-abbrev pub IsSignatureFault : List ListedKey → SignatureAlgorithm → DecodedToken → LogoutTokenFault → Type 0
+abbrev pub IsSignatureFault : List ListedKey → SignatureAlgorithm → DecodedToken → LogoutTokenFault
+    → Type 0
 IsSignatureFault keys algorithm token (fault.Signature error) = IsRefusal keys algorithm token error
 IsSignatureFault keys algorithm token other = ⊥
 
@@ -149,7 +156,8 @@ FaultsBy (Ok u) keys algorithm token named = IsSignatureFault keys algorithm tok
 FaultsBy (Err first) keys algorithm token named = named ≡ first
 
 -- the fault is that of the first broken rule for this logout token; the signature comes last
-abbrev pub IsFirstFault : Expectation → List ListedKey → ℤ → DecodedLogoutToken → LogoutTokenFault → Type 0
+abbrev pub IsFirstFault : Expectation → List ListedKey → ℤ → DecodedLogoutToken → LogoutTokenFault
+    → Type 0
 IsFirstFault expected keys now t named =
     FaultsBy (logout_token_checked expected now t) keys expected.algorithm (as_id_token t) named
 
@@ -158,18 +166,21 @@ IsFirstFault expected keys now t named =
 -- the type is `logout+jwt` or `application/logout+jwt`, in any case of letters (2.4)
 abbrev pub IsLogoutType : List ℕ → Type 0
 IsLogoutType typ =
-    (map to_ascii_lowercase typ ≡ codes "logout+jwt") ⊎ (map to_ascii_lowercase typ ≡ codes "application/logout+jwt")
+    (map to_ascii_lowercase typ ≡ codes "logout+jwt")
+    ⊎ (map to_ascii_lowercase typ ≡ codes "application/logout+jwt")
 
 -- the type is `JWT` or `application/jwt`, in any case of letters (RFC 7519, 5.1)
 abbrev pub IsPlainType : List ℕ → Type 0
 IsPlainType typ =
-    (map to_ascii_lowercase typ ≡ codes "jwt") ⊎ (map to_ascii_lowercase typ ≡ codes "application/jwt")
+    (map to_ascii_lowercase typ ≡ codes "jwt")
+    ⊎ (map to_ascii_lowercase typ ≡ codes "application/jwt")
 
 -- the header's `typ` is one that the rule takes: that of a logout token; or, if the rule says so,
 -- also that of any JSON Web Token, or none
 abbrev pub IsTaken : TypeRule → Option Data → Type 0
 IsTaken OnlyLogout typ = IsSomeAnd typ (λ d. IsSomeAnd (as_str d) IsLogoutType)
-IsTaken LogoutOrPlain typ = IfSome typ (λ d. IsSomeAnd (as_str d) (λ s. IsLogoutType s ⊎ IsPlainType s))
+IsTaken LogoutOrPlain typ =
+    IfSome typ (λ d. IsSomeAnd (as_str d) (λ s. IsLogoutType s ⊎ IsPlainType s))
 
 -- the token meets 2.6 for a client that expects this and has these keys of the issuer, at the moment
 -- `now` (nanoseconds since 1970-01-01T00:00:00Z)

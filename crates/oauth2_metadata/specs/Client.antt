@@ -35,7 +35,8 @@ task_refusal m lacks = option_or (option_map Refused (endpoint_fault m)) lacks
 -- 4.1)
 abbrev pub login_refusal : EndpointMembers → Option EndpointError
 login_refusal m =
-    task_refusal m (option_or (missing Authorization m.authorization_endpoint) (missing Token m.token_endpoint))
+    task_refusal m
+    (option_or (missing Authorization m.authorization_endpoint) (missing Token m.token_endpoint))
 
 -- why a keeper of a token is refused: it needs the token endpoint (RFC 6749, 4.4 and 6)
 abbrev pub token_refusal : EndpointMembers → Option EndpointError
@@ -45,12 +46,15 @@ token_refusal m = task_refusal m (missing Token m.token_endpoint)
 -- endpoint (RFC 8628)
 abbrev pub device_refusal : EndpointMembers → Option EndpointError
 device_refusal m =
-    task_refusal m (option_or (missing DeviceAuthorization m.device_authorization_endpoint) (missing Token m.token_endpoint))
+    task_refusal m
+    (option_or (missing DeviceAuthorization m.device_authorization_endpoint) (missing Token m.token_endpoint))
 
 -- the result for a task: the client, if nothing refuses the task; else the refusal; or `Memory`
-abbrev pub IsClientOf : Option EndpointError → EndpointMembers → Settings → Result Settings EndpointError → Type 0
+abbrev pub IsClientOf : Option EndpointError → EndpointMembers → Settings
+    → Result Settings EndpointError → Type 0
 IsClientOf refusal m client (Ok found) = (refusal ≡ None) × (found ≡ with_endpoints m client)
-IsClientOf refusal m client (Err error) = (refusal ≡ Some error) ⊎ ((refusal ≡ None) × (error ≡ Memory))
+IsClientOf refusal m client (Err error) =
+    (refusal ≡ Some error) ⊎ ((refusal ≡ None) × (error ≡ Memory))
 
 -- the text that `Display` writes of an error
 abbrev pub endpoint_error_text : EndpointError → List ℕ

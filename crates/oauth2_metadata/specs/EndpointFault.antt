@@ -50,7 +50,9 @@ fault_at endpoint m = fault_of endpoint (url_at endpoint m)
 -- the first endpoint of the metadata, in this order, that a client may not call, and why
 abbrev pub endpoint_fault : EndpointMembers → Option EndpointFault
 endpoint_fault m =
-    option_or (option_or (option_or (option_or (fault_at Authorization m) (fault_at Token m)) (fault_at DeviceAuthorization m)) (fault_at Introspection m)) (fault_at Revocation m)
+    option_or
+    (option_or (option_or (option_or (fault_at Authorization m) (fault_at Token m)) (fault_at DeviceAuthorization m)) (fault_at Introspection m))
+    (fault_at Revocation m)
 
 -- ---- texts
 

@@ -18,12 +18,14 @@ abbrev pub is_loopback : Option (Host (List ℕ)) → Bool
 is_loopback None = false
 is_loopback (Some (Domain name)) = bytes_eq name (codes "localhost")
 is_loopback (Some (Ipv4 address)) = slice_index (ipv4_octets address) 0 == 127
-is_loopback (Some (Ipv6 address)) = bytes_eq (ipv6_segments address) (0 ∷ 0 ∷ 0 ∷ 0 ∷ 0 ∷ 0 ∷ 0 ∷ 1 ∷ [])
+is_loopback (Some (Ipv6 address)) =
+    bytes_eq (ipv6_segments address) (0 ∷ 0 ∷ 0 ∷ 0 ∷ 0 ∷ 0 ∷ 0 ∷ 1 ∷ [])
 
 -- whether the scheme is `https`, or `http` with a loopback host
 abbrev pub is_secure : Parts → Bool
 is_secure url =
-    bytes_eq url.scheme (codes "https") || (bytes_eq url.scheme (codes "http") && is_loopback (nonempty_host url))
+    bytes_eq url.scheme (codes "https")
+    || (bytes_eq url.scheme (codes "http") && is_loopback (nonempty_host url))
 
 -- why a URL cannot be an issuer (RFC 8414, 2), or `None`; of several reasons, the first one here
 abbrev pub issuer_refusal : Parts → Option IssuerError
@@ -50,7 +52,8 @@ metadata_place issuer =
 -- the URL of an issuer's OpenID configuration (OpenID Connect Discovery 1.0, 4.1): the well-known
 -- path follows the issuer's path
 abbrev pub openid_place : Parts → Parts
-openid_place issuer = with_path issuer (trimmed issuer.path ++ codes "/.well-known/openid-configuration")
+openid_place issuer =
+    with_path issuer (trimmed issuer.path ++ codes "/.well-known/openid-configuration")
 
 -- the text of the URL has 2^32 bytes or more, and a `Url` holds less
 abbrev pub IsTooLong : Parts → Type 0
@@ -64,7 +67,9 @@ IsOutOfRoom url error = ((error ≡ TooLong) × IsTooLong url) ⊎ ((error ≡ M
 -- that URL could not be made
 abbrev pub IsPlaced : (Parts → Parts) → Parts → Result Parts IssuerError → Type 0
 IsPlaced place issuer (Ok url) = (issuer_refusal issuer ≡ None) × (url ≡ place issuer)
-IsPlaced place issuer (Err error) = (issuer_refusal issuer ≡ Some error) ⊎ ((issuer_refusal issuer ≡ None) × IsOutOfRoom (place issuer) error)
+IsPlaced place issuer (Err error) =
+    (issuer_refusal issuer ≡ Some error)
+    ⊎ ((issuer_refusal issuer ≡ None) × IsOutOfRoom (place issuer) error)
 
 -- why a text was not parsed: the parser had no room (`Memory`), which says nothing about the text,
 -- or the text is not a URL (`NotUrl`)

@@ -17,7 +17,8 @@ found_seen meaning (Err reply) = Err (reply.status, reply.body.items)
 
 -- whether the status redirects the client to another URL (RFC 9110, 15.4)
 abbrev pub is_redirect : ℕ → Bool
-is_redirect status = status == 301 || status == 302 || status == 303 || status == 307 || status == 308
+is_redirect status =
+    status == 301 || status == 302 || status == 303 || status == 307 || status == 308
 
 -- the text of the error for a reply with this status and without a document
 abbrev pub other_reply_text : ℕ → List ℕ
@@ -41,7 +42,8 @@ module _ {A E : Type 0} where
   of_failure status (other text) = accepted (Err (status, []))
 
   -- the answer of a reply: only status 200 is a success, and no redirect is followed
-  abbrev pub found_answer : ReplyRule → (Data → Reading A) → (Data → Reading E) → ReplyView → Answer (Found A) E
+  abbrev pub found_answer : ReplyRule → (Data → Reading A) → (Data → Reading E) → ReplyView
+      → Answer (Found A) E
   found_answer rule reading error_reading reply =
       if is_redirect reply.status then accepted (Err (reply.status, reply.body))
       else (if reply.status == 200 then of_success (success_answer rule reading reply.content_type reply.body)

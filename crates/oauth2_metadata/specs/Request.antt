@@ -44,7 +44,8 @@ abbrev pub other_issuer_text : List ℕ → List ℕ
 other_issuer_text issuer = codes "metadata is another issuer's: " ++ issuer
 
 -- the text that `Display` writes of an error, where `text` is that of the server's error
-abbrev pub metadata_error_text : {RE T : Type 0} → (T → Option (List ℕ)) → MetadataError RE T → Option (List ℕ)
+abbrev pub metadata_error_text : {RE T : Type 0} → (T → Option (List ℕ)) → MetadataError RE T
+    → Option (List ℕ)
 metadata_error_text text (Reply error) = fault_text text error
 metadata_error_text text (Status reply) = Some (other_reply_text reply.status)
 metadata_error_text text (Endpoint fault) = Some (endpoint_text fault)
@@ -53,14 +54,17 @@ metadata_error_text text (OtherIssuer issuer) = Some (other_issuer_text (string_
 module _ {E T RE : Type 0} where
   -- a document is returned if its endpoints have no fault and it names this issuer, byte for byte
   -- (RFC 8414, 3.3); else the result says which of these is wrong first
-  abbrev pub IsChecked : List ℕ → Metadata E → Option EndpointFault → Result (Metadata E) (MetadataError RE T) → Type 0
+  abbrev pub IsChecked : List ℕ → Metadata E → Option EndpointFault
+      → Result (Metadata E) (MetadataError RE T) → Type 0
   IsChecked issuer m (Some fault) result = result ≡ Err (Endpoint fault)
   IsChecked issuer m None (Ok found) = (found ≡ m) × (m.issuer ≡ issuer)
-  IsChecked issuer m None (Err (OtherIssuer named)) = (string_bytes named ≡ m.issuer) × ¬ (m.issuer ≡ issuer)
+  IsChecked issuer m None (Err (OtherIssuer named)) =
+      (string_bytes named ≡ m.issuer) × ¬ (m.issuer ≡ issuer)
   IsChecked issuer m None (Err error) = ⊥
 
   -- the result for what was found: a document is checked, and everything else is an error
-  abbrev pub IsJudged : List ℕ → Result (Result (Metadata E) OtherReply) (RequestTokenError RE T) → Result (Metadata E) (MetadataError RE T) → Type 0
+  abbrev pub IsJudged : List ℕ → Result (Result (Metadata E) OtherReply) (RequestTokenError RE T)
+      → Result (Metadata E) (MetadataError RE T) → Type 0
   IsJudged issuer (Ok (Ok m)) result = IsChecked issuer m (endpoint_fault m.endpoints) result
   IsJudged issuer (Ok (Err reply)) result = result ≡ Err (Status reply)
   IsJudged issuer (Err error) result = result ≡ Err (Reply error)
@@ -69,10 +73,16 @@ module _ {E A T F RE C : Type 0} where
   -- the GET request is sent at most once; the result is what its reply says, checked for this
   -- issuer
   abbrev pub AsksForMetadata : (Metadata E → A) → (T → F) → (Data → Reading A) → (Data → Reading F)
-      → (C → HttpRequest → Result HttpResponse RE → C → Type 0) → MetadataQuery → C → Result (Metadata E) (MetadataError RE T) → C → Type 0
+      → (C → HttpRequest → Result HttpResponse RE → C → Type 0)
+      → MetadataQuery
+      → C
+      → Result (Metadata E) (MetadataError RE T)
+      → C
+      → Type 0
   AsksForMetadata meaning error_meaning reading error_reading step query before result after =
       (outcome : Result (Result (Metadata E) OtherReply) (RequestTokenError RE T)) × IsJudged query.issuer outcome result
-      × AsksOnce (found_seen meaning) error_meaning step (found_answer query.reply_rule reading error_reading)
+      × AsksOnce (found_seen meaning) error_meaning step
+      (found_answer query.reply_rule reading error_reading)
       IsGetOf (serialize query.url) before outcome after
 
 -- the request for the metadata at `place` of the issuer with this text, or why there is no such

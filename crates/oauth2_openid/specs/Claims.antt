@@ -18,7 +18,12 @@ pub record Claims : Type 0 where
 
 -- `Claims` from its fields, in their order
 abbrev pub claims : List ℕ → List ℕ → List (List ℕ) → ℤ → ℤ → Option ℤ
-    → Option (List ℕ) → Option (List ℕ) → Option (List (List ℕ)) → Option (List ℕ) → Option (List ℕ) → Claims
+    → Option (List ℕ)
+    → Option (List ℕ)
+    → Option (List (List ℕ))
+    → Option (List ℕ)
+    → Option (List ℕ)
+    → Claims
 claims i s a e t u n c m p h =
     record {
       issuer = i;

@@ -19,14 +19,16 @@ part_text part.Signature = codes "signature"
 abbrev pub id_token_read_error_text : IdTokenReadError → List ℕ
 id_token_read_error_text reading.NotThreeParts = codes "not three parts"
 id_token_read_error_text (reading.NotBase64 part) = part_text part ++ codes ": not base64url"
-id_token_read_error_text (reading.Fault part fault) = part_text part ++ codes ": " ++ parse_fault_text (fault_of fault)
+id_token_read_error_text (reading.Fault part fault) =
+    part_text part ++ codes ": " ++ parse_fault_text (fault_of fault)
 id_token_read_error_text reading.Memory = codes "out of memory"
 
 -- the text for each rule that an ID token can break
 abbrev pub claims_error_text : ClaimsError → List ℕ
 claims_error_text errors.NoSignature = codes "the token has no signature"
 claims_error_text errors.OtherAlgorithm = codes "the algorithm is not the registered one"
-claims_error_text errors.CriticalExtension = codes "the header has an extension that has to be understood"
+claims_error_text errors.CriticalExtension =
+    codes "the header has an extension that has to be understood"
 claims_error_text errors.OtherIssuer = codes "the issuer is another one"
 claims_error_text errors.OtherAudience = codes "the client is not in the audience"
 claims_error_text errors.UntrustedAudience = codes "an audience is not trusted"

@@ -34,7 +34,8 @@ said_or_left d (Ok a) = (Some a, None)
 said_or_left d (Err fault) = (None, Some d)
 
 -- a member that holds such a claim; absent and null are no claim
-abbrev pub unneeded_member : {A : Type 0} → (Data → Reading A) → Option Data → Option A × Option Data
+abbrev pub unneeded_member : {A : Type 0} → (Data → Reading A) → Option Data
+    → Option A × Option Data
 unneeded_member kind None = (None, None)
 unneeded_member kind (Some null) = (None, None)
 unneeded_member kind (Some d) = said_or_left d (kind d)
@@ -47,10 +48,13 @@ id_token_table =
     ▸ column (codes "aud") (needed_member texts) (λ c. Some (array (text_items c.audience)))
     ▸ column (codes "exp") (needed_member time) (λ c. Some (second_data c.expires_at))
     ▸ column (codes "iat") (needed_member time) (λ c. Some (second_data c.issued_at))
-    ▸ column (codes "auth_time") (λ name found. Ok (unneeded_member time found)) (λ c. option_map second_data c.auth_time)
+    ▸ column (codes "auth_time") (λ name found. Ok (unneeded_member time found))
+    (λ c. option_map second_data c.auth_time)
     ▸ column (codes "nonce") (optional_member text) (λ c. option_map string c.nonce)
-    ▸ column (codes "acr") (λ name found. Ok (unneeded_member text found)) (λ c. option_map string c.authentication_context_class)
-    ▸ column (codes "amr") (λ name found. Ok (unneeded_member text_list found)) (λ c. option_map (λ list. array (text_items list)) c.authentication_methods)
+    ▸ column (codes "acr") (λ name found. Ok (unneeded_member text found))
+    (λ c. option_map string c.authentication_context_class)
+    ▸ column (codes "amr") (λ name found. Ok (unneeded_member text_list found))
+    (λ c. option_map (λ list. array (text_items list)) c.authentication_methods)
     ▸ column (codes "azp") (optional_member text) (λ c. option_map string c.authorized_party)
     ▸ column (codes "at_hash") (optional_member text) (λ c. option_map string c.access_token_hash)
     ▸ end
@@ -63,11 +67,13 @@ id_token_names = names_of id_token_table
 -- reading failed (`said_or_left`)
 abbrev pub with_left : Option Data → Option Data → Option Data → Members → Data
 with_left auth_time acr amr ms =
-    object (put_some (codes "auth_time") auth_time (put_some (codes "acr") acr (put_some (codes "amr") amr ms)))
+    object
+    (put_some (codes "auth_time") auth_time (put_some (codes "acr") acr (put_some (codes "amr") amr ms)))
 
 -- the claims and the object of the other claims, from what was read for each row
 abbrev pub claims_with : Builder id_token_table (Members → WithOthers Claims)
-claims_with i s a e t u n c m p h ms = with_others (claims i s a e t u.0 n c.0 m.0 p h) (with_left u.1 c.1 m.1 ms)
+claims_with i s a e t u n c m p h ms =
+    with_others (claims i s a e t u.0 n c.0 m.0 p h) (with_left u.1 c.1 m.1 ms)
 
 -- the claims from the members of the payload: if several are wrong, the first row is reported
 abbrev pub claims_row : Members → Reading (WithOthers Claims)
@@ -101,11 +107,13 @@ of_part which (Err fault) = Err (at_fault which fault)
 -- a part that is one JSON value in base64url, and how that value is read
 abbrev pub json_part : {M : Type 0} → (Data → Reading M) → TokenPart → List ℕ → TokenReading M
 json_part reading which encoded =
-    token_then (bytes_part which (bytes_of encoded)) (λ bytes. of_part which (body_reading reading bytes))
+    token_then (bytes_part which (bytes_of encoded))
+    (λ bytes. of_part which (body_reading reading bytes))
 
 -- the token from its three parts, its claims by this reading: if several parts are wrong, the first
 -- is reported
-abbrev pub parts_reading : {C : Type 0} → (Data → Reading C) → Option Parts → TokenReading (DecodedCompactToken C)
+abbrev pub parts_reading : {C : Type 0} → (Data → Reading C) → Option Parts
+    → TokenReading (DecodedCompactToken C)
 parts_reading reading None = Err not_three_parts
 parts_reading reading (Some p) =
     token_then (json_part header_reading part.Header p.header) (λ h.

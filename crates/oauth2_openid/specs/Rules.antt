@@ -13,11 +13,13 @@ abbrev pub is_issuer : NamedIssuers → Option (List ℕ) → List ℕ → Bool
 is_issuer (is named) tenant issuer = bytes_eq issuer named
 is_issuer (one_of named) tenant issuer = is_among issuer named
 is_issuer (per_tenant before after) None issuer = false
-is_issuer (per_tenant before after) (Some tenant) issuer = bytes_eq issuer (before ++ tenant ++ after)
+is_issuer (per_tenant before after) (Some tenant) issuer =
+    bytes_eq issuer (before ++ tenant ++ after)
 
 -- 3.1.3.7, 2: the claim `iss` is an expected issuer, for a token that names this tenant
 abbrev pub issuer_rule : Expectation → Option (List ℕ) → Claims → Verdict ClaimsError
-issuer_rule expected tenant claims = rule (is_issuer expected.issuer tenant claims.issuer) errors.OtherIssuer
+issuer_rule expected tenant claims =
+    rule (is_issuer expected.issuer tenant claims.issuer) errors.OtherIssuer
 
 -- 3.1.3.7, 3: the client is one of the audiences
 abbrev pub audience_rule : Expectation → Claims → Verdict ClaimsError
@@ -26,7 +28,8 @@ audience_rule expected claims = rule (is_among expected.client claims.audience) 
 -- 3.1.3.7, 3: each audience is the client or one that it trusts
 abbrev pub trust_rule : Expectation → Claims → Verdict ClaimsError
 trust_rule expected claims =
-    rule (are_among claims.audience (expected.client ∷ expected.other_audiences)) errors.UntrustedAudience
+    rule (are_among claims.audience (expected.client ∷ expected.other_audiences))
+    errors.UntrustedAudience
 
 -- 3.1.3.7, 4 and 5: a token with several audiences has an authorized party, and an authorized party
 -- is one of `parties`
@@ -41,11 +44,13 @@ party_rule expected claims =
 
 -- 3.1.3.7, 9: the moment `now` is before the expiry plus the leeway
 abbrev pub expiry_rule : Expectation → ℤ → Claims → Verdict ClaimsError
-expiry_rule expected now claims = rule (int_lt now (claims.expires_at +ℤ pos expected.leeway)) errors.Expired
+expiry_rule expected now claims =
+    rule (int_lt now (claims.expires_at +ℤ pos expected.leeway)) errors.Expired
 
 -- 3.1.3.7, 10: the token was not issued after the moment `now` plus the leeway
 abbrev pub issued_rule : Expectation → ℤ → Claims → Verdict ClaimsError
-issued_rule expected now claims = rule (int_le claims.issued_at (now +ℤ pos expected.leeway)) errors.IssuedLater
+issued_rule expected now claims =
+    rule (int_le claims.issued_at (now +ℤ pos expected.leeway)) errors.IssuedLater
 
 -- 3.1.3.7, 11, and section 2: the token has a nonce exactly if one was sent, and both have the same
 -- SHA-256 digest
@@ -89,7 +94,8 @@ claims_checked expected now tenant claims =
 abbrev pub IsIssuer : NamedIssuers → Option (List ℕ) → List ℕ → Type 0
 IsIssuer (is named) tenant issuer = issuer ≡ named
 IsIssuer (one_of named) tenant issuer = Contains named issuer
-IsIssuer (per_tenant before after) tenant issuer = IsSomeAnd tenant (λ name. issuer ≡ before ++ name ++ after)
+IsIssuer (per_tenant before after) tenant issuer =
+    IsSomeAnd tenant (λ name. issuer ≡ before ++ name ++ after)
 
 -- the claims of a token that names this tenant meet 3.1.3.7 for a client that expects this, at the
 -- moment `now` (nanoseconds since 1970-01-01T00:00:00Z)

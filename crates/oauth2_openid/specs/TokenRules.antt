@@ -25,7 +25,8 @@ names_no_signature algorithm =
 -- any that means a signature
 abbrev pub algorithm_of : Option (List ℕ) → List ℕ → Verdict ClaimsError
 algorithm_of None algorithm = rule (not (names_no_signature algorithm)) errors.NoSignature
-algorithm_of (Some registered) algorithm = rule (bytes_eq algorithm registered) errors.OtherAlgorithm
+algorithm_of (Some registered) algorithm =
+    rule (bytes_eq algorithm registered) errors.OtherAlgorithm
 
 -- 3.1.3.7, 7, and section 2: that rule for the expected algorithm and the header's `alg`
 abbrev pub algorithm_rule : Expectation → Header → Verdict ClaimsError
@@ -33,7 +34,8 @@ algorithm_rule expected header = algorithm_of expected.algorithm header.algorith
 
 -- RFC 7515, 4.1.11: the header has no `crit`, which names extensions that have to be understood
 abbrev pub critical_rule : WithOthers Header → Verdict ClaimsError
-critical_rule header = rule (not (is_some (get (codes "crit") header.others))) errors.CriticalExtension
+critical_rule header =
+    rule (not (is_some (get (codes "crit") header.others))) errors.CriticalExtension
 
 -- the algorithms whose hash is SHA-256 (RFC 7518, 3.1)
 abbrev pub sha256_algorithms : List (List ℕ)
@@ -46,7 +48,8 @@ sha384_algorithms = codes "RS384" ∷ codes "ES384" ∷ codes "PS384" ∷ codes 
 -- the algorithms whose hash is SHA-512 (RFC 7518, 3.1), and EdDSA, as a signature by Ed25519 hashes
 -- (RFC 8037, 3.1; RFC 8032, 5.1)
 abbrev pub sha512_algorithms : List (List ℕ)
-sha512_algorithms = codes "RS512" ∷ codes "ES512" ∷ codes "PS512" ∷ codes "HS512" ∷ codes "EdDSA" ∷ []
+sha512_algorithms =
+    codes "RS512" ∷ codes "ES512" ∷ codes "PS512" ∷ codes "HS512" ∷ codes "EdDSA" ∷ []
 
 -- the left half of the access token's digest by the algorithm's hash; none for other algorithms
 abbrev pub half_digest : List ℕ → List ℕ → Option (List ℕ)
@@ -62,7 +65,8 @@ half_digest algorithm access_token =
 -- 3.1.3.6: the hash in the ID token is that half in base64url; without a half it is not checked
 abbrev pub told_hash : List ℕ → Option (List ℕ) → Result AccessTokenHash ClaimsError
 told_hash told None = Ok hash.NotChecked
-told_hash told (Some half) = if bytes_eq told (base64url half) then Ok hash.Matches else Err errors.OtherAccessToken
+told_hash told (Some half) =
+    if bytes_eq told (base64url half) then Ok hash.Matches else Err errors.OtherAccessToken
 
 -- 3.1.3.8: the claim `at_hash`, if the token has it, is the hash of the access token
 abbrev pub hash_rule : List ℕ → List ℕ → Option (List ℕ) → Result AccessTokenHash ClaimsError
@@ -74,7 +78,8 @@ abbrev pub tenant_of : Data → Option (List ℕ)
 tenant_of other_claims = option_and_then as_str (get (codes "tid") other_claims)
 
 -- all rules for a token, in this order: the first broken rule is the error
-abbrev pub token_checked : Expectation → List ℕ → ℤ → DecodedToken → Result AccessTokenHash ClaimsError
+abbrev pub token_checked : Expectation → List ℕ → ℤ → DecodedToken
+    → Result AccessTokenHash ClaimsError
 token_checked expected access_token now token =
     algorithm_rule expected token.header.own
     then critical_rule token.header
@@ -91,7 +96,8 @@ IsAlgorithm (Some registered) algorithm = algorithm ≡ registered
 -- the claim `at_hash`, if present, is the hash of the access token, if the algorithm has a hash
 abbrev pub IsHashOf : List ℕ → List ℕ → Option (List ℕ) → Type 0
 IsHashOf algorithm access_token told =
-    IfSome told (λ hash. IfSome (half_digest algorithm access_token) (λ half. hash ≡ base64url half))
+    IfSome told
+    (λ hash. IfSome (half_digest algorithm access_token) (λ half. hash ≡ base64url half))
 
 -- the token meets 3.1.3.7 and 3.1.3.8, except for its signature, for a client that expects this and
 -- got this access token, at the moment `now` (nanoseconds since 1970-01-01T00:00:00Z)

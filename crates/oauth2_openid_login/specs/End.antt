@@ -30,12 +30,14 @@ use Rattle.oauth2_openid_login.specs.Login.{OpenIdKept}
 use Rattle.oauth2_openid_login.specs.Provider.{Provider, expected_of, redirect_issuer}
 
 -- the text that `Display` writes of an error, where `text` is that of the server's error
-abbrev pub openid_login_error_text : {RE T : Type 0} → (T → Option (List ℕ)) → OpenIdLoginError RE T → Option (List ℕ)
+abbrev pub openid_login_error_text : {RE T : Type 0} → (T → Option (List ℕ)) → OpenIdLoginError RE T
+    → Option (List ℕ)
 openid_login_error_text text (Redirect error login) = redirect_error_text error
 openid_login_error_text text (Token error) = fault_text text error
 openid_login_error_text text OtherTokenType = Some (codes "token type is not Bearer")
 openid_login_error_text text NoIdToken = Some (codes "token response has no ID token")
-openid_login_error_text text (Read error) = Some (codes "ID token: " ++ id_token_read_error_text error)
+openid_login_error_text text (Read error) =
+    Some (codes "ID token: " ++ id_token_read_error_text error)
 openid_login_error_text text (Claims error) = Some (codes "ID token: " ++ claims_error_text error)
 openid_login_error_text text Memory = Some (codes "Out of memory")
 
@@ -68,7 +70,8 @@ module _ {D RE T : Type 0} where
   -- the result for the ID token of a response: the response and its ID token, if the token can be
   -- read and meets every rule; or an error that says what is wrong with the token first; or
   -- `Memory`, if there is a token to read
-  abbrev pub JudgesIdToken : (D → List ℕ) → (D → Option (List ℕ)) → Expectation → ℤ → D → Result (OpenIdLoginEnd D) (OpenIdLoginError RE T) → Type 0
+  abbrev pub JudgesIdToken : (D → List ℕ) → (D → Option (List ℕ)) → Expectation → ℤ → D
+      → Result (OpenIdLoginEnd D) (OpenIdLoginError RE T) → Type 0
   JudgesIdToken access_token id_token expected now response (Ok end) =
       (end.token_response ≡ response)
       × (id_token_reading (id_token response) ≡ Some (Ok (token_of end.id_token)))
@@ -76,17 +79,20 @@ module _ {D RE T : Type 0} where
   JudgesIdToken access_token id_token expected now response (Err (Redirect error login)) = ⊥
   JudgesIdToken access_token id_token expected now response (Err (Token error)) = ⊥
   JudgesIdToken access_token id_token expected now response (Err OtherTokenType) = ⊥
-  JudgesIdToken access_token id_token expected now response (Err NoIdToken) = id_token response ≡ None
+  JudgesIdToken access_token id_token expected now response (Err NoIdToken) =
+      id_token response ≡ None
   JudgesIdToken access_token id_token expected now response (Err (Read error)) =
       (fault : TokenFault) × (fault_told error ≡ Some fault) × (id_token_reading (id_token response) ≡ Some (Err fault))
   JudgesIdToken access_token id_token expected now response (Err (Claims error)) =
       (token : DecodedToken) × (id_token_reading (id_token response) ≡ Some (Ok token))
       × (token_checked expected (access_token response) now token ≡ Err error)
-  JudgesIdToken access_token id_token expected now response (Err Memory) = IsSome (id_token response)
+  JudgesIdToken access_token id_token expected now response (Err Memory) =
+      IsSome (id_token response)
 
   -- the result for a token response: that for its ID token if its token type is `Bearer`
   -- (3.1.3.3), and else `OtherTokenType`
-  abbrev pub Judges : (D → List ℕ) → (D → List ℕ) → (D → Option (List ℕ)) → Expectation → ℤ → D → Result (OpenIdLoginEnd D) (OpenIdLoginError RE T) → Type 0
+  abbrev pub Judges : (D → List ℕ) → (D → List ℕ) → (D → Option (List ℕ)) → Expectation → ℤ → D
+      → Result (OpenIdLoginEnd D) (OpenIdLoginError RE T) → Type 0
   Judges access_token token_type id_token expected now response result =
       (IsBearer (token_type response) × JudgesIdToken access_token id_token expected now response result)
       ⊎ ((IsBearer (token_type response) → ⊥) × (result ≡ Err OtherTokenType))
@@ -97,12 +103,20 @@ module _ {D A T E RE C : Type 0} where
   -- redirect has no code, or memory ran out before the request: the HTTP client is unchanged, and
   -- the error holds the login.
   abbrev pub EndsOpenIdLogin : (D → A) → (T → E) → (Data → Reading A) → (Data → Reading E)
-      → (C → HttpRequest → Result HttpResponse RE → C → Type 0) → (D → List ℕ) → (D → List ℕ) → (D → Option (List ℕ))
-      → Settings → OpenIdKept → Expectation → (Timestamp → Type 0) → Result (List ℕ) RedirectErrorView
+      → (C → HttpRequest → Result HttpResponse RE → C → Type 0)
+      → (D → List ℕ)
+      → (D → List ℕ)
+      → (D → Option (List ℕ))
+      → Settings
+      → OpenIdKept
+      → Expectation
+      → (Timestamp → Type 0)
+      → Result (List ℕ) RedirectErrorView
       → C → Result (OpenIdLoginEnd D) (OpenIdLoginError RE T) → C → Type 0
   EndsOpenIdLogin meaning error_meaning reading error_reading step access_token token_type id_token client login expected ToldByClock told before result after =
       ((code : List ℕ) × (told ≡ Ok code) × (response : D)
-      × ExchangesCode meaning error_meaning reading error_reading step client login.login code before (Ok response) after
+      × ExchangesCode meaning error_meaning reading error_reading step client login.login code
+      before (Ok response) after
       × (now : Timestamp) × ToldByClock now
       × Judges access_token token_type id_token expected now.nanosecond response result)
       ⊎ ((code : List ℕ) × (told ≡ Ok code) × (error : RequestTokenError RE T) × (result ≡ Err (Token error))

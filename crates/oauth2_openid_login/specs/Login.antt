@@ -25,7 +25,8 @@ openid_kept l n m = record { login = l; nonce = n; max_age = m }
 abbrev pub openid_login_table : Table OpenIdKept
 openid_login_table =
     column (codes "nonce") (needed_member text) (λ l. Some (string l.nonce))
-    ▸ column (codes "max_age") (optional_member whole_number) (λ l. option_map (λ n. number (unsigned n)) l.max_age)
+    ▸ column (codes "max_age") (optional_member whole_number)
+    (λ l. option_map (λ n. number (unsigned n)) l.max_age)
     ▸ end
 
 -- a login, read from the members of its JSON object: those of the login by a code, and those of

@@ -41,7 +41,8 @@ token_issuers issuer (Some rule) = named_issuers rule
 -- the expected issuer of a redirect (RFC 9207, 2.4): required if the provider announces `iss` in
 -- its redirects, and else compared if a redirect has `iss`
 abbrev pub redirect_issuer : Provider → IssuerExpectation
-redirect_issuer provider = if provider.tells_issuer_in_redirect then required provider.issuer else compared provider.issuer
+redirect_issuer provider =
+    if provider.tells_issuer_in_redirect then required provider.issuer else compared provider.issuer
 
 -- what is expected of an ID token for this client identifier, this nonce and this maximum age in
 -- seconds; the expectation itself has the maximum age in nanoseconds
@@ -61,4 +62,5 @@ login_expectation provider client sent seconds =
 -- what is expected of the ID token of a login (OpenID Connect Core 1.0, 3.1.3.7): it is for this
 -- client, and has the nonce and meets the maximum age of this login
 abbrev pub expected_of : Provider → Settings → OpenIdKept → Expectation
-expected_of provider client login = login_expectation provider client.client_id login.nonce login.max_age
+expected_of provider client login =
+    login_expectation provider client.client_id login.nonce login.max_age

@@ -46,7 +46,8 @@ abbrev pub ColorfulIntrospection : Type 0
 ColorfulIntrospection = Introspection ColorfulFields ColorfulTokenType
 
 -- the value of an introspection response, without its place in memory
-abbrev pub colorful_introspection_seen : ColorfulIntrospection → Introspection Fields ColorfulTokenType
+abbrev pub colorful_introspection_seen : ColorfulIntrospection
+    → Introspection Fields ColorfulTokenType
 colorful_introspection_seen response = introspection_seen fields_seen (λ color. color) response
 
 -- a JSON value read as an introspection response of this server
@@ -72,25 +73,32 @@ module _ {RE C : Type 0} (step : C → HttpRequest → Result HttpResponse RE �
   -- a call for a token
   abbrev pub AsksForToken : Result ColorfulToken (RequestTokenError RE ColorfulError) → C → Type 0
   AsksForToken result after =
-      AsksOnce colorful_token_seen colorful_error_seen step (answer_of rule colorful_token_reading colorful_error_reading)
+      AsksOnce colorful_token_seen colorful_error_seen step
+      (answer_of rule colorful_token_reading colorful_error_reading)
       (IsRequestOf configuration) (serialize endpoint.url) before result after
 
   -- a call for a token, at a server with custom error responses
-  abbrev pub AsksForCustomToken : Result ColorfulToken (RequestTokenError RE CustomErrorResponse) → C → Type 0
+  abbrev pub AsksForCustomToken : Result ColorfulToken (RequestTokenError RE CustomErrorResponse)
+      → C → Type 0
   AsksForCustomToken result after =
-      AsksOnce colorful_token_seen custom_seen step (answer_of rule colorful_token_reading custom_reading)
+      AsksOnce colorful_token_seen custom_seen step
+      (answer_of rule colorful_token_reading custom_reading)
       (IsRequestOf configuration) (serialize endpoint.url) before result after
 
   -- a call for an introspection (RFC 7662, 2.1)
-  abbrev pub AsksForIntrospection : Result ColorfulIntrospection (RequestTokenError RE ColorfulError) → C → Type 0
+  abbrev pub AsksForIntrospection : Result ColorfulIntrospection (RequestTokenError RE ColorfulError)
+      → C → Type 0
   AsksForIntrospection result after =
-      AsksOnce colorful_introspection_seen colorful_error_seen step (answer_of rule colorful_introspection_reading colorful_error_reading)
+      AsksOnce colorful_introspection_seen colorful_error_seen step
+      (answer_of rule colorful_introspection_reading colorful_error_reading)
       (IsRequestOf configuration) (serialize endpoint.url) before result after
 
   -- a call for the codes of a device (RFC 8628, 3.1)
-  abbrev pub AsksForCodes : Result (DeviceAuthorization ColorfulFields) (RequestTokenError RE ColorfulError) → C → Type 0
+  abbrev pub AsksForCodes : Result (DeviceAuthorization ColorfulFields) (RequestTokenError RE ColorfulError)
+      → C → Type 0
   AsksForCodes result after =
-      AsksOnce (device_seen fields_seen) colorful_error_seen step (answer_of rule (device_reading fields_reading) colorful_error_reading)
+      AsksOnce (device_seen fields_seen) colorful_error_seen step
+      (answer_of rule (device_reading fields_reading) colorful_error_reading)
       (IsRequestOf configuration) (serialize endpoint.url) before result after
 
 module _ {RE C : Type 0} (step : C → HttpRequest → Result HttpResponse RE → C → Type 0) (configuration : Configuration) (endpoint : Addressed) (before : C) where
@@ -101,6 +109,7 @@ module _ {RE C : Type 0} (step : C → HttpRequest → Result HttpResponse RE �
       (IsRequestOf configuration) (serialize endpoint.url) before result after
 
 -- the events `e` and the result of a device's poll for a token, until its code expires
-abbrev pub PollsForToken : {RE : Type 0} → DeviceToken → ℕ → List (PollCall RE) → Result ColorfulToken (PollError RE) → Type 0
+abbrev pub PollsForToken : {RE : Type 0} → DeviceToken → ℕ → List (PollCall RE)
+    → Result ColorfulToken (PollError RE) → Type 0
 PollsForToken request max_polls e result =
     Polls colorful_token_seen colorful_token_reading request request.lifetime max_polls e result

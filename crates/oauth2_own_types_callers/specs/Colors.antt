@@ -16,7 +16,8 @@ color_text Red = codes "red"
 
 -- a text read as a token type; any other text is refused
 abbrev pub color_of : List ℕ → Reading ColorfulTokenType
-color_of s = code_in ((codes "green", Ok Green) ∷ (codes "red", Ok Red) ∷ []) (Err (whole cause.Refused)) s
+color_of s =
+    code_in ((codes "green", Ok Green) ∷ (codes "red", Ok Red) ∷ []) (Err (whole cause.Refused)) s
 
 -- a JSON value read as a token type; it has to be a text
 abbrev pub color_reading : Data → Reading ColorfulTokenType

@@ -14,7 +14,9 @@ custom_seen response = string_bytes response.custom_error
 
 -- a JSON value read as this error response: an object whose member `custom_error` is a text
 abbrev pub custom_reading : Data → Reading (List ℕ)
-custom_reading d = read_then (members_of_object d) (λ ms. needed_member text (codes "custom_error") (get_member (codes "custom_error") ms))
+custom_reading d =
+    read_then (members_of_object d)
+    (λ ms. needed_member text (codes "custom_error") (get_member (codes "custom_error") ms))
 
 -- this error response written as JSON: an object with the member `custom_error`
 abbrev pub custom_writing : List ℕ → Writing

@@ -20,7 +20,8 @@ fields_seen fields = (option_map string_bytes fields.shape, fields.height)
 
 -- a height read from a number: one that is not below 2^32 is out of range
 abbrev pub height_of : ℕ → Reading ℕ
-height_of n = if nat_lt n (2 ^ 32) then Ok n else Err (record { member = codes "height"; cause = cause.OutOfRange })
+height_of n =
+    if nat_lt n (2 ^ 32) then Ok n else Err (record { member = codes "height"; cause = cause.OutOfRange })
 
 -- the fields read from an object's members: `shape` may be absent, `height` is required; if both
 -- are wrong, the error is that of `shape`
@@ -28,7 +29,8 @@ abbrev pub fields_row : Members → Reading Fields
 fields_row ms =
     Ok (λ shape height. (shape, height))
     ⊛ optional_member text (codes "shape") (get_member (codes "shape") ms)
-    ⊛ read_then (needed_member whole_number (codes "height") (get_member (codes "height") ms)) height_of
+    ⊛ read_then (needed_member whole_number (codes "height") (get_member (codes "height") ms))
+    height_of
 
 -- a JSON value read as the extra fields; it has to be an object
 abbrev pub fields_reading : Data → Reading Fields
@@ -36,7 +38,10 @@ fields_reading d = read_then (members_of_object d) fields_row
 
 -- the members that the extra fields are written as; an absent shape has none
 abbrev pub fields_members : Fields → Members
-fields_members f = put_all ((codes "shape", option_map string f.0) ∷ (codes "height", Some (number (unsigned f.1))) ∷ []) no_members
+fields_members f =
+    put_all
+    ((codes "shape", option_map string f.0) ∷ (codes "height", Some (number (unsigned f.1))) ∷ [])
+    no_members
 
 -- the extra fields written as JSON: an object with their members
 abbrev pub fields_writing : Fields → Writing

@@ -13,8 +13,10 @@ use Rattle.oauth2_pushed_login.specs.declared.route_error.LoginRouteError.TheVar
 
 -- the text of the error of a route
 abbrev pub route_error_text : LoginRouteError → List ℕ
-route_error_text (PushEndpoint cause) = codes "pushed_authorization_request_endpoint: " ++ cause_text cause
-route_error_text NoPushEndpoint = codes "metadata requires pushes, and has no pushed_authorization_request_endpoint"
+route_error_text (PushEndpoint cause) =
+    codes "pushed_authorization_request_endpoint: " ++ cause_text cause
+route_error_text NoPushEndpoint =
+    codes "metadata requires pushes, and has no pushed_authorization_request_endpoint"
 route_error_text (Login error) = endpoint_error_text error
 
 -- the text of the error of a URL
@@ -23,7 +25,8 @@ url_error_text Overflow = Some (codes "authorization URL is too long")
 url_error_text error = Some (codes "Out of memory")
 
 -- the text of the error of a push, where `text` is that of the server's error
-abbrev pub push_login_error_text : {RE T : Type 0} → (T → Option (List ℕ)) → PushLoginError RE T → Option (List ℕ)
+abbrev pub push_login_error_text : {RE T : Type 0} → (T → Option (List ℕ)) → PushLoginError RE T
+    → Option (List ℕ)
 push_login_error_text text (Push fault) = Some (push_fault_text fault)
 push_login_error_text text (Request error) = fault_text text error
 push_login_error_text text (Url error) = url_error_text error

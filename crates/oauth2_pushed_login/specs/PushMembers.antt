@@ -25,8 +25,10 @@ push_members endpoint required = record {
 -- the two members: how each is read and written; each may be absent or null
 abbrev pub push_table : Table PushMembers
 push_table =
-    column (codes "pushed_authorization_request_endpoint") (optional_member url) (λ m. option_map address_data m.pushed_authorization_request_endpoint)
-    ▸ column (codes "require_pushed_authorization_requests") (optional_member flag) (λ m. option_map boolean m.require_pushed_authorization_requests)
+    column (codes "pushed_authorization_request_endpoint") (optional_member url)
+    (λ m. option_map address_data m.pushed_authorization_request_endpoint)
+    ▸ column (codes "require_pushed_authorization_requests") (optional_member flag)
+    (λ m. option_map boolean m.require_pushed_authorization_requests)
     ▸ end
 
 -- the two members, read from those of a JSON object; other members are ignored

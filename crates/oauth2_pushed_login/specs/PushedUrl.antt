@@ -46,17 +46,21 @@ module _ {RE T : Type 0} where
   -- what follows from the outcome of a push: the URL of the authorization endpoint with the two
   -- parameters that name the pushed request (RFC 9126, 4), or an error if it is too long or memory
   -- runs out; or the error of the push
-  abbrev pub IsUrlOf : List ℕ → Parts → Result PushedAuthorization (RequestTokenError RE T) → Result Parts (PushLoginError RE T) → Type 0
-  IsUrlOf id endpoint (Ok pushed) (Ok url) = ExtendsQuery endpoint url (reference_pairs id pushed.request_uri)
+  abbrev pub IsUrlOf : List ℕ → Parts → Result PushedAuthorization (RequestTokenError RE T)
+      → Result Parts (PushLoginError RE T) → Type 0
+  IsUrlOf id endpoint (Ok pushed) (Ok url) =
+      ExtendsQuery endpoint url (reference_pairs id pushed.request_uri)
   IsUrlOf id endpoint (Ok pushed) (Err (error.Url why)) =
-      IsOutOfRoom why × (why ≡ Overflow ↔ IsTooLong (append_query_pairs endpoint (reference_pairs id pushed.request_uri)))
+      IsOutOfRoom why
+      × (why ≡ Overflow ↔ IsTooLong (append_query_pairs endpoint (reference_pairs id pushed.request_uri)))
   IsUrlOf id endpoint (Ok pushed) (Err other) = ⊥
   IsUrlOf id endpoint (Err failure) result = result ≡ Err (error.Request failure)
 
 module _ {T RE C : Type 0} where
   -- the parameters of the URL cannot be pushed, or memory ran out before: the HTTP client is
   -- unchanged, and the error says why
-  abbrev pub PushesNothing : PushingLogin → Addressed → Parts → C → Result Parts (PushLoginError RE T) → C → Type 0
+  abbrev pub PushesNothing : PushingLogin → Addressed → Parts → C
+      → Result Parts (PushLoginError RE T) → C → Type 0
   PushesNothing login auth_url url before result after =
       (why : PushFault) × (result ≡ Err (error.Push why)) × (after ≡ before)
       × ((why ≡ fault.Memory) ⊎ (push_fault login.client.client_id (added_pairs auth_url.url url) ≡ Some why))
@@ -64,18 +68,28 @@ module _ {T RE C : Type 0} where
 module _ {T E RE C : Type 0} where
   -- exactly the parameters that the URL adds to its endpoint are pushed, once, and the result
   -- follows from the outcome
-  abbrev pub PushesAll : (T → E) → (Data → Reading E) → (C → HttpRequest → Result HttpResponse RE → C → Type 0)
-      → PushingLogin → Option (List ℕ) → Addressed → Parts → C → Result Parts (PushLoginError RE T) → C → Type 0
+  abbrev pub PushesAll : (T → E) → (Data → Reading E)
+      → (C → HttpRequest → Result HttpResponse RE → C → Type 0)
+      → PushingLogin
+      → Option (List ℕ)
+      → Addressed
+      → Parts
+      → C
+      → Result Parts (PushLoginError RE T)
+      → C
+      → Type 0
   PushesAll error_meaning error_reading step login secret auth_url url before result after =
       (pairs : List Pair) × (added_pairs auth_url.url url ≡ Some pairs)
       × (push_fault login.client.client_id (Some pairs) ≡ None)
       × (outcome : Result PushedAuthorization (RequestTokenError RE T))
       × AsksOnce (λ (pushed : PushedAuthorization). pushed) error_meaning step (pushed_answer_of login.client.reply_rule error_reading)
-      (IsRequestOf (pushed_configuration (push_of login secret pairs))) (serialize login.endpoint) before outcome after
+      (IsRequestOf (pushed_configuration (push_of login secret pairs))) (serialize login.endpoint)
+      before outcome after
       × IsUrlOf login.client.client_id auth_url.url outcome result
 
   -- one of the two happens, at the client's authorization endpoint
-  abbrev pub EndsPush : (T → E) → (Data → Reading E) → (C → HttpRequest → Result HttpResponse RE → C → Type 0)
+  abbrev pub EndsPush : (T → E) → (Data → Reading E)
+      → (C → HttpRequest → Result HttpResponse RE → C → Type 0)
       → PushingLogin → Option (List ℕ) → Parts → C → Result Parts (PushLoginError RE T) → C → Type 0
   EndsPush error_meaning error_reading step login secret url before result after =
       (auth_url : Addressed) × (login.client.auth_url ≡ Some auth_url)

@@ -36,7 +36,8 @@ push_refusal m = endpoint_refusal (requires_push m) m.pushed_authorization_reque
 
 -- why metadata give no route to a login: there is no push, or else there is no login
 abbrev pub route_refusal : Metadata PushMembers → Option LoginRouteError
-route_refusal m = option_or (push_refusal m.extra_fields) (option_map Login (login_refusal m.endpoints))
+route_refusal m =
+    option_or (push_refusal m.extra_fields) (option_map Login (login_refusal m.endpoints))
 
 -- ---- the route
 
@@ -56,13 +57,16 @@ module _ {TE TR TIR RT TRE : Type 0} where
   IsRoute None client (ByUrl found) = found ≡ client
   IsRoute None client (ByPush found) = ⊥
   IsRoute (Some endpoint) client (ByUrl found) = ⊥
-  IsRoute (Some endpoint) client (ByPush found) = (found.client ≡ client) × (found.endpoint ≡ endpoint)
+  IsRoute (Some endpoint) client (ByPush found) =
+      (found.client ≡ client) × (found.endpoint ≡ endpoint)
 
   -- the result: the route for the client with the endpoints of the metadata, if nothing refuses it;
   -- else the refusal; or memory ran out
-  abbrev pub IsRouteOf : PushPreference → Metadata PushMembers → Settings → Result (LoginRoute TE TR TIR RT TRE) LoginRouteError → Type 0
+  abbrev pub IsRouteOf : PushPreference → Metadata PushMembers → Settings
+      → Result (LoginRoute TE TR TIR RT TRE) LoginRouteError → Type 0
   IsRouteOf preference m client (Ok route) =
-      (route_refusal m ≡ None) × IsRoute (push_target preference m.extra_fields) (with_endpoints m.endpoints client) route
+      (route_refusal m ≡ None)
+      × IsRoute (push_target preference m.extra_fields) (with_endpoints m.endpoints client) route
   IsRouteOf preference m client (Err error) =
       (route_refusal m ≡ Some error) ⊎ ((route_refusal m ≡ None) × (error ≡ Login Memory))
 

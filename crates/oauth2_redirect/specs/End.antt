@@ -23,7 +23,8 @@ use Rattle.oauth2_redirect.specs.Query.{sole_text}
 use Rattle.oauth2_redirect.specs.Redirect.{IssuerExpectation, MayWantMemory, RedirectErrorView, ShowsRedirectError, answer, is_state, redirect_error_text}
 
 -- the text that `Display` writes of an error, where `text` is that of the server's error
-abbrev pub login_error_text : {RE T : Type 0} → (T → Option (List ℕ)) → LoginError RE T → Option (List ℕ)
+abbrev pub login_error_text : {RE T : Type 0} → (T → Option (List ℕ)) → LoginError RE T
+    → Option (List ℕ)
 login_error_text text (Redirect error login) = redirect_error_text error
 login_error_text text (Token error) = fault_text text error
 
@@ -47,7 +48,8 @@ login_exchange client endpoint login code =
 -- `redirect_uri`, and both have this value (RFC 6749, 4.1.3)
 abbrev pub RepeatsRedirectUri : List ℕ → List Pair → List Pair → Type 0
 RepeatsRedirectUri uri query body =
-    (read_by_name (codes "redirect_uri") query ≡ Some uri) × (read_by_name (codes "redirect_uri") body ≡ Some uri)
+    (read_by_name (codes "redirect_uri") query ≡ Some uri)
+    × (read_by_name (codes "redirect_uri") body ≡ Some uri)
 
 module _ {D T RE : Type 0} where
   -- the result of a login, from the result of its token request
@@ -64,12 +66,16 @@ module _ {D A T E RE C : Type 0} where
   ExchangesCode meaning error_meaning reading error_reading step client login code before result after =
       (endpoint : Addressed) × (client.token_url ≡ Some endpoint)
       × AsksOnce meaning error_meaning step (answer_of client.reply_rule reading error_reading)
-      (IsRequestOf (code_configuration (login_exchange client endpoint login code))) (serialize endpoint.url) before result after
+      (IsRequestOf (code_configuration (login_exchange client endpoint login code)))
+      (serialize endpoint.url) before result after
 
   -- if the redirect has a code, the token request for that code is made. Else, or if memory runs
   -- out before that, the HTTP client is unchanged, and the error says why and holds the login.
   abbrev pub EndsLogin : (D → A) → (T → E) → (Data → Reading A) → (Data → Reading E)
-      → (C → HttpRequest → Result HttpResponse RE → C → Type 0) → Settings → LoginView → Result (List ℕ) RedirectErrorView
+      → (C → HttpRequest → Result HttpResponse RE → C → Type 0)
+      → Settings
+      → LoginView
+      → Result (List ℕ) RedirectErrorView
       → C → Result D (LoginError RE T) → C → Type 0
   EndsLogin meaning error_meaning reading error_reading step client login told before result after =
       ((code : List ℕ) × (told ≡ Ok code) × (outcome : Result D (RequestTokenError RE T)) × (result ≡ of_exchange outcome)
@@ -90,9 +96,11 @@ module _ {D A T E RE C : Type 0} where
         × ExchangesCode meaning error_meaning reading error_reading step client login code
         before (Ok token) after)
     -- without a code nothing is sent
-    pub no_code : (why : RedirectErrorView) → answer login.state issuer pairs ≡ Err why → after ≡ before
+    pub no_code : (why : RedirectErrorView) → answer login.state issuer pairs ≡ Err why
+        → after ≡ before
     -- and so nothing is sent for another state
-    pub other_state : is_state login.state (sole_text (codes "state") pairs) ≡ false → after ≡ before
+    pub other_state : is_state login.state (sole_text (codes "state") pairs) ≡ false
+        → after ≡ before
     -- the login in an error is this login
     pub given_back : (error : RedirectError) (kept : LoginView)
         → result ≡ Err (Redirect error kept) → kept ≡ login

@@ -50,7 +50,8 @@ is_issuer unknown told = true
 -- each if it is sent exactly once (RFC 6749, 4.1.2.1)
 abbrev pub error_parts : List ℕ → List Pair → ErrorParts AuthorizationErrorCode
 error_parts error pairs =
-    parts_of_error (authorization_error_code_of error) (sole_text (codes "error_description") pairs) (sole_text (codes "error_uri") pairs)
+    parts_of_error (authorization_error_code_of error) (sole_text (codes "error_description") pairs)
+    (sole_text (codes "error_uri") pairs)
 
 -- the redirect's error response, if it has an `error` (RFC 6749, 4.1.2.1)
 abbrev pub error_told : Option (List ℕ) → List Pair → Option (ErrorParts AuthorizationErrorCode)
@@ -63,7 +64,8 @@ code_told None = Err no_code
 code_told (Some code) = Ok code
 
 -- a redirect with an error is refused, even if it has a code too
-abbrev pub unless_error : Option (ErrorParts AuthorizationErrorCode) → Result (List ℕ) RedirectErrorView → Result (List ℕ) RedirectErrorView
+abbrev pub unless_error : Option (ErrorParts AuthorizationErrorCode)
+    → Result (List ℕ) RedirectErrorView → Result (List ℕ) RedirectErrorView
 unless_error None code = code
 unless_error (Some error) code = Err (refused error)
 
@@ -106,7 +108,8 @@ MayWantMemory state issuer pairs =
 abbrev pub ShowsRedirectError : RedirectError → Result (List ℕ) RedirectErrorView → Type 0
 ShowsRedirectError errors.OtherState expected = expected ≡ Err other_state
 ShowsRedirectError errors.OtherIssuer expected = expected ≡ Err other_issuer
-ShowsRedirectError (errors.Refused error) expected = expected ≡ Err (refused (parts_of authorization_error_code error))
+ShowsRedirectError (errors.Refused error) expected =
+    expected ≡ Err (refused (parts_of authorization_error_code error))
 ShowsRedirectError errors.NoCode expected = expected ≡ Err no_code
 ShowsRedirectError errors.Memory expected = Unit {0}
 

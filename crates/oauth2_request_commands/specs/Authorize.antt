@@ -34,4 +34,5 @@ IsUrlShown r o =
 -- the output of `authorize`: the URL and the state, or that the authorization endpoint is missing
 abbrev pub IsAuthorizeOutput : Settings → AuthorizeParams → Output → Type 0
 IsAuthorizeOutput client p o =
-    WithEndpoint (codes "authorization") (λ url o. IsUrlShown (authorization client p url) o) client.auth_url o
+    WithEndpoint (codes "authorization") (λ url o. IsUrlShown (authorization client p url) o)
+    client.auth_url o

@@ -23,10 +23,12 @@ settings_of c = record {
 
 -- the output of a command whose endpoint the client does not have; `name` says which endpoint
 abbrev pub missing : List ℕ → Output
-missing name = failure_output MissingEndpoint (codes "No " ++ name ++ codes " endpoint URL specified")
+missing name =
+    failure_output MissingEndpoint (codes "No " ++ name ++ codes " endpoint URL specified")
 
 -- the output that `IsOutput` says for the URL of the endpoint, or that this endpoint is missing
-abbrev pub WithEndpoint : List ℕ → (Addressed → Output → Type 0) → Option Addressed → Output → Type 0
+abbrev pub WithEndpoint : List ℕ → (Addressed → Output → Type 0) → Option Addressed → Output
+    → Type 0
 WithEndpoint name IsOutput None o = o ≡ missing name
 WithEndpoint name IsOutput (Some url) o = IsOutput url o
 

@@ -12,13 +12,18 @@ use Rattle.oauth2_script.specs.ClientCredentialsParams.{ClientCredentialsParams}
 use Rattle.oauth2_script.specs.Replies.{Reply}
 
 -- the token request with the scopes and the extra parameters of the command (RFC 6749, 4.4.2)
-abbrev pub client_credentials_request : Settings → ClientCredentialsParams → Addressed → ClientCredentialsRequest
+abbrev pub client_credentials_request : Settings → ClientCredentialsParams → Addressed
+    → ClientCredentialsRequest
 client_credentials_request client p url = record {
-  base = record (base_of client) { scope = with_scopes None p.scopes; extra_params = p.extra_params };
+  base =
+      record (base_of client) { scope = with_scopes None p.scopes; extra_params = p.extra_params };
   token_url = url;
 }
 
 -- the output of `client_credentials`: the request and the token or fault, or no token endpoint
-abbrev pub IsClientCredentialsOutput : Settings → ClientCredentialsParams → List Reply → Output → Type 0
+abbrev pub IsClientCredentialsOutput : Settings → ClientCredentialsParams → List Reply → Output
+    → Type 0
 IsClientCredentialsOutput client p replies o =
-    WithToken (λ url o. IsTokenShown client.reply_rule (client_credentials_configuration (client_credentials_request client p url)) url replies o) client.token_url o
+    WithToken
+    (λ url o. IsTokenShown client.reply_rule (client_credentials_configuration (client_credentials_request client p url)) url replies o)
+    client.token_url o

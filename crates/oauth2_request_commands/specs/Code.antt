@@ -23,4 +23,6 @@ code_request client p url = record {
 -- the output of `code`: the request and the token or the fault, or that no token endpoint is set
 abbrev pub IsCodeOutput : Settings → CodeParams → List Reply → Output → Type 0
 IsCodeOutput client p replies o =
-    WithToken (λ url o. IsTokenShown client.reply_rule (code_configuration (code_request client p url)) url replies o) client.token_url o
+    WithToken
+    (λ url o. IsTokenShown client.reply_rule (code_configuration (code_request client p url)) url replies o)
+    client.token_url o

@@ -24,7 +24,8 @@ use Rattle.oauth2_script.specs.Replies.{Reply}
 -- the device authorization request with the scopes and the extra parameters (RFC 8628, 3.1)
 abbrev pub device_request : Settings → DeviceAuthorizationParams → Addressed → DeviceRequest
 device_request client p url = record {
-  base = record (base_of client) { scope = with_scopes None p.scopes; extra_params = p.extra_params };
+  base =
+      record (base_of client) { scope = with_scopes None p.scopes; extra_params = p.extra_params };
   device_authorization_url = url;
 }
 
@@ -41,15 +42,19 @@ unfoldable pub device_json : BasicDevice → List ℕ
 device_json r = compact_text (device_data r)
 
 -- what a reply to a device authorization request says: codes, or an error (RFC 6749, 5.2)
-abbrev pub device_authorization_answer : ReplyRule → ReplyView → Answer BasicDevice (ErrorParts ErrorCode)
-device_authorization_answer rule = answer_of rule (device_reading any_object) (error_reading error_code_reading)
+abbrev pub device_authorization_answer : ReplyRule → ReplyView
+    → Answer BasicDevice (ErrorParts ErrorCode)
+device_authorization_answer rule =
+    answer_of rule (device_reading any_object) (error_reading error_code_reading)
 
 -- the output of a device authorization request: the request, and the response or the fault
 abbrev pub IsDeviceAuthorized : ReplyRule → Configuration → Addressed → List Reply → Output → Type 0
-IsDeviceAuthorized rule = IsPostShown device_json (error_members error_code_text) (device_authorization_answer rule)
+IsDeviceAuthorized rule =
+    IsPostShown device_json (error_members error_code_text) (device_authorization_answer rule)
 
 -- the output of `device_authorization`: that of its request, or that the endpoint is missing
-abbrev pub IsDeviceAuthorizationOutput : Settings → DeviceAuthorizationParams → List Reply → Output → Type 0
+abbrev pub IsDeviceAuthorizationOutput : Settings → DeviceAuthorizationParams → List Reply → Output
+    → Type 0
 IsDeviceAuthorizationOutput client p replies o =
     WithEndpoint (codes "device authorization")
     (λ url o. IsDeviceAuthorized client.reply_rule (device_authorization_configuration (device_request client p url)) url replies o)

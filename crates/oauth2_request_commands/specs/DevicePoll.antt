@@ -58,7 +58,9 @@ last_call before (call ∷ calls) = last_call call calls
 
 -- what a reply to a device says: a token, or an error (RFC 8628, 3.5)
 abbrev pub poll_answer : ReplyRule → ReplyView → Answer BasicToken (ErrorParts DeviceErrorCode)
-poll_answer rule = answer_of rule (token_reading any_object token_code_reading) (error_reading device_error_code_reading)
+poll_answer rule =
+    answer_of rule (token_reading any_object token_code_reading)
+    (error_reading device_error_code_reading)
 
 -- what a call means to the poll; a failed call is `Failed`
 abbrev pub class_of_call : ReplyRule → Option ReplyView → PollAnswer
@@ -70,11 +72,14 @@ class_of_call rule (Some reply) = class_of_answer (poll_answer rule reply)
 -- the events that a poll shows, with these replies: each request with its reply, and each sleep
 abbrev pub AreEventsOf : (RequestView → Type 0) → List Reply → List TraceEvent → List Event → Type 0
 AreEventsOf IsRequest replies [] shown = shown ≡ []
-AreEventsOf IsRequest replies (Reading t ∷ events) shown = AreEventsOf IsRequest replies events shown
+AreEventsOf IsRequest replies (Reading t ∷ events) shown =
+    AreEventsOf IsRequest replies events shown
 AreEventsOf IsRequest replies (Asked ∷ events) shown =
     (request : RequestView) × (rest : List Event) × IsRequest request
-    × AreEventsOf IsRequest (later_replies replies) events rest × (shown ≡ exchanged request (next_reply replies) ∷ rest)
-AreEventsOf IsRequest replies (Answered a ∷ events) shown = AreEventsOf IsRequest replies events shown
+    × AreEventsOf IsRequest (later_replies replies) events rest
+    × (shown ≡ exchanged request (next_reply replies) ∷ rest)
+AreEventsOf IsRequest replies (Answered a ∷ events) shown =
+    AreEventsOf IsRequest replies events shown
 AreEventsOf IsRequest replies (Slept d ∷ events) shown =
     (rest : List Event) × AreEventsOf IsRequest replies events rest × (shown ≡ slept d ∷ rest)
 
@@ -87,8 +92,11 @@ abbrev pub shown_at : ReplyRule → Ending → List (Option ReplyView) → Outpu
 shown_at rule TooLong calls = other_output (codes "failed to convert the timeout")
 shown_at rule OutOfRange calls = other_output (codes "failed to calculate timeout")
 shown_at rule (Late n) calls =
-    refused_output (device_error_members (parts_of_error expired_token (Some (codes "This device code has expired.")) None))
-shown_at rule (Decided n) calls = reply_output (λ token. success_output (token_json token)) device_error_members (poll_answer rule) (last_call None calls)
+    refused_output
+    (device_error_members (parts_of_error expired_token (Some (codes "This device code has expired.")) None))
+shown_at rule (Decided n) calls =
+    reply_output (λ token. success_output (token_json token)) device_error_members
+    (poll_answer rule) (last_call None calls)
 shown_at rule (Limited n) calls = other_output (codes "polling limit reached")
 
 -- the output of a poll: the library polls with what the clock shows and what the client returns,
@@ -116,4 +124,6 @@ pub record IsPolled (r : DeviceToken) (timeout max_polls : ℕ) (clock : Clock) 
 -- the output of `device_poll`: that of its poll, or that no token endpoint is set
 abbrev pub IsDevicePollOutput : Settings → DevicePollParams → Clock → List Reply → Output → Type 0
 IsDevicePollOutput client p clock replies o =
-    WithToken (λ url o. IsPolled (device_token client p url) (timeout p) p.max_polls clock replies o) client.token_url o
+    WithToken
+    (λ url o. IsPolled (device_token client p url) (timeout p) p.max_polls clock replies o)
+    client.token_url o

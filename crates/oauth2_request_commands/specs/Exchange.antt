@@ -40,7 +40,8 @@ module _ {A E : Type 0} (shown : A → Output) (members : E → ErrorParts (List
 
   -- what is shown of a request: itself with its reply, and then what the reply says, or that memory
   -- ran out; no request is made if the URL has no HTTP target, or if memory ran out before
-  abbrev pub IsRequestShown : (ReplyView → Answer A E) → (RequestView → Type 0) → Parts → List Reply → Output → Type 0
+  abbrev pub IsRequestShown : (ReplyView → Answer A E) → (RequestView → Type 0) → Parts → List Reply
+      → Output → Type 0
   IsRequestShown says IsRequest url replies o =
       (o ≡ no_memory_output)
       ⊎ (SpellsNone (serialize url) × (o ≡ unsent_output))
@@ -48,9 +49,11 @@ module _ {A E : Type 0} (shown : A → Output) (members : E → ErrorParts (List
       × ((o ≡ after_exchange request replies (reply_output says (next_reply replies))) ⊎ (o ≡ after_exchange request replies no_memory_output)))
 
 -- what is shown of the POST request of a configuration; a success is shown as `json`
-abbrev pub IsPostShown : {A E : Type 0} → (A → List ℕ) → (E → ErrorParts (List ℕ)) → (ReplyView → Answer A E) → Configuration → Addressed → List Reply → Output → Type 0
+abbrev pub IsPostShown : {A E : Type 0} → (A → List ℕ) → (E → ErrorParts (List ℕ))
+    → (ReplyView → Answer A E) → Configuration → Addressed → List Reply → Output → Type 0
 IsPostShown json members says c endpoint =
-    IsRequestShown (λ a. success_output (json a)) members says (IsRequestOf c (serialize endpoint.url)) endpoint.url
+    IsRequestShown (λ a. success_output (json a)) members says
+    (IsRequestOf c (serialize endpoint.url)) endpoint.url
 
 -- ---- tokens
 
@@ -68,7 +71,8 @@ token_json r = compact_text (token_data r)
 
 -- what a reply to a token request says: a token (RFC 6749, 5.1), or an error (RFC 6749, 5.2)
 abbrev pub token_answer : ReplyRule → ReplyView → Answer BasicToken (ErrorParts ErrorCode)
-token_answer rule = answer_of rule (token_reading any_object token_code_reading) (error_reading error_code_reading)
+token_answer rule =
+    answer_of rule (token_reading any_object token_code_reading) (error_reading error_code_reading)
 
 -- what is shown of a token request: the request, and the token or the fault
 abbrev pub IsTokenShown : ReplyRule → Configuration → Addressed → List Reply → Output → Type 0

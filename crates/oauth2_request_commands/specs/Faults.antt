@@ -22,7 +22,8 @@ module _ {T : Type 0} (members : T → ErrorParts (List ℕ)) where
   fault_output (Memory sent) = no_memory_output
 
   -- what is shown of the result of a request: `shown` of an answer, or the error
-  abbrev pub end_output : {D : Type 0} → (D → Output) → Result D (RequestTokenError NoReply T) → Output
+  abbrev pub end_output : {D : Type 0} → (D → Output) → Result D (RequestTokenError NoReply T)
+      → Output
   end_output shown (Ok answer) = shown answer
   end_output shown (Err fault) = fault_output fault
 

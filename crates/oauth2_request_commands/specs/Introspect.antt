@@ -37,20 +37,24 @@ BasicIntrospection = Introspection (Unit {0}) TokenCode
 -- an introspection response as a JSON object; absent members are left out
 unfoldable pub introspection_data : BasicIntrospection → Data
 introspection_data r =
-    object (put_all (introspection_rows (option_map (λ t. string (token_code_text t)) r.token_type) r) no_members)
+    object
+    (put_all (introspection_rows (option_map (λ t. string (token_code_text t)) r.token_type) r) no_members)
 
 -- an introspection response as compact JSON
 unfoldable pub introspection_json : BasicIntrospection → List ℕ
 introspection_json r = compact_text (introspection_data r)
 
 -- what a reply to an introspection request says: a response (RFC 7662, 2.2), or an error
-abbrev pub introspection_answer : ReplyRule → ReplyView → Answer BasicIntrospection (ErrorParts ErrorCode)
+abbrev pub introspection_answer : ReplyRule → ReplyView
+    → Answer BasicIntrospection (ErrorParts ErrorCode)
 introspection_answer rule =
-    answer_of rule (introspection_reading any_object token_code_reading) (error_reading error_code_reading)
+    answer_of rule (introspection_reading any_object token_code_reading)
+    (error_reading error_code_reading)
 
 -- what is shown of an introspection request: the request, and the response or the fault
 abbrev pub IsIntrospected : ReplyRule → Configuration → Addressed → List Reply → Output → Type 0
-IsIntrospected rule = IsPostShown introspection_json (error_members error_code_text) (introspection_answer rule)
+IsIntrospected rule =
+    IsPostShown introspection_json (error_members error_code_text) (introspection_answer rule)
 
 -- the output of `introspect`: that of its request, or that the endpoint is missing
 abbrev pub IsIntrospectOutput : Settings → IntrospectParams → List Reply → Output → Type 0

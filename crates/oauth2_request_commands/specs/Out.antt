@@ -79,7 +79,10 @@ nothing = record { events = []; status = status.Answered }
 
 -- the output of the first part, and then that of the others
 abbrev pub both_outputs : Output → Output → Output
-both_outputs first rest = record { events = first.events ++ rest.events; status = both first.status rest.status }
+both_outputs first rest = record {
+  events = first.events ++ rest.events;
+  status = both first.status rest.status;
+}
 
 -- `new` is `old` with the events of this output added, and `s` is the status of this output
 abbrev pub AddsOutput : List Event → List Event → RunStatus → Output → Type 0

@@ -15,7 +15,8 @@ use Rattle.oauth2_script.specs.Replies.{Reply}
 -- the token request with the name, the password and the scopes (RFC 6749, 4.3.2)
 abbrev pub password_request : Settings → PasswordParams → Addressed → PasswordRequest
 password_request client p url = record {
-  base = record (base_of client) { scope = with_scopes None p.scopes; extra_params = p.extra_params };
+  base =
+      record (base_of client) { scope = with_scopes None p.scopes; extra_params = p.extra_params };
   token_url = url;
   username = p.username;
   password = p.password;
@@ -24,4 +25,6 @@ password_request client p url = record {
 -- the output of `password`: the request and the token or the fault, or no token endpoint is set
 abbrev pub IsPasswordOutput : Settings → PasswordParams → List Reply → Output → Type 0
 IsPasswordOutput client p replies o =
-    WithToken (λ url o. IsTokenShown client.reply_rule (password_configuration (password_request client p url)) url replies o) client.token_url o
+    WithToken
+    (λ url o. IsTokenShown client.reply_rule (password_configuration (password_request client p url)) url replies o)
+    client.token_url o

@@ -14,7 +14,8 @@ use Rattle.oauth2_script.specs.Replies.{Reply}
 -- the token request with the refresh token and the scopes (RFC 6749, 6)
 abbrev pub refresh_request : Settings → RefreshParams → Addressed → RefreshRequest
 refresh_request client p url = record {
-  base = record (base_of client) { scope = with_scopes None p.scopes; extra_params = p.extra_params };
+  base =
+      record (base_of client) { scope = with_scopes None p.scopes; extra_params = p.extra_params };
   token_url = url;
   refresh_token = p.refresh_token;
 }
@@ -22,4 +23,6 @@ refresh_request client p url = record {
 -- the output of `refresh`: the request and the token or the fault, or no token endpoint is set
 abbrev pub IsRefreshOutput : Settings → RefreshParams → List Reply → Output → Type 0
 IsRefreshOutput client p replies o =
-    WithToken (λ url o. IsTokenShown client.reply_rule (refresh_configuration (refresh_request client p url)) url replies o) client.token_url o
+    WithToken
+    (λ url o. IsTokenShown client.reply_rule (refresh_configuration (refresh_request client p url)) url replies o)
+    client.token_url o

@@ -37,15 +37,19 @@ revocation_answer = status_answer_of (error_reading revocation_error_code_readin
 
 -- what is shown of a revocation request: the request, and `null` for a success, or the fault
 abbrev pub IsRevoked : Configuration → Addressed → List Reply → Output → Type 0
-IsRevoked = IsPostShown (λ done. codes "null") (error_members revocation_error_code_text) revocation_answer
+IsRevoked =
+    IsPostShown (λ done. codes "null") (error_members revocation_error_code_text) revocation_answer
 
 -- the output of a command whose endpoint has a URL that is not `https`
 abbrev pub insecure : List ℕ → Output
-insecure name = failure_output InsecureEndpoint (codes "Scheme for " ++ name ++ codes " endpoint URL must be HTTPS")
+insecure name =
+    failure_output InsecureEndpoint
+    (codes "Scheme for " ++ name ++ codes " endpoint URL must be HTTPS")
 
 -- the output that `IsOutput` says for an `https` URL, or that the endpoint is not `https`
 abbrev pub WithHttps : List ℕ → (Addressed → Output → Type 0) → Addressed → Output → Type 0
-WithHttps name IsOutput url o = (IsHttps url × IsOutput url o) ⊎ (¬ (IsHttps url) × (o ≡ insecure name))
+WithHttps name IsOutput url o =
+    (IsHttps url × IsOutput url o) ⊎ (¬ (IsHttps url) × (o ≡ insecure name))
 
 -- the output of `revoke`: that of its request, or that the endpoint is missing or not `https`
 abbrev pub IsRevokeOutput : Settings → RevokeParams → List Reply → Output → Type 0

@@ -17,14 +17,18 @@ module _ {D T E C : Type 0} (asks : ReplyRule → (List ℕ → RequestView → 
     (is_active : D → Bool) (expires : D → Option ℤ) where
   -- the server is asked about the token
   abbrev pub IsAskedAbout : Cache D → List ℕ → C → Type 0
-  IsAskedAbout cache token before = (answer : Result D (RequestTokenError (KeepAliveError E) T)) × (after : C) × Introspects asks cache token before answer after
+  IsAskedAbout cache token before =
+      (answer : Result D (RequestTokenError (KeepAliveError E) T))
+      × (after : C)
+      × Introspects asks cache token before answer after
 
   -- a question is sent exactly where no kept answer is good: if one is, the HTTP client is not called
   abbrev pub AsksWhereNoAnswerIsGood : Type 0
   AsksWhereNoAnswerIsGood =
       (cache next : Cache D) (token : List ℕ) (now : ℤ) (before after : C) (result : Result Bool (RequestTokenError (KeepAliveError E) T))
       → Asks asks is_active expires cache token now before result after next
-      → MatchOption (good_answer expires cache token now) (IsAskedAbout cache token before) (λ answer. (result ≡ Ok true) × (after ≡ before))
+      → MatchOption (good_answer expires cache token now) (IsAskedAbout cache token before)
+      (λ answer. (result ≡ Ok true) × (after ≡ before))
 
 module _ {C S E D A T R : Type 0} (opens : C → Place → Result S E → C → Type 0) (contents remaining : S → Option (List ℕ))
     (reads writes : S → Result ℕ Io.Error → S → Type 0) (flushes : S → Result ⊤ Io.Error → S → Type 0) (meaning : D → A) (error_meaning : T → R)
@@ -35,6 +39,7 @@ module _ {C S E D A T R : Type 0} (opens : C → Place → Result S E → C → 
   KeepsEachHistory =
       (cache next : Cache D) (token : List ℕ) (now : ℤ) (before after : KeepAliveClient C S) (result : Result Bool (RequestTokenError (KeepAliveError E) T))
       → EachHasHistory opens contents remaining reads writes flushes before
-      → Asks (λ rule. AsksOnce meaning error_meaning (StepsOver opens contents remaining reads writes flushes) (says rule))
+      → Asks
+      (λ rule. AsksOnce meaning error_meaning (StepsOver opens contents remaining reads writes flushes) (says rule))
       is_active expires cache token now before result after next
       → EachHasHistory opens contents remaining reads writes flushes after

@@ -31,14 +31,23 @@ is_in_scope scopes scope (Some answer) = is_named scope (scopes answer)
 
 -- one request of a client that keeps connections: which one it takes, what goes over it, and which it
 -- keeps (RFC 9112, 9.3)
-abbrev pub StepsOver : {C S E : Type 0} → (C → Place → Result S E → C → Type 0) → (S → Option (List ℕ)) → (S → Option (List ℕ))
-    → (S → Result ℕ Io.Error → S → Type 0) → (S → Result ℕ Io.Error → S → Type 0) → (S → Result ⊤ Io.Error → S → Type 0)
-    → KeepAliveClient C S → HttpRequest → Result HttpResponse (KeepAliveError E) → KeepAliveClient C S → Type 0
+abbrev pub StepsOver : {C S E : Type 0} → (C → Place → Result S E → C → Type 0)
+    → (S → Option (List ℕ)) → (S → Option (List ℕ))
+    → (S → Result ℕ Io.Error → S → Type 0)
+    → (S → Result ℕ Io.Error → S → Type 0)
+    → (S → Result ⊤ Io.Error → S → Type 0)
+    → KeepAliveClient C S
+    → HttpRequest
+    → Result HttpResponse (KeepAliveError E)
+    → KeepAliveClient C S
+    → Type 0
 StepsOver opens contents remaining reads writes flushes before request answer after =
-    IsSetAs before after × Calls opens contents remaining reads writes flushes before request answer after
+    IsSetAs before after
+    × Calls opens contents remaining reads writes flushes before request answer after
 
 -- the request went over a connection that was used before, and no byte of a reply came
-abbrev pub is_unanswered : {A E T : Type 0} → Result A (RequestTokenError (KeepAliveError E) T) → Bool
+abbrev pub is_unanswered : {A E T : Type 0} → Result A (RequestTokenError (KeepAliveError E) T)
+    → Bool
 is_unanswered (Err (token.Request (kept.Unanswered error again))) = true
 is_unanswered result = false
 
@@ -46,7 +55,8 @@ module _ {D T E C : Type 0} (asks : ReplyRule → (List ℕ → RequestView → 
     (is_active : D → Bool) (expires : D → Option ℤ) where
   -- a question about a token at `now`: one call of the cache; and if its request was unanswered, one
   -- more (RFC 9110, 9.2.2: a POST may be sent again where it is known to change nothing, as here)
-  abbrev pub Asks : Cache D → List ℕ → ℤ → C → Result Bool (RequestTokenError (KeepAliveError E) T) → C → Cache D → Type 0
+  abbrev pub Asks : Cache D → List ℕ → ℤ → C → Result Bool (RequestTokenError (KeepAliveError E) T)
+      → C → Cache D → Type 0
   Asks cache token now before result after next =
       ((is_unanswered result ≡ false) × CacheCalls asks is_active expires cache token now before result after next)
       ⊎ ((lost : Result Bool (RequestTokenError (KeepAliveError E) T)) × (middle : C) × (left : Cache D) × (is_unanswered lost ≡ true)
@@ -54,10 +64,13 @@ module _ {D T E C : Type 0} (asks : ReplyRule → (List ℕ → RequestView → 
       × CacheCalls asks is_active expires left token now middle result after next)
 
   -- a question whether the token counts for a scope: it does if it is active and its answer names the scope
-  abbrev pub Decides : (D → Option (List (List ℕ))) → List ℕ → Cache D → List ℕ → ℤ → C → Result Bool (RequestTokenError (KeepAliveError E) T) → C → Cache D → Type 0
+  abbrev pub Decides : (D → Option (List (List ℕ))) → List ℕ → Cache D → List ℕ → ℤ → C
+      → Result Bool (RequestTokenError (KeepAliveError E) T) → C → Cache D → Type 0
   Decides scopes scope cache token now before (Ok true) after next =
-      Asks cache token now before (Ok true) after next × (is_in_scope scopes scope (kept_answer next token) ≡ true)
+      Asks cache token now before (Ok true) after next
+      × (is_in_scope scopes scope (kept_answer next token) ≡ true)
   Decides scopes scope cache token now before (Ok false) after next =
       Asks cache token now before (Ok false) after next
       ⊎ (Asks cache token now before (Ok true) after next × (is_in_scope scopes scope (kept_answer next token) ≡ false))
-  Decides scopes scope cache token now before (Err error) after next = Asks cache token now before (Err error) after next
+  Decides scopes scope cache token now before (Err error) after next =
+      Asks cache token now before (Err error) after next

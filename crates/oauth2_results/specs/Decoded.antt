@@ -20,8 +20,13 @@ decoded_by (Some (Some pair)) pairs = record { basic = Some pair; pairs = pairs 
 -- what is read of a request, with U+FFFD in place of what is not UTF-8
 abbrev pub decoded_of : RequestView → Decoded
 decoded_of v =
-    decoded_by (option_map (λ value. option_map shown_pair (basic value.bytes)) (authorization_of v)) (map shown_pair (form v.body))
+    decoded_by
+    (option_map (λ value. option_map shown_pair (basic value.bytes)) (authorization_of v))
+    (map shown_pair (form v.body))
 
 -- what the code holds
 abbrev pub decoded_seen : StoredDecoded → Decoded
-decoded_seen d = record { basic = option_map pair_texts d.basic; pairs = map pair_texts d.pairs.items }
+decoded_seen d = record {
+  basic = option_map pair_texts d.basic;
+  pairs = map pair_texts d.pairs.items;
+}

@@ -17,7 +17,8 @@ members_json m =
 -- which member of a body could not be read, and why
 abbrev pub parse_fault_json : Unread → List ℕ
 parse_fault_json f =
-    object_text ((codes "member", quotation f.member) ∷ (codes "cause", quotation (cause_name f.cause)) ∷ [])
+    object_text
+    ((codes "member", quotation f.member) ∷ (codes "cause", quotation (cause_name f.cause)) ∷ [])
 
 -- the error response of the server, or `null`
 abbrev pub error_json : Details → List ℕ

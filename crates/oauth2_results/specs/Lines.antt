@@ -15,7 +15,8 @@ nine_digits n = replicate (9 - length (decimal n)) 48 ++ decimal n
 -- the line `sleep S.N`: whole seconds, and nine digits of nanoseconds
 unfoldable pub sleep_line : ℕ → List ℕ
 sleep_line nanos =
-    line (codes "sleep " ++ decimal (nanos / 1_000_000_000) ++ codes "." ++ nine_digits (nanos % 1_000_000_000))
+    line
+    (codes "sleep " ++ decimal (nanos / 1_000_000_000) ++ codes "." ++ nine_digits (nanos % 1_000_000_000))
 
 -- the line `url "U"`
 unfoldable pub url_line : List ℕ → List ℕ
@@ -29,11 +30,13 @@ answer_line json = line (codes "answer ok " ++ json)
 unfoldable pub unread_words : Details → List ℕ
 unread_words none = []
 unread_words (refused members) = []
-unread_words (unread fault) = codes " " ++ quotation fault.member ++ codes " " ++ cause_name fault.cause
+unread_words (unread fault) =
+    codes " " ++ quotation fault.member ++ codes " " ++ cause_name fault.cause
 
 -- the line `answer fault "D"`, with the text of a fault
 unfoldable pub fault_line : Fault → List ℕ
-fault_line fault = line (codes "answer fault " ++ quotation fault.text ++ unread_words fault.details)
+fault_line fault =
+    line (codes "answer fault " ++ quotation fault.text ++ unread_words fault.details)
 
 -- the line `answer waits T`: until this second since 1970, or `null`
 unfoldable pub wait_line : Option ℤ → List ℕ

@@ -45,5 +45,6 @@ decoded_lines v = basic_line (decoded_of v).basic ++ pair_lines (decoded_of v).p
 -- all lines of a request, from `request` to the last `pair`
 unfoldable pub request_lines : RequestView → List ℕ
 request_lines v =
-    request_line v.method (uri_text v.target) ++ authorization_line (option_map (λ value. value.bytes) (authorization_of v))
+    request_line v.method (uri_text v.target)
+    ++ authorization_line (option_map (λ value. value.bytes) (authorization_of v))
     ++ body_line v.body ++ decoded_lines v

@@ -32,7 +32,8 @@ sleep_json nanos =
 
 -- the URL that the user is sent to
 abbrev pub url_json : List ℕ → List ℕ
-url_json url = object_text ((codes "event", quotation (codes "url")) ∷ (codes "url", quotation url) ∷ [])
+url_json url =
+    object_text ((codes "event", quotation (codes "url")) ∷ (codes "url", quotation url) ∷ [])
 
 -- an answer, which is a JSON text, with its scopes
 abbrev pub answer_json : List ℕ → List ℕ
@@ -44,7 +45,8 @@ answer_json answer =
 -- a wait until this second since 1970, or `null`
 abbrev pub wait_json : Option ℤ → List ℕ
 wait_json until =
-    object_text ((codes "event", quotation (codes "wait")) ∷ (codes "until", optional_number until) ∷ [])
+    object_text
+    ((codes "event", quotation (codes "wait")) ∷ (codes "until", optional_number until) ∷ [])
 
 -- what a keeper of a shared token did, by its number
 abbrev pub step_json : ℕ → List ℕ → List ℕ
@@ -73,7 +75,8 @@ event_json (bad_script fault) = bad_script_json fault
 
 -- the whole run as one object and a newline
 unfoldable pub result_text : List Event → List ℕ
-result_text events = object_text ((codes "events", list_text (map event_json events)) ∷ []) ++ codes "\n"
+result_text events =
+    object_text ((codes "events", list_text (map event_json events)) ∷ []) ++ codes "\n"
 
 -- the text of a run in each form
 abbrev pub text_in : ResultForm → List Event → List ℕ

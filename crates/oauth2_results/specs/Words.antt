@@ -32,10 +32,23 @@ kind_word kind.BadPush = codes "bad_push"
 -- all kinds of faults
 abbrev pub kinds : List FaultKind
 kinds =
-    kind.MissingEndpoint ∷ kind.InsecureEndpoint ∷ kind.RequestFailed ∷ kind.ErrorResponse ∷ kind.UnreadReply ∷
-    kind.OtherError ∷ kind.OutOfMemory ∷ kind.RefusedRedirect ∷ kind.OtherStatus ∷ kind.BadMetadata ∷
+    kind.MissingEndpoint
+    ∷ kind.InsecureEndpoint
+    ∷ kind.RequestFailed
+    ∷ kind.ErrorResponse
+    ∷ kind.UnreadReply ∷
+    kind.OtherError
+    ∷ kind.OutOfMemory
+    ∷ kind.RefusedRedirect
+    ∷ kind.OtherStatus
+    ∷ kind.BadMetadata ∷
     kind.OtherIssuer ∷ kind.BadIssuer ∷ kind.BadToken ∷ kind.BadClaims ∷ kind.BadSignature ∷
-    kind.UncheckedSignature ∷ kind.BadKeys ∷ kind.BadAccessToken ∷ kind.TakenParameter ∷ kind.BadPush ∷ []
+    kind.UncheckedSignature
+    ∷ kind.BadKeys
+    ∷ kind.BadAccessToken
+    ∷ kind.TakenParameter
+    ∷ kind.BadPush
+    ∷ []
 
 -- the words of all kinds, a line each
 abbrev pub kinds_text : List ℕ

@@ -18,12 +18,16 @@ pub record Repeater (C : Type 0) : Type 0 where
 module _ {C E : Type 0} (step : C → HttpRequest → Result HttpResponse E → C → Type 0) (sleeps : C → Duration → C → Type 0) where
   -- one call of the client, with the request or a copy of it
   abbrev pub Sends : HttpRequest → C → Result HttpResponse E → C → Type 0
-  Sends request before answer after = (sent : HttpRequest) × IsCopyOf (view_of request) (view_of sent) × step before sent answer after
+  Sends request before answer after =
+      (sent : HttpRequest)
+      × IsCopyOf (view_of request) (view_of sent)
+      × step before sent answer after
 
   -- calls with these answers, each followed by a sleep, and then the last call. If no answer asks
   -- for a wait, the first sleep is `wait` nanoseconds long, and each later one twice as long as the
   -- one before it, up to `most`
-  abbrev pub SendsInTurn : HttpRequest → ℕ → ℕ → C → List (Result HttpResponse E) → Result HttpResponse E → C → Type 0
+  abbrev pub SendsInTurn : HttpRequest → ℕ → ℕ → C → List (Result HttpResponse E)
+      → Result HttpResponse E → C → Type 0
   SendsInTurn request most wait before [] result after = Sends request before result after
   SendsInTurn request most wait before (answer ∷ answers) result after =
       (called : C) × (slept : C) × (duration : Duration)
@@ -46,6 +50,8 @@ module _ {C E : Type 0} (step : C → HttpRequest → Result HttpResponse E → 
         (IsTrue (not (is_repeatable unsent (head_of request).method result) || length earlier == limits.most_repeats))
 
   -- one call of a client that repeats
-  abbrev pub CallsRepeating : (E → Bool) → Repeater C → HttpRequest → Result HttpResponse E → Repeater C → Type 0
+  abbrev pub CallsRepeating : (E → Bool) → Repeater C → HttpRequest → Result HttpResponse E
+      → Repeater C → Type 0
   CallsRepeating unsent before request result after =
-      Repeats unsent before.limits before.client request result after.client after.is_cut_short × (after.limits ≡ before.limits)
+      Repeats unsent before.limits before.client request result after.client after.is_cut_short
+      × (after.limits ≡ before.limits)

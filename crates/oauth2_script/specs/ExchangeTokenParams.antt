@@ -33,7 +33,8 @@ subject_of d = do
 -- the type is required with the token, and must not be sent without it (RFC 8693, 2.1)
 abbrev pub both_or_neither : Option (List ℕ) → Option (List ℕ) → Reading (Option TypedToken)
 both_or_neither None None = Ok None
-both_or_neither (Some token) (Some token_type) = Ok (Some (record { token = token; token_type = token_type }))
+both_or_neither (Some token) (Some token_type) =
+    Ok (Some (record { token = token; token_type = token_type }))
 both_or_neither (Some token) None = bad_member (codes "actor_token_type") Missing
 both_or_neither None (Some token_type) = bad_member (codes "actor_token") Missing
 

@@ -27,12 +27,15 @@ object_or_empty (Some d) = inside (to_member (codes "params")) (an_object d)
 
 -- the fault of an assertion that the secret excludes
 abbrev pub twice_authenticated : PartFault
-twice_authenticated = fault_inside (to_member (codes "params")) (fault_inside (to_member (codes "client_assertion")) (fault Excluded))
+twice_authenticated =
+    fault_inside (to_member (codes "params"))
+    (fault_inside (to_member (codes "client_assertion")) (fault Excluded))
 
 -- the client, by the member `client_assertion` of `params`: a client with a secret sends no
 -- assertion, since a request authenticates its client once (RFC 6749, 2.3)
 abbrev pub once_authenticated : Option Data → Client → Reading Client
-once_authenticated assertion c = if is_some assertion && is_some c.secret then Err twice_authenticated else Ok c
+once_authenticated assertion c =
+    if is_some assertion && is_some c.secret then Err twice_authenticated else Ok c
 
 -- reads a script from a JSON value; the first part that is bad is reported
 unfoldable pub script_of : Data → Reading Script

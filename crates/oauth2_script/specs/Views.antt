@@ -96,14 +96,16 @@ password_view p = record {
 }
 
 -- the parameters of the command `client_credentials` as contracts see them
-abbrev pub client_credentials_view : ClientCredentialsParams → client_credentials_spec.ClientCredentialsParams
+abbrev pub client_credentials_view : ClientCredentialsParams
+    → client_credentials_spec.ClientCredentialsParams
 client_credentials_view p = record {
   scopes = p.scopes.items;
   extra_params = map (λ e. (string_bytes e.0, string_bytes e.1)) p.extra_params.items;
 }
 
 -- the parameters of the command `device_authorization` as contracts see them
-abbrev pub device_authorization_view : DeviceAuthorizationParams → device_authorization_spec.DeviceAuthorizationParams
+abbrev pub device_authorization_view : DeviceAuthorizationParams
+    → device_authorization_spec.DeviceAuthorizationParams
 device_authorization_view p = record {
   scopes = p.scopes.items;
   extra_params = map (λ e. (string_bytes e.0, string_bytes e.1)) p.extra_params.items;
@@ -188,7 +190,8 @@ metadata_view p = record {
 abbrev pub issuer_view : IssuerParam → id_token_spec.IssuerPart
 issuer_view (Is issuer) = id_token_spec.is (string_bytes issuer)
 issuer_view (OneOf issuers) = id_token_spec.one_of (map string_bytes issuers.items)
-issuer_view (PerTenant before after) = id_token_spec.per_tenant (string_bytes before) (string_bytes after)
+issuer_view (PerTenant before after) =
+    id_token_spec.per_tenant (string_bytes before) (string_bytes after)
 
 -- the parameters of `id_token` as contracts see them; `leeway` and `max_age` in nanoseconds
 abbrev pub id_token_view : IdTokenParams → id_token_spec.IdTokenParams
@@ -258,7 +261,14 @@ push_view p = record {
 
 -- the endpoints of the client as contracts see them
 abbrev pub endpoints_view : ClientEndpoints → client_spec.ClientEndpoints
-endpoints_view e = record { auth = e.auth; token = e.token; device = e.device; introspection = e.introspection; revocation = e.revocation; push = e.push }
+endpoints_view e = record {
+  auth = e.auth;
+  token = e.token;
+  device = e.device;
+  introspection = e.introspection;
+  revocation = e.revocation;
+  push = e.push;
+}
 
 -- the client of the script as contracts see it
 abbrev pub client_view : ClientPart → client_spec.Client
@@ -293,7 +303,8 @@ command_view (Password p) = command_spec.password (password_view p)
 command_view (ClientCredentials p) = command_spec.client_credentials (client_credentials_view p)
 command_view (Introspect p) = command_spec.introspect (introspect_view p)
 command_view (Revoke p) = command_spec.revoke (revoke_view p)
-command_view (DeviceAuthorization p) = command_spec.device_authorization (device_authorization_view p)
+command_view (DeviceAuthorization p) =
+    command_spec.device_authorization (device_authorization_view p)
 command_view (DevicePoll p) = command_spec.device_poll (device_poll_view p)
 command_view (Authorize p) = command_spec.authorize (authorize_view p)
 command_view (Redirect p) = command_spec.redirect (redirect_view p)

@@ -74,13 +74,16 @@ StoreLeads {T} {S} {SE} loads replaces name s (Load shown ∷ calls) last =
 StoreLeads {T} {S} {SE} loads replaces name s (Replace version content done ∷ calls) last =
     (answer : Result Replaced SE) × (next : S) × replaces s name version content answer next × (done ≡ is_done answer)
     × StoreLeads loads replaces name next calls last
-StoreLeads {T} {S} {SE} loads replaces name s (Refresh token given ∷ calls) last = StoreLeads loads replaces name s calls last
+StoreLeads {T} {S} {SE} loads replaces name s (Refresh token given ∷ calls) last =
+    StoreLeads loads replaces name s calls last
 
 -- exactly the calls of the client among these, in order, can lead it from the first state to the last
-abbrev pub ClientLeads : {T C CE : Type 0} → (C → T → Result T CE → C → Type 0) → C → List (Call T) → C → Type 0
+abbrev pub ClientLeads : {T C CE : Type 0} → (C → T → Result T CE → C → Type 0) → C → List (Call T)
+    → C → Type 0
 ClientLeads {T} {C} {CE} refreshes c [] last = c ≡ last
 ClientLeads {T} {C} {CE} refreshes c (Load shown ∷ calls) last = ClientLeads refreshes c calls last
-ClientLeads {T} {C} {CE} refreshes c (Replace version content done ∷ calls) last = ClientLeads refreshes c calls last
+ClientLeads {T} {C} {CE} refreshes c (Replace version content done ∷ calls) last =
+    ClientLeads refreshes c calls last
 ClientLeads {T} {C} {CE} refreshes c (Refresh token given ∷ calls) last =
     (answer : Result T CE) × (next : C) × refreshes c token answer next × (given ≡ success_of answer)
     × ClientLeads refreshes next calls last

@@ -27,7 +27,8 @@ calls_of i (Other happening ∷ events) = calls_of i events
 
 -- each renewal makes the calls that it asks for, and may stop anywhere
 abbrev pub AreRenewals : {T : Type 0} → List (FleetEvent T) → Type 0
-AreRenewals {T} events = (i : ℕ) → (last : Turn T) × AsksInTurn i first_turn (calls_of i events) last
+AreRenewals {T} events =
+    (i : ℕ) → (last : Turn T) × AsksInTurn i first_turn (calls_of i events) last
 
 -- it is no turn of a renewal
 abbrev pub IsNoTurn : Happening → Type 0
@@ -52,7 +53,8 @@ content_as view content.Empty = content.Empty
 
 -- what a renewal is told, with each token as `view` shows it
 abbrev pub told_as : {T U : Type 0} → (T → U) → Told T → Told U
-told_as view (told.Stored p) = told.Stored (record { version = p.version; content = content_as view p.content })
+told_as view (told.Stored p) =
+    told.Stored (record { version = p.version; content = content_as view p.content })
 told_as view told.Done = told.Done
 told_as view told.Nothing = told.Nothing
 told_as view (told.Answer new) = told.Answer (view new)
@@ -61,7 +63,8 @@ told_as view told.Stop = told.Stop
 -- what happens in the fleet: a call is a turn of its renewal, which is told what the call told
 abbrev pub happenings_of : {T : Type 0} → (T → Token) → List (FleetEvent T) → List Happening
 happenings_of view [] = []
-happenings_of view (Made i call ∷ events) = Turned i (told_as view (told_by call)) ∷ happenings_of view events
+happenings_of view (Made i call ∷ events) =
+    Turned i (told_as view (told_by call)) ∷ happenings_of view events
 happenings_of view (Other happening ∷ events) = happening ∷ happenings_of view events
 
 -- renewals over one store that begins with this token, where all that they are told is so (`CanOccur`)
@@ -86,7 +89,8 @@ module _ (T : Type 0) where
   -- each call that sends a refresh token is a sending of the fleet, so that its laws hold of them
   abbrev pub EachRefreshIsOfTheFleet : Type 0
   EachRefreshIsOfTheFleet =
-      (view : T → Token) (start : Token) (events : List (FleetEvent T)) (i : ℕ) (token : T) (given : Option T) →
+      (view : T
+      → Token) (start : Token) (events : List (FleetEvent T)) (i : ℕ) (token : T) (given : Option T) →
       IsFleet view start events →
       Contains events (Made i (Refresh token given)) →
       (version : ℕ) × Contains (all_events (fleet_of start) (happenings_of view events)) (Sent i version (view token))

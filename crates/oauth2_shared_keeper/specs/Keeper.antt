@@ -33,7 +33,8 @@ after_renewal name (renewed.Unkept version new) = Ends (held.Unkept name version
 after_renewal name (renewed.InUse other token) = Waits (held.InUse other token)
 after_renewal name renewed.LoggedOut = Ends held.LoggedOut
 after_renewal name renewed.Lost = Waits held.Lost
-after_renewal name (renewed.Unanswered version token error) = Ends (held.Unanswered name version token error)
+after_renewal name (renewed.Unanswered version token error) =
+    Ends (held.Unanswered name version token error)
 after_renewal name (renewed.Unclear version token) = Ends (held.Unclear name version token)
 after_renewal name renewed.Unread = Waits held.Unread
 after_renewal name (renewed.NoNextVersion token) = Ends (held.NoNextVersion token)
@@ -50,9 +51,11 @@ pub data Round (T E : Type 0) : Type 0 where
 module _ {T E : Type 0} (is_good : T → ℤ → ℕ → Bool) (settings : KeeperSettings) where
   -- what is to be done at this moment with what this version holds; nothing says that its token is renewed
   abbrev pub content_verdict : Timestamp → ℕ → Content T → Option (Outcome T E)
-  content_verdict now version (AtRest token) = at_rest_if (is_good token now.nanosecond (as_nanos settings.margin)) token
+  content_verdict now version (AtRest token) =
+      at_rest_if (is_good token now.nanosecond (as_nanos settings.margin)) token
   content_verdict now version (Marked token renewal) =
-      Some (marked_if (is_good token now.nanosecond (as_nanos settings.old_margin)) renewal version token)
+      Some
+      (marked_if (is_good token now.nanosecond (as_nanos settings.old_margin)) renewal version token)
   content_verdict now version Empty = Some (Ends held.LoggedOut)
 
   -- what is to be done at this moment with what a load showed
@@ -64,13 +67,16 @@ module _ {T E : Type 0} (is_good : T → ℤ → ℕ → Bool) (settings : Keepe
   IsRound Blind outcome = outcome ≡ Waits held.Unread
   IsRound (Seen p now) outcome = verdict now p ≡ Some outcome
   IsRound (Renewing p now name calls end) outcome =
-      (verdict now p ≡ None) × IsRenewal name settings.limits calls end × (outcome ≡ after_renewal name end)
+      (verdict now p ≡ None)
+      × IsRenewal name settings.limits calls end
+      × (outcome ≡ after_renewal name end)
 
   -- a call with so many rounds left makes these and tells this: each round but the last waits, and the last
   -- one ends the call, or none is left after it
   abbrev pub Holds : ℕ → List (Round T E) → Held T E → Type 0
   Holds left [] result = (left ≡ 0) × (result ≡ held.Unread)
-  Holds left (round ∷ []) result = (1 ≤ left) × (IsRound round (Ends result) ⊎ ((left ≡ 1) × IsRound round (Waits result)))
+  Holds left (round ∷ []) result =
+      (1 ≤ left) × (IsRound round (Ends result) ⊎ ((left ≡ 1) × IsRound round (Waits result)))
   Holds left (round ∷ next ∷ rounds) result =
       ((seen : Held T E) × IsRound round (Waits seen)) × Holds (left - 1) (next ∷ rounds) result
 
@@ -105,10 +111,12 @@ events_of (Renewing p now name calls end) = Reading now ∷ Drawn name ∷ []
 abbrev pub events_in : {T E : Type 0} → Duration → List (Round T E) → List WorldCall
 events_in wait [] = []
 events_in wait (round ∷ []) = events_of round
-events_in wait (round ∷ next ∷ rounds) = events_of round ++ Slept wait ∷ events_in wait (next ∷ rounds)
+events_in wait (round ∷ next ∷ rounds) =
+    events_of round ++ Slept wait ∷ events_in wait (next ∷ rounds)
 
 -- exactly these calls, in order, can lead the world from the first state to the last
-abbrev pub WorldLeads : {W : Type 0} → (W → Timestamp → W → Type 0) → (W → Duration → W → Type 0) → (W → ℕ → W → Type 0)
+abbrev pub WorldLeads : {W : Type 0} → (W → Timestamp → W → Type 0) → (W → Duration → W → Type 0)
+    → (W → ℕ → W → Type 0)
     → W → List WorldCall → W → Type 0
 WorldLeads {W} reads sleeps draws w [] last = w ≡ last
 WorldLeads {W} reads sleeps draws w (Reading now ∷ events) last =

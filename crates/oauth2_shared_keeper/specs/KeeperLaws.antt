@@ -54,7 +54,8 @@ module _ {T E : Type 0} (is_good : T → ℤ → ℕ → Bool) (settings : Keepe
   -- renewal of this round, and the store said that it keeps it
   abbrev pub HandsOut : Round T E → T → Type 0
   HandsOut Blind token = ⊥
-  HandsOut (Seen p now) token = (p.content ≡ AtRest token) × IsTrue (is_good token now.nanosecond (as_nanos settings.margin))
+  HandsOut (Seen p now) token =
+      (p.content ≡ AtRest token) × IsTrue (is_good token now.nanosecond (as_nanos settings.margin))
   HandsOut (Renewing p now name calls end) token =
       ((old : T) × Contains calls (Refresh old (Some token))) × ((version : ℕ) × Contains calls (Replace version (AtRest token) true))
 
@@ -62,14 +63,16 @@ module _ (T E : Type 0) where
   -- a call sends one refresh token at most, and begins at most one renewal a round
   abbrev pub EachCallSendsOnce : Type 0
   EachCallSendsOnce =
-      (is_good : T → ℤ → ℕ → Bool) (settings : KeeperSettings) (rounds : List (Round T E)) (result : Held T E) →
+      (is_good : T → ℤ → ℕ
+      → Bool) (settings : KeeperSettings) (rounds : List (Round T E)) (result : Held T E) →
       IsHeld is_good settings rounds result →
       (refreshes_in (calls_in rounds) ≤ 1) × (renewals_in rounds ≤ settings.rounds)
 
   -- it sends each in a renewal of a name that it drew
   abbrev pub EachSendingIsOfARenewal : Type 0
   EachSendingIsOfARenewal =
-      (is_good : T → ℤ → ℕ → Bool) (settings : KeeperSettings) (rounds : List (Round T E)) (result : Held T E) (token : T) (given : Option T) →
+      (is_good : T → ℤ → ℕ
+      → Bool) (settings : KeeperSettings) (rounds : List (Round T E)) (result : Held T E) (token : T) (given : Option T) →
       IsHeld is_good settings rounds result →
       Contains (calls_in rounds) (Refresh token given) →
       (name : ℕ) × (calls : List (Call T)) × (end : Renewed T E) × Contains (events_in settings.wait rounds) (Drawn name)
@@ -78,7 +81,8 @@ module _ (T E : Type 0) where
   -- a token that is handed out as good was good, or was just given and is kept
   abbrev pub EachGoodIsGood : Type 0
   EachGoodIsGood =
-      (is_good : T → ℤ → ℕ → Bool) (settings : KeeperSettings) (rounds : List (Round T E)) (token : T) →
+      (is_good : T → ℤ → ℕ
+      → Bool) (settings : KeeperSettings) (rounds : List (Round T E)) (token : T) →
       IsHeld is_good settings rounds (held.Good token) →
       (before : List (Round T E)) × (last : Round T E) × (rounds ≡ before ++ last ∷ []) × HandsOut is_good settings last token
 
@@ -86,7 +90,8 @@ module _ (T E : Type 0) where
   -- when the clock was read
   abbrev pub EachOldIsGood : Type 0
   EachOldIsGood =
-      (is_good : T → ℤ → ℕ → Bool) (settings : KeeperSettings) (rounds : List (Round T E)) (renewal version : ℕ) (token : T) →
+      (is_good : T → ℤ → ℕ
+      → Bool) (settings : KeeperSettings) (rounds : List (Round T E)) (renewal version : ℕ) (token : T) →
       IsHeld is_good settings rounds (held.Old renewal version token) →
       (before : List (Round T E)) × (p : StoredValue T) × (now : Timestamp) × (rounds ≡ before ++ Seen p now ∷ [])
       × (p.version ≡ version) × (p.content ≡ Marked token renewal)
@@ -96,7 +101,8 @@ module _ (T E : Type 0) where
   -- when the clock was read for the last time; that was after all the sleeps of all the rounds
   abbrev pub EachUnfinishedWasWaitedFor : Type 0
   EachUnfinishedWasWaitedFor =
-      (is_good : T → ℤ → ℕ → Bool) (settings : KeeperSettings) (rounds : List (Round T E)) (renewal version : ℕ) (token : T) →
+      (is_good : T → ℤ → ℕ
+      → Bool) (settings : KeeperSettings) (rounds : List (Round T E)) (renewal version : ℕ) (token : T) →
       IsHeld is_good settings rounds (held.Unfinished renewal version token) →
       (before : List (Round T E)) × (p : StoredValue T) × (now : Timestamp) × (rounds ≡ before ++ Seen p now ∷ [])
       × (p.version ≡ version) × (p.content ≡ Marked token renewal)
@@ -107,14 +113,16 @@ module _ (T E : Type 0) where
   -- a call sleeps once less than it may look, at most
   abbrev pub EachCallSleepsLittle : Type 0
   EachCallSleepsLittle =
-      (is_good : T → ℤ → ℕ → Bool) (settings : KeeperSettings) (rounds : List (Round T E)) (result : Held T E) →
+      (is_good : T → ℤ → ℕ
+      → Bool) (settings : KeeperSettings) (rounds : List (Round T E)) (result : Held T E) →
       IsHeld is_good settings rounds result →
       slept_in (events_in settings.wait rounds) ≤ (settings.rounds - 1) * as_nanos settings.wait
 
   -- a token that the server gave in any round is handed to the caller
   abbrev pub NoGivenIsLost : Type 0
   NoGivenIsLost =
-      (is_good : T → ℤ → ℕ → Bool) (settings : KeeperSettings) (rounds : List (Round T E)) (token new : T) (result : Held T E) →
+      (is_good : T → ℤ → ℕ
+      → Bool) (settings : KeeperSettings) (rounds : List (Round T E)) (token new : T) (result : Held T E) →
       IsHeld is_good settings rounds result →
       Contains (calls_in rounds) (Refresh token (Some new)) →
       token_in result ≡ Some new

@@ -62,10 +62,14 @@ module _ {T S E : Type 0} (loads : S → List ℕ → Result (StoredValue T) E �
     (replaces : S → List ℕ → ℕ → Content T → Result Replaced E → S → Type 0) (name : List ℕ) where
   -- a load shows this, if it tells anything
   abbrev pub Shows : S → Option (StoredValue T) → S → Type 0
-  Shows before shown after = (answer : Result (StoredValue T) E) × loads before name answer after × (shown ≡ success_of answer)
+  Shows before shown after =
+      (answer : Result (StoredValue T) E)
+      × loads before name answer after
+      × (shown ≡ success_of answer)
 
   -- a login over what a load showed: one try, and, if somebody else was first, all `again`
-  abbrev pub LogsInOver : (S → LoggedIn T → S → Type 0) → T → Option (StoredValue T) → S → LoggedIn T → S → Type 0
+  abbrev pub LogsInOver : (S → LoggedIn T → S → Type 0) → T → Option (StoredValue T) → S
+      → LoggedIn T → S → Type 0
   LogsInOver again token None before told after = (told ≡ logged_in.Unread token) × (after ≡ before)
   LogsInOver again token (Some p) before told after =
       ((is_refused_login told ≡ false) × PutsAt replaces name p.version token before told after)
@@ -79,7 +83,8 @@ module _ {T S E : Type 0} (loads : S → List ℕ → Result (StoredValue T) E �
       × LogsInOver (LogsIn tries token) token shown loaded told after
 
   -- a logout over what a load showed: one try, and, if somebody else was first, all `again`
-  abbrev pub LogsOutOver : (S → LoggedOut T → S → Type 0) → Option (StoredValue T) → S → LoggedOut T → S → Type 0
+  abbrev pub LogsOutOver : (S → LoggedOut T → S → Type 0) → Option (StoredValue T) → S → LoggedOut T
+      → S → Type 0
   LogsOutOver again None before told after = (told ≡ logged_out.Unread) × (after ≡ before)
   LogsOutOver again (Some p) before told after =
       ((is_refused_logout told ≡ false) × DropsAt replaces name p.version p.content before told after)

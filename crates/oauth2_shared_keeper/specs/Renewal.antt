@@ -31,7 +31,8 @@ asked_by name phase step.Look = Some ToLoad
 asked_by name phase (step.Mark version token) = Some (ToReplace version (content.Marked token name))
 asked_by name phase (step.Send version token) = Some (ToRefresh token)
 asked_by name phase (step.Keep version new) = Some (ToReplace (version + 1) (content.AtRest new))
-asked_by name phase (step.GiveBack version token) = Some (ToReplace (version + 1) (content.AtRest token))
+asked_by name phase (step.GiveBack version token) =
+    Some (ToReplace (version + 1) (content.AtRest token))
 asked_by name phase step.Repeat = asked_again phase
 asked_by name phase (step.InUse other token) = None
 asked_by name phase step.LoggedOut = None
@@ -67,7 +68,8 @@ module _ {T E : Type 0} (name : ℕ) (from : Turn T) (loads replacements : ℕ) 
   abbrev pub IsEnd : Renewed T E → Type 0
   IsEnd (Kept new) =
       (version : ℕ) × (last ≡ over)
-      × EndsWith name from calls (phase.Keeping version new) (Replace (version + 1) (content.AtRest new) true)
+      × EndsWith name from calls (phase.Keeping version new)
+      (Replace (version + 1) (content.AtRest new) true)
   IsEnd (Unkept marked new) =
       (version : ℕ) × (marked ≡ version + 1) × (last ≡ turn_of (phase.Keeping version new) step.Repeat)
       × (replacements_in calls ≡ replacements)
@@ -96,7 +98,8 @@ pub record Renews {T E : Type 0} (name : ℕ) (from : Turn T) (loads replacement
 
 -- a whole renewal: it asks for its mark once, and to keep a token once and as often again as it may
 abbrev pub IsRenewal : {T E : Type 0} → ℕ → Limits → List (Call T) → Renewed T E → Type 0
-IsRenewal name limits calls result = Renews name first_turn limits.loads (limits.repeats + 2) calls result
+IsRenewal name limits calls result =
+    Renews name first_turn limits.loads (limits.repeats + 2) calls result
 
 -- the token and the error, if there was no new token
 abbrev pub IfUnanswered : {T E : Type 0} → Renewed T E → (T → E → Type 0) → Type 0

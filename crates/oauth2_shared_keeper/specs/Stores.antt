@@ -51,14 +51,21 @@ content_put None = content.Empty
 -- when each can happen: a renewal asks for what its turn says, and the store puts something only in the place of
 -- the version that it has, in one step
 abbrev pub MayHappen : {T : Type 0} → World T → StoreEvent T → Type 0
-MayHappen w (Asks i version content) = asked_by i (w.turns i).phase (w.turns i).step ≡ Some (ToReplace version content)
-MayHappen w (Takes version content) = Contains w.asked (version, content) × (w.now.version ≡ version)
-MayHappen w (Ends i call) = (asked_by i (w.turns i).phase (w.turns i).step ≡ Some (request_of call)) × TellsTruth w.past call
+MayHappen w (Asks i version content) =
+    asked_by i (w.turns i).phase (w.turns i).step ≡ Some (ToReplace version content)
+MayHappen w (Takes version content) =
+    Contains w.asked (version, content) × (w.now.version ≡ version)
+MayHappen w (Ends i call) =
+    (asked_by i (w.turns i).phase (w.turns i).step ≡ Some (request_of call))
+    × TellsTruth w.past call
 MayHappen w (Puts version token) = w.now.version ≡ version
 
 -- the store has put this in the place of this version
 abbrev pub world_with : {T : Type 0} → World T → ℕ → Content T → World T
-world_with w version content = record w { now = value (version + 1) content; past = w.past ++ value (version + 1) content ∷ [] }
+world_with w version content = record w {
+  now = value (version + 1) content;
+  past = w.past ++ value (version + 1) content ∷ [];
+}
 
 -- the renewal of this name is in this turn, and the others are where they were
 abbrev pub turns_after : {T : Type 0} → (ℕ → Turn T) → ℕ → Turn T → ℕ → Turn T
@@ -68,7 +75,9 @@ turns_after turns i turn j = if j == i then turn else turns j
 abbrev pub world_after : {T : Type 0} → World T → StoreEvent T → World T
 world_after w (Asks i version content) = record w { asked = w.asked ++ (version, content) ∷ [] }
 world_after w (Takes version content) = world_with w version content
-world_after w (Ends i call) = record w { turns = turns_after w.turns i (next_turn i (w.turns i).phase (told_by call)) }
+world_after w (Ends i call) = record w {
+  turns = turns_after w.turns i (next_turn i (w.turns i).phase (told_by call));
+}
 world_after w (Puts version token) = world_with w version (content_put token)
 
 -- each can happen when its turn comes; renewals may stop anywhere
@@ -97,7 +106,8 @@ times_put view r [] = 0
 times_put view r (Asks i version content ∷ rest) = times_put view r rest
 times_put view r (Takes version content ∷ rest) = rests_in view r content + times_put view r rest
 times_put view r (Ends i call ∷ rest) = times_put view r rest
-times_put view r (Puts version token ∷ rest) = rests_in view r (content_put token) + times_put view r rest
+times_put view r (Puts version token ∷ rest) =
+    rests_in view r (content_put token) + times_put view r rest
 
 -- how often the calls that ended sent this refresh token (RFC 6749, 6)
 abbrev pub refreshes_sent : {T : Type 0} → (T → Token) → List ℕ → List (StoreEvent T) → ℕ

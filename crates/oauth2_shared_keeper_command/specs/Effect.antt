@@ -21,11 +21,13 @@ token_text tokens token = quotation (slice_index_or tokens token [])
 -- what a version holds: `rest T`, or `mark R T` with the name of the renewal that uses the token
 abbrev pub content_text : List (List ℕ) → ℕ → Option ℕ → List ℕ
 content_text tokens token None = codes "rest " ++ token_text tokens token
-content_text tokens token (Some renewal) = codes "mark " ++ decimal renewal ++ codes " " ++ token_text tokens token
+content_text tokens token (Some renewal) =
+    codes "mark " ++ decimal renewal ++ codes " " ++ token_text tokens token
 
 -- a version and what it holds
 abbrev pub version_text : List (List ℕ) → ℕ → ℕ → Option ℕ → List ℕ
-version_text tokens version token mark = decimal version ++ codes " " ++ content_text tokens token mark
+version_text tokens version token mark =
+    decimal version ++ codes " " ++ content_text tokens token mark
 
 -- the event of the step that ends a renewal; none for other steps
 abbrev pub end_events : List (List ℕ) → ℕ → Step ℕ → List Event
@@ -62,7 +64,9 @@ load_effect tokens stored is_told =
     if is_told
     then record {
       text = codes "load " ++ version_text tokens stored.version stored.token stored.mark;
-      told = told.Stored (record { version = stored.version; content = content_of stored.token stored.mark });
+      told =
+          told.Stored
+          (record { version = stored.version; content = content_of stored.token stored.mark });
       stored = stored;
     }
     else record { text = codes "load lost"; told = told.Nothing; stored = stored }
@@ -73,14 +77,20 @@ is_taken stored asked is_done = is_done && (stored.version == asked.version)
 
 -- what became of a request to replace: `done`, `refused`, or `lost` if the keeper is told nothing
 abbrev pub outcome_text : Bool → Bool → List ℕ
-outcome_text is_told taken = if is_told then (if taken then codes "done" else codes "refused") else codes "lost"
+outcome_text is_told taken =
+    if is_told then (if taken then codes "done" else codes "refused") else codes "lost"
 
 -- a request to replace, which may be lost, or whose reply may be; what is put there has the next version
 abbrev pub replace_effect : List (List ℕ) → Stored → Replacement → Bool → Bool → Effect
 replace_effect tokens stored asked is_done is_told =
     let taken = is_taken stored asked is_done in
     record {
-      text = codes "replace " ++ version_text tokens asked.version asked.token asked.mark ++ codes " " ++ outcome_text is_told taken;
+      text =
+          codes "replace "
+          ++ version_text tokens asked.version asked.token asked.mark
+          ++ codes " "
+          ++ outcome_text is_told taken;
       told = if is_told && taken then told.Done else told.Nothing;
-      stored = if taken then record { version = stored.version + 1; token = asked.token; mark = asked.mark } else stored;
+      stored =
+          if taken then record { version = stored.version + 1; token = asked.token; mark = asked.mark } else stored;
     }

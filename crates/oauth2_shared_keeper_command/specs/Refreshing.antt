@@ -36,7 +36,9 @@ given_by rule sent (Some reply) = goes_on sent (token_answer rule reply)
 
 -- what is shown of a call: the token response, or the fault
 abbrev pub shown_of : ReplyRule → Option ReplyView → Output
-shown_of rule = reply_output (λ token. success_output (token_json token)) (error_members error_code_text) (token_answer rule)
+shown_of rule =
+    reply_output (λ token. success_output (token_json token)) (error_members error_code_text)
+    (token_answer rule)
 
 -- `given` is the refresh token that goes on, if the server gave a token, and `left` are the replies that are left
 module _ (rule : ReplyRule) (c : Configuration) (sent : List ℕ) (replies : List Reply) where
@@ -55,5 +57,7 @@ module _ (rule : ReplyRule) (c : Configuration) (sent : List ℕ) (replies : Lis
       ⊎ ((request : RequestView) × IsRequestOf c (serialize url.url) request × IsSent request o given left)
 
 -- the refresh token is sent once to the token endpoint
-abbrev pub IsRefreshed : Settings → Addressed → List ℕ → List Reply → Output → Option (List ℕ) → List Reply → Type 0
-IsRefreshed client url sent replies = IsSentOnce client.reply_rule (refreshing client sent url) sent replies url
+abbrev pub IsRefreshed : Settings → Addressed → List ℕ → List Reply → Output → Option (List ℕ)
+    → List Reply → Type 0
+IsRefreshed client url sent replies =
+    IsSentOnce client.reply_rule (refreshing client sent url) sent replies url

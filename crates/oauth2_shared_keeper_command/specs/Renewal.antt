@@ -13,10 +13,13 @@ use Rattle.oauth2_shared_keeper_command.specs.declared.renewal.Renewal.{Renewal}
 -- what a renewal of this name does in this step; `before` is what it did last
 abbrev pub action_of : Action → ℕ → Step ℕ → Action
 action_of before name step.Look = action.Load
-action_of before name (step.Mark version token) = action.Replace (record { version = version; token = token; mark = Some name })
+action_of before name (step.Mark version token) =
+    action.Replace (record { version = version; token = token; mark = Some name })
 action_of before name (step.Send version token) = action.Refresh token
-action_of before name (step.Keep version token) = action.Replace (record { version = version + 1; token = token; mark = None })
-action_of before name (step.GiveBack version token) = action.Replace (record { version = version + 1; token = token; mark = None })
+action_of before name (step.Keep version token) =
+    action.Replace (record { version = version + 1; token = token; mark = None })
+action_of before name (step.GiveBack version token) =
+    action.Replace (record { version = version + 1; token = token; mark = None })
 action_of before name step.Repeat = before
 action_of before name (step.InUse other token) = action.Nothing
 action_of before name step.LoggedOut = action.Nothing

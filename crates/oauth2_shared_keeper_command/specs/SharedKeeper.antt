@@ -40,16 +40,19 @@ says events = record { events = events; status = status.Answered }
 
 -- a keeper did this at the store, and its renewal takes its turn
 abbrev pub after_effect : Standing → ℕ → Renewal → Effect → Standing
-after_effect s keeper renewal effect = with_renewal (record s { stored = effect.stored }) keeper (after_turn renewal effect.told)
+after_effect s keeper renewal effect =
+    with_renewal (record s { stored = effect.stored }) keeper (after_turn renewal effect.told)
 
 -- the events of that: the step, and the end of the renewal, if this ends it
 abbrev pub effect_output : Standing → ℕ → Renewal → Effect → Output
 effect_output s keeper renewal effect =
-    says (stepped keeper effect.text ∷ end_events s.tokens keeper (turn_of renewal effect.told).step)
+    says
+    (stepped keeper effect.text ∷ end_events s.tokens keeper (turn_of renewal effect.told).step)
 
 -- a run goes on so after that
 abbrev pub IsEffect : Standing → ℕ → Renewal → Effect → Output → Standing → Type 0
-IsEffect s keeper renewal effect o kept = (o ≡ effect_output s keeper renewal effect) × (kept ≡ after_effect s keeper renewal effect)
+IsEffect s keeper renewal effect o kept =
+    (o ≡ effect_output s keeper renewal effect) × (kept ≡ after_effect s keeper renewal effect)
 
 -- the keeper is told this, and nothing else happens; `text` is that of the step
 abbrev pub without_effect : Standing → List ℕ → Told ℕ → Effect
@@ -81,10 +84,12 @@ abbrev pub around : List Event → Output → List Event → Output
 around before sent end = record { events = before ++ sent.events ++ end; status = sent.status }
 
 -- the client sends the refresh token, and the renewal takes its turn
-abbrev pub IsSending : Settings → Addressed → Standing → ℕ → Renewal → ℕ → Bool → Output → Standing → Type 0
+abbrev pub IsSending : Settings → Addressed → Standing → ℕ → Renewal → ℕ → Bool → Output → Standing
+    → Type 0
 IsSending client url s keeper renewal token is_told o kept =
     (sent : Output) × (given : Option (List ℕ)) × (left : List Reply)
-    × IsRefreshed client url (slice_index_or s.tokens token []) (coming is_told s.replies) sent given left
+    × IsRefreshed client url (slice_index_or s.tokens token []) (coming is_told s.replies) sent
+    given left
     × (o ≡ around (stepped keeper (refresh_text s.tokens token) ∷ []) sent
     (end_events (with_given s.tokens given) keeper (turn_of renewal (told_of s.tokens given)).step))
     × (kept ≡ with_renewal (record s { tokens = with_given s.tokens given; replies = left }) keeper (after_turn renewal (told_of s.tokens given)))
@@ -92,7 +97,8 @@ IsSending client url s keeper renewal token is_told o kept =
 -- ---- steps
 
 -- the next action of a renewal, which is done or not, and of which the keeper is told or not
-abbrev pub IsAction : Settings → Addressed → Standing → ℕ → Renewal → Action → Bool → Bool → Output → Standing → Type 0
+abbrev pub IsAction : Settings → Addressed → Standing → ℕ → Renewal → Action → Bool → Bool → Output
+    → Standing → Type 0
 IsAction client url s keeper renewal action.Load is_done is_told o kept =
     IsEffect s keeper renewal (load_effect s.tokens s.stored is_told) o kept
 IsAction client url s keeper renewal (action.Replace asked) is_done is_told o kept =
@@ -100,31 +106,40 @@ IsAction client url s keeper renewal (action.Replace asked) is_done is_told o ke
 IsAction client url s keeper renewal (action.Refresh token) true is_told o kept =
     IsSending client url s keeper renewal token is_told o kept
 IsAction client url s keeper renewal (action.Refresh token) false is_told o kept =
-    IsEffect s keeper renewal (without_effect s (refresh_text s.tokens token ++ codes " lost") told.Nothing) o kept
+    IsEffect s keeper renewal
+    (without_effect s (refresh_text s.tokens token ++ codes " lost") told.Nothing) o kept
 IsAction client url s keeper renewal action.Nothing is_done is_told o kept =
     IsEffect s keeper renewal (without_effect s (codes "over") told.Nothing) o kept
 
 -- the renewal that goes on, with the fate of its next action
-abbrev pub IsGoing : Settings → Addressed → Standing → ℕ → Renewal → Fate → Output → Standing → Type 0
-IsGoing client url s keeper renewal fates.Done o kept = IsAction client url s keeper renewal renewal.action true true o kept
-IsGoing client url s keeper renewal fates.ReplyLost o kept = IsAction client url s keeper renewal renewal.action true false o kept
-IsGoing client url s keeper renewal fates.RequestLost o kept = IsAction client url s keeper renewal renewal.action false false o kept
-IsGoing client url s keeper renewal fates.Stopped o kept = IsEffect s keeper renewal (without_effect s (codes "stopped") told.Stop) o kept
+abbrev pub IsGoing : Settings → Addressed → Standing → ℕ → Renewal → Fate → Output → Standing
+    → Type 0
+IsGoing client url s keeper renewal fates.Done o kept =
+    IsAction client url s keeper renewal renewal.action true true o kept
+IsGoing client url s keeper renewal fates.ReplyLost o kept =
+    IsAction client url s keeper renewal renewal.action true false o kept
+IsGoing client url s keeper renewal fates.RequestLost o kept =
+    IsAction client url s keeper renewal renewal.action false false o kept
+IsGoing client url s keeper renewal fates.Stopped o kept =
+    IsEffect s keeper renewal (without_effect s (codes "stopped") told.Stop) o kept
 IsGoing client url s keeper renewal fates.Killed o kept =
     (o ≡ says (stepped keeper (codes "killed") ∷ [])) × (kept ≡ with_renewal s keeper over)
 
 -- one step; the name of a renewal is the place of the step that began it
-abbrev pub IsStep : Settings → Addressed → ℕ → Standing → SharedKeeperStep → Output → Standing → Type 0
+abbrev pub IsStep : Settings → Addressed → ℕ → Standing → SharedKeeperStep → Output → Standing
+    → Type 0
 IsStep client url place s step o kept =
     let last = slice_index_or s.renewals step.keeper over in
     IsGoing client url s step.keeper (going_on place last.action last) step.fate o kept
 
 -- these steps in order, the first at this place
-abbrev pub AreSteps : Settings → Addressed → ℕ → Standing → List SharedKeeperStep → Output → Standing → Type 0
+abbrev pub AreSteps : Settings → Addressed → ℕ → Standing → List SharedKeeperStep → Output
+    → Standing → Type 0
 AreSteps client url place s [] o kept = (o ≡ nothing) × (kept ≡ s)
 AreSteps client url place s (step ∷ steps) o kept =
     (first : Output) × (middle : Standing) × (rest : Output)
-    × IsStep client url place s step first middle × AreSteps client url (place + 1) middle steps rest kept
+    × IsStep client url place s step first middle
+    × AreSteps client url (place + 1) middle steps rest kept
     × (o ≡ both_outputs first rest)
 
 -- token 0 is at rest, and no keeper has begun; there are 256 of them

@@ -20,7 +20,8 @@ module _ {D T RE C : Type 0} (asks : ReplyRule → (List ℕ → RequestView →
   abbrev pub Requests : List ℕ → C → Result D (RequestTokenError RE T) → C → Type 0
   Requests refresh_token before answer after =
       (endpoint : Addressed) × (client.token_url ≡ Some endpoint)
-      × asks client.reply_rule (IsRequestOf (refresh_configuration (new_refresh_request client endpoint refresh_token)))
+      × asks client.reply_rule
+      (IsRequestOf (refresh_configuration (new_refresh_request client endpoint refresh_token)))
       (serialize endpoint.url) before answer after
 
   module _ {F : Type 0} (reads : F → Timestamp → F → Type 0) (lifetime : D → Option ℕ) (default_lifetime : ℕ) where
@@ -44,7 +45,8 @@ module _ {D T RE C : Type 0} (asks : ReplyRule → (List ℕ → RequestView →
 
     -- a login without a refresh token sends nothing; else its refresh token is sent once, or memory runs out
     -- before that
-    abbrev pub Refreshes : (D → Option (List ℕ)) → Login D → C → F → Result (Login D) (RefreshFault RE T) → C → F → Type 0
+    abbrev pub Refreshes : (D → Option (List ℕ)) → Login D → C → F
+        → Result (Login D) (RefreshFault RE T) → C → F → Type 0
     Refreshes sent login before clock result after last =
         ((refresh_token_of sent login ≡ None) × (result ≡ Err fault.NoRefreshToken) × (after ≡ before) × (last ≡ clock))
         ⊎ ((refresh_token : List ℕ) × (refresh_token_of sent login ≡ Some refresh_token)

@@ -40,7 +40,8 @@ WasMarked past version renewal = (token : Token) × Contains past (in_use versio
 
 -- somebody read it at rest, or empty
 abbrev pub WasFree : List Stored → ℕ → Type 0
-WasFree past version = ((token : Token) × Contains past (at_rest version token)) ⊎ Contains past (empty version)
+WasFree past version =
+    ((token : Token) × Contains past (at_rest version token)) ⊎ Contains past (empty version)
 
 -- somebody read it, whatever it held
 abbrev pub WasStored : List Stored → ℕ → Type 0
@@ -48,15 +49,18 @@ WasStored past version = (p : Stored) × Contains past p × (p.version ≡ versi
 
 -- when each event can happen
 abbrev pub CanHappen : Shared → SharedEvent → Type 0
-CanHappen s (Asked i version token) = (stage_of s i ≡ NotBegun) × Contains s.past (at_rest version token)
+CanHappen s (Asked i version token) =
+    (stage_of s i ≡ NotBegun) × Contains s.past (at_rest version token)
 CanHappen s (Marked i version token) = (stage_of s i ≡ Asking version token) × Fits s.store version
 CanHappen s (Sent i version token) = stage_of s i ≡ Marking version token
 CanHappen s (Given i version new) = stage_of s i ≡ Sending version
 CanHappen s (Kept i version new) = (stage_of s i ≡ Holding version new) × Fits s.store (version + 1)
 CanHappen s (Withdrew i version token) = stage_of s i ≡ Marking version token
-CanHappen s (GivenBack i version token) = (stage_of s i ≡ Returning version token) × Fits s.store (version + 1)
+CanHappen s (GivenBack i version token) =
+    (stage_of s i ≡ Returning version token) × Fits s.store (version + 1)
 CanHappen s (SignedIn i version new) = WasMarked s.past version i × Fits s.store version
-CanHappen s (Allowed i version token) = Contains s.past (in_use version token i) × Fits s.store version
+CanHappen s (Allowed i version token) =
+    Contains s.past (in_use version token i) × Fits s.store version
 CanHappen s (LoggedIn version new) = WasFree s.past version × Fits s.store version
 CanHappen s (LoggedOut version) = WasStored s.past version × Fits s.store version
 
@@ -66,12 +70,17 @@ with_stored s new = record { store = new; past = s.past ++ new ∷ []; renewals 
 
 -- a renewal gets further
 abbrev pub gone_on : Shared → ℕ → Stage → Shared
-gone_on s i stage = record { store = s.store; past = s.past; renewals = put NotBegun s.renewals i stage }
+gone_on s i stage = record {
+  store = s.store;
+  past = s.past;
+  renewals = put NotBegun s.renewals i stage;
+}
 
 -- what each event changes
 abbrev pub after : Shared → SharedEvent → Shared
 after s (Asked i version token) = gone_on s i (Asking version token)
-after s (Marked i version token) = gone_on (with_stored s (in_use (version + 1) token i)) i (Marking version token)
+after s (Marked i version token) =
+    gone_on (with_stored s (in_use (version + 1) token i)) i (Marking version token)
 after s (Sent i version token) = gone_on s i (Sending version)
 after s (Given i version new) = gone_on s i (Holding version new)
 after s (Kept i version new) = gone_on (with_stored s (at_rest (version + 2) new)) i Done

@@ -54,11 +54,15 @@ pub data Happening : Type 0 where
 -- if it has the version
 abbrev pub CanOccur : Fleet → Happening → Type 0
 CanOccur f (Turned i told) = IsSo f.past i (phase_of f i) told
-CanOccur f (Took (ToMark i version token)) = Contains f.requests (ToMark i version token) × Fits f.store version
-CanOccur f (Took (ToKeep i version new)) = Contains f.requests (ToKeep i version new) × Fits f.store (version + 1)
-CanOccur f (Took (ToReturn i version token)) = Contains f.requests (ToReturn i version token) × Fits f.store (version + 1)
+CanOccur f (Took (ToMark i version token)) =
+    Contains f.requests (ToMark i version token) × Fits f.store version
+CanOccur f (Took (ToKeep i version new)) =
+    Contains f.requests (ToKeep i version new) × Fits f.store (version + 1)
+CanOccur f (Took (ToReturn i version token)) =
+    Contains f.requests (ToReturn i version token) × Fits f.store (version + 1)
 CanOccur f (SignsIn i version new) = WasMarked f.past version i × Fits f.store version
-CanOccur f (Allows i version token) = Contains f.past (in_use version token i) × Fits f.store version
+CanOccur f (Allows i version token) =
+    Contains f.past (in_use version token i) × Fits f.store version
 CanOccur f (LogsIn version new) = WasFree f.past version × Fits f.store version
 CanOccur f (LogsOut version) = WasStored f.past version × Fits f.store version
 
@@ -86,7 +90,12 @@ after_turn f i turn =
 
 -- the fleet after the store took this value
 abbrev pub after_taking : Fleet → Stored → Fleet
-after_taking f new = record { store = new; past = f.past ++ new ∷ []; phases = f.phases; requests = f.requests }
+after_taking f new = record {
+  store = new;
+  past = f.past ++ new ∷ [];
+  phases = f.phases;
+  requests = f.requests;
+}
 
 -- the fleet after this happened
 abbrev pub later : Fleet → Happening → Fleet
@@ -112,7 +121,12 @@ events_in f (LogsOut version) = LoggedOut version ∷ []
 
 -- a token is stored, and no machine has begun
 abbrev pub fleet_of : Token → Fleet
-fleet_of token = record { store = at_rest 0 token; past = at_rest 0 token ∷ []; phases = []; requests = [] }
+fleet_of token = record {
+  store = at_rest 0 token;
+  past = at_rest 0 token ∷ [];
+  phases = [];
+  requests = [];
+}
 
 -- whatever happens can happen when its turn comes
 abbrev pub IsFleetRun : Fleet → List Happening → Type 0
@@ -136,7 +150,8 @@ EachFleetRuns =
     (start : Token) (happenings : List Happening) →
     IsFleetRun (fleet_of start) happenings →
     let events = all_events (fleet_of start) happenings in
-    IsRun (begin start) events × ((at_last (begin start) events).store ≡ (fleet_at_last (fleet_of start) happenings).store)
+    IsRun (begin start) events
+    × ((at_last (begin start) events).store ≡ (fleet_at_last (fleet_of start) happenings).store)
 
 -- so whatever happens in a fleet, its machines send a refresh token that came to be stored once at most
 -- once

@@ -57,7 +57,8 @@ NoneIsLostUntold =
     (start : Token) (events : List SharedEvent) (i version : ℕ) (new : Token) →
     IsRun (begin start) events →
     Contains events (Given i version new) →
-    Contains events (Kept i version new) ⊎ (Stands start events i version ⊎ WasAnswered events i version)
+    Contains events (Kept i version new)
+    ⊎ (Stands start events i version ⊎ WasAnswered events i version)
 
 -- no caller replaced the mark of a renewal to which the server gave a token
 abbrev pub NoneCameLate : List SharedEvent → Type 0

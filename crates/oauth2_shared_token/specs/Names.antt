@@ -18,7 +18,8 @@ later_at fleets here n = if n == here.name then later (fleets n) here.what else 
 -- whatever happens can happen under its name when its turn comes
 abbrev pub IsRunAtNames : (ℕ → Fleet) → List AtName → Type 0
 IsRunAtNames fleets [] = Unit {0}
-IsRunAtNames fleets (here ∷ rest) = CanOccur (fleets here.name) here.what × IsRunAtNames (later_at fleets here) rest
+IsRunAtNames fleets (here ∷ rest) =
+    CanOccur (fleets here.name) here.what × IsRunAtNames (later_at fleets here) rest
 
 -- what happens under one name, in order
 abbrev pub those_at : ℕ → List AtName → List Happening

@@ -26,7 +26,8 @@ turn_of phase step = record { phase = phase; step = step }
 
 -- the next turn after reading a version: it asks to mark a token at rest, and else it ends
 abbrev pub looked_at : {T : Type 0} → ℕ → Content T → Turn T
-looked_at version (content.AtRest token) = turn_of (phase.Asking version token) (step.Mark version token)
+looked_at version (content.AtRest token) =
+    turn_of (phase.Asking version token) (step.Mark version token)
 looked_at version (content.Marked token other) = turn_of phase.Over (step.InUse other token)
 looked_at version content.Empty = turn_of phase.Over step.LoggedOut
 
@@ -45,7 +46,8 @@ past_or_open is_past = if is_past then learnt.Lost else learnt.Open
 -- what the content of a value says of the mark: it was taken if it has the name of this renewal
 abbrev pub seen_in : {T : Type 0} → ℕ → Bool → Content T → Learnt
 seen_in name is_past (content.AtRest token) = past_or_open is_past
-seen_in name is_past (content.Marked token other) = if other == name then learnt.Taken else past_or_open is_past
+seen_in name is_past (content.Marked token other) =
+    if other == name then learnt.Taken else past_or_open is_past
 seen_in name is_past content.Empty = past_or_open is_past
 
 -- what a value that is read says of the mark of this renewal on this version
@@ -68,13 +70,15 @@ after_asking name version token told.Stop = turn_of (phase.Leaving version token
 
 -- a mark is given back once it was taken
 abbrev pub returned_if : {T : Type 0} → ℕ → T → Learnt → Turn T
-returned_if version token learnt.Taken = turn_of (phase.Returning version token) (step.GiveBack version token)
+returned_if version token learnt.Taken =
+    turn_of (phase.Returning version token) (step.GiveBack version token)
 returned_if version token learnt.Lost = turn_of phase.Over step.End
 returned_if version token learnt.Open = turn_of (phase.Leaving version token) step.Look
 
 -- the next turn of a renewal that leaves: it gives back a mark that was taken, ends, or looks again
 abbrev pub after_leaving : {T : Type 0} → ℕ → ℕ → T → Told T → Turn T
-after_leaving name version token (told.Stored p) = returned_if version token (read_again name version p)
+after_leaving name version token (told.Stored p) =
+    returned_if version token (read_again name version p)
 after_leaving name version token told.Done = returned_if version token learnt.Taken
 after_leaving name version token told.Nothing = returned_if version token learnt.Open
 after_leaving name version token (told.Answer new) = returned_if version token learnt.Open
@@ -85,7 +89,8 @@ abbrev pub after_sending : {T : Type 0} → ℕ → Told T → Turn T
 after_sending version (told.Stored p) = turn_of phase.Over step.End
 after_sending version told.Done = turn_of phase.Over step.End
 after_sending version told.Nothing = turn_of phase.Over step.End
-after_sending version (told.Answer new) = turn_of (phase.Keeping version new) (step.Keep version new)
+after_sending version (told.Answer new) =
+    turn_of (phase.Keeping version new) (step.Keep version new)
 after_sending version told.Stop = turn_of phase.Over step.End
 
 -- the next turn in this phase: the last request is repeated while no reply comes; then it ends
@@ -139,7 +144,8 @@ Knows s name (phase.Asking version token) =
 Knows s name (phase.Leaving version token) =
     (stage_of s name ≡ Asking version token) ⊎ (stage_of s name ≡ Marking version token)
 Knows s name (phase.Sending version) = stage_of s name ≡ Sending version
-Knows s name (phase.Keeping version new) = (stage_of s name ≡ Holding version new) ⊎ (stage_of s name ≡ Done)
+Knows s name (phase.Keeping version new) =
+    (stage_of s name ≡ Holding version new) ⊎ (stage_of s name ≡ Done)
 Knows s name (phase.Returning version token) =
     (stage_of s name ≡ Returning version token) ⊎ (stage_of s name ≡ Done)
 Knows s name phase.Over = Unit {0}
@@ -153,8 +159,10 @@ IsSo past name phase told.Nothing = Unit {0}
 IsSo past name phase (told.Answer new) = Unit {0}
 IsSo past name phase told.Stop = Unit {0}
 IsSo past name phase.Looking told.Done = Unit {0}
-IsSo past name (phase.Asking version token) told.Done = Contains past (in_use (version + 1) token name)
-IsSo past name (phase.Leaving version token) told.Done = Contains past (in_use (version + 1) token name)
+IsSo past name (phase.Asking version token) told.Done =
+    Contains past (in_use (version + 1) token name)
+IsSo past name (phase.Leaving version token) told.Done =
+    Contains past (in_use (version + 1) token name)
 IsSo past name (phase.Sending version) told.Done = Unit {0}
 IsSo past name (phase.Keeping version new) told.Done = Unit {0}
 IsSo past name (phase.Returning version token) told.Done = Unit {0}
@@ -188,7 +196,8 @@ EachStepIsKnown =
     IsReached s →
     Knows s name phase →
     IsSo s.past name phase told →
-    Knows (at_last s (events_of name (next_turn name phase told).step)) name (next_turn name phase told).phase
+    Knows (at_last s (events_of name (next_turn name phase told).step)) name
+    (next_turn name phase told).phase
 
 -- what others and the store do, not it
 abbrev pub IsOfOthers : ℕ → SharedEvent → Type 0

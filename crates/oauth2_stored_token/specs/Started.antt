@@ -20,10 +20,12 @@ stored_in (OtherEndpoint it) = it
 -- keeper is unchanged, and the error holds the stored token
 abbrev pub Takes : Keeper → Stored → Result Unit StoredTokenError → Keeper → Type 0
 Takes before it (Ok done) after =
-    IsTrue (is_of it.client_id (Some before.client.client_id)) × IsTrue (is_of it.token_url (endpoint_of before))
+    IsTrue (is_of it.client_id (Some before.client.client_id))
+    × IsTrue (is_of it.token_url (endpoint_of before))
     × (after ≡ starting_from before it.token it.refresh_token)
 Takes before it (Err (OtherClient back)) after =
     (is_of it.client_id (Some before.client.client_id) ≡ false) × (back ≡ it) × (after ≡ before)
 Takes before it (Err (OtherEndpoint back)) after =
-    IsTrue (is_of it.client_id (Some before.client.client_id)) × (is_of it.token_url (endpoint_of before) ≡ false)
+    IsTrue (is_of it.client_id (Some before.client.client_id))
+    × (is_of it.token_url (endpoint_of before) ≡ false)
     × (back ≡ it) × (after ≡ before)

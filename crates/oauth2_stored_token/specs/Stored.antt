@@ -88,8 +88,12 @@ whole_data n = number (unsigned n)
 abbrev pub stored_table : Table Stored
 stored_table =
     column (codes "access_token") (needed_member text) (λ s. Some (string s.token.access_token))
-    ▸ pair_column (codes "accepted_at") (codes "accepted_at_nanoseconds") moment_reading (λ s. Some (second_data s.token.accepted_at)) (λ s. Some (whole_data (nanoseconds_of s.token.accepted_at)))
-    ▸ pair_column (codes "lifetime") (codes "lifetime_nanoseconds") lifetime_reading (λ s. Some (whole_data (s.token.lifetime / 1_000_000_000))) (λ s. Some (whole_data (s.token.lifetime % 1_000_000_000)))
+    ▸ pair_column (codes "accepted_at") (codes "accepted_at_nanoseconds") moment_reading
+    (λ s. Some (second_data s.token.accepted_at))
+    (λ s. Some (whole_data (nanoseconds_of s.token.accepted_at)))
+    ▸ pair_column (codes "lifetime") (codes "lifetime_nanoseconds") lifetime_reading
+    (λ s. Some (whole_data (s.token.lifetime / 1_000_000_000)))
+    (λ s. Some (whole_data (s.token.lifetime % 1_000_000_000)))
     ▸ column (codes "refresh_token") (optional_member text) (λ s. option_map string s.refresh_token)
     ▸ column (codes "client_id") (optional_member text) (λ s. option_map string s.client_id)
     ▸ column (codes "token_url") (optional_member text) (λ s. option_map string s.token_url)

@@ -27,13 +27,15 @@ use Rattle.oauth2_verified_login.specs.Unverified.{Unverified, unverified_text}
 
 module _ {D RE T : Type 0} where
   -- the result of the login without the check of its signature
-  abbrev pub before_signature : Result (OpenIdLoginEnd D) (VerifiedLoginError D RE T) → Result (OpenIdLoginEnd D) (OpenIdLoginError RE T)
+  abbrev pub before_signature : Result (OpenIdLoginEnd D) (VerifiedLoginError D RE T)
+      → Result (OpenIdLoginEnd D) (OpenIdLoginError RE T)
   before_signature (Ok end) = Ok end
   before_signature (Err (Login error)) = Err error
   before_signature (Err (Signature unverified)) = Ok unverified.end
 
   -- the text that `Display` writes of an error, where `text` is that of the server's error
-  abbrev pub verified_login_error_text : (T → Option (List ℕ)) → VerifiedLoginError D RE T → Option (List ℕ)
+  abbrev pub verified_login_error_text : (T → Option (List ℕ)) → VerifiedLoginError D RE T
+      → Option (List ℕ)
   verified_login_error_text text (Login error) = openid_login_error_text text error
   verified_login_error_text text (Signature unverified) = Some (unverified_text unverified.error)
 
@@ -66,7 +68,8 @@ module _ {D A T E RE C : Type 0} where
     pub unverified : (unverified : Unverified D) → result ≡ Err (Signature unverified)
         → (now : Timestamp) × ToldByClock now
         × Holds (expected_of known.provider client login)
-        (access_token unverified.end.token_response) now.nanosecond (token_of unverified.end.id_token)
+        (access_token unverified.end.token_response) now.nanosecond
+        (token_of unverified.end.id_token)
         × IsSignatureRefusal known.check (token_of unverified.end.id_token) unverified.error
     -- without a code nothing is sent
     pub no_code : (why : RedirectErrorView)

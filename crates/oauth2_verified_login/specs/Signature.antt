@@ -36,4 +36,5 @@ IsSigned (by_secret secret algorithm) token = IsVerifiedBySecret secret algorith
 -- the error says why the check refuses the token's signature
 abbrev pub IsSignatureRefusal : Check → DecodedToken → SignatureError → Type 0
 IsSignatureRefusal (by_keys keys algorithm) token error = IsRefusal keys algorithm token error
-IsSignatureRefusal (by_secret secret algorithm) token error = IsSecretRefusal secret algorithm token error
+IsSignatureRefusal (by_secret secret algorithm) token error =
+    IsSecretRefusal secret algorithm token error

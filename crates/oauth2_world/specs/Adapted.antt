@@ -21,7 +21,12 @@ headers_of (Some value) = (codes "content-type", plain_value value ∷ []) ∷ [
 
 -- a reply of the script as the HTTP client receives it
 abbrev pub received_reply : HttpReply → adapters.Reply
-received_reply r = record { status = r.status; version = HTTP_11; headers = headers_of r.content_type; body = r.body }
+received_reply r = record {
+  status = r.status;
+  version = HTTP_11;
+  headers = headers_of r.content_type;
+  body = r.body;
+}
 
 -- a reply with what a client reads of it: its status, its first Content-Type and its body
 abbrev pub read_parts : adapters.Reply → HttpReply

@@ -54,7 +54,8 @@ pub data Event : Type 0 where
 -- the members of an error response
 abbrev pub members_of : ErrorMembers → ErrorParts (List ℕ)
 members_of m =
-    parts_of_error (string_bytes m.error) (option_map string_bytes m.description) (option_map string_bytes m.uri)
+    parts_of_error (string_bytes m.error) (option_map string_bytes m.description)
+    (option_map string_bytes m.uri)
 
 -- what a fault says beside its text: the error response, or why the body was not read
 abbrev pub details_of : StoredDetails → Details
@@ -68,7 +69,8 @@ fault_seen f = record { kind = f.kind; text = string_bytes f.text; details = det
 
 -- an event
 abbrev pub event_of : StoredEvent → Event
-event_of (stored.Exchange request reply) = exchanged (view_of request) (option_map (λ r. view_of_http_reply (http_reply_view r)) reply)
+event_of (stored.Exchange request reply) =
+    exchanged (view_of request) (option_map (λ r. view_of_http_reply (http_reply_view r)) reply)
 event_of (stored.Sleep duration) = slept (as_nanos duration)
 event_of (stored.Url url) = sent_to (string_bytes url)
 event_of (stored.Answer json) = answered (string_bytes json)

@@ -26,5 +26,6 @@ pub record Replays (old : ScriptedClient) (request : HttpRequest) (answer : Resu
   pub is_fed : new.is_starved ≡ old.is_starved
 
 -- one call that replays the script, unless the client has run out of memory
-abbrev pub ReplaysOrStarves : ScriptedClient → HttpRequest → Result HttpResponse NoReply → ScriptedClient → Type 0
+abbrev pub ReplaysOrStarves : ScriptedClient → HttpRequest → Result HttpResponse NoReply
+    → ScriptedClient → Type 0
 ReplaysOrStarves old request answer new = (new.is_starved ≡ true) ⊎ Replays old request answer new

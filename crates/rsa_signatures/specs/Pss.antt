@@ -8,11 +8,13 @@ use Rattle.rsa_signatures.specs.Octets.{HasBits, octets_of}
 -- the first blocks of a mask: Hash (seed || 00 00 00 00) || Hash (seed || 00 00 00 01) || ..
 unfoldable pub mask_blocks : HashFunction → List ℕ → ℕ → List ℕ
 mask_blocks hash seed zero = []
-mask_blocks hash seed (suc counter) = mask_blocks hash seed counter ++ digest_of hash (seed ++ octets_of 4 counter)
+mask_blocks hash seed (suc counter) =
+    mask_blocks hash seed counter ++ digest_of hash (seed ++ octets_of 4 counter)
 
 -- MGF1 (B.2.1): a mask of `size` octets, cut from as many blocks as it takes
 abbrev pub mgf1 : HashFunction → List ℕ → ℕ → List ℕ
-mgf1 hash seed size = take size (mask_blocks hash seed ((size + hash_size hash - 1) / hash_size hash))
+mgf1 hash seed size =
+    take size (mask_blocks hash seed ((size + hash_size hash - 1) / hash_size hash))
 
 -- the exclusive or of two lists of octets, as long as the shorter one
 unfoldable pub exclusive_or : List ℕ → List ℕ → List ℕ

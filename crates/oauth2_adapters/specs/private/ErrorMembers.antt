@@ -33,4 +33,5 @@ MayStandInError name before after =
 
 -- any value that can be read under that name makes the body no error response
 abbrev pub StandsInNone : List ℕ → List Token → Type 0
-StandsInNone name before = (j : Json) (after : List Token) → value 127 before ≡ Some (j, after) → is_no_error name j ≡ true
+StandsInNone name before =
+    (j : Json) (after : List Token) → value 127 before ≡ Some (j, after) → is_no_error name j ≡ true

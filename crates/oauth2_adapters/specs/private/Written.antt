@@ -15,20 +15,25 @@ pub record WritesValue (becomes : Option Json) (value : Json) (changed : Bool) (
 
 -- a value was read, and the member was written with it or with what it becomes (`Some changed`); or
 -- the tokens do not begin with a value (`None`)
-abbrev pub WritesMember : (Json → Option Json) → List ℕ → List Token → List Token → Written → Written → Option Bool → Type 0
+abbrev pub WritesMember : (Json → Option Json) → List ℕ → List Token → List Token → Written
+    → Written → Option Bool → Type 0
 WritesMember becomes name before after old new None = value 127 before ≡ None
 WritesMember becomes name before after old new (Some changed) =
     (j : Json) × (value 127 before ≡ Some (j, after)) × (length after < length before) × (changed ≡ is_some (becomes j))
-    × (new.tokens ≡ old.tokens ++ Token.key name ∷ [] ++ json_tokens (unwrap_or (becomes j) j)) × (new.before ≡ old.before)
+    × (new.tokens ≡ old.tokens ++ Token.key name ∷ [] ++ json_tokens (unwrap_or (becomes j) j))
+    × (new.before ≡ old.before)
 
 -- whether a member changed so far, and the tokens that were written
 abbrev pub Progress : Type 0
 Progress = Bool × List Token
 
 -- the progress after the members that were read, with the tokens that follow them
-abbrev pub progress_in : Change → Bool → List Token → Option (Members × List Token) → Option (Progress × List Token)
+abbrev pub progress_in : Change → Bool → List Token → Option (Members × List Token)
+    → Option (Progress × List Token)
 progress_in change changed written read =
-    option_map (λ p. ((changed || changes change p.0, written ++ members_tokens (changed_members change p.0)), p.1)) read
+    option_map
+    (λ p. ((changed || changes change p.0, written ++ members_tokens (changed_members change p.0)), p.1))
+    read
 
 -- the text of the written tokens, if no token follows the object
 abbrev pub text_if_none : List Token → List Token → Option (List ℕ)

@@ -10,8 +10,10 @@ use Rattle.oauth2_client_assertions.specs.declared.error.AssertingError.TheVaria
 
 module _ {E SE : Type 0} where
   -- the request with this assertion, or why there is none
-  abbrev pub IsAsserted : AssertionType → RequestView → Result (String Global) SE → Result HttpRequest (AssertingError E SE) → Type 0
-  IsAsserted kind request (Ok assertion) (Ok sent) = IsExtended (assertion_pairs kind (string_bytes assertion)) request (view_of sent)
+  abbrev pub IsAsserted : AssertionType → RequestView → Result (String Global) SE
+      → Result HttpRequest (AssertingError E SE) → Type 0
+  IsAsserted kind request (Ok assertion) (Ok sent) =
+      IsExtended (assertion_pairs kind (string_bytes assertion)) request (view_of sent)
   IsAsserted kind request (Ok assertion) (Err fault) = fault ≡ error.Memory
   IsAsserted kind request (Err why) (Ok sent) = ⊥
   IsAsserted kind request (Err why) (Err fault) = fault ≡ error.Source why

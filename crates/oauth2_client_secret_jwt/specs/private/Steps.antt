@@ -6,7 +6,8 @@ use Rattle.oauth2_client_secret_jwt.specs.declared.error.ClientSecretJwtError.{C
 use Rattle.oauth2_client_secret_jwt.specs.declared.error.ClientSecretJwtError.TheVariants as error
 
 -- the clock was read once; its second, or why there is none
-abbrev pub ReadsSecond : {K KE RE : Type 0} → (K → Result Timestamp KE → K → Type 0) → K → Result ℕ (ClientSecretJwtError KE RE) → K → Type 0
+abbrev pub ReadsSecond : {K KE RE : Type 0} → (K → Result Timestamp KE → K → Type 0) → K
+    → Result ℕ (ClientSecretJwtError KE RE) → K → Type 0
 ReadsSecond reads before (Ok second) after =
     (moment : Timestamp) × reads before (Ok moment) after × (second_since_1970 moment.nanosecond ≡ Some second)
 ReadsSecond reads before (Err (error.Clock fault)) after = reads before (Err fault) after
@@ -16,7 +17,8 @@ ReadsSecond reads before (Err (error.Generator fault)) after = ⊥
 ReadsSecond reads before (Err error.Memory) after = ⊥
 
 -- the generator was called once; the 16 bytes that it drew, or its error
-abbrev pub Draws : {R KE RE : Type 0} → (R → List ℕ → R → Type 0) → R → Result (List ℕ) (ClientSecretJwtError KE RE) → R → Type 0
+abbrev pub Draws : {R KE RE : Type 0} → (R → List ℕ → R → Type 0) → R
+    → Result (List ℕ) (ClientSecretJwtError KE RE) → R → Type 0
 Draws fills before (Ok drawn) after = fills before drawn after × (length drawn ≡ 16)
 Draws fills before (Err (error.Generator fault)) after = Unit {0}
 Draws fills before (Err (error.Clock fault)) after = ⊥

@@ -31,7 +31,8 @@ metadata_meaning m = metadata_seen (λ _. tt) m
 -- what is shown of an error of a request for metadata
 abbrev pub metadata_error_output : MetadataError NoReply ErrorResponse → Output
 metadata_error_output (Reply fault) = fault_output error_seen fault
-metadata_error_output (Status reply) = failure_output kind.OtherStatus (other_reply_text reply.status)
+metadata_error_output (Status reply) =
+    failure_output kind.OtherStatus (other_reply_text reply.status)
 metadata_error_output (Endpoint fault) = failure_output kind.BadMetadata (fault_text fault)
 metadata_error_output (OtherIssuer issuer) =
     failure_output kind.OtherIssuer (other_issuer_text (string_bytes issuer))

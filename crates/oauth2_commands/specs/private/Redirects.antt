@@ -8,5 +8,6 @@ use Rattle.oauth2_commands.specs.Redirect.{redirect_error_members}
 
 -- what is known of an error beside its text: the members of an error of the server
 abbrev pub details_in : RedirectError → Details
-details_in (Refused error) = refused (redirect_error_members (parts_of authorization_error_code error))
+details_in (Refused error) =
+    refused (redirect_error_members (parts_of authorization_error_code error))
 details_in error = none

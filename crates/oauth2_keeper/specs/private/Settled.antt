@@ -8,7 +8,8 @@ use Rattle.oauth2_keeper.specs.Keeper.{Keeper, Given, accept, Renews}
 
 module _ {D T RE : Type 0} (told : D → Given) where
   -- what a call returns and keeps, by the answer to its request
-  abbrev pub Settles : Keeper → ℤ → Result D (RequestTokenError RE T) → Result Unit (RequestTokenError RE T) → Keeper → Type 0
+  abbrev pub Settles : Keeper → ℤ → Result D (RequestTokenError RE T)
+      → Result Unit (RequestTokenError RE T) → Keeper → Type 0
   Settles before now (Ok reply) (Ok done) after = after ≡ accept before now (told reply)
   Settles before now (Ok reply) (Err error) after = (error ≡ Memory true) × (after ≡ before)
   Settles before now (Err fault) (Ok done) after = ⊥
@@ -16,6 +17,7 @@ module _ {D T RE : Type 0} (told : D → Given) where
 
 module _ {D T RE C : Type 0} (asks : ReplyRule → (List ℕ → RequestView → Type 0) → List ℕ → C → Result D (RequestTokenError RE T) → C → Type 0) (told : D → Given) where
   -- another token is requested, and what the call returns and keeps by the answer
-  abbrev pub RenewsAndSettles : Keeper → ℤ → C → Result Unit (RequestTokenError RE T) → C → Keeper → Type 0
+  abbrev pub RenewsAndSettles : Keeper → ℤ → C → Result Unit (RequestTokenError RE T) → C → Keeper
+      → Type 0
   RenewsAndSettles keeper now before result after kept =
       (answer : Result D (RequestTokenError RE T)) × Renews asks keeper before answer after × Settles told keeper now answer result kept

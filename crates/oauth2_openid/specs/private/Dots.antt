@@ -13,7 +13,8 @@ split_dot s =
 -- the three parts, if the text after the header was cut in two and no dot is left
 abbrev pub last_two : List ℕ → Option (List ℕ × List ℕ) → Option Parts
 last_two first None = None
-last_two first (Some two) = if is_some (split_dot two.1) then None else Some (token_parts first two.0 two.1)
+last_two first (Some two) =
+    if is_some (split_dot two.1) then None else Some (token_parts first two.0 two.1)
 
 -- the three parts, if the whole text was cut into the header and the text after it
 abbrev pub after_header : Option (List ℕ × List ℕ) → Option Parts

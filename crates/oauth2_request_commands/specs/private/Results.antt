@@ -45,8 +45,10 @@ RevocationFault = RequestTokenError NoReply RevocationErrorResponse
 
 -- the members of an error response to a revocation request that the code holds (RFC 7009, 2.2.1)
 abbrev pub revocation_error_seen : RevocationErrorResponse → ErrorParts (List ℕ)
-revocation_error_seen e = error_members revocation_error_code_text (parts_of revocation_error_code e)
+revocation_error_seen e =
+    error_members revocation_error_code_text (parts_of revocation_error_code e)
 
 -- what is shown of the result of a revocation request: `null`, or the fault
 abbrev pub revocation_output : Result Unit RevocationFault → Output
-revocation_output result = end_output revocation_error_seen (λ done. success_output (codes "null")) result
+revocation_output result =
+    end_output revocation_error_seen (λ done. success_output (codes "null")) result

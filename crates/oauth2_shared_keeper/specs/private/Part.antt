@@ -56,4 +56,6 @@ module _ {T : Type 0} (name version : ℕ) (token : T) (loads : ℕ) (calls : Li
   IsMarking Passed =
       (used : ℕ) × (used ≤ loads) × Passes name (marks_next version token) calls over used 1
       × (p : StoredValue T) × EndsWith name (marks_next version token) calls (phase.Asking version token) (Load (Some p))
-  IsMarking (Open held) = (held ≡ token) × Passes name (marks_next version token) calls (looks_again version token) loads 1
+  IsMarking (Open held) =
+      (held ≡ token)
+      × Passes name (marks_next version token) calls (looks_again version token) loads 1

@@ -18,7 +18,8 @@ IfWaits (Ends told) P = Unit {0}
 IfWaits (Waits told) P = P
 
 -- each of these rounds waits
-abbrev pub EachWaits : {T E : Type 0} → (T → ℤ → ℕ → Bool) → KeeperSettings → List (Round T E) → Type 0
+abbrev pub EachWaits : {T E : Type 0} → (T → ℤ → ℕ → Bool) → KeeperSettings → List (Round T E)
+    → Type 0
 EachWaits is_good settings [] = Unit {0}
 EachWaits {T} {E} is_good settings (round ∷ rounds) =
     ((seen : Held T E) × IsRound is_good settings round (Waits seen)) × EachWaits is_good settings rounds
