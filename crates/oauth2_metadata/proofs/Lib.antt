@@ -2,5 +2,5 @@ pub mod PlaceLaws
 pub mod ReplyLaws
 pub mod Addresses
 pub mod TextLists
-pub mod ReadAddresses
+pub mod MetadataRows
 pub mod BackLaws

@@ -1,3 +1,4 @@
 -- Definitions that only private clauses and lemmas cite.
 pub mod Kept
 pub mod Found
+pub mod Groups

@@ -3,6 +3,7 @@
 ghost use Rattle.std.specs.Prelude.{◌≡◌, option_copied};
 ghost use Rattle.oauth2_metadata.specs.EndpointFault.{cause_of, endpoint_fault, fault_at};
 ghost use Rattle.oauth2_metadata.specs.EndpointFault.{fault_of, forbids_fragment, url_at};
+ghost use Rattle.oauth2_metadata.specs.private.Kept.{AreAddresses};
 
 use crate::endpoint_fault::{Endpoint, EndpointCause, EndpointFault};
 use crate::issuer::is_secure;
@@ -55,6 +56,15 @@ impl Model for MetadataEndpoints {
 }
 
 impl MetadataEndpoints {
+    // The endpoints, and that contracts may take each URL to be its text, parsed.
+    pub(crate) fn parsed(&self) -> &MetadataEndpoints
+        ensures same { result.now ≡ self.now }
+        ensures addresses { AreAddresses self.now }
+    {
+        let _ = &self.authorization_endpoint;
+        self
+    }
+
     // The first endpoint that a client may not call, and why.
     pub(crate) fn fault(&self) -> Option<EndpointFault>
         ensures { result ≡ endpoint_fault self.now }

@@ -39,20 +39,12 @@ pub struct ServerMetadata<EF = ExtraFields> {
 
 impl<EF> Model for ServerMetadata<EF> {
     ghost use Rattle.std.specs.Prelude.{string_bytes};
-    ghost use Rattle.oauth2_metadata.specs.Metadata.{Metadata};
+    ghost use Rattle.oauth2_metadata.specs.Metadata.{Metadata, metadata};
 
     ghost Value = { Metadata EF };
 
-    ghost view = { λ m. record {
-      issuer = string_bytes m.issuer;
-      endpoints = m.endpoints;
-      supported = m.supported;
-      auth_methods = m.auth_methods;
-      signing_algorithms = m.signing_algorithms;
-      pages = m.pages;
-      services = m.services;
-      extra_fields = m.extra_fields;
-    } };
+    ghost view = { λ m. metadata (string_bytes m.issuer) m.endpoints m.supported m.auth_methods
+        m.signing_algorithms m.pages m.services m.extra_fields };
 }
 
 impl<EF> ServerMetadata<EF> {

@@ -1,26 +1,15 @@
-use Rattle.std.proofs.lemmas.Iterator.Adapters.{option_map_id}
 use Rattle.std.proofs.lemmas.Result.{err_from_is_err_and}
 use Rattle.serde_json.specs.View.{view}
-use Rattle.oauth2_member_rows.proofs.Tables.{with_built, with_errs}
-use Rattle.oauth2_metadata.specs.Metadata.{Metadata, metadata, metadata_names, metadata_row, metadata_table}
-use Rattle.oauth2_metadata.proofs.Addresses.{seen_address}
-use Rattle.oauth2_metadata.proofs.ReadAddresses.{value_addresses}
+use Rattle.oauth2_metadata.specs.Metadata.{metadata_names}
+use Rattle.oauth2_metadata.proofs.MetadataRows.{value_errs, value_read}
 use Rattle.oauth2_metadata.proofs.metadata_json.ServerMetadataFromJson.from_json.Goals as goal
 
 pub returns-in_err-values : goal.returns-in_err-values
-unfolding metadata_names metadata_row
+unfolding metadata_names
 returns-in_err-values g c =
-    let E = g.EF.FromJson in
     let p = err_from_is_err_and c.from_residual.result c.from_residual.ensures.1 in
-    rw (p.1, p.2) (with_errs (Metadata E.Meaning) (metadata_table {E = E.Meaning}) metadata E.reading (view c.args.value) c.in_err-values.field-0.0 c.in_err-values.ensures)
+    rw (p.1, p.2) (value_errs g.EF.FromJson.reading (view c.args.value) c.in_err-values.field-0.0 c.in_err-values.ensures)
 
 pub returns : goal.returns
-unfolding metadata_names metadata_row
-returns g c =
-    let E = g.EF.FromJson in
-    simp option_map_id at (with_built (Metadata E.Meaning) (metadata_table {E = E.Meaning}) metadata E.reading (view c.args.value) _ c.in_ok-values.ensures)
-
-pub invariant_of-result : goal.invariant_of-result
-invariant_of-result g c =
-    let is = value_addresses g.EF.FromJson.reading _ _ (view c.args.value) c.in_ok-values.ensures in
-    (seen_address _ is.0, seen_address _ is.1, seen_address _ is.2, seen_address _ is.3, seen_address _ is.4)
+unfolding metadata_names
+returns g c = rw c.metadata_of.ensures (value_read g.EF.FromJson.reading (view c.args.value) _ c.in_ok-values.ensures)
