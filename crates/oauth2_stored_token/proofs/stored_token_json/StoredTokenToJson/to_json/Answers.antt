@@ -1,4 +1,4 @@
-use Rattle.std.proofs.Common.{option_map, refl, string_bytes}
+use Rattle.std.proofs.Common.{codes, option_map, refl, string_bytes}
 use Rattle.std.specs.Duration.{as_nanos}
 use Rattle.oauth2_json.proofs.Objects.{optional-text}
 use Rattle.oauth2_member_rows.proofs.Tables.{object_read_back}
@@ -16,5 +16,5 @@ returns-clause-reads_back c =
     rw (← c.self.view_is, ← same, c.in_ok-object_of.ensures)
     (object_read_back stored_table (stored_token s.access_token moment.nanosecond lifetime s.refresh_token s.client_id url)
     (s.access_token, (moment.nanosecond, (lifetime, (s.refresh_token, (s.client_id, (url, tt)))))) refl
-    (refl, (moment_back _ _ moment.nanosecond moment.in_range, (lifetime_back _ _ lifetime c.lifetime_of.ensures.fits, (optional-text _ s.refresh_token, (optional-text _ s.client_id, (optional-text _ url, tt))))))
+    (refl, (moment_back (codes "accepted_at") (codes "accepted_at_nanoseconds") moment.nanosecond moment.in_range, (lifetime_back (codes "lifetime") (codes "lifetime_nanoseconds") lifetime c.lifetime_of.ensures.fits, (optional-text _ s.refresh_token, (optional-text _ s.client_id, (optional-text _ url, tt))))))
     Stored stored_token)
