@@ -15,7 +15,7 @@ pub returns-clause-reads_back : goal.returns-clause-reads_back
 returns-clause-reads_back c =
     let l = c.args.self.now in
     let written : WritesAs c.object_with.result (writing_with (names_of openid_login_table) (rows_of openid_login_table l) (login_writing l.login)) =
-    rw (← c.self.view_is) c.object_with.ensures in
+    rw (← c.self.view_is, ← c.secret.ensures) c.object_with.ensures in
     if_written c.object_with.result (writing_with (names_of openid_login_table) (rows_of openid_login_table l) (login_writing l.login))
     (λ d. IsReadFromText l.login.redirect_uri → openid_login_reading d ≡ Ok l) written
     (λ d h kept.
