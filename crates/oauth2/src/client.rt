@@ -248,7 +248,7 @@ where
 
 impl<TE, TR, TIR, RT, TRE> Client<TE, TR, TIR, RT, TRE> {
     /// A client with no secret, no redirect URL and no endpoint. It sends its credentials by HTTP
-    /// Basic, and reads its replies by the rule `Prefix`.
+    /// Basic, and takes a success whose Content-Type begins with `application/json` (`Prefix`).
     pub fn new(client_id: ClientId) -> Self
         ensures { result ≡ record {
           client_id = client_id;

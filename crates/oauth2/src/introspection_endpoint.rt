@@ -18,7 +18,7 @@ where
     R: EndpointState,
     T: EndpointState,
 {
-    /// Starts the introspection of a token.
+    /// A request to introspect a token (RFC 7662, section 2.1). It is not sent before `request`.
     pub fn introspect<'a>(
         &'a self,
         alloc: Global,

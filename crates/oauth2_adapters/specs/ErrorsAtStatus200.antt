@@ -16,13 +16,13 @@ is_no_error name value =
     || bytes_eq name (codes "active") || (bytes_eq name (codes "error") && not (is_text value))
 
 -- the members are those of an error response: one has an error, and none belongs to a success
-abbrev pub tell_error : Members → Bool
-tell_error ms = any_member is_error ms && not (any_member is_no_error ms)
+abbrev pub are_error_members : Members → Bool
+are_error_members ms = any_member is_error ms && not (any_member is_no_error ms)
 
--- the body is a JSON object with such members
+-- a body with these members is an error response; `None` stands for a body that is no JSON object
 abbrev pub tells_error : Option Members → Bool
 tells_error None = false
-tells_error (Some ms) = tell_error ms
+tells_error (Some ms) = are_error_members ms
 
 -- the reply with status 400 (RFC 6749, 5.2) if it has status 200 and such a body; any other reply
 -- is unchanged

@@ -31,7 +31,7 @@ impl<'a> Model for OtherMediaTypes<'a> {
 }
 
 impl<'a> OtherMediaTypes<'a> {
-    /// The adapter for replies with these media types.
+    /// The adapter for replies with these media types, each `type/subtype` without parameters.
     pub fn new(types: &'a [&'a str]) -> OtherMediaTypes<'a>
         ensures { result ≡ map (λ t. t.now) types.now }
     {

@@ -10,7 +10,7 @@ use Rattle.oauth2_json.specs.declared.read.ParseCause.TheVariants as cause
 use Rattle.oauth2_authorization_details.specs.declared.details_fault.DetailsFault.{DetailsFault}
 use Rattle.oauth2_authorization_details.specs.declared.details_fault.DetailsFault.TheVariants.{NotJson, NotArray, NotObject, NoType, Memory}
 
--- what is wrong with the value under `type` of item n: it has to be a text
+-- what is wrong with the value under `type` of item n, counted from 0: it has to be a string
 abbrev pub type_fault : ℕ → Option Data → Option DetailsFault
 type_fault n None = Some (NoType n)
 type_fault n (Some null) = Some (NoType n)

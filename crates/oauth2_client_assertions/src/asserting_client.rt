@@ -54,7 +54,8 @@ impl<C, S> AssertingClient<C, S> {
         }
     }
 
-    /// Says that the assertions of the source have this type.
+    /// Sets the type of the assertions, which `client_assertion_type` names (RFC 7521, section 4.2).
+    /// It is `JwtBearer` unless set.
     pub fn set_assertion_type(self, assertion_type: AssertionType) -> AssertingClient<C, S>
         ensures { result ≡ record self { assertion_type = assertion_type } }
     {

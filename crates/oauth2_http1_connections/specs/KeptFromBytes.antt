@@ -1,4 +1,4 @@
--- The bytes that a request over a client that uses connections again wrote and read, by its result.
+-- What a request over a client that keeps its connections wrote to one and read from it, by its result.
 use Rattle.std.specs.Prelude.{◌≡◌, ℕ, Bool, true, false, ◌⊎◌, ⊤, List, [], ◌∷◌, ◌++◌, map, codes, string_bytes, option_to_list}
 use Rattle.std.specs.Prelude.{Option, Some, IfSome, Result, Ok, Err}
 use Rattle.std.specs.declared.io.Error as Io
@@ -50,13 +50,14 @@ pub record CarriesConfigured (c : Configuration) (agent : Option (List ℕ)) (pl
   pub form : form seen.body.bytes ≡ expected_pairs c
   pub trailers : seen.body.trailers ≡ []
 
--- the bytes of the head of such a request
+-- the bytes of the head of a request over a kept connection: no `Connection: close` is added, and
+-- `agent` is the User-Agent of the client, if it sends one
 abbrev pub kept_head : Option (List ℕ) → Place → HttpRequest → List ℕ
 kept_head agent place r =
     head_text (head_of r).method (origin_form (head_of r).uri)
     (kept_fields agent place (head_of r).headers) (body_of r).items
 
--- what a server sees of such a request
+-- the request that a server reads from the bytes of that head and of the body
 abbrev pub kept_seen : Option (List ℕ) → Place → HttpRequest → SeenRequest
 kept_seen agent place r =
     seen_request (head_of r).method (origin_form (head_of r).uri)

@@ -56,6 +56,7 @@ pub(crate) struct IdleConnections<S> {
 }
 
 impl<S: Drop> IdleConnections<S> {
+    /// No connections yet, and at most `most` later.
     pub fn new(alloc: Global, most: usize) -> IdleConnections<S>
         ensures kept { result.kept.items ≡ [] }
         ensures most { result.most ≡ most }

@@ -73,7 +73,7 @@ module _ {D T RE C : Type 0} (asks : ReplyRule → (List ℕ → RequestView →
       → CacheRuns cache before (earlier ++ forgotten token ∷ later) after end
       → last_word token None later ≡ None → good_answer expires end token now ≡ None
 
-  -- the answer that a call has for its caller is kept after it
+  -- if a call has an answer for its caller, that answer is kept for the token after the call
   abbrev pub EachOutcomeIsKept : Type 0
   EachOutcomeIsKept =
       (cache : Cache D) (token : List ℕ) (now : ℤ) (before after : C) (result : Result Bool (RequestTokenError RE T)) (outcome : Outcome D) (answer : D)

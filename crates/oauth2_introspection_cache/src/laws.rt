@@ -1,4 +1,5 @@
-//! What a cache does over many calls.
+//! What a cache does over many calls. Each function is a theorem: its clause is proved, and a call of
+//! it does nothing.
 
 ghost use Rattle.oauth2_wire.specs.Once.{AsksOnce};
 ghost use Rattle.oauth2_wire.specs.Reply.{answer_of};
@@ -36,8 +37,8 @@ where
         TIR.active TIR.exp }
 {}
 
-/// After a call for a token that is active, the answer that is kept for it is the one that was good,
-/// or that the server gave.
+/// If a call finds a token active, the answer that it found is kept for that token after the call:
+/// the one that was kept before and is still good, or the one that the server gave.
 #[tactic(auto, using(crate::proofs::RunLaws::is_kept))]
 pub fn each_outcome_is_kept<C, TE, TIR>()
 where

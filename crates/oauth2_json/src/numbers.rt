@@ -58,7 +58,8 @@ impl FromJson for WholeNumber {
     }
 }
 
-/// Reads a required member that is true or false.
+/// Reads a required member that is a boolean. `found` is its value, already taken out of the object,
+/// and `name` is what an error reports.
 pub fn needed_flag(alloc: Global, name: &str, found: Option<Value>) -> Result<bool, ReadError>
     ensures { ReadsAs (λ b. b) result (needed_member flag name.now (option_map view found)) }
 {
@@ -66,7 +67,8 @@ pub fn needed_flag(alloc: Global, name: &str, found: Option<Value>) -> Result<bo
     Ok(b)
 }
 
-/// Reads a required member that is a whole number and not negative.
+/// Reads a required member that is a whole number and not negative, as [`needed_flag`] reads a
+/// boolean.
 pub fn needed_number(alloc: Global, name: &str, found: Option<Value>) -> Result<u64, ReadError>
     ensures { ReadsAs (λ n. n) result
         (needed_member whole_number name.now (option_map view found)) }

@@ -27,7 +27,7 @@ pub enum SecretAlgorithm {
 }
 
 impl SecretAlgorithm {
-    /// The name of the algorithm, as `alg` has it.
+    /// The name of the algorithm, as the header parameter `alg` has it (RFC 7518, section 3.1).
     pub fn name(self) -> &'static str
         ensures { result.now ≡ secret_algorithm_name self }
     {

@@ -1,5 +1,5 @@
 -- Two readings, one after the other.
-use Rattle.std.proofs.Common.{◌≡◌, Ok, refl}
+use Rattle.std.proofs.Common.{◌≡◌, Ok, Err, refl, ap}
 use Rattle.oauth2_json.specs.Reading.{Reading, ErrsAs, ◌⊛◌}
 use Rattle.oauth2_json.specs.declared.read.ReadError.{ReadError}
 use Rattle.oauth2_json.specs.declared.read.ReadError.TheVariants as errors
@@ -16,3 +16,11 @@ module _ {A B : Type 0} where
   pub second_errs : (e : ReadError) (f : Reading A) (g : Reading B) (a : A) → f ≡ Ok a → ErrsAs e g → ErrsAs e (Ok joined ⊛ f ⊛ g)
   second_errs errors.Memory f g a h k = tt
   second_errs (errors.Fault fault) f g a h k = rw (h, k) refl
+
+-- what both gave, of a pair that was read
+pub both_parts : {A B : Type 0} (f : Reading A) (g : Reading B) (a : A) (b : B) → Ok joined ⊛ f ⊛ g ≡ Ok (a, b) → (f ≡ Ok a) × (g ≡ Ok b)
+both_parts (Err e) g a b h = cc h
+both_parts (Ok x) (Err e) a b h = cc h
+both_parts {A = A} {B = B} (Ok x) (Ok y) a b h =
+    let pair : ◌≡◌ {A = A × B} (x, y) (a, b) = cc h in
+    (ap (λ v. Ok v.0) pair, ap (λ v. Ok v.1) pair)

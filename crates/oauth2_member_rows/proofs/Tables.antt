@@ -19,11 +19,23 @@ use Rattle.oauth2_member_rows.specs.Rows.{are_distinct, Agree, joined}
 use Rattle.oauth2_member_rows.specs.private.RowLaws.{agree_parts}
 use Rattle.oauth2_member_rows.specs.Objects.{as_it_is, object_reading, row_with, reading_with, reading_after, writing_with}
 use Rattle.oauth2_member_rows.proofs.Names.{left_agrees}
+use Rattle.oauth2_member_rows.proofs.Pairs.{both_parts}
 
 -- what each row reads to, as nested pairs
 abbrev pub pairs_reading : {R : Type 0} (t : Table R) → Members → Reading (Meanings t)
 pairs_reading end ms = Ok tt
 pairs_reading (c ▸ t) ms = Ok joined ⊛ c.reads (values_under c.names ms) ⊛ pairs_reading t ms
+
+-- each row of a table read to its value
+abbrev pub AreRead : {R : Type 0} (t : Table R) → Members → Meanings t → Type 0
+AreRead end ms m = Unit {0}
+AreRead (c ▸ t) ms m = (c.reads (values_under c.names ms) ≡ Ok m.0) × AreRead t ms m.1
+
+pub each_read : {R : Type 0} (t : Table R) (ms : Members) (m : Meanings t) → pairs_reading t ms ≡ Ok m → AreRead t ms m
+each_read end ms m h = tt
+each_read (c ▸ t) ms m h =
+    let p = both_parts (c.reads (values_under c.names ms)) (pairs_reading t ms) m.0 m.1 h in
+    (p.0, each_read t ms m.1 p.1)
 
 failed : {R X : Type 0} (t : Table R) (e : Fault) (ms : Members) → table_reading {X = X} t (Err e) ms ≡ Err e
 failed end e ms = refl

@@ -1,5 +1,5 @@
 -- What the rows of metadata read: each group, and all of it.
-use Rattle.std.proofs.Common.{◌≡◌, ℕ, List, Ok, Err, refl, ap, codes}
+use Rattle.std.proofs.Common.{◌≡◌, ℕ, List, Ok, Err, refl, codes}
 use Rattle.serde_json.specs.Data.{Data, Members}
 use Rattle.serde_json.specs.Find.{get_member}
 use Rattle.oauth2_json.specs.Body.{body_reading}
@@ -7,11 +7,11 @@ use Rattle.oauth2_json.specs.Members.{members_of_object, needed_member}
 use Rattle.oauth2_json.specs.Reading.{Reading, ErrsAs, ◌⊛◌}
 use Rattle.oauth2_json.specs.Values.{text}
 use Rattle.oauth2_json.specs.declared.read.ReadError.{ReadError}
-use Rattle.oauth2_body_members.specs.Table.{Table, ◌▸◌, end, Builder, table_reading, values_under}
+use Rattle.oauth2_body_members.specs.Table.{Table, Builder, table_reading}
 use Rattle.oauth2_body_members.specs.private.Meanings.{Meanings, uncurried}
 use Rattle.oauth2_member_rows.specs.Rows.{joined}
 use Rattle.oauth2_member_rows.specs.Objects.{reading_with, row_with}
-use Rattle.oauth2_member_rows.proofs.Tables.{pairs_reading, built, made_of, made_errs, made_then, made_body}
+use Rattle.oauth2_member_rows.proofs.Tables.{pairs_reading, each_read, built, made_of, made_errs, made_then, made_body}
 use Rattle.oauth2_metadata.specs.Metadata.{EndpointMembers, SupportedMembers, AuthMethodMembers, SigningAlgorithmMembers, PageMembers, ServiceMembers}
 use Rattle.oauth2_metadata.specs.Metadata.{endpoint_group, endpoint_table, endpoint_row, supported_row, auth_method_row, signing_algorithm_row, page_row, service_row}
 use Rattle.oauth2_metadata.specs.Metadata.{Metadata, metadata, metadata_names, metadata_row, metadata_reading}
@@ -26,24 +26,6 @@ module _ {R : Type 0} (X : Type 0) (t : Table R) (f : Builder t X) (ms : Members
 
   pub group_errs : (e : ReadError) → ErrsAs e (pairs_reading t ms) → ErrsAs e (table_reading t (Ok f) ms)
   group_errs e h = made_errs (uncurried {X = X} t f) _ _ (built t f ms) e h
-
-pair_parts : {A B : Type 0} (f : Reading A) (g : Reading B) (a : A) (b : B) → Ok joined ⊛ f ⊛ g ≡ Ok (a, b) → (f ≡ Ok a) × (g ≡ Ok b)
-pair_parts (Err e) g a b h = cc h
-pair_parts (Ok x) (Err e) a b h = cc h
-pair_parts {A = A} {B = B} (Ok x) (Ok y) a b h =
-    let pair : ◌≡◌ {A = A × B} (x, y) (a, b) = cc h in
-    (ap (λ v. Ok v.0) pair, ap (λ v. Ok v.1) pair)
-
--- each row of a table read to its value
-abbrev AreRead : {R : Type 0} (t : Table R) → Members → Meanings t → Type 0
-AreRead end ms m = Unit {0}
-AreRead (c ▸ t) ms m = (c.reads (values_under c.names ms) ≡ Ok m.0) × AreRead t ms m.1
-
-each_read : {R : Type 0} (t : Table R) (ms : Members) (m : Meanings t) → pairs_reading t ms ≡ Ok m → AreRead t ms m
-each_read end ms m h = tt
-each_read (c ▸ t) ms m h =
-    let p = pair_parts (c.reads (values_under c.names ms)) (pairs_reading t ms) m.0 m.1 h in
-    (p.0, each_read t ms m.1 p.1)
 
 -- the endpoints that were read are addresses
 pub endpoint_addresses : (ms : Members) (m : Meanings endpoint_table) → pairs_reading endpoint_table ms ≡ Ok m → AreAddresses (uncurried {X = EndpointMembers} endpoint_table endpoint_group m)

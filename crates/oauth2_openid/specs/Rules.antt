@@ -37,7 +37,8 @@ abbrev pub party_of : List (List ℕ) → List (List ℕ) → Option (List ℕ) 
 party_of parties audience None = rule (nat_le (length audience) 1) errors.NoAuthorizedParty
 party_of parties audience (Some party) = rule (is_among party parties) errors.OtherAuthorizedParty
 
--- 3.1.3.7, 4 and 5: that rule for the claim `azp`; the parties are the client and those it names
+-- 3.1.3.7, 4 and 5: the rule above for the claim `azp`; the parties are the client and those that the
+-- expectation names
 abbrev pub party_rule : Expectation → Claims → Verdict ClaimsError
 party_rule expected claims =
     party_of (expected.client ∷ expected.authorized_parties) claims.audience claims.authorized_party

@@ -1,5 +1,5 @@
 -- A device authorization response reads back.
-use Rattle.std.proofs.Common.{◌≡◌, ℕ, List, Bool, true, false, Option, Some, None, Ok, Err, refl, sym, ap, subst}
+use Rattle.std.proofs.Common.{◌≡◌, ℕ, List, Bool, true, false, Option, Some, None, Ok, Err, refl, sym, subst}
 use Rattle.std.specs.Str.{is_utf8}
 use Rattle.serde_json.specs.Data.{Data, Members, null, boolean, number, string, array, object}
 use Rattle.serde_json.specs.Read.{read}
@@ -7,16 +7,16 @@ use Rattle.url.specs.Parser.{Parsed, parse_url}
 use Rattle.url.specs.Parts.{Parts}
 use Rattle.oauth2_urls.specs.Addressed.{Addressed}
 use Rattle.oauth2_json.specs.Body.{body_reading, value_reading}
-use Rattle.oauth2_json.specs.Reading.{Reading, read_then, whole, at_member, ◌⊛◌}
+use Rattle.oauth2_json.specs.Reading.{Reading, read_then, whole, at_member}
 use Rattle.oauth2_json.specs.declared.read.ParseCause.TheVariants as cause
 use Rattle.oauth2_json.specs.Writing.{Writing}
 use Rattle.oauth2_json.specs.Members.{members_of_object, needed_member, either_name}
 use Rattle.oauth2_json.specs.Values.{url}
 use Rattle.oauth2_json.proofs.Objects.{optional-text}
 use Rattle.oauth2_body_members.specs.private.Meanings.{Meanings}
-use Rattle.oauth2_member_rows.specs.Rows.{joined}
 use Rattle.oauth2_member_rows.specs.Objects.{reading_with, row_with}
-use Rattle.oauth2_member_rows.proofs.Tables.{pairs_reading, with_read_back}
+use Rattle.oauth2_member_rows.proofs.Pairs.{both_parts}
+use Rattle.oauth2_member_rows.proofs.Tables.{pairs_reading, each_read, with_read_back}
 use Rattle.oauth2_replies.specs.Kept.{AreFieldsKept}
 use Rattle.oauth2_replies.specs.Device.{DeviceAuthorization, device_authorization, device_seen, device_table, device_names, address_reading, device_reading, device_writing}
 use Rattle.oauth2_replies.specs.private.Address.{IsAddress}
@@ -60,25 +60,14 @@ address_back name a h = subst (λ p. text_and_url name a.text p ≡ Ok a) (sym h
 
 -- ---- the whole response
 
--- both parts of a pair that was read
-parts : {A B : Type 0} (f : Reading A) (g : Reading B) (a : A) (b : B) → Ok joined ⊛ f ⊛ g ≡ Ok (a, b) → (f ≡ Ok a) × (g ≡ Ok b)
-parts (Err e) g a b h = cc h
-parts (Ok x) (Err e) a b h = cc h
-parts {A = A} {B = B} (Ok x) (Ok y) a b h =
-    let pair : ◌≡◌ {A = A × B} (x, y) (a, b) = cc h in
-    (ap (λ v. Ok v.0) pair, ap (λ v. Ok v.1) pair)
-
 module _ {E : Type 0} (er : Data → Reading E) where
   abbrev read_with : Data → Reading (Meanings device_table × E)
   read_with d = reading_with device_names (pairs_reading device_table) er d
 
   of_members : (ms : Members) (v : Meanings device_table × E) → row_with device_names (pairs_reading device_table) er ms ≡ Ok v → IsAddress v.0.1.1.0
   of_members ms v h =
-      let own = parts _ _ v.0 v.1 h in
-      let after_code = parts _ _ v.0.0 v.0.1 own.0 in
-      let after_user_code = parts _ _ v.0.1.0 v.0.1.1 after_code.1 in
-      let address = parts _ _ v.0.1.1.0 v.0.1.1.1 after_user_code.1 in
-      of_pair _ _ _ v.0.1.1.0 address.0
+      let own = both_parts _ _ v.0 v.1 h in
+      of_pair _ _ _ v.0.1.1.0 (each_read device_table ms v.0 own.0).1.1.0
 
   of_object : (r : Reading Members) (v : Meanings device_table × E) → read_then r (row_with device_names (pairs_reading device_table) er) ≡ Ok v → IsAddress v.0.1.1.0
   of_object (Err e) v h = cc h

@@ -77,7 +77,7 @@ both status.BadScript later = status.BadScript
 abbrev pub nothing : Output
 nothing = record { events = []; status = status.Answered }
 
--- the output of the first part, and then that of the others
+-- the output of the first part, and then that of the others, with the status of both
 abbrev pub both_outputs : Output → Output → Output
 both_outputs first rest = record {
   events = first.events ++ rest.events;

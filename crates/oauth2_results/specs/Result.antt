@@ -78,7 +78,7 @@ unfoldable pub result_text : List Event → List ℕ
 result_text events =
     object_text ((codes "events", list_text (map event_json events)) ∷ []) ++ codes "\n"
 
--- the text of a run in each form
+-- the text of a run in this form
 abbrev pub text_in : ResultForm → List Event → List ℕ
 text_in Lines events = lines_of events
 text_in Json events = result_text events

@@ -3,7 +3,7 @@ use Rattle.std.specs.Prelude.{ℕ, List, Option, Some, codes}
 use Rattle.oauth2_retry_after.specs.declared.error.BusyError.{BusyError}
 use Rattle.oauth2_retry_after.specs.declared.error.BusyError.TheVariants.{Busy, Client}
 
--- the text of an error; the inner client's error has its own text
+-- the text that a `BusyError` shows; the inner client's error has its own, or none
 abbrev pub busy_error_text : {E : Type 0} → (E → Option (List ℕ)) → BusyError E → Option (List ℕ)
 busy_error_text text (Busy status retry_after) = Some (codes "The server asks to try again later")
 busy_error_text text (Client error) = text error

@@ -47,7 +47,8 @@ pub fn bad(why: ScriptCause) -> PartError
 }
 
 impl PartFault {
-    /// The same fault, as the value around has it.
+    /// The same fault, seen from the value that contains this one: the step from there to here
+    /// comes first in its path. A path has room for four steps, and a fifth is lost.
     pub fn inside(self, step: Step) -> PartFault
         ensures { fault_view result ≡ fault_inside (step_view step) (fault_view self) }
     {

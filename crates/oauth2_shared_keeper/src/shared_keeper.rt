@@ -39,8 +39,14 @@ pub struct SharedKeeper<S, C, W> {
 }
 
 impl<S, C, W: KeeperWorld> SharedKeeper<S, C, W> {
-    /// Hands out the token that the store keeps under this name, or says why it does not. The
-    /// keeper looks in at most `rounds` rounds, and sleeps between two of them.
+    /// Loads the token that the store has under `name`, and returns it if it stays good for
+    /// `settings.margin`. If not, refreshes it (RFC 6749, section 6) and stores the new one. While
+    /// another keeper refreshes it, the old token is returned if it stays good for
+    /// `settings.old_margin`. After a round that decides nothing the keeper sleeps `settings.wait`
+    /// and loads again, in at most `settings.rounds` rounds. Any other end is a variant of `Held`.
+    ///
+    /// Clause `call`: one list of rounds explains every call of the store, the client and the
+    /// world, and the result. Clause `error`: an error in the result is the client's own.
     pub fn token<T: SharedToken + Drop>(&mut self, name: &str) -> Held<T, C::Error>
     where
         S: TokenStore<T>,

@@ -10,7 +10,8 @@ pub record Login (TR : Type 0) : Type 0 where
   pub lifetime : ℕ
   pub earlier_refresh_token : Option (List ℕ)
 
--- its access token is good for a margin after this moment
+-- the access token is good at `now` with the margin to spare: `now` and the margin are not past the
+-- end of its lifetime (nanoseconds)
 abbrev pub is_good_at : {TR : Type 0} → Login TR → ℤ → ℕ → Bool
 is_good_at login now margin = int_le (now +ℤ pos margin) (login.accepted_at +ℤ pos login.lifetime)
 

@@ -70,7 +70,7 @@ module _ {A E : Type 0} where
       if reply.status == 200 then success_answer rule reading reply.content_type reply.body
       else failure_answer error_reading reply.body
 
--- what a reply says if its status is all that a success says (RFC 7009, 2.2)
+-- what a reply says where a success is its status alone, whatever its body (RFC 7009, 2.2)
 abbrev pub status_answer_of : {E : Type 0} → (Data → Reading E) → ReplyView → Answer Unit E
 status_answer_of error_reading reply =
     if reply.status == 200 then accepted tt else failure_answer error_reading reply.body

@@ -13,8 +13,10 @@ pub record WritesValue (becomes : Option Json) (value : Json) (changed : Bool) (
   pub tokens : new.tokens ≡ old.tokens ++ json_tokens (unwrap_or becomes value)
   pub before : new.before ≡ old.before
 
--- a value was read, and the member was written with it or with what it becomes (`Some changed`); or
--- the tokens do not begin with a value (`None`)
+-- what was written of a member whose name was read: the reader had the tokens `before` and then
+-- `after`, the writer was `old` and then `new`. `Some changed`: a value was read, and the member was
+-- written with what the value becomes, or with the value if it does not change. `None`: the tokens do
+-- not begin with a value that fits. A body may nest 128 deep, and its object is one of them
 abbrev pub WritesMember : (Json → Option Json) → List ℕ → List Token → List Token → Written
     → Written → Option Bool → Type 0
 WritesMember becomes name before after old new None = value 127 before ≡ None

@@ -19,7 +19,8 @@ use Rattle.oauth2_world.specs.declared.replay.NoReply.{NoReply}
 abbrev pub ErrorResponse : Type 0
 ErrorResponse = StandardErrorResponse BasicErrorResponseType
 
--- the error of a request of the scripted client, as the code holds it
+-- the error of a request that the scripted client sends: `NoReply` where the script has no reply to
+-- it, an error response (RFC 6749, 5.2), or another error of the library
 abbrev pub ShownFault : Type 0
 ShownFault = RequestTokenError NoReply ErrorResponse
 
