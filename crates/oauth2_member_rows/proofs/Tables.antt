@@ -208,14 +208,10 @@ module _ {R : Type 0} (X : Type 0) (t : Table R) (f : Builder t (Members → X))
     pub is : o ≡ object members
     pub reads : object_reading with_rest d ≡ Ok (uncurried {X = Members → X} t f m members)
 
-  both_parts : (a m : Meanings t) (d o : Data) → ◌≡◌ {A = Reading (Meanings t × Data)} (Ok (a, d)) (Ok (m, o)) → (◌≡◌ {A = Reading (Meanings t)} (Ok a) (Ok m)) × (d ≡ o)
-  both_parts a m d o h =
-      let pair : ◌≡◌ {A = Meanings t × Data} (a, d) (m, o) = cc h in
-      (ap (λ v. Ok v.0) pair, ap (λ v. v.1) pair)
-
   rest_of : (r : Reading (Meanings t)) (m : Meanings t) (ms : Members) (o : Data) → Ok joined ⊛ r ⊛ Ok (object ms) ≡ Ok (m, o) → (r ≡ Ok m) × (object ms ≡ o)
-  rest_of (Err e) m ms o h = cc h
-  rest_of (Ok a) m ms o h = both_parts a m (object ms) o h
+  rest_of r m ms o h =
+      let parts = both_parts r (Ok (object ms)) m o h in
+      (parts.0, cc parts.1)
 
   rest_errs : (r : Reading (Meanings t)) (e : ReadError) (ms : Members) → ErrsAs e (Ok joined ⊛ r ⊛ Ok (object ms)) → ErrsAs e (Ok (uncurried {X = Members → X} t f) ⊛ r ⊛ Ok ms)
   rest_errs r errors.Memory ms h = tt
