@@ -248,7 +248,8 @@ where
 
 impl<TE, TR, TIR, RT, TRE> Client<TE, TR, TIR, RT, TRE> {
     /// A client with no secret, no redirect URL and no endpoint. It sends its credentials by HTTP
-    /// Basic, and takes a success whose Content-Type begins with `application/json` (`Prefix`).
+    /// Basic, and takes a success without a Content-Type, or with one that begins with
+    /// `application/json` (`Prefix`).
     pub fn new(client_id: ClientId) -> Self
         ensures { result ≡ record {
           client_id = client_id;
