@@ -38,7 +38,7 @@ new_authorization client url state = record {
   extra_params = [];
 }
 
--- such a request, whose state is one that the function may return
+-- a request for an authorization code, whose state is one that the state function may return
 abbrev pub IsAuthorization : (List ℕ → Type 0) → Settings → Addressed → Authorization → Type 0
 IsAuthorization IsState client url r = IsState r.state × (r ≡ new_authorization client url r.state)
 

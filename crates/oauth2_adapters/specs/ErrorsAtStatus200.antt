@@ -24,8 +24,8 @@ abbrev pub tells_error : Option Members → Bool
 tells_error None = false
 tells_error (Some ms) = are_error_members ms
 
--- the reply with status 400 (RFC 6749, 5.2) if it has status 200 and such a body; any other reply
--- is unchanged
+-- a reply with status 200 whose body is an error response has status 400 instead (RFC 6749, 5.2);
+-- any other reply is unchanged
 abbrev pub error_at_400 : Reply → Reply
 error_at_400 reply =
     if reply.status == 200 && tells_error (object_of reply.body) then record reply { status = 400 } else reply

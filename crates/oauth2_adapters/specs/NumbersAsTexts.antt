@@ -20,7 +20,7 @@ is_whole_text (Some (b ∷ bs)) = false
 abbrev pub is_digits : List ℕ → Bool
 is_digits text = list_all is_digit text && is_whole_text (after_number text)
 
--- a string of such digits becomes the number with these digits; any other value does not change
+-- a JSON string of digits becomes the number with these digits; any other value does not change
 abbrev pub number_of_digits : Json → Option Json
 number_of_digits null = None
 number_of_digits (boolean b) = None

@@ -16,7 +16,7 @@ members_of (object ms) = Some ms
 abbrev pub object_in : List ℕ → Option Members
 object_in text = option_and_then members_of (document text)
 
--- the members of a body, if it is UTF-8 and such an object
+-- the members of a body, if it is UTF-8 and one JSON object that nests at most 128 deep
 abbrev pub object_of : List ℕ → Option Members
 object_of body = if is_utf8 body then object_in body else None
 

@@ -20,7 +20,7 @@ type_fault n (Some (string s)) = None
 type_fault n (Some (array ds)) = Some (NoType n)
 type_fault n (Some (object ms)) = Some (NoType n)
 
--- what is wrong with item n: it has to be an object with such a member
+-- what is wrong with item n: it has to be an object whose member `type` is a string (RFC 9396, 2)
 abbrev pub detail_fault : ℕ → Data → Option DetailsFault
 detail_fault n null = Some (NotObject n)
 detail_fault n (boolean b) = Some (NotObject n)

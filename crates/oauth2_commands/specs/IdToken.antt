@@ -101,7 +101,8 @@ IsVerifiedOutput (Ok keys) (Some algorithm) token good o =
     (IsVerified keys algorithm token × (o ≡ good))
     ⊎ ((error : SignatureError) × IsRefusal keys algorithm token error × (o ≡ failure_output BadSignature (signature_error_text error)))
 
--- the same for keys that a script may leave out: then no signature is checked
+-- the output for a token and the keys of the script, if it has any: without keys, no signature is
+-- checked
 abbrev pub IsSignedOutput : Option Data → Option SignatureAlgorithm → DecodedToken → Output → Output
     → Type 0
 IsSignedOutput None algorithm token good o = o ≡ good

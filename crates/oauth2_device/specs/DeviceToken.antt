@@ -17,7 +17,7 @@ pub record DeviceToken : Type 0 where
   pub interval : ℕ
   pub max_backoff_interval : ℕ
 
--- such a request, with a clock
+-- the token request of a device, with a clock
 pub record Clocked (T : Type 0) : Type 0 where
   pub request : DeviceToken
   pub time_fn : T

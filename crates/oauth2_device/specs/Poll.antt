@@ -31,11 +31,11 @@ use Rattle.oauth2_device.specs.Events.{PollCall, Reading, Sent, Slept, EachReque
 abbrev pub DeviceError : Type 0
 DeviceError = ErrorParts DeviceErrorCode
 
--- the Rust type of that error response
+-- the Rust type of the error response to the token request of a device
 abbrev pub DeviceErrorResponse : Type 0
 DeviceErrorResponse = StandardErrorResponse DeviceCodeErrorResponseType
 
--- the values of such an error response
+-- the values of an error response to the token request of a device
 abbrev pub device_error : DeviceErrorResponse → DeviceError
 device_error response = parts_of device_error_code response
 

@@ -21,7 +21,8 @@ pub record ExtensionRequest : Type 0 where
   pub token_url : Addressed
   pub grant_type : List ℕ
 
--- the names that such a request sends itself (RFC 6749, sections 4.5, 3.3 and 2.3.1)
+-- the parameters of an extension grant that a caller cannot add, since the request or the client
+-- sends them itself (RFC 6749, sections 4.5, 3.3 and 2.3.1)
 abbrev pub is_taken : List ℕ → Bool
 is_taken name =
     bytes_eq name (codes "grant_type")

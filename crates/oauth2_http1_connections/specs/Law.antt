@@ -116,7 +116,8 @@ module _ {C S E : Type 0} (opens : C → Place → Result S E → C → Type 0) 
     pub exchanges : List Asked
     pub carried : Carries contents remaining reads writes flushes place exchanges opened now
 
-  -- each idle connection has such a history
+  -- each idle connection was opened by the connector to its place, and only exchanges of the client
+  -- were carried on it
   abbrev pub EachHasHistory : KeepAliveClient C S → Type 0
   EachHasHistory client =
       AllByRecursion (λ (idle : Idle S). HasHistory (text_of idle.place) idle.stream)

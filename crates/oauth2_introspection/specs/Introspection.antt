@@ -99,9 +99,9 @@ abbrev pub introspection_names : List (List ℕ)
 introspection_names = names_of (introspection_table Ok)
 
 -- reads the members of RFC 7662, 2.2, and then the extra fields from an object of the other members
-abbrev pub introspection_row : {E T : Type 0} → (Data → Reading E) → (Data → Reading T) → Members
+abbrev pub introspection_in : {E T : Type 0} → (Data → Reading E) → (Data → Reading T) → Members
     → Reading (Introspection E T)
-introspection_row extra_fields token_type ms =
+introspection_in extra_fields token_type ms =
     table_reading (introspection_table token_type) (Ok introspection) ms
     ⊛ extra_fields (object (others introspection_names ms))
 
@@ -109,7 +109,7 @@ introspection_row extra_fields token_type ms =
 abbrev pub introspection_reading : {E T : Type 0} → (Data → Reading E) → (Data → Reading T) → Data
     → Reading (Introspection E T)
 introspection_reading extra_fields token_type d =
-    read_then (members_of_object d) (introspection_row extra_fields token_type)
+    read_then (members_of_object d) (introspection_in extra_fields token_type)
 
 -- the members of RFC 7662, 2.2, and their values; a member without a value is not written;
 -- `type_written` is the token type's JSON

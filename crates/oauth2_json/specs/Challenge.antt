@@ -14,15 +14,15 @@ abbrev pub challenge : List ℕ → List ℕ → Challenge
 challenge c m = record { text = c; method = m }
 
 -- reads the two members of a challenge, each a JSON string; other members are ignored
-abbrev pub challenge_row : Members → Reading Challenge
-challenge_row ms =
+abbrev pub challenge_in : Members → Reading Challenge
+challenge_in ms =
     Ok challenge
     ⊛ needed_member text (codes "code_challenge") (get_member (codes "code_challenge") ms)
     ⊛ needed_member text (codes "code_challenge_method") (get_member (codes "code_challenge_method") ms)
 
 -- what a JSON value reads to as a code challenge; it has to be an object
 abbrev pub challenge_reading : Data → Reading Challenge
-challenge_reading d = read_then (members_of_object d) challenge_row
+challenge_reading d = read_then (members_of_object d) challenge_in
 
 -- the two members that a code challenge is written as
 abbrev pub challenge_rows : Challenge → List Row

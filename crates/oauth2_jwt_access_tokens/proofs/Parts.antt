@@ -6,7 +6,7 @@ use Rattle.oauth2_openid.specs.declared.read_error.IdTokenReadError.{IdTokenRead
 use Rattle.oauth2_openid.specs.declared.read_error.IdTokenReadError.TheVariants as errors
 use Rattle.oauth2_openid.specs.Token.{DecodedToken, TokenFault, TokenReading, TokenErrsAs, not_three_parts, not_base64}
 use Rattle.oauth2_openid.specs.Reading.{of_part, token_then}
-use Rattle.oauth2_jwt_access_tokens.specs.AccessToken.{OwnClaims, access_token, own_claims_row, own_reading}
+use Rattle.oauth2_jwt_access_tokens.specs.AccessToken.{OwnClaims, access_token, own_claims_in, own_reading}
 
 abbrev fault_in : {A : Type 0} → TokenReading A → TokenFault
 fault_in (Ok a) = not_base64 part.Header
@@ -17,7 +17,7 @@ claims_have_parts t (Ok own) = λ is. absurd (cc)
 claims_have_parts t (Err fault) = λ is. absurd (cc)
 
 pub own_has_parts : (t : DecodedToken) → own_reading t ≢ Err not_three_parts
-own_has_parts t = claims_have_parts t (own_claims_row t.claims.others)
+own_has_parts t = claims_have_parts t (own_claims_in t.claims.others)
 
 -- an error of the JSON Web Token is that of the access token
 pub handed_on : (e : IdTokenReadError) (r : TokenReading DecodedToken) → TokenErrsAs e r → TokenErrsAs e (token_then r own_reading)

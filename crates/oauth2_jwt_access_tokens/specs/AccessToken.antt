@@ -31,9 +31,10 @@ pub record AccessToken : Type 0 where
 abbrev pub access_token : DecodedToken → OwnClaims → AccessToken
 access_token t o = record { token = t; own = o }
 
--- those claims from the object of claims: if several are wrong, the first of these rows is reported
-unfoldable pub own_claims_row : Data → Reading OwnClaims
-own_claims_row claims =
+-- the claims of an access token alone, from the object of claims: if several are wrong, the first
+-- of these is the fault
+unfoldable pub own_claims_in : Data → Reading OwnClaims
+own_claims_in claims =
     Ok own_claims
     ⊛ needed_member text (codes "client_id") (get (codes "client_id") claims)
     ⊛ needed_member text (codes "jti") (get (codes "jti") claims)
@@ -43,7 +44,7 @@ own_claims_row claims =
 -- the access token of a decoded JSON Web Token, with those claims read from its payload
 abbrev pub own_reading : DecodedToken → TokenReading AccessToken
 own_reading t =
-    token_then (of_part part.Payload (own_claims_row t.claims.others))
+    token_then (of_part part.Payload (own_claims_in t.claims.others))
     (λ own. Ok (access_token t own))
 
 -- the access token that a text in compact form holds. The claims of an ID token are read first, so

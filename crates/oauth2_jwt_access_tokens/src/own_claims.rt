@@ -4,7 +4,7 @@ ghost use Rattle.std.specs.Prelude.{◌≡◌, IfOk, codes, option_map};
 ghost use Rattle.serde_json.specs.Find.{get};
 ghost use Rattle.serde_json.specs.View.{view};
 ghost use Rattle.oauth2_json.specs.Reading.{ReadsAs};
-ghost use Rattle.oauth2_jwt_access_tokens.specs.AccessToken.{own_claims_row};
+ghost use Rattle.oauth2_jwt_access_tokens.specs.AccessToken.{own_claims_in};
 
 use jiff::Timestamp;
 use oauth2_json::{ReadError, members};
@@ -15,12 +15,22 @@ use std::alloc::{AllocError, Global};
 use std::marker::Model;
 
 // The claims `client_id`, `jti`, `scope` and `nbf`.
-#[derive(Drop)]
 pub(crate) struct AccessTokenClaims {
     pub(crate) client_id: ClientId,
     pub(crate) token_id: String,
     pub(crate) scopes: Option<Vec<Scope>>,
     pub(crate) not_before: Option<Timestamp>,
+}
+
+impl Drop for AccessTokenClaims {
+    fn drop(self) {
+        let AccessTokenClaims {
+            client_id: _,
+            token_id: _,
+            scopes: _,
+            not_before: _,
+        } = self;
+    }
 }
 
 impl Model for AccessTokenClaims {
@@ -48,9 +58,9 @@ fn copy_of(claims: &Value, name: &str) -> Result<Option<Value>, AllocError>
 }
 
 // Reads those claims from the object of claims.
-#[tactic(auto, unfolding(crate::specs::AccessToken::own_claims_row))]
+#[tactic(auto, unfolding(crate::specs::AccessToken::own_claims_in))]
 pub(crate) fn own_claims(alloc: Global, claims: &Value) -> Result<AccessTokenClaims, ReadError>
-    ensures { ReadsAs (λ c. c) result (own_claims_row (view claims.now)) }
+    ensures { ReadsAs (λ c. c) result (own_claims_in (view claims.now)) }
 {
     Ok(AccessTokenClaims {
         client_id: members::needed(alloc, "client_id", copy_of(claims, "client_id")?)?,

@@ -154,7 +154,7 @@ module _ {RE T C : Type 0} (asks : KeySetQuery → C → Result (List ListedKey)
   SourceAnswers Gives source key_id now before (Err error) after kept =
       SourceCalls source key_id now before (Err error) after kept
 
-  -- a token is verified by the set that is kept after such a call for its `kid`
+  -- a token is verified by the set that is kept after a call of the source for its `kid`
   abbrev pub SourceVerifies : Source → SignatureAlgorithm → DecodedToken → ℤ → C
       → Result Unit (VerifyError RE T) → C → Source → Type 0
   SourceVerifies source algorithm token now before (Ok done) after kept =

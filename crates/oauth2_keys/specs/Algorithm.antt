@@ -26,7 +26,7 @@ algorithm_name Es256 = codes "ES256"
 algorithm_name Es384 = codes "ES384"
 algorithm_name EdDsa = codes "EdDSA"
 
--- the algorithm with that name, if it is one of these
+-- the algorithm with this name (RFC 7518, 3.1; RFC 8037, 3.1); `None` for any other name
 abbrev pub algorithm_named : List ℕ → Option SignatureAlgorithm
 algorithm_named name =
     if bytes_eq name (codes "RS256") then Some Rs256

@@ -69,7 +69,7 @@ abbrev pub named_fault : Option KeyError → SignatureError
 named_fault None = error.NoKey
 named_fault (Some fault) = error.UnusableKey fault
 
--- that error for a token with this key identifier, or with none
+-- the error for a token with this key identifier, or with none, if no key may have signed it
 abbrev pub why_none : Option (List ℕ) → List ListedKey → SignatureError
 why_none None keys = error.NoKey
 why_none (Some told) keys = named_fault (fault_of told keys)

@@ -62,7 +62,7 @@ curve_key curve d =
     key_then (coordinate curve member.X d) (λ x.
     key_then (coordinate curve member.Y d) (λ y. ecdsa_of (ecdsa_key_of curve x y)))
 
--- the key on this curve, if it is one of these
+-- the key on the curve that `crv` names; an error if the name is not known
 abbrev pub key_on : Option EllipticCurve → Data → KeyReading PublicKey
 key_on None d = Err error.UnknownCurve
 key_on (Some curve) d = curve_key curve d

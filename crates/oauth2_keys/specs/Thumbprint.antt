@@ -24,22 +24,23 @@ elliptic_text curve x y =
     ++ y
     ++ codes "\"}"
 
--- that text of an RSA key; its members have to be base64url, which needs no escape in JSON
+-- the text that is hashed for an RSA key; its members have to be base64url, which needs no escape
+-- in JSON
 abbrev pub rsa_canonical : Data → KeyReading (List ℕ)
 rsa_canonical key = Ok rsa_text ⊛ base64_text member.Exponent key ⊛ base64_text member.Modulus key
 
--- that text of a key on this curve, if it is one of these
+-- the text that is hashed for a key on this curve; an error if the curve has no known name
 abbrev pub canonical_on : Option EllipticCurve → Data → KeyReading (List ℕ)
 canonical_on None key = Err error.UnknownCurve
 canonical_on (Some curve) key =
     Ok (elliptic_text curve) ⊛ base64_text member.X key ⊛ base64_text member.Y key
 
--- that text of an elliptic curve key
+-- the text that is hashed for an elliptic curve key
 abbrev pub elliptic_canonical : Data → KeyReading (List ℕ)
 elliptic_canonical key =
     key_then (needed_text member.Curve key) (λ name. canonical_on (curve_named name) key)
 
--- the same for a key of Ed25519 (RFC 8037, 2 and A.3)
+-- the text that is hashed for a key of Ed25519 (RFC 8037, 2 and A.3)
 abbrev pub eddsa_text : List ℕ → List ℕ
 eddsa_text x = codes "{\"crv\":\"Ed25519\",\"kty\":\"OKP\",\"x\":\"" ++ x ++ codes "\"}"
 

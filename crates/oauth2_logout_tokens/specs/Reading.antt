@@ -33,12 +33,12 @@ claims_with i s a t e j d ms = with_others (logout_claims i s a t e j d) (object
 
 -- the claims from the members of the payload, and its other members as an object; if several claims
 -- are wrong, the first one of the table is reported
-abbrev pub claims_of_members : Members → Reading (WithOthers LogoutClaims)
-claims_of_members ms = table_reading logout_table (Ok claims_with) ms ⊛ Ok (others logout_names ms)
+abbrev pub claims_in : Members → Reading (WithOthers LogoutClaims)
+claims_in ms = table_reading logout_table (Ok claims_with) ms ⊛ Ok (others logout_names ms)
 
 -- the claims from the JSON value of the payload, which has to be an object (RFC 7519, 4)
 abbrev pub claims_reading : Data → Reading (WithOthers LogoutClaims)
-claims_reading d = read_then (members_of_object d) claims_of_members
+claims_reading d = read_then (members_of_object d) claims_in
 
 -- the logout token that a text in compact form holds, or why it holds none (RFC 7515, 7.1)
 abbrev pub logout_token_reading : List ℕ → TokenReading DecodedLogoutToken

@@ -13,8 +13,8 @@ use Rattle.oauth2_member_rows.specs.Rows.{joined}
 use Rattle.oauth2_member_rows.specs.Objects.{reading_with, row_with}
 use Rattle.oauth2_member_rows.proofs.Tables.{pairs_reading, each_read, built, made_of, made_errs, made_then, made_body}
 use Rattle.oauth2_metadata.specs.Metadata.{EndpointMembers, SupportedMembers, AuthMethodMembers, SigningAlgorithmMembers, PageMembers, ServiceMembers}
-use Rattle.oauth2_metadata.specs.Metadata.{endpoint_group, endpoint_table, endpoint_row, supported_row, auth_method_row, signing_algorithm_row, page_row, service_row}
-use Rattle.oauth2_metadata.specs.Metadata.{Metadata, metadata, metadata_names, metadata_row, metadata_reading}
+use Rattle.oauth2_metadata.specs.Metadata.{endpoint_group, endpoint_table, endpoint_in, supported_in, auth_method_in, signing_algorithm_in, page_in, service_in}
+use Rattle.oauth2_metadata.specs.Metadata.{Metadata, metadata, metadata_names, metadata_in, metadata_reading}
 use Rattle.oauth2_metadata.specs.private.Kept.{AreAddresses}
 use Rattle.oauth2_metadata.proofs.Addresses.{address_read}
 
@@ -61,35 +61,35 @@ module _ {A B C D E F G H X : Type 0} (make : A → B → C → D → E → F �
 abbrev pub Values : Type 0
 Values = List ℕ × (EndpointMembers × (SupportedMembers × (AuthMethodMembers × (SigningAlgorithmMembers × (PageMembers × ServiceMembers)))))
 
-abbrev pub values_row : Members → Reading Values
-values_row ms =
+abbrev pub values_in : Members → Reading Values
+values_in ms =
     Ok joined
     ⊛ needed_member text (codes "issuer") (get_member (codes "issuer") ms)
-    ⊛ (Ok joined ⊛ endpoint_row ms ⊛ (Ok joined ⊛ supported_row ms ⊛ (Ok joined ⊛ auth_method_row ms ⊛ (Ok joined ⊛ signing_algorithm_row ms ⊛ (Ok joined ⊛ page_row ms ⊛ service_row ms)))))
+    ⊛ (Ok joined ⊛ endpoint_in ms ⊛ (Ok joined ⊛ supported_in ms ⊛ (Ok joined ⊛ auth_method_in ms ⊛ (Ok joined ⊛ signing_algorithm_in ms ⊛ (Ok joined ⊛ page_in ms ⊛ service_in ms)))))
 
 module _ {F : Type 0} (extra : Data → Reading F) where
   abbrev pub metadata_of : Values × F → Metadata F
   metadata_of v = of_eight metadata v
 
-  row_made : (ms : Members) → Ok metadata_of ⊛ row_with metadata_names values_row extra ms ≡ metadata_row extra ms
+  row_made : (ms : Members) → Ok metadata_of ⊛ row_with metadata_names values_in extra ms ≡ metadata_in extra ms
   row_made ms = eight metadata _ _ _ _ _ _ _ _
 
-  made : (d : Data) → Ok metadata_of ⊛ reading_with metadata_names values_row extra d ≡ metadata_reading extra d
-  made d = made_then metadata_of (row_with metadata_names values_row extra) (metadata_row extra) row_made (members_of_object d)
+  made : (d : Data) → Ok metadata_of ⊛ reading_with metadata_names values_in extra d ≡ metadata_reading extra d
+  made d = made_then metadata_of (row_with metadata_names values_in extra) (metadata_in extra) row_made (members_of_object d)
 
-  body_made : (bytes : List ℕ) → Ok metadata_of ⊛ body_reading (reading_with metadata_names values_row extra) bytes ≡ body_reading (metadata_reading extra) bytes
-  body_made bytes = made_body metadata_of (reading_with metadata_names values_row extra) (metadata_reading extra) made bytes
+  body_made : (bytes : List ℕ) → Ok metadata_of ⊛ body_reading (reading_with metadata_names values_in extra) bytes ≡ body_reading (metadata_reading extra) bytes
+  body_made bytes = made_body metadata_of (reading_with metadata_names values_in extra) (metadata_reading extra) made bytes
 
   -- what an object reads to, and its fault
-  pub value_read : (d : Data) (v : Values × F) → reading_with metadata_names values_row extra d ≡ Ok v → metadata_reading extra d ≡ Ok (metadata_of v)
+  pub value_read : (d : Data) (v : Values × F) → reading_with metadata_names values_in extra d ≡ Ok v → metadata_reading extra d ≡ Ok (metadata_of v)
   value_read d v h = made_of metadata_of _ _ (made d) v h
 
-  pub value_errs : (d : Data) (e : ReadError) → ErrsAs e (reading_with metadata_names values_row extra d) → ErrsAs e (metadata_reading extra d)
+  pub value_errs : (d : Data) (e : ReadError) → ErrsAs e (reading_with metadata_names values_in extra d) → ErrsAs e (metadata_reading extra d)
   value_errs d e h = made_errs metadata_of _ _ (made d) e h
 
   -- what a body reads to, and its fault
-  pub body_read : (bytes : List ℕ) (v : Values × F) → body_reading (reading_with metadata_names values_row extra) bytes ≡ Ok v → body_reading (metadata_reading extra) bytes ≡ Ok (metadata_of v)
+  pub body_read : (bytes : List ℕ) (v : Values × F) → body_reading (reading_with metadata_names values_in extra) bytes ≡ Ok v → body_reading (metadata_reading extra) bytes ≡ Ok (metadata_of v)
   body_read bytes v h = made_of metadata_of _ _ (body_made bytes) v h
 
-  pub body_errs : (bytes : List ℕ) (e : ReadError) → ErrsAs e (body_reading (reading_with metadata_names values_row extra) bytes) → ErrsAs e (body_reading (metadata_reading extra) bytes)
+  pub body_errs : (bytes : List ℕ) (e : ReadError) → ErrsAs e (body_reading (reading_with metadata_names values_in extra) bytes) → ErrsAs e (body_reading (metadata_reading extra) bytes)
   body_errs bytes e h = made_errs metadata_of _ _ (body_made bytes) e h

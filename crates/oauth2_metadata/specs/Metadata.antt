@@ -62,8 +62,8 @@ endpoint_table =
     ▸ end
 
 -- the group, read from the members of a JSON object
-unfoldable pub endpoint_row : Members → Reading EndpointMembers
-endpoint_row ms = table_reading endpoint_table (Ok endpoint_group) ms
+unfoldable pub endpoint_in : Members → Reading EndpointMembers
+endpoint_in ms = table_reading endpoint_table (Ok endpoint_group) ms
 
 -- the members that the group is written as
 unfoldable pub endpoint_rows : EndpointMembers → List Row
@@ -101,8 +101,8 @@ supported_table =
     ▸ end
 
 -- the group, read from the members of a JSON object
-unfoldable pub supported_row : Members → Reading SupportedMembers
-supported_row ms = table_reading supported_table (Ok supported_group) ms
+unfoldable pub supported_in : Members → Reading SupportedMembers
+supported_in ms = table_reading supported_table (Ok supported_group) ms
 
 -- the members that the group is written as
 unfoldable pub supported_rows : SupportedMembers → List Row
@@ -135,8 +135,8 @@ auth_method_table =
     ▸ end
 
 -- the group, read from the members of a JSON object
-unfoldable pub auth_method_row : Members → Reading AuthMethodMembers
-auth_method_row ms = table_reading auth_method_table (Ok auth_method_group) ms
+unfoldable pub auth_method_in : Members → Reading AuthMethodMembers
+auth_method_in ms = table_reading auth_method_table (Ok auth_method_group) ms
 
 -- the members that the group is written as
 unfoldable pub auth_method_rows : AuthMethodMembers → List Row
@@ -169,8 +169,8 @@ signing_algorithm_table =
     ▸ end
 
 -- the group, read from the members of a JSON object
-unfoldable pub signing_algorithm_row : Members → Reading SigningAlgorithmMembers
-signing_algorithm_row ms = table_reading signing_algorithm_table (Ok signing_algorithm_group) ms
+unfoldable pub signing_algorithm_in : Members → Reading SigningAlgorithmMembers
+signing_algorithm_in ms = table_reading signing_algorithm_table (Ok signing_algorithm_group) ms
 
 -- the members that the group is written as
 unfoldable pub signing_algorithm_rows : SigningAlgorithmMembers → List Row
@@ -203,8 +203,8 @@ page_table =
     ▸ end
 
 -- the group, read from the members of a JSON object
-unfoldable pub page_row : Members → Reading PageMembers
-page_row ms = table_reading page_table (Ok page_group) ms
+unfoldable pub page_in : Members → Reading PageMembers
+page_in ms = table_reading page_table (Ok page_group) ms
 
 -- the members that the group is written as
 unfoldable pub page_rows : PageMembers → List Row
@@ -239,8 +239,8 @@ service_table =
     ▸ end
 
 -- the group, read from the members of a JSON object
-unfoldable pub service_row : Members → Reading ServiceMembers
-service_row ms = table_reading service_table (Ok service_group) ms
+unfoldable pub service_in : Members → Reading ServiceMembers
+service_in ms = table_reading service_table (Ok service_group) ms
 
 -- the members that the group is written as
 unfoldable pub service_rows : ServiceMembers → List Row
@@ -291,21 +291,21 @@ metadata_names =
     ++ names_of service_table)))))
 
 -- the metadata, read from the members of its JSON object; only `issuer` is required
-abbrev pub metadata_row : {E : Type 0} → (Data → Reading E) → Members → Reading (Metadata E)
-metadata_row extra_fields ms =
+abbrev pub metadata_in : {E : Type 0} → (Data → Reading E) → Members → Reading (Metadata E)
+metadata_in extra_fields ms =
     Ok metadata
     ⊛ needed_member text (codes "issuer") (get_member (codes "issuer") ms)
-    ⊛ endpoint_row ms
-    ⊛ supported_row ms
-    ⊛ auth_method_row ms
-    ⊛ signing_algorithm_row ms
-    ⊛ page_row ms
-    ⊛ service_row ms
+    ⊛ endpoint_in ms
+    ⊛ supported_in ms
+    ⊛ auth_method_in ms
+    ⊛ signing_algorithm_in ms
+    ⊛ page_in ms
+    ⊛ service_in ms
     ⊛ extra_fields (object (others metadata_names ms))
 
 -- the metadata, read from a JSON value, which must be an object
 abbrev pub metadata_reading : {E : Type 0} → (Data → Reading E) → Data → Reading (Metadata E)
-metadata_reading extra_fields d = read_then (members_of_object d) (metadata_row extra_fields)
+metadata_reading extra_fields d = read_then (members_of_object d) (metadata_in extra_fields)
 
 -- the members that the metadata is written as, without those of its extra fields
 unfoldable pub metadata_rows : {E : Type 0} → Metadata E → List Row

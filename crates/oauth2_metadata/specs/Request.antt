@@ -85,8 +85,7 @@ module _ {E A T F RE C : Type 0} where
       (found_answer query.reply_rule reading error_reading)
       IsGetOf (serialize query.url) before outcome after
 
--- the request for the metadata at `place` of the issuer with this text, or why there is no such
--- request
+-- the request for the metadata at `place` of the issuer with this text, or why the text has none
 abbrev pub IsAsked : (Parts → Parts) → List ℕ → Result MetadataQuery IssuerError → Type 0
 IsAsked place text (Ok query) =
     (url : Parts) × (parse_url None text ≡ Ok url) × (issuer_refusal url ≡ None)

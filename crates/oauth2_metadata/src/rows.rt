@@ -2,15 +2,15 @@
 
 ghost use Rattle.std.specs.Prelude.{◌≡◌, ◌++◌, map, IfOk};
 ghost use Rattle.oauth2_body_members.specs.Table.{names_of};
-ghost use Rattle.oauth2_metadata.specs.Metadata.{EndpointMembers, endpoint_table, endpoint_row};
+ghost use Rattle.oauth2_metadata.specs.Metadata.{EndpointMembers, endpoint_table, endpoint_in};
 ghost use Rattle.oauth2_metadata.specs.Metadata.{endpoint_rows, SupportedMembers};
-ghost use Rattle.oauth2_metadata.specs.Metadata.{supported_table, supported_row, supported_rows};
+ghost use Rattle.oauth2_metadata.specs.Metadata.{supported_table, supported_in, supported_rows};
 ghost use Rattle.oauth2_metadata.specs.Metadata.{AuthMethodMembers, auth_method_table};
-ghost use Rattle.oauth2_metadata.specs.Metadata.{auth_method_row, auth_method_rows};
+ghost use Rattle.oauth2_metadata.specs.Metadata.{auth_method_in, auth_method_rows};
 ghost use Rattle.oauth2_metadata.specs.Metadata.{SigningAlgorithmMembers, signing_algorithm_table};
-ghost use Rattle.oauth2_metadata.specs.Metadata.{signing_algorithm_row, signing_algorithm_rows};
-ghost use Rattle.oauth2_metadata.specs.Metadata.{PageMembers, page_table, page_row, page_rows};
-ghost use Rattle.oauth2_metadata.specs.Metadata.{ServiceMembers, service_table, service_row};
+ghost use Rattle.oauth2_metadata.specs.Metadata.{signing_algorithm_in, signing_algorithm_rows};
+ghost use Rattle.oauth2_metadata.specs.Metadata.{PageMembers, page_table, page_in, page_rows};
+ghost use Rattle.oauth2_metadata.specs.Metadata.{ServiceMembers, service_table, service_in};
 ghost use Rattle.oauth2_metadata.specs.Metadata.{service_rows};
 ghost use Rattle.oauth2_metadata.specs.private.Groups.{endpoints_depend, supported_depends};
 ghost use Rattle.oauth2_metadata.specs.private.Groups.{auth_methods_depend, pages_depend};
@@ -94,7 +94,7 @@ impl Rows for EndpointRows {
 
     ghost names = { λ _. names_of endpoint_table };
 
-    ghost reading = { λ _ ms. endpoint_row ms };
+    ghost reading = { λ _ ms. endpoint_in ms };
 
     ghost depends = { λ _. endpoints_depend };
 
@@ -180,7 +180,7 @@ impl Rows for SupportedRows {
 
     ghost names = { λ _. names_of supported_table };
 
-    ghost reading = { λ _ ms. supported_row ms };
+    ghost reading = { λ _ ms. supported_in ms };
 
     ghost depends = { λ _. supported_depends };
 
@@ -264,7 +264,7 @@ impl Rows for AuthMethodRows {
 
     ghost names = { λ _. names_of auth_method_table };
 
-    ghost reading = { λ _ ms. auth_method_row ms };
+    ghost reading = { λ _ ms. auth_method_in ms };
 
     ghost depends = { λ _. auth_methods_depend };
 
@@ -339,7 +339,7 @@ impl Rows for SigningAlgorithmRows {
 
     ghost names = { λ _. names_of signing_algorithm_table };
 
-    ghost reading = { λ _ ms. signing_algorithm_row ms };
+    ghost reading = { λ _ ms. signing_algorithm_in ms };
 
     ghost depends = { λ _. signing_algorithms_depend };
 
@@ -415,7 +415,7 @@ impl Rows for PageRows {
 
     ghost names = { λ _. names_of page_table };
 
-    ghost reading = { λ _ ms. page_row ms };
+    ghost reading = { λ _ ms. page_in ms };
 
     ghost depends = { λ _. pages_depend };
 
@@ -489,7 +489,7 @@ impl Rows for ServiceRows {
 
     ghost names = { λ _. names_of service_table };
 
-    ghost reading = { λ _ ms. service_row ms };
+    ghost reading = { λ _ ms. service_in ms };
 
     ghost depends = { λ _. services_depend };
 

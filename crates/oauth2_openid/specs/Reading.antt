@@ -15,9 +15,9 @@ use Rattle.oauth2_openid.specs.Claims.{Claims, claims}
 use Rattle.oauth2_openid.specs.Times.{time}
 use Rattle.oauth2_openid.specs.Token.{Header, header, WithOthers, with_others, DecodedCompactToken, decoded_compact_token, DecodedToken, Parts, three_parts, signed_text, bytes_of, TokenReading, not_three_parts, not_base64, at_fault}
 
--- the header from its members: if several are wrong, the first of these rows is reported
-abbrev pub header_row : Members → Reading (WithOthers Header)
-header_row ms =
+-- the header from its members: if both are wrong, `alg` is the fault
+abbrev pub header_in : Members → Reading (WithOthers Header)
+header_in ms =
     Ok (λ a k o. with_others (header a k) o)
     ⊛ needed_member text (codes "alg") (get_member (codes "alg") ms)
     ⊛ optional_member text (codes "kid") (get_member (codes "kid") ms)
@@ -25,7 +25,7 @@ header_row ms =
 
 -- the header from its JSON value, which has to be an object (RFC 7515, 4)
 abbrev pub header_reading : Data → Reading (WithOthers Header)
-header_reading d = read_then (members_of_object d) header_row
+header_reading d = read_then (members_of_object d) header_in
 
 -- a claim that no rule needs, and its reading: the value; or, if the reading fails, which is no
 -- error, the JSON value, which is kept among the other claims
@@ -33,7 +33,7 @@ abbrev pub said_or_left : {A : Type 0} → Data → Reading A → Option A × Op
 said_or_left d (Ok a) = (Some a, None)
 said_or_left d (Err fault) = (None, Some d)
 
--- a member that holds such a claim; absent and null are no claim
+-- the member of a claim that no rule needs, and its reading; absent and null are no claim
 abbrev pub unneeded_member : {A : Type 0} → (Data → Reading A) → Option Data
     → Option A × Option Data
 unneeded_member kind None = (None, None)
@@ -76,8 +76,8 @@ claims_with i s a e t u n c m p h ms =
     with_others (claims i s a e t u.0 n c.0 m.0 p h) (with_left u.1 c.1 m.1 ms)
 
 -- the claims from the members of the payload: if several are wrong, the first row is reported
-abbrev pub claims_row : Members → Reading (WithOthers Claims)
-claims_row ms = table_reading id_token_table (Ok claims_with) ms ⊛ Ok (others id_token_names ms)
+abbrev pub claims_in : Members → Reading (WithOthers Claims)
+claims_in ms = table_reading id_token_table (Ok claims_with) ms ⊛ Ok (others id_token_names ms)
 
 -- the claims that are present, as the members of a JSON object
 abbrev pub id_token_rows : Claims → List Row
@@ -85,7 +85,7 @@ id_token_rows c = rows_of id_token_table c
 
 -- the claims from the JSON value of the payload, which has to be an object (RFC 7519, 4)
 abbrev pub claims_reading : Data → Reading (WithOthers Claims)
-claims_reading d = read_then (members_of_object d) claims_row
+claims_reading d = read_then (members_of_object d) claims_in
 
 -- ---- the whole text
 

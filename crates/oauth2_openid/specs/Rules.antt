@@ -61,7 +61,8 @@ nonce_of None (Some told) = Err errors.NonceNotSent
 nonce_of (Some sent) None = Err errors.NoNonce
 nonce_of (Some sent) (Some told) = rule (digest_eq told sent) errors.OtherNonce
 
--- 3.1.3.7, 11, and section 2: that rule for the nonce that was sent and the claim `nonce`
+-- 3.1.3.7, 11, and section 2: the claim `nonce` is there exactly if a nonce was sent, and is equal
+-- to it
 abbrev pub nonce_rule : Expectation → Claims → Verdict ClaimsError
 nonce_rule expected claims = nonce_of expected.nonce claims.nonce
 
@@ -73,7 +74,8 @@ age_of leeway now (Some greatest_age) None = Err errors.NoAuthTime
 age_of leeway now (Some greatest_age) (Some auth_time) =
     rule (int_le now (auth_time +ℤ pos greatest_age +ℤ pos leeway)) errors.AuthTooOld
 
--- 3.1.3.7, 13, and section 2: that rule for the `max_age` that was sent and the claim `auth_time`
+-- 3.1.3.7, 13, and section 2: if `max_age` was sent, the claim `auth_time` says when the user
+-- logged in, and that is not longer ago than `max_age` and the leeway
 abbrev pub age_rule : Expectation → ℤ → Claims → Verdict ClaimsError
 age_rule expected now claims = age_of expected.leeway now expected.greatest_age claims.auth_time
 

@@ -28,7 +28,8 @@ algorithm_of None algorithm = rule (not (names_no_signature algorithm)) errors.N
 algorithm_of (Some registered) algorithm =
     rule (bytes_eq algorithm registered) errors.OtherAlgorithm
 
--- 3.1.3.7, 7, and section 2: that rule for the expected algorithm and the header's `alg`
+-- 3.1.3.7, 7, and section 2: the header's `alg` is the registered algorithm; if the client names
+-- none, it is any that means a signature
 abbrev pub algorithm_rule : Expectation → Header → Verdict ClaimsError
 algorithm_rule expected header = algorithm_of expected.algorithm header.algorithm
 

@@ -7,7 +7,7 @@ use Rattle.oauth2_json.specs.Members.{members_of_object, needed_member, optional
 use Rattle.oauth2_json.specs.Puts.{Row, put_all}
 use Rattle.oauth2_json.specs.Values.{text, whole_number}
 use Rattle.oauth2_body_members.specs.Table.{Table, column, ◌▸◌, end, table_reading, rows_of}
-use Rattle.oauth2_redirect.specs.Login.{LoginView, login_row, login_rows}
+use Rattle.oauth2_redirect.specs.Login.{LoginView, login_in, login_rows}
 
 -- what is kept during a login: the login by a code, the nonce that the ID token must have, and the
 -- maximum age in seconds, if one was requested
@@ -31,12 +31,12 @@ openid_login_table =
 
 -- a login, read from the members of its JSON object: those of the login by a code, and those of
 -- the table; other members are ignored
-abbrev pub openid_login_row : Members → Reading OpenIdKept
-openid_login_row ms = table_reading openid_login_table (Ok openid_kept ⊛ login_row ms) ms
+abbrev pub openid_login_in : Members → Reading OpenIdKept
+openid_login_in ms = table_reading openid_login_table (Ok openid_kept ⊛ login_in ms) ms
 
 -- a login, read from a JSON value, which must be an object
 abbrev pub openid_login_reading : Data → Reading OpenIdKept
-openid_login_reading d = read_then (members_of_object d) openid_login_row
+openid_login_reading d = read_then (members_of_object d) openid_login_in
 
 -- the members of a login's JSON object
 abbrev pub openid_login_rows : OpenIdKept → List Row

@@ -25,8 +25,8 @@ height_of n =
 
 -- the fields read from an object's members: `shape` may be absent, `height` is required; if both
 -- are wrong, the error is that of `shape`
-abbrev pub fields_row : Members → Reading Fields
-fields_row ms =
+abbrev pub fields_in : Members → Reading Fields
+fields_in ms =
     Ok (λ shape height. (shape, height))
     ⊛ optional_member text (codes "shape") (get_member (codes "shape") ms)
     ⊛ read_then (needed_member whole_number (codes "height") (get_member (codes "height") ms))
@@ -34,7 +34,7 @@ fields_row ms =
 
 -- a JSON value read as the extra fields; it has to be an object
 abbrev pub fields_reading : Data → Reading Fields
-fields_reading d = read_then (members_of_object d) fields_row
+fields_reading d = read_then (members_of_object d) fields_in
 
 -- the members that the extra fields are written as; an absent shape has none
 abbrev pub fields_members : Fields → Members

@@ -11,9 +11,9 @@ use Rattle.oauth2_metadata.proofs.TextLists.{optional-flag}
 use Rattle.oauth2_body_members.proofs.Tables.{read_back}
 use Rattle.oauth2_replies.specs.Kept.{AreFieldsKept}
 use Rattle.oauth2_replies.specs.private.Address.{IsAddress}
-use Rattle.oauth2_pushed_login.specs.PushMembers.{PushMembers, push_fields, push_members, push_reading, push_row, push_table, push_writing}
+use Rattle.oauth2_pushed_login.specs.PushMembers.{PushMembers, push_fields, push_members, push_reading, push_members_in, push_table, push_writing}
 
-again : (m : PushMembers) → ForSome m.pushed_authorization_request_endpoint IsAddress → push_row (push_fields m) ≡ Ok m
+again : (m : PushMembers) → ForSome m.pushed_authorization_request_endpoint IsAddress → push_members_in (push_fields m) ≡ Ok m
 again m is =
     read_back push_table push_members m (m.pushed_authorization_request_endpoint, (m.require_pushed_authorization_requests, tt)) no_members refl refl
     (optional-address _ m.pushed_authorization_request_endpoint is, (optional-flag _ m.require_pushed_authorization_requests, tt))

@@ -32,12 +32,12 @@ push_table =
     ▸ end
 
 -- the two members, read from those of a JSON object; other members are ignored
-abbrev pub push_row : Members → Reading PushMembers
-push_row ms = table_reading push_table (Ok push_members) ms
+abbrev pub push_members_in : Members → Reading PushMembers
+push_members_in ms = table_reading push_table (Ok push_members) ms
 
 -- the two members, read from a JSON object
 abbrev pub push_reading : Data → Reading PushMembers
-push_reading d = read_then (members_of_object d) push_row
+push_reading d = read_then (members_of_object d) push_members_in
 
 -- the members of the JSON object that they are written as
 abbrev pub push_fields : PushMembers → Members

@@ -47,7 +47,8 @@ names_fault id pairs =
     else (if has_name (codes "client_secret") pairs then Some HasClientSecret
     else (if is_value id (read_by_name (codes "client_id") pairs) then None else Some OtherClient))
 
--- why it cannot push the parameters that were found: none were found, one is no text, or such a name
+-- why the client with this identifier cannot push the parameters of a URL: it is the URL of another
+-- endpoint, a parameter is no text, or the name or value of one is refused
 abbrev pub push_fault : List ℕ → Option (List Pair) → Option PushFault
 push_fault id None = Some OtherEndpoint
 push_fault id (Some pairs) =

@@ -29,12 +29,12 @@ pushed_table =
     ▸ end
 
 -- reads the two members; other members are ignored
-abbrev pub pushed_row : Members → Reading PushedAuthorization
-pushed_row ms = table_reading pushed_table (Ok pushed_authorization) ms
+abbrev pub pushed_authorization_in : Members → Reading PushedAuthorization
+pushed_authorization_in ms = table_reading pushed_table (Ok pushed_authorization) ms
 
 -- reads a response from a JSON object
 abbrev pub pushed_reading : Data → Reading PushedAuthorization
-pushed_reading d = read_then (members_of_object d) pushed_row
+pushed_reading d = read_then (members_of_object d) pushed_authorization_in
 
 -- the two members that are written
 abbrev pub pushed_rows : PushedAuthorization → List Row

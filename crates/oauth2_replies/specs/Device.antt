@@ -64,16 +64,16 @@ abbrev pub device_names : List (List ℕ)
 device_names = names_of device_table
 
 -- reads the members of RFC 8628, 3.2, and then the extra fields from an object of the other members
-abbrev pub device_row : {E : Type 0} → (Data → Reading E) → Members
+abbrev pub device_in : {E : Type 0} → (Data → Reading E) → Members
     → Reading (DeviceAuthorization E)
-device_row extra_fields ms =
+device_in extra_fields ms =
     table_reading device_table (Ok device_authorization) ms
     ⊛ extra_fields (object (others device_names ms))
 
 -- reads a device authorization response from a JSON object (RFC 8628, 3.2)
 abbrev pub device_reading : {E : Type 0} → (Data → Reading E) → Data
     → Reading (DeviceAuthorization E)
-device_reading extra_fields d = read_then (members_of_object d) (device_row extra_fields)
+device_reading extra_fields d = read_then (members_of_object d) (device_in extra_fields)
 
 -- the members of RFC 8628, 3.2, and their values; a member without a value is not written
 abbrev pub device_rows : {E : Type 0} → DeviceAuthorization E → List Row

@@ -49,14 +49,14 @@ sole_token access_token refresh_token rest =
     if has_any rest then token_refusal else one_of access_token refresh_token
 
 -- reads a token from the members of an object
-abbrev pub revocable_row : Members → Reading StandardRevocableToken
-revocable_row ms =
+abbrev pub revocable_in : Members → Reading StandardRevocableToken
+revocable_in ms =
     sole_token (get_member (codes "AccessToken") ms) (get_member (codes "RefreshToken") ms)
     (others (codes "AccessToken" ∷ codes "RefreshToken" ∷ []) ms)
 
 -- reads a token from an object with one member, named `AccessToken` or `RefreshToken`
 abbrev pub revocable_reading : Data → Reading StandardRevocableToken
-revocable_reading d = read_then (members_of_object d) revocable_row
+revocable_reading d = read_then (members_of_object d) revocable_in
 
 -- writes a token as an object with one member: the name of its variant and its text
 abbrev pub revocable_writing : StandardRevocableToken → Writing

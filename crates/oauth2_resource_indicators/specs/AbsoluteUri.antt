@@ -16,7 +16,7 @@ abbrev pub begins_with_letter : List ℕ → Bool
 begins_with_letter [] = false
 begins_with_letter (b ∷ after) = is_ascii_alphabetic b
 
--- a scheme: a letter, and then such bytes (RFC 3986, section 3.1)
+-- a scheme: a letter, and then letters, digits, `+`, `-` and `.` (RFC 3986, section 3.1)
 abbrev pub is_scheme : List ℕ → Bool
 is_scheme text = begins_with_letter text && list_all is_scheme_byte text
 

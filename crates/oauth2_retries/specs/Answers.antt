@@ -9,8 +9,8 @@ use Rattle.oauth2_wire.specs.Reply.{HttpResponse}
 abbrev pub is_get : List ℕ → Bool
 is_get method = bytes_eq method (codes "GET")
 
--- a GET is sent again after such a reply and after any error; any other request only after an error
--- that says that nothing was sent
+-- a GET is sent again after a reply that asks to wait, and after any error; any other request only
+-- after an error that says that nothing was sent
 abbrev pub is_repeatable : {E : Type 0} → (E → Bool) → List ℕ → Result HttpResponse E → Bool
 is_repeatable unsent method (Ok reply) = is_get method && is_busy (head_of reply).status
 is_repeatable unsent method (Err error) = is_get method || unsent error

@@ -56,7 +56,8 @@ abbrev pub or_bad : {A : Type 0} → ScriptCause → Option A → Reading A
 or_bad why (Some x) = Ok x
 or_bad why None = bad why
 
--- the same fault, seen from the value that contains this one: the step comes first in its path
+-- the fault of a value, as one of the value around it: the step to the inner value comes first in
+-- the path
 abbrev pub fault_inside : Step → PartFault → PartFault
 fault_inside step f = record { path = step_and step f.path; why = f.why }
 

@@ -100,12 +100,12 @@ stored_table =
     ▸ end
 
 -- a stored token, read from the members of its JSON object; other members are ignored
-abbrev pub stored_row : Members → Reading Stored
-stored_row ms = table_reading stored_table (Ok stored_token) ms
+abbrev pub stored_token_in : Members → Reading Stored
+stored_token_in ms = table_reading stored_table (Ok stored_token) ms
 
 -- a stored token, read from a JSON value, which must be an object
 abbrev pub stored_reading : Data → Reading Stored
-stored_reading d = read_then (members_of_object d) stored_row
+stored_reading d = read_then (members_of_object d) stored_token_in
 
 -- the members of a stored token's JSON object
 abbrev pub stored_rows : Stored → List Row
