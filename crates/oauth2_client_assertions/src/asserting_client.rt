@@ -17,12 +17,22 @@ use std::marker::Model;
 /// requests are sent as they are.
 ///
 /// Contracts see it as an `Asserter`.
-#[derive(Drop)]
 pub struct AssertingClient<C, S> {
     alloc: Global,
     client: C,
     source: S,
     assertion_type: AssertionType,
+}
+
+impl<C: Drop, S: Drop> Drop for AssertingClient<C, S> {
+    fn drop(self) {
+        let AssertingClient {
+            alloc: _,
+            client: _,
+            source: _,
+            assertion_type: _,
+        } = self;
+    }
 }
 
 impl<C, S> Model for AssertingClient<C, S> {
@@ -68,7 +78,12 @@ impl<C, S> AssertingClient<C, S> {
     pub fn into_parts(self) -> (C, S)
         ensures { result ≡ (self.client, self.source) }
     {
-        let AssertingClient { client, source, .. } = self;
+        let AssertingClient {
+            alloc: _,
+            client,
+            source,
+            assertion_type: _,
+        } = self;
         (client, source)
     }
 }

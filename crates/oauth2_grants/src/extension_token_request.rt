@@ -40,12 +40,22 @@ use std::alloc::{AllocError, Global};
 use std::marker::{Model, PhantomData};
 
 /// A request for a token by a grant type that is a URI. It holds secrets and has no debug text.
-#[derive(Drop)]
 pub struct ExtensionTokenRequest<'a, TE, TR> {
     client: TokenClient<'a>,
     grant_type: &'a str,
     buffer: ParamBuffer,
     phantom: PhantomData<(TE, TR)>,
+}
+
+impl<TE, TR> Drop for ExtensionTokenRequest<'_, TE, TR> {
+    fn drop(self) {
+        let ExtensionTokenRequest {
+            client: _,
+            grant_type: _,
+            buffer: _,
+            phantom: _,
+        } = self;
+    }
 }
 
 impl<'a, TE, TR> Model for ExtensionTokenRequest<'a, TE, TR> {

@@ -51,13 +51,24 @@ impl<'a> Model for TypedToken<'a> {
 
 /// What an exchange asks for, beside the scopes (RFC 8693, section 2.1). It holds tokens and has no
 /// debug text.
-#[derive(Drop)]
 pub struct TokenExchange<'a> {
     resources: Vec<&'a str>,
     audiences: Vec<&'a str>,
     requested_token_type: Option<TokenTypeIdentifier<'a>>,
     subject: TypedToken<'a>,
     actor: Option<TypedToken<'a>>,
+}
+
+impl Drop for TokenExchange<'_> {
+    fn drop(self) {
+        let TokenExchange {
+            resources: _,
+            audiences: _,
+            requested_token_type: _,
+            subject: _,
+            actor: _,
+        } = self;
+    }
 }
 
 impl<'a> Model for TokenExchange<'a> {

@@ -111,7 +111,7 @@ pub trait TokenIntrospectionResponse: FromJson + ToJson + fmt::Debug {
 }
 
 /// The introspection response of RFC 7662, section 2.2, with extra fields `EF` and token type `TT`.
-#[derive(Debug, Drop)]
+#[derive(Debug)]
 pub struct StandardTokenIntrospectionResponse<EF, TT> {
     pub(crate) active: bool,
     pub(crate) scopes: Option<Vec<Scope>>,
@@ -126,6 +126,26 @@ pub struct StandardTokenIntrospectionResponse<EF, TT> {
     pub(crate) iss: Option<String>,
     pub(crate) jti: Option<String>,
     pub(crate) extra_fields: EF,
+}
+
+impl<EF: Drop, TT: Drop> Drop for StandardTokenIntrospectionResponse<EF, TT> {
+    fn drop(self) {
+        let StandardTokenIntrospectionResponse {
+            active: _,
+            scopes: _,
+            client_id: _,
+            username: _,
+            token_type: _,
+            exp: _,
+            iat: _,
+            nbf: _,
+            sub: _,
+            aud: _,
+            iss: _,
+            jti: _,
+            extra_fields: _,
+        } = self;
+    }
 }
 
 impl<EF, TT> Model for StandardTokenIntrospectionResponse<EF, TT> {

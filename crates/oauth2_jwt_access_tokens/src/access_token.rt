@@ -38,10 +38,15 @@ pub type JwtAccessTokenReadError = IdTokenReadError;
 ///
 /// Anyone can make a text with any claims. So accept a request only with a `VerifiedAccessToken`,
 /// which `verified` returns.
-#[derive(Drop)]
 pub struct JwtAccessToken {
     pub(crate) token: IdToken,
     pub(crate) own: AccessTokenClaims,
+}
+
+impl Drop for JwtAccessToken {
+    fn drop(self) {
+        let JwtAccessToken { token: _, own: _ } = self;
+    }
 }
 
 #[tactic(auto, using(crate::proofs::Parts::own_has_parts))]

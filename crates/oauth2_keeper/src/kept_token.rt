@@ -12,11 +12,20 @@ use std::marker::Model;
 use std::time::Duration;
 
 // An access token, the moment of the call that got it, and its lifetime.
-#[derive(Drop)]
 pub(crate) struct KeptToken {
     pub(crate) access_token: AccessToken,
     pub(crate) accepted_at: Timestamp,
     pub(crate) lifetime: Duration,
+}
+
+impl Drop for KeptToken {
+    fn drop(self) {
+        let KeptToken {
+            access_token: _,
+            accepted_at: _,
+            lifetime: _,
+        } = self;
+    }
 }
 
 impl Model for KeptToken {

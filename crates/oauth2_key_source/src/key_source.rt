@@ -53,7 +53,6 @@ use std::time::Duration;
 /// too old or does not have the key that a call wants, but never twice within a wait.
 ///
 /// Contracts see it as a `Source`.
-#[derive(Drop)]
 pub struct KeySource {
     request: KeySetRequest,
     lifetime: Duration,
@@ -61,6 +60,19 @@ pub struct KeySource {
     uses_old: bool,
     kept: Option<KeptKeys>,
     asked_at: Option<Timestamp>,
+}
+
+impl Drop for KeySource {
+    fn drop(self) {
+        let KeySource {
+            request: _,
+            lifetime: _,
+            wait: _,
+            uses_old: _,
+            kept: _,
+            asked_at: _,
+        } = self;
+    }
 }
 
 impl Model for KeySource {

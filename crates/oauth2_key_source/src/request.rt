@@ -27,10 +27,19 @@ use url::{ParseError, Url};
 
 /// A request for the keys of an issuer, whose reply is read by the rule `Prefix`. It can be sent
 /// any number of times.
-#[derive(Debug, Drop)]
+#[derive(Debug)]
 pub struct KeySetRequest {
     url: Url,
     reply_rule: ReplyRule,
+}
+
+impl Drop for KeySetRequest {
+    fn drop(self) {
+        let KeySetRequest {
+            url: _,
+            reply_rule: _,
+        } = self;
+    }
 }
 
 impl Model for KeySetRequest {

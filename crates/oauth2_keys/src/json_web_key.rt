@@ -41,13 +41,24 @@ use std::alloc::{AllocError, Global};
 use std::marker::Model;
 
 /// A JSON Web Key (RFC 7517, 4) that signatures can be checked with.
-#[derive(Drop)]
 pub struct JsonWebKey {
     key_use: Option<String>,
     operations: Option<Vec<String>>,
     algorithm: Option<String>,
     key_id: Option<String>,
     public_key: PublicKey,
+}
+
+impl Drop for JsonWebKey {
+    fn drop(self) {
+        let JsonWebKey {
+            key_use: _,
+            operations: _,
+            algorithm: _,
+            key_id: _,
+            public_key: _,
+        } = self;
+    }
 }
 
 /// A key of a set that cannot be used, and why.

@@ -14,7 +14,6 @@ use std::alloc::Global;
 use std::marker::{Model, PhantomData};
 
 // The claims of a logout token except `events`, which is kept as JSON among the other claims.
-#[derive(Drop)]
 pub(crate) struct LogoutTokenClaims {
     pub(crate) issuer: String,
     pub(crate) subject: Option<String>,
@@ -23,6 +22,20 @@ pub(crate) struct LogoutTokenClaims {
     pub(crate) expires_at: Timestamp,
     pub(crate) token_id: String,
     pub(crate) session_id: Option<String>,
+}
+
+impl Drop for LogoutTokenClaims {
+    fn drop(self) {
+        let LogoutTokenClaims {
+            issuer: _,
+            subject: _,
+            audience: _,
+            issued_at: _,
+            expires_at: _,
+            token_id: _,
+            session_id: _,
+        } = self;
+    }
 }
 
 impl Model for LogoutTokenClaims {

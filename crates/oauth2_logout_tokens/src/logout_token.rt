@@ -25,9 +25,14 @@ pub type LogoutTokenReadError = IdTokenReadError;
 /// Anyone can make a text with any claims, and anyone can send it to the address to which an issuer
 /// sends its logout tokens. So end a session only for a `VerifiedLogoutToken`, which `verified`
 /// returns.
-#[derive(Drop)]
 pub struct LogoutToken {
     token: CompactToken<AllClaims>,
+}
+
+impl Drop for LogoutToken {
+    fn drop(self) {
+        let LogoutToken { token: _ } = self;
+    }
 }
 
 impl LogoutToken {

@@ -25,7 +25,7 @@ use std::marker::Model;
 ///
 /// Each member except the issuer may be absent. If a standard has a default, the comment of the
 /// getter names it, and the getter returns what the server sent.
-#[derive(Debug, Drop)]
+#[derive(Debug)]
 pub struct ServerMetadata<EF = ExtraFields> {
     pub(crate) issuer: String,
     pub(crate) endpoints: MetadataEndpoints,
@@ -35,6 +35,21 @@ pub struct ServerMetadata<EF = ExtraFields> {
     pub(crate) pages: Pages,
     pub(crate) services: Services,
     pub(crate) extra_fields: EF,
+}
+
+impl<EF: Drop> Drop for ServerMetadata<EF> {
+    fn drop(self) {
+        let ServerMetadata {
+            issuer: _,
+            endpoints: _,
+            supported: _,
+            auth_methods: _,
+            signing_algorithms: _,
+            pages: _,
+            services: _,
+            extra_fields: _,
+        } = self;
+    }
 }
 
 impl<EF> Model for ServerMetadata<EF> {
@@ -61,7 +76,17 @@ impl<EF> ServerMetadata<EF> {
         EF: Drop,
         ensures { string_bytes result ≡ self.issuer }
     {
-        self.issuer
+        let ServerMetadata {
+            issuer,
+            endpoints: _,
+            supported: _,
+            auth_methods: _,
+            signing_algorithms: _,
+            pages: _,
+            services: _,
+            extra_fields: _,
+        } = self;
+        issuer
     }
 
     /// The authorization endpoint.

@@ -30,12 +30,22 @@ use std::marker::Model;
 use url::{ParseError, Url};
 
 /// A request for the metadata of an issuer. By default its reply is read by the rule `Prefix`.
-#[derive(Debug, Drop)]
+#[derive(Debug)]
 pub struct MetadataRequest {
     // The issuer that the metadata must name.
     issuer: String,
     url: Url,
     reply_rule: ReplyRule,
+}
+
+impl Drop for MetadataRequest {
+    fn drop(self) {
+        let MetadataRequest {
+            issuer: _,
+            url: _,
+            reply_rule: _,
+        } = self;
+    }
 }
 
 impl Model for MetadataRequest {

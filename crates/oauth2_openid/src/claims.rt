@@ -25,7 +25,6 @@ use std::ops::Deref;
 use std::time::Duration;
 
 /// The claims of an ID token that a client needs.
-#[derive(Drop)]
 pub struct IdTokenClaims {
     pub(crate) issuer: String,
     pub(crate) subject: String,
@@ -38,6 +37,24 @@ pub struct IdTokenClaims {
     pub(crate) authentication_methods: Option<Vec<String>>,
     pub(crate) authorized_party: Option<String>,
     pub(crate) access_token_hash: Option<String>,
+}
+
+impl Drop for IdTokenClaims {
+    fn drop(self) {
+        let IdTokenClaims {
+            issuer: _,
+            subject: _,
+            audience: _,
+            expires_at: _,
+            issued_at: _,
+            auth_time: _,
+            nonce: _,
+            authentication_context_class: _,
+            authentication_methods: _,
+            authorized_party: _,
+            access_token_hash: _,
+        } = self;
+    }
 }
 
 impl Model for IdTokenClaims {

@@ -16,12 +16,22 @@ use std::alloc::Global;
 /// A token in compact form (RFC 7515, section 7.1) whose claims are read as a `C`, and whose
 /// signature nobody has checked. It makes no difference to the reading what kind of token it is:
 /// the type that holds it says which claims are read, and has the rules for them.
-#[derive(Drop)]
 pub struct CompactToken<C> {
     header: WholeHeader,
     claims: C,
     signed_part: String,
     signature: Vec<u8>,
+}
+
+impl<C: Drop> Drop for CompactToken<C> {
+    fn drop(self) {
+        let CompactToken {
+            header: _,
+            claims: _,
+            signed_part: _,
+            signature: _,
+        } = self;
+    }
 }
 
 // Decodes a part of the token, and reads its JSON.

@@ -12,10 +12,18 @@ use std::alloc::Global;
 use std::marker::{Model, PhantomData};
 
 /// The header of an ID token: the algorithm and the key of the signature.
-#[derive(Drop)]
 pub struct IdTokenHeader {
     pub(crate) algorithm: String,
     pub(crate) key_id: Option<String>,
+}
+
+impl Drop for IdTokenHeader {
+    fn drop(self) {
+        let IdTokenHeader {
+            algorithm: _,
+            key_id: _,
+        } = self;
+    }
 }
 
 // The members of a header.

@@ -39,9 +39,14 @@ use std::fmt;
 /// through the user's browser, in a request to your server or out of a store that others can write,
 /// says nothing until its signature has been checked against the issuer's keys. The crate
 /// `oauth2_keys` does that, and so can any library, over `signed_part` and `signature`.
-#[derive(Drop)]
 pub struct IdToken {
     token: CompactToken<AllClaims>,
+}
+
+impl Drop for IdToken {
+    fn drop(self) {
+        let IdToken { token: _ } = self;
+    }
 }
 
 impl IdToken {

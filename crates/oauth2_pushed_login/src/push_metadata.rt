@@ -12,10 +12,19 @@ use url::Url;
 /// as the extra fields of a `ServerMetadata`. There is no constructor: they are read from JSON.
 ///
 /// Contracts see them as `PushMembers`.
-#[derive(Debug, Drop)]
+#[derive(Debug)]
 pub struct PushMetadata {
     pub(crate) endpoint: Option<EndpointUrl>,
     pub(crate) required: Option<bool>,
+}
+
+impl Drop for PushMetadata {
+    fn drop(self) {
+        let PushMetadata {
+            endpoint: _,
+            required: _,
+        } = self;
+    }
 }
 
 impl Model for PushMetadata {

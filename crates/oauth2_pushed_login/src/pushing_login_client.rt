@@ -20,10 +20,18 @@ use url::{ParseError, Url};
 
 /// A client for logins, and the endpoint to which it pushes their parameters. Contracts see it as a
 /// `PushingLogin`.
-#[derive(Drop)]
 pub struct PushingLoginClient<TE, TR, TIR, RT, TRE> {
     client: DiscoveredLoginClient<TE, TR, TIR, RT, TRE>,
     endpoint: Url,
+}
+
+impl<TE, TR, TIR, RT, TRE> Drop for PushingLoginClient<TE, TR, TIR, RT, TRE> {
+    fn drop(self) {
+        let PushingLoginClient {
+            client: _,
+            endpoint: _,
+        } = self;
+    }
 }
 
 impl<TE, TR, TIR, RT, TRE> Model for PushingLoginClient<TE, TR, TIR, RT, TRE> {

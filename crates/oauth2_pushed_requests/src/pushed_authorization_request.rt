@@ -29,11 +29,20 @@ use url::Url;
 /// A request that pushes the parameters of an authorization URL, such as that of an
 /// `AuthorizationRequest`, a `Login` or an `OpenIdLogin`. It holds secrets, among them the state,
 /// and has no debug text.
-#[derive(Drop)]
 pub struct PushedAuthorizationRequest<'a, TE> {
     client: PushingClient<'a>,
     pairs: Vec<(String, String)>,
     phantom: PhantomData<TE>,
+}
+
+impl<TE> Drop for PushedAuthorizationRequest<'_, TE> {
+    fn drop(self) {
+        let PushedAuthorizationRequest {
+            client: _,
+            pairs: _,
+            phantom: _,
+        } = self;
+    }
 }
 
 impl<'a, TE> Model for PushedAuthorizationRequest<'a, TE> {

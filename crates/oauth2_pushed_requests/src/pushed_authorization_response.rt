@@ -35,10 +35,18 @@ const ROWS: (Member<Needed<String>>, (Member<NeededNumber>, ())) = (
 );
 
 /// The response to a pushed authorization request. There is no constructor: it is read from JSON.
-#[derive(Drop)]
 pub struct PushedAuthorizationResponse {
     request_uri: String,
     expires_in: u64,
+}
+
+impl Drop for PushedAuthorizationResponse {
+    fn drop(self) {
+        let PushedAuthorizationResponse {
+            request_uri: _,
+            expires_in: _,
+        } = self;
+    }
 }
 
 impl Model for PushedAuthorizationResponse {

@@ -31,11 +31,20 @@ use url::Url;
 
 /// What an application keeps in the session while its user is away: the state, the verifier, and
 /// the redirect URI of the login's URL.
-#[derive(Drop)]
 pub struct Login {
     pub(crate) state: CsrfToken,
     pub(crate) verifier: PkceCodeVerifier,
     pub(crate) redirect_uri: Option<RedirectUrl>,
+}
+
+impl Drop for Login {
+    fn drop(self) {
+        let Login {
+            state: _,
+            verifier: _,
+            redirect_uri: _,
+        } = self;
+    }
 }
 
 impl Model for Login {
