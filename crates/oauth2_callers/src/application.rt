@@ -49,9 +49,14 @@ impl fmt::Display for CannedError {
 impl std::error::Error for CannedError {}
 
 /// An HTTP client that returns one reply at its first call, and an error after that.
-#[derive(Drop)]
 pub struct CannedClient {
     reply: Option<HttpResponse>,
+}
+
+impl Drop for CannedClient {
+    fn drop(self) {
+        let CannedClient { reply: _ } = self;
+    }
 }
 
 impl CannedClient {

@@ -9,7 +9,7 @@ use crate::openid::{finish_login, provider, start_login};
 use crate::support::{assert_equal, assert_text, text};
 use crate::web_login::{begin, end};
 use jiff::Timestamp;
-use oauth2::basic::BasicErrorResponse;
+use oauth2::basic::{BasicErrorResponse, BasicTokenResponse};
 use oauth2::http::Response;
 use oauth2::url::Url;
 use oauth2::{
@@ -145,22 +145,25 @@ fn started(rt: &(impl Abort + AllocGlobal), client: &OpenIdClient) -> OpenIdLogi
     login
 }
 
-// The result of a login whose redirect has this state, and whose token reply has this body.
-fn ends(
-    rt: &(impl Abort + AllocGlobal),
-    state: &str,
-    body: &str,
-) -> Result<
-    OpenIdLoginEnd<OpenIdTokenResponse>,
-    OpenIdLoginError<CannedError, BasicErrorResponse>,
-> {
-    let client = open_id_client(rt);
-    let login = started(rt, &client);
+// The redirect of a login, with this state.
+fn redirect_with(rt: &(impl Abort + AllocGlobal), state: &str) -> Url {
     let redirect = format!(in rt.alloc();
         "https://app.example/cb?code=ccc&state={state}&iss=https%3A%2F%2Fas.example"
     ).expect(rt, "a text");
-    let redirect = Url::parse(rt.alloc(), redirect.as_str()).expect(rt, "a URL");
+    Url::parse(rt.alloc(), redirect.as_str()).expect(rt, "a URL")
+}
+
+type Ended = Result<
+    OpenIdLoginEnd<OpenIdTokenResponse>,
+    OpenIdLoginError<CannedError, BasicErrorResponse>,
+>;
+
+// The result of a login whose redirect has this state, and whose token reply has this body.
+fn ends(rt: &(impl Abort + AllocGlobal), state: &str, body: &str) -> Ended {
     let now = Timestamp::from_second(1311281000).ok().expect(rt, "a time");
+    let redirect = redirect_with(rt, state);
+    let client = open_id_client(rt);
+    let login = started(rt, &client);
     finish_login(
         rt.alloc(),
         &client,
@@ -185,54 +188,80 @@ const TOKENS: &str =
 fn open_id_login(rt: HostRuntime) {
     let end = ends(&rt, STATE, TOKENS).ok().expect(&rt, "a user");
     assert_text(&rt, end.id_token.claims().subject(), "248289761001");
-    let other = ends(&rt, "B", TOKENS);
-    let refused = matches!(
-        other,
-        Err(OpenIdLoginError::Redirect {
+}
+
+// What a login ended with.
+fn name_of(ended: &Ended) -> &'static str {
+    let Err(error) = ended else {
+        return "a user";
+    };
+    match error {
+        OpenIdLoginError::Redirect {
             error: RedirectError::OtherState,
             ..
-        }),
-    );
-    assert!(rt; refused);
+        } => "another state",
+        OpenIdLoginError::NoIdToken => "no ID token",
+        OpenIdLoginError::Token(_) => "no token response",
+        _ => "another error",
+    }
+}
+
+// Asserts what a login ends with if its redirect has this state and its token reply has this body.
+fn assert_ends_with(rt: &(impl Abort + AllocGlobal), state: &str, body: &str, wanted: &str) {
+    let ended = ends(rt, state, body);
+    assert_text(rt, name_of(&ended), wanted);
 }
 
 #[test]
-fn open_id_login_without_id_token(rt: HostRuntime) {
+fn open_id_login_without_a_user(rt: HostRuntime) {
+    let without_id_token = r#"{"access_token":"a","token_type":"bearer"}"#;
+    for (state, body, wanted) in [
+        ("B", TOKENS, "another state"),
+        (STATE, without_id_token, "no ID token"),
+        (STATE, "{}", "no token response"),
+    ] {
+        assert_ends_with(&rt, state, body, wanted);
+    }
+}
+
+// Starts a login of this client, asserts its URL, and returns the text to keep with the session.
+fn begun(rt: &(impl Abort + AllocGlobal), client: &CodeClient) -> String {
+    let (url, session) = begin(rt.alloc(), client, &mut Repeated(0)).expect(rt, "a login");
+    assert_text(
+        rt,
+        url.as_str(),
+        "https://example.com/auth?response_type=code&client_id=aaa&state=AAAAAAAAAAAAAAAAAAAAAA\
+         &code_challenge=DwBzhbb51LfusnSGBa_hqYSgo7-j8BTQnip4TOnlzRo&code_challenge_method=S256\
+         &scope=profile",
+    );
+    session
+}
+
+// Finishes the login that was kept as this text.
+fn token_after(
+    rt: &(impl Abort + AllocGlobal),
+    client: &CodeClient,
+    session: &str,
+) -> BasicTokenResponse {
     let body = r#"{"access_token":"a","token_type":"bearer"}"#;
-    assert!(rt; matches!(ends(&rt, STATE, body), Err(OpenIdLoginError::NoIdToken)));
-    assert!(rt; matches!(ends(&rt, STATE, "{}"), Err(OpenIdLoginError::Token(_))));
+    let redirect = "https://app.example/cb?code=ccc&state=AAAAAAAAAAAAAAAAAAAAAA";
+    let redirect = Url::parse(rt.alloc(), redirect).expect(rt, "a URL");
+    let token = end(
+        rt.alloc(),
+        client,
+        &mut CannedClient::new(reply(rt, body)),
+        session,
+        &redirect,
+        ExpectedIssuer::Unknown,
+    );
+    token.expect(rt, "a token")
 }
 
 // A login that is stored as a text between its two steps.
 #[test]
 fn web_login(rt: HostRuntime) {
     let client = client(&rt, AUTH, TOKEN);
-    let (url, session) = begin(rt.alloc(), &client, &mut Repeated(0)).expect(&rt, "a login");
-    assert_text(
-        &rt,
-        url.as_str(),
-        "https://example.com/auth?response_type=code&client_id=aaa&state=AAAAAAAAAAAAAAAAAAAAAA\
-         &code_challenge=DwBzhbb51LfusnSGBa_hqYSgo7-j8BTQnip4TOnlzRo&code_challenge_method=S256\
-         &scope=profile",
-    );
-    let body = r#"{"access_token":"a","token_type":"bearer"}"#;
-    let redirect = "https://app.example/cb?code=ccc&state=AAAAAAAAAAAAAAAAAAAAAA";
-    let redirect = Url::parse(rt.alloc(), redirect).expect(&rt, "a URL");
-    let token = end(
-        rt.alloc(),
-        &client,
-        &mut CannedClient::new(reply(&rt, body)),
-        session.as_str(),
-        &redirect,
-        ExpectedIssuer::Unknown,
-    );
-    assert_text(
-        &rt,
-        token
-            .expect(&rt, "a token")
-            .access_token()
-            .secret()
-            .as_str(),
-        "a",
-    );
+    let session = begun(&rt, &client);
+    let token = token_after(&rt, &client, session.as_str());
+    assert_text(&rt, token.access_token().secret().as_str(), "a");
 }

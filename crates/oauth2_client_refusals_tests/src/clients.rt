@@ -131,20 +131,29 @@ fn has_same_endpoints(client: &RowClient, copy: &RowClient) -> bool
         && client.revocation_url() == copy.revocation_url()
 }
 
-// A request with the client's credentials. `None` if the token endpoint is no HTTP target.
-fn shown(alloc: Global, client: &RowClient) -> Result<Option<HttpRequest>, Ended> {
-    let request = client.exchange_client_credentials(alloc);
-    match request.prepare_request(alloc) {
+// The request that was prepared. `None` if the endpoint is no HTTP target.
+fn post_if_http(prepared: Result<HttpRequest, RequestFault>) -> Result<Option<HttpRequest>, Ended> {
+    match prepared {
         Ok(post) => Ok(Some(post)),
         Err(RequestFault::NotHttp) => Ok(None),
         Err(fault) => Err(Ended::from(fault)),
     }
 }
 
+// A request with the client's credentials. `None` if the token endpoint is no HTTP target.
+fn shown(alloc: Global, client: &RowClient) -> Result<Option<HttpRequest>, Ended> {
+    let request = client.exchange_client_credentials(alloc);
+    post_if_http(request.prepare_request(alloc))
+}
+
+fn has_same_header_and_body(post: &HttpRequest, other: &HttpRequest) -> bool {
+    post.headers() == other.headers() && post.body() == other.body()
+}
+
 // Whether a client's request has the same header and body as `post`.
 fn is_shown_by(alloc: Global, post: &HttpRequest, client: &RowClient) -> Result<bool, Ended> {
     match shown(alloc, client)? {
-        Some(other) => Ok(post.headers() == other.headers() && post.body() == other.body()),
+        Some(other) => Ok(has_same_header_and_body(post, &other)),
         None => Ok(false),
     }
 }

@@ -10,12 +10,21 @@ pub struct NoReply;
 
 /// A client that returns a reply at its first call. The reply was made before, so a call takes no
 /// memory.
-#[derive(Drop)]
 pub struct CountingClient {
     pub calls: u64,
     /// The request of the last call.
     pub request: Option<HttpRequest>,
     reply: Option<HttpResponse>,
+}
+
+impl Drop for CountingClient {
+    fn drop(self) {
+        let CountingClient {
+            calls: _,
+            request: _,
+            reply: _,
+        } = self;
+    }
 }
 
 impl CountingClient {

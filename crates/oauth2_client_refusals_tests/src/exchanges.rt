@@ -44,14 +44,14 @@ pub fn show_exchange<W: Write>(
     let code = AuthorizationCode::new(text(alloc, "ccc")?);
     let mut http_client = CountingClient::new(ready_reply(alloc, reply)?);
     let answer = exchange(alloc, client, code, &mut http_client);
-    show_exchanged(out, http_client.calls, answer)
+    show_exchanged(out, http_client.calls, &answer)
 }
 
 // Prints how often the HTTP client was called, and the token.
 fn show_exchanged<W: Write>(
     out: &mut W,
     calls: u64,
-    answer: Result<BasicTokenResponse, BasicRequestTokenError<NoReply>>,
+    answer: &Result<BasicTokenResponse, BasicRequestTokenError<NoReply>>,
 ) -> Result<(), Ended> {
     writeln!(out, "calls {calls}")?;
     show_answer(out, answer)

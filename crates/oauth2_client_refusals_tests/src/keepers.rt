@@ -83,6 +83,18 @@ pub fn keep(
     keeper.keep_good(alloc, now, http_client)
 }
 
+// Whether a call of a keeper returns no error.
+fn is_kept(
+    alloc: Global,
+    keeper: &mut RowKeeper<'_>,
+    now: Timestamp,
+    http_client: &mut CountingClient,
+) -> bool
+    requires { http_client.old.calls ≡ 0 }
+{
+    keep(alloc, keeper, now, http_client).is_ok()
+}
+
 /// Calls a new keeper, and prints what it did.
 pub fn show_first_token<W: Write>(
     alloc: Global,
@@ -106,9 +118,10 @@ pub fn show_renewed_token<W: Write>(
 
 fn keep_first(alloc: Global, keeper: &mut RowKeeper<'_>) -> Result<(), Ended> {
     let mut http_client = CountingClient::new(ready_reply(alloc, FIRST)?);
-    match keep(alloc, keeper, Timestamp::UNIX_EPOCH, &mut http_client) {
-        Ok(()) => Ok(()),
-        Err(_) => Err(Ended::Starved(Want::Row)),
+    if is_kept(alloc, keeper, Timestamp::UNIX_EPOCH, &mut http_client) {
+        Ok(())
+    } else {
+        Err(Ended::Starved(Want::Row))
     }
 }
 
@@ -167,10 +180,11 @@ fn show_second_try<W: Write>(
     out: &mut W,
 ) -> Result<(), Ended> {
     let mut http_client = CountingClient::new(ready_reply(alloc, reply)?);
-    if keep(alloc, keeper, now, &mut http_client).is_ok() {
-        show_kept(keeper, &http_client, out)?;
+    if is_kept(alloc, keeper, now, &mut http_client) {
+        show_kept(keeper, &http_client, out)
+    } else {
+        Ok(())
     }
-    Ok(())
 }
 
 fn want_of(answer: Result<(), BasicRequestTokenError<NoReply>>) -> Result<Option<Want>, Ended> {

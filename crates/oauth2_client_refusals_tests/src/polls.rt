@@ -47,16 +47,30 @@ pub type PollResult = Result<
 pub fn device(alloc: Global) -> Result<StandardDeviceAuthorizationResponse, Ended> {
     let body = "{\"device_code\":\"12345\",\"user_code\":\"abcde\",\
         \"verification_uri\":\"https://verify/here\",\"expires_in\":2,\"interval\":1}";
+    device_of(alloc, body)
+}
+
+// The response with this body, which proofs do not see, so that no proof reads it.
+fn device_of(alloc: Global, body: &str) -> Result<StandardDeviceAuthorizationResponse, Ended> {
     Ok(read_body(alloc, body.as_bytes())?)
+}
+
+fn add_reply(
+    alloc: Global,
+    replies: &mut Vec<HttpResponse>,
+    reply: ReplyTexts<'_>,
+) -> Result<(), Ended> {
+    let reply = ready_reply(alloc, reply)?;
+    if replies.push(reply).is_err() {
+        return Err(Ended::Starved(Want::Row));
+    }
+    Ok(())
 }
 
 fn replies(alloc: Global, reply: ReplyTexts<'_>, number: u32) -> Result<Vec<HttpResponse>, Ended> {
     let mut replies = Vec::new(alloc);
     for _ in 0..number {
-        let reply = ready_reply(alloc, reply)?;
-        if replies.push(reply).is_err() {
-            return Err(Ended::Starved(Want::Row));
-        }
+        add_reply(alloc, &mut replies, reply)?;
     }
     Ok(replies)
 }
@@ -123,12 +137,12 @@ fn show_poll_of<W: Write>(
     let mut world = world_of(alloc, poll)?;
     let timeout = poll.timeout.map(Duration::from_secs);
     let answer = polled(alloc, client, device, &mut world, timeout, poll.max_polls);
-    show_polled(&world, answer, out)
+    show_polled(&world, &answer, out)
 }
 
 fn show_polled<W: Write>(
     world: &Recorder<'_>,
-    answer: PollResult,
+    answer: &PollResult,
     out: &mut W,
 ) -> Result<(), Ended> {
     show_seen(out, world.seen.as_slice())?;

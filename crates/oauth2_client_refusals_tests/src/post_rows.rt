@@ -6,7 +6,7 @@ use crate::polls::device;
 use crate::posts;
 use crate::show::show_post;
 use oauth2::{
-    AccessToken, HttpRequest, ParamBuffer, RefreshToken, ResourceOwnerPassword,
+    AccessToken, HttpRequest, ParamBuffer, RefreshToken, RequestFault, ResourceOwnerPassword,
     ResourceOwnerUsername, StandardRevocableToken,
 };
 use oauth2_refusals_support::{Ended, Want, show_text, text};
@@ -36,28 +36,47 @@ pub fn show_post_row<W: Write>(
     row: PostRow,
     out: &mut W,
 ) -> Result<(), Ended> {
-    let request = match row {
-        PostRow::Credentials => posts::credentials(alloc, client)?,
-        PostRow::Scoped(name) => posts::scoped_credentials(alloc, client, name)?,
-        PostRow::Extended(name, value) => posts::extended_credentials(alloc, client, name, value)?,
-        PostRow::Mixed => posts::mixed_credentials(alloc, client, "a")?,
+    let made = match row {
+        PostRow::Credentials => posts::credentials(alloc, client),
+        PostRow::Scoped(name) => posts::scoped_credentials(alloc, client, name),
+        PostRow::Extended(name, value) => posts::extended_credentials(alloc, client, name, value),
+        PostRow::Mixed => posts::mixed_credentials(alloc, client, "a"),
         PostRow::Buffer => return show_buffer(alloc, client, out),
-        PostRow::Password => password(alloc, client)?,
-        PostRow::DeviceCodes => posts::device_authorization(alloc, client)?,
-        PostRow::ExtendedDeviceCodes => extended_device_codes(alloc, client)?,
-        PostRow::DeviceToken => device_token(alloc, client)?,
-        PostRow::Introspection => introspection(alloc, client)?,
+        PostRow::Password => password(alloc, client),
+        PostRow::DeviceCodes => posts::device_authorization(alloc, client),
+        PostRow::ExtendedDeviceCodes => extended_device_codes(alloc, client),
+        PostRow::DeviceToken => device_token(alloc, client),
+        PostRow::Introspection => introspection(alloc, client),
         PostRow::Revocation => return show_revocation(alloc, client, out),
     };
-    show_post(alloc, &request, out)
+    show_made(alloc, made, out)
+}
+
+// Prints the request, or returns why it was not made.
+fn show_made<W: Write>(
+    alloc: Global,
+    made: Result<HttpRequest, Ended>,
+    out: &mut W,
+) -> Result<(), Ended> {
+    let post = made?;
+    show_post(alloc, &post, out)
 }
 
 fn password(alloc: Global, client: &RowClient) -> Result<HttpRequest, Ended> {
     let username = ResourceOwnerUsername::new(text(alloc, "user")?);
     let password = ResourceOwnerPassword::new(text(alloc, "p&w")?);
+    scoped_password(alloc, client, &username, &password)
+}
+
+fn scoped_password(
+    alloc: Global,
+    client: &RowClient,
+    username: &ResourceOwnerUsername,
+    password: &ResourceOwnerPassword,
+) -> Result<HttpRequest, Ended> {
     let read = posts::scope(alloc, "read")?;
     let write = posts::scope(alloc, "write")?;
-    posts::password(alloc, client, &username, &password, read, write)
+    posts::password(alloc, client, username, password, read, write)
 }
 
 fn extended_device_codes(alloc: Global, client: &RowClient) -> Result<HttpRequest, Ended> {
@@ -86,31 +105,38 @@ const ADDITIONS: [Addition<'static>; 5] = [
 fn show_buffer<W: Write>(alloc: Global, client: &RowClient, out: &mut W) -> Result<(), Ended> {
     let mut buffer = ParamBuffer::new(alloc);
     let was_refused = add_all(&mut buffer, &ADDITIONS)?;
-    show_buffered(alloc, client, &buffer, out)?;
-    if was_refused {
-        return Err(Ended::Starved(Want::AllocError));
-    }
-    Ok(())
+    show_buffered(alloc, client, &buffer, was_refused, out)
 }
 
 fn show_buffered<W: Write>(
     alloc: Global,
     client: &RowClient,
     buffer: &ParamBuffer,
+    was_refused: bool,
     out: &mut W,
 ) -> Result<(), Ended> {
-    let request = request_of(alloc, client, buffer)?;
-    show_post(alloc, &request, out)
+    show_made(alloc, request_of(alloc, client, buffer), out)?;
+    if was_refused {
+        return Err(Ended::Starved(Want::AllocError));
+    }
+    Ok(())
 }
 
 // Prints the revocation request, or why there is none.
 fn show_revocation<W: Write>(alloc: Global, client: &RowClient, out: &mut W) -> Result<(), Ended> {
     let token = RefreshToken::new(text(alloc, "refresh_token_123")?);
     match client.revoke_token(alloc, StandardRevocableToken::from(token)) {
-        Ok(request) => {
-            let post = request.prepare_request(alloc)?;
-            show_post(alloc, &post, out)
-        }
+        Ok(request) => show_prepared(alloc, request.prepare_request(alloc), out),
         Err(error) => show_text(out, &error),
     }
+}
+
+// Prints the request, or returns why it was not prepared.
+fn show_prepared<W: Write>(
+    alloc: Global,
+    prepared: Result<HttpRequest, RequestFault>,
+    out: &mut W,
+) -> Result<(), Ended> {
+    let post = prepared?;
+    show_post(alloc, &post, out)
 }

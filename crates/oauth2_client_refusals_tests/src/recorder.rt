@@ -19,7 +19,6 @@ pub enum Seen {
 /// A world whose clock shows these times in order, in seconds since 1970, and then stays at the
 /// last one. Its client returns these replies, the last one first, and then fails. The replies and
 /// the room for the events are allocated before the poll.
-#[derive(Drop)]
 pub struct Recorder<'a> {
     pub readings: &'a [i64],
     pub last: Timestamp,
@@ -27,6 +26,18 @@ pub struct Recorder<'a> {
     pub seen: Vec<Seen>,
     /// Whether there was room for all events.
     pub is_whole: bool,
+}
+
+impl Drop for Recorder<'_> {
+    fn drop(self) {
+        let Recorder {
+            readings: _,
+            last: _,
+            replies: _,
+            seen: _,
+            is_whole: _,
+        } = self;
+    }
 }
 
 impl Recorder<'_> {

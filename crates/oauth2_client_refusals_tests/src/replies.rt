@@ -35,10 +35,10 @@ pub fn ready_reply(alloc: Global, texts: ReplyTexts<'_>) -> Result<HttpResponse,
     ensures body { IfOk result (λ reply. (reply_of reply).body ≡ texts.entry.body.now) }
     ensures status { IfOk result (λ reply. (reply_of reply).status ≡ texts.entry.status) }
 {
-    let mut head = Parts::new(alloc);
     let Ok(status) = StatusCode::from_u16(texts.status) else {
         return Err(Ended::Refused);
     };
+    let mut head = Parts::new(alloc);
     head.status = status;
     if let Some(content_type) = texts.content_type {
         typed(alloc, &mut head, content_type)?;

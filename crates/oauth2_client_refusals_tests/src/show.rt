@@ -57,25 +57,36 @@ pub fn show_url<W: Write>(out: &mut W, url: &Url, state: &CsrfToken) -> Result<(
 }
 
 /// Prints a token, or why there is none. If memory ran out, the row ends.
-pub fn show_answer<W: Write, TE: Display + Drop>(
+pub fn show_answer<W: Write, TE: Display>(
     out: &mut W,
-    answer: Result<BasicTokenResponse, RequestTokenError<NoReply, TE>>,
+    answer: &Result<BasicTokenResponse, RequestTokenError<NoReply, TE>>,
 ) -> Result<(), Ended> {
     match answer {
-        Ok(token) => show_token(out, &token),
-        Err(RequestTokenError::Memory { sent }) => {
-            Err(Ended::Starved(Want::RequestTokenError { sent }))
-        }
-        Err(error) => show_error(out, &error),
+        Ok(token) => show_token(out, token),
+        Err(error) => show_failure(out, error),
     }
 }
 
-fn show_token<W: Write>(out: &mut W, token: &BasicTokenResponse) -> Result<(), Ended> {
+/// Prints a token.
+pub fn show_token<W: Write>(out: &mut W, token: &BasicTokenResponse) -> Result<(), Ended> {
     writeln!(out, "token {:?}", token.access_token().secret().as_str())?;
     Ok(())
 }
 
-fn show_error<W: Write, TE: Display + Drop>(
+/// Prints why there is no token. If memory ran out, the row ends.
+pub fn show_failure<W: Write, TE: Display>(
+    out: &mut W,
+    error: &RequestTokenError<NoReply, TE>,
+) -> Result<(), Ended> {
+    match error {
+        RequestTokenError::Memory { sent } => {
+            Err(Ended::Starved(Want::RequestTokenError { sent: *sent }))
+        }
+        _ => show_error(out, error),
+    }
+}
+
+fn show_error<W: Write, TE: Display>(
     out: &mut W,
     error: &RequestTokenError<NoReply, TE>,
 ) -> Result<(), Ended> {

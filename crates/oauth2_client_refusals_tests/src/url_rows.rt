@@ -3,9 +3,9 @@
 use crate::clients::RowClient;
 use crate::posts::scope;
 use crate::show::show_url;
-use crate::urls::{authorization_url, redirected_url, scoped_url, typed_url};
+use crate::urls::{authorization_url, redirect_url, redirected_url, scoped_url, typed_url};
 use oauth2::url::Url;
-use oauth2::{CsrfToken, RedirectUrl, ResponseType};
+use oauth2::{CsrfToken, ResponseType};
 use oauth2_refusals_support::{Ended, text};
 use std::alloc::Global;
 use std::io::Write;
@@ -27,13 +27,27 @@ pub fn show_url_row<W: Write>(
     out: &mut W,
 ) -> Result<(), Ended> {
     let state = CsrfToken::new(text(alloc, "csrf_token")?);
-    let (url, state) = match row {
-        UrlRow::Plain => authorization_url(alloc, client, state)?,
-        UrlRow::EmptyScope => scoped_url(alloc, client, state, scope(alloc, "")?)?,
-        UrlRow::OtherRedirect => redirected(alloc, client, state)?,
-        UrlRow::ResponseType => typed(alloc, client, state)?,
-    };
+    let (url, state) = url_of(alloc, client, row, state)?;
     show_url(out, &url, &state)
+}
+
+fn url_of(
+    alloc: Global,
+    client: &RowClient,
+    row: UrlRow,
+    state: CsrfToken,
+) -> Result<(Url, CsrfToken), Ended> {
+    match row {
+        UrlRow::Plain => authorization_url(alloc, client, state),
+        UrlRow::EmptyScope => scoped(alloc, client, state),
+        UrlRow::OtherRedirect => redirected(alloc, client, state),
+        UrlRow::ResponseType => typed(alloc, client, state),
+    }
+}
+
+fn scoped(alloc: Global, client: &RowClient, state: CsrfToken) -> Result<(Url, CsrfToken), Ended> {
+    let scope = scope(alloc, "")?;
+    scoped_url(alloc, client, state, scope)
 }
 
 fn redirected(
@@ -41,8 +55,8 @@ fn redirected(
     client: &RowClient,
     state: CsrfToken,
 ) -> Result<(Url, CsrfToken), Ended> {
-    let redirect = text(alloc, "https://localhost/alternative")?;
-    redirected_url(alloc, client, state, RedirectUrl::new(alloc, redirect)?)
+    let redirect = redirect_url(alloc, "https://localhost/alternative")?;
+    redirected_url(alloc, client, state, redirect)
 }
 
 fn typed(alloc: Global, client: &RowClient, state: CsrfToken) -> Result<(Url, CsrfToken), Ended> {

@@ -1,14 +1,29 @@
 //! The authorization URLs of a client.
 
-ghost use Rattle.std.specs.Prelude.{◌∷◌, [], Some, IfOk};
+ghost use Rattle.std.specs.Prelude.{◌≡◌, ◌∷◌, [], Some, IfOk};
 ghost use Rattle.oauth2.specs.NewRequest.{new_authorization};
 ghost use Rattle.oauth2_client_refusals_tests.specs.Urls.{LeadsTo};
 
 use crate::clients::RowClient;
 use oauth2::url::Url;
-use oauth2::{CsrfToken, ParamText, RedirectRef, RedirectUrl, ResponseType, Scope};
-use oauth2_refusals_support::Ended;
+use oauth2::{
+    AuthorizationRequest, CsrfToken, ParamText, RedirectRef, RedirectUrl, ResponseType, Scope,
+};
+use oauth2_refusals_support::{Ended, text};
 use std::alloc::Global;
+
+/// A redirect URI made from a text that proofs do not see, so that no proof parses it.
+pub fn redirect_url(alloc: Global, url: &str) -> Result<RedirectUrl, Ended> {
+    Ok(RedirectUrl::new(alloc, text(alloc, url)?)?)
+}
+
+// A request with this state, and with nothing else set.
+fn new_request(alloc: Global, client: &RowClient, state: CsrfToken) -> AuthorizationRequest<'_>
+    ensures url { client.now.auth_url ≡ Some result.auth_url }
+    ensures new { result ≡ new_authorization client.now result.auth_url state }
+{
+    client.authorize_url(alloc, move || state)
+}
 
 /// The URL of a request with nothing set.
 pub fn authorization_url(
@@ -18,7 +33,7 @@ pub fn authorization_url(
 ) -> Result<(Url, CsrfToken), Ended>
     ensures { IfOk result (LeadsTo client.now (λ url. new_authorization client.now url state)) }
 {
-    let request = client.authorize_url(alloc, move || state);
+    let request = new_request(alloc, client, state);
     Ok(request.url(alloc)?)
 }
 
@@ -32,7 +47,7 @@ pub fn scoped_url(
     ensures { IfOk result (LeadsTo client.now (λ url.
         record (new_authorization client.now url state) { scopes = scope ∷ [] })) }
 {
-    let request = client.authorize_url(alloc, move || state).add_scope(scope)?;
+    let request = new_request(alloc, client, state).add_scope(scope)?;
     Ok(request.url(alloc)?)
 }
 
@@ -46,9 +61,7 @@ pub fn redirected_url(
     ensures { IfOk result (LeadsTo client.now (λ url.
         record (new_authorization client.now url state) { redirect_url = Some redirect })) }
 {
-    let request = client
-        .authorize_url(alloc, move || state)
-        .set_redirect_uri(RedirectRef::Owned(redirect));
+    let request = new_request(alloc, client, state).set_redirect_uri(RedirectRef::Owned(redirect));
     Ok(request.url(alloc)?)
 }
 
@@ -67,8 +80,7 @@ pub fn typed_url(
           extra_params = (name.now, value.now) ∷ [];
         })) }
 {
-    let request = client
-        .authorize_url(alloc, move || state)
+    let request = new_request(alloc, client, state)
         .set_response_type(alloc, response_type)?
         .add_extra_param(ParamText::Borrowed(name), ParamText::Borrowed(value))?;
     Ok(request.url(alloc)?)

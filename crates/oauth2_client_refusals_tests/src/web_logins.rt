@@ -3,7 +3,8 @@
 use crate::clients::RowClient;
 use crate::counting_client::{CountingClient, NoReply};
 use crate::replies::{ReplyTexts, ready_reply};
-use crate::show::{show_answer, show_bytes};
+use crate::show::{show_bytes, show_failure, show_token};
+use crate::urls::redirect_url;
 use oauth2::basic::{BasicErrorResponse, BasicTokenResponse};
 use oauth2::url::Url;
 use oauth2::{RedirectUrl, Scope};
@@ -28,13 +29,61 @@ pub fn show_web_login<W: Write>(
     reply: ReplyTexts<'_>,
     out: &mut W,
 ) -> Result<(), Ended> {
-    let redirect_uri = RedirectUrl::new(alloc, text(alloc, REDIRECT)?)?;
-    let callback = Url::parse(alloc, CALLBACK)?;
-    let http_client = CountingClient::new(ready_reply(alloc, reply)?);
-    let request = started(alloc, client)?.set_redirect_uri(&redirect_uri);
+    let redirect_uri = redirect_url(alloc, REDIRECT)?;
+    show_with_redirect(alloc, client, &redirect_uri, reply, out)
+}
+
+// A URL made from a text that proofs do not see, so that no proof parses it.
+fn url(alloc: Global, url: &str) -> Result<Url, Ended> {
+    Ok(Url::parse(alloc, url)?)
+}
+
+// Makes the callback and the HTTP client of a login, and shows the login.
+fn show_with_redirect<W: Write>(
+    alloc: Global,
+    client: &RowClient,
+    redirect_uri: &RedirectUrl,
+    reply: ReplyTexts<'_>,
+    out: &mut W,
+) -> Result<(), Ended> {
+    let callback = url(alloc, CALLBACK)?;
+    let mut http_client = CountingClient::new(ready_reply(alloc, reply)?);
+    show_login(
+        alloc,
+        client,
+        redirect_uri,
+        &callback,
+        &mut http_client,
+        out,
+    )
+}
+
+// Starts a login with this redirect URI, finishes it by this callback, and prints the result.
+fn show_login<W: Write>(
+    alloc: Global,
+    client: &RowClient,
+    redirect_uri: &RedirectUrl,
+    callback: &Url,
+    http_client: &mut CountingClient,
+    out: &mut W,
+) -> Result<(), Ended> {
+    let login = show_started(alloc, client, redirect_uri, out)?;
+    let issuer = ExpectedIssuer::Unknown;
+    let finished = login.finish(alloc, client, http_client, callback, issuer);
+    show_finished(out, http_client, &finished)
+}
+
+// Starts a login, prints its URL, and returns the login.
+fn show_started<W: Write>(
+    alloc: Global,
+    client: &RowClient,
+    redirect_uri: &RedirectUrl,
+    out: &mut W,
+) -> Result<Login, Ended> {
+    let request = started(alloc, client)?.set_redirect_uri(redirect_uri);
     let (url, login) = url_of(alloc, request)?;
     writeln!(out, "url {}", url.as_str())?;
-    show_finished(alloc, client, login, &callback, http_client, out)
+    Ok(login)
 }
 
 fn started(alloc: Global, client: &RowClient) -> Result<LoginRequest<'_>, Ended> {
@@ -54,16 +103,12 @@ fn url_of(alloc: Global, request: LoginRequest<'_>) -> Result<(Url, Login), Ende
     }
 }
 
+// Prints how often the HTTP client was called, the body of its request, and the result.
 fn show_finished<W: Write>(
-    alloc: Global,
-    client: &RowClient,
-    login: Login,
-    callback: &Url,
-    mut http_client: CountingClient,
     out: &mut W,
+    http_client: &CountingClient,
+    finished: &Finished,
 ) -> Result<(), Ended> {
-    let issuer = ExpectedIssuer::Unknown;
-    let finished = login.finish(alloc, client, &mut http_client, callback, issuer);
     writeln!(out, "calls {}", http_client.calls)?;
     if let Some(request) = &http_client.request {
         show_bytes(out, "body", request.body())?;
@@ -71,10 +116,10 @@ fn show_finished<W: Write>(
     show_end(out, finished)
 }
 
-fn show_end<W: Write>(out: &mut W, finished: Finished) -> Result<(), Ended> {
+fn show_end<W: Write>(out: &mut W, finished: &Finished) -> Result<(), Ended> {
     match finished {
-        Ok(token) => show_answer::<W, BasicErrorResponse>(out, Ok(token)),
-        Err(LoginError::Token(error)) => show_answer(out, Err(error)),
+        Ok(token) => show_token(out, token),
+        Err(LoginError::Token(error)) => show_failure(out, error),
         Err(LoginError::Redirect { error, login: _ }) => match error {
             RedirectError::Memory => Err(Ended::Starved(Want::RedirectError)),
             _ => Err(Ended::Refused),

@@ -6,7 +6,7 @@ use oauth2_grants::{
 use oauth2_tests_support::{check_text, text};
 use oauth2_types::{ClientId, ClientSecret};
 use oauth2_urls::TokenUrl;
-use oauth2_wire::{AuthType, ReplyRule};
+use oauth2_wire::{AuthType, HttpRequest, ReplyRule};
 use std::alloc::Global;
 use std::test::Fail;
 
@@ -18,32 +18,43 @@ pub(crate) type Asking<'a> = ExtensionTokenRequest<
 >;
 
 /// The client, with a secret or without.
-#[derive(Drop)]
 pub(crate) struct Asker {
     id: ClientId,
     secret: Option<ClientSecret>,
     url: TokenUrl,
 }
 
+impl Drop for Asker {
+    fn drop(self) {
+        let Asker {
+            id: _,
+            secret: _,
+            url: _,
+        } = self;
+    }
+}
+
 impl Asker {
     /// The client whose header is in RFC 8693, section 2.3.
     pub(crate) fn of_the_example(alloc: Global) -> Result<Asker, Fail> {
+        let url = TokenUrl::parse(alloc, "https://as.example.com/as/token.oauth2")?;
+        let id = ClientId::new(text(alloc, "rs08")?);
+        let secret = ClientSecret::new(text(alloc, "long-secure-random-secret")?);
         Ok(Asker {
-            id: ClientId::new(text(alloc, "rs08")?),
-            secret: Some(ClientSecret::new(text(alloc, "long-secure-random-secret")?)),
-            url: TokenUrl::new(
-                alloc,
-                text(alloc, "https://as.example.com/as/token.oauth2")?,
-            )?,
+            id,
+            secret: Some(secret),
+            url,
         })
     }
 
     /// A client without a secret.
     pub(crate) fn public(alloc: Global) -> Result<Asker, Fail> {
+        let url = TokenUrl::parse(alloc, "https://as.example.com/token")?;
+        let id = ClientId::new(text(alloc, "aaa")?);
         Ok(Asker {
-            id: ClientId::new(text(alloc, "aaa")?),
+            id,
             secret: None,
-            url: TokenUrl::new(alloc, text(alloc, "https://as.example.com/token")?)?,
+            url,
         })
     }
 
@@ -59,8 +70,13 @@ impl Asker {
     }
 }
 
+/// Checks the body of a POST.
+pub(crate) fn check_sent(sent: &HttpRequest, body: &str) -> Result<(), Fail> {
+    check_text(std::str::from_utf8(sent.body().as_slice())?, body)
+}
+
 /// Checks the body that a request has.
 pub(crate) fn check_body(alloc: Global, request: &Asking<'_>, body: &str) -> Result<(), Fail> {
     let sent = request.prepare_request(alloc)?;
-    check_text(std::str::from_utf8(sent.body().as_slice())?, body)
+    check_sent(&sent, body)
 }

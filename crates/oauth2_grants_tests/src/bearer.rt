@@ -4,17 +4,22 @@ use crate::asking::{Asker, Asking, check_body};
 use oauth2_grants::{ExtensionTokenRequest, GrantFault, JWT_BEARER, SAML2_BEARER};
 use oauth2_tests_support::{check_text, text};
 use oauth2_types::Scope;
-use std::alloc::Global;
+use std::alloc::{AllocError, Global};
 use std::test::Fail;
+
+// A request of this client by a JWT.
+fn by_jwt<'a>(alloc: Global, asker: &'a Asker, assertion: &str) -> Result<Asking<'a>, AllocError> {
+    ExtensionTokenRequest::jwt_bearer(alloc, asker.at_endpoint(), assertion)
+}
 
 // The request of RFC 7523, section 4. The standard leaves out the middle of the JWT.
 #[test]
 fn the_jwt(rt: HostRuntime) -> Result<(), Fail> {
     let alloc = rt.alloc();
     let asker = Asker::of_the_example(alloc)?;
-    let request: Asking<'_> = ExtensionTokenRequest::jwt_bearer(
+    let request = by_jwt(
         alloc,
-        asker.at_endpoint(),
+        &asker,
         "eyJhbGciOiJFUzI1NiIsImtpZCI6IjE2In0.eyJpc3Mi.J9l-ZhwP",
     )?;
     check_body(
@@ -25,12 +30,20 @@ fn the_jwt(rt: HostRuntime) -> Result<(), Fail> {
     )
 }
 
+// Checks the body of a request by a SAML 2.0 assertion.
+fn check_saml2(alloc: Global, asker: &Asker, xml: &str, encoded: &str) -> Result<(), Fail> {
+    let body = format!(in alloc;
+        "grant_type=urn%3Aietf%3Aparams%3Aoauth%3Agrant-type%3Asaml2-bearer&assertion={encoded}"
+    )?;
+    let request: Asking<'_> = ExtensionTokenRequest::saml2_bearer(alloc, asker.at_endpoint(), xml)?;
+    check_body(alloc, &request, body.as_str())
+}
+
 // The request of RFC 7522, section 4, with the start and the end of its assertion, which are all
 // that the standard shows.
 #[test]
 fn the_assertions(rt: HostRuntime) -> Result<(), Fail> {
-    let alloc = rt.alloc();
-    let asker = Asker::of_the_example(alloc)?;
+    let asker = Asker::of_the_example(rt.alloc())?;
     for (xml, encoded) in [
         (
             "<Assertion IssueInstant=\"2011-05",
@@ -41,18 +54,19 @@ fn the_assertions(rt: HostRuntime) -> Result<(), Fail> {
             "aG5TdGF0ZW1lbnQ-PC9Bc3NlcnRpb24-",
         ),
     ] {
-        let request: Asking<'_> = ExtensionTokenRequest::saml2_bearer(
-            alloc,
-            asker.at_endpoint(),
-            xml,
-        )?;
-        let body = format!(in alloc;
-            "grant_type=urn%3Aietf%3Aparams%3Aoauth%3Agrant-type%3Asaml2-bearer\
-&assertion={encoded}"
-        )?;
-        check_body(alloc, &request, body.as_str())?;
+        check_saml2(rt.alloc(), &asker, xml, encoded)?;
     }
     Ok(())
+}
+
+// A request with a scope between two resources.
+fn with_scope_and_resources(alloc: Global, asker: &Asker) -> Result<Asking<'_>, Fail> {
+    let scope = Scope::new(text(alloc, "read")?);
+    let request = by_jwt(alloc, asker, "a.b.c")?
+        .add_resource("https://rs.example/1".into())?
+        .add_scope(scope)?
+        .add_resource("urn:example:rs".into())?;
+    Ok(request)
 }
 
 // The scope and the resources of a client without a secret, which tells its identifier.
@@ -60,13 +74,7 @@ fn the_assertions(rt: HostRuntime) -> Result<(), Fail> {
 fn a_scope_and_resources(rt: HostRuntime) -> Result<(), Fail> {
     let alloc = rt.alloc();
     let asker = Asker::public(alloc)?;
-    let request: Asking<'_> = ExtensionTokenRequest::jwt_bearer(
-        alloc,
-        asker.at_endpoint(),
-        "a.b.c",
-    )?.add_resource("https://rs.example/1".into())?
-        .add_scope(Scope::new(text(alloc, "read")?))?
-        .add_resource("urn:example:rs".into())?;
+    let request = with_scope_and_resources(alloc, &asker)?;
     check_body(
         alloc,
         &request,
@@ -76,7 +84,7 @@ fn a_scope_and_resources(rt: HostRuntime) -> Result<(), Fail> {
 }
 
 fn asking(alloc: Global, asker: &Asker, resource: &str) -> Result<(), GrantFault> {
-    let request: Asking<'_> = ExtensionTokenRequest::jwt_bearer(alloc, asker.at_endpoint(), "a")?;
+    let request = by_jwt(alloc, asker, "a")?;
     drop(request.add_resource(resource.into())?);
     Ok(())
 }

@@ -1,37 +1,29 @@
 //! Token exchanges (RFC 8693).
 
-use crate::asking::{Asker, Asking, check_body};
+use crate::asking::{Asker, Asking, check_sent};
 use oauth2_grants::{GrantFault, TokenExchange, TokenTypeIdentifier};
-use oauth2_tests_support::{check, check_text};
+use oauth2_tests_support::check;
+use oauth2_wire::HttpRequest;
 use std::alloc::Global;
 use std::test::Fail;
 
 const SUBJECT: &str = "accVkjcJyb4BWCxGsndESCJQbdFMogUC5PbRDqceLTC";
 
+// The POST of an exchange.
+fn post(alloc: Global, asker: &Asker, exchange: &TokenExchange<'_>) -> Result<HttpRequest, Fail> {
+    let request: Asking<'_> = exchange.to_request(alloc, asker.at_endpoint())?;
+    Ok(request.prepare_request(alloc)?)
+}
+
 fn example(alloc: Global) -> Result<TokenExchange<'static>, Fail> {
-    Ok(TokenExchange::new(alloc, SUBJECT, TokenTypeIdentifier::AccessToken)?)
+    let exchange = TokenExchange::new(alloc, SUBJECT, TokenTypeIdentifier::AccessToken)?;
+    Ok(exchange.add_resource("https://backend.example.com/api")?)
 }
 
-fn check_exchange(
-    alloc: Global,
-    asker: &Asker,
-    exchange: &TokenExchange<'_>,
-    body: &str,
-) -> Result<(), Fail> {
-    let request: Asking<'_> = exchange.to_request(alloc, asker.at_endpoint())?;
-    check_body(alloc, &request, body)
-}
-
-// The request of RFC 8693, section 2.3.
-#[test]
-fn the_example(rt: HostRuntime) -> Result<(), Fail> {
-    let alloc = rt.alloc();
-    let asker = Asker::of_the_example(alloc)?;
-    let exchange = example(alloc)?.add_resource("https://backend.example.com/api")?;
-    let request: Asking<'_> = exchange.to_request(alloc, asker.at_endpoint())?;
-    let sent = request.prepare_request(alloc)?;
-    check_text(
-        std::str::from_utf8(sent.body().as_slice())?,
+// Checks the body and the header of the example.
+fn check_example(sent: &HttpRequest) -> Result<(), Fail> {
+    check_sent(
+        sent,
         "grant_type=urn%3Aietf%3Aparams%3Aoauth%3Agrant-type%3Atoken-exchange\
 &resource=https%3A%2F%2Fbackend.example.com%2Fapi\
 &subject_token=accVkjcJyb4BWCxGsndESCJQbdFMogUC5PbRDqceLTC\
@@ -47,11 +39,18 @@ fn the_example(rt: HostRuntime) -> Result<(), Fail> {
     )
 }
 
-// Every parameter of RFC 8693, section 2.1, in its order; two of them repeated.
+// The request of RFC 8693, section 2.3.
 #[test]
-fn all_parameters(rt: HostRuntime) -> Result<(), Fail> {
+fn the_example(rt: HostRuntime) -> Result<(), Fail> {
     let alloc = rt.alloc();
-    let asker = Asker::public(alloc)?;
+    let asker = Asker::of_the_example(alloc)?;
+    let exchange = example(alloc)?;
+    let sent = post(alloc, &asker, &exchange)?;
+    check_example(&sent)
+}
+
+// An exchange with every parameter, two of them repeated.
+fn full_exchange(alloc: Global) -> Result<TokenExchange<'static>, Fail> {
     let exchange = TokenExchange::new(alloc, "s", TokenTypeIdentifier::Jwt)?
         .set_actor_token("a", TokenTypeIdentifier::Other("urn:example:actor"))?
         .set_requested_token_type(TokenTypeIdentifier::Saml2)?
@@ -59,10 +58,18 @@ fn all_parameters(rt: HostRuntime) -> Result<(), Fail> {
         .add_audience("d")?
         .add_resource("https://rs.example/1")?
         .add_resource("https://rs.example/2?x=y")?;
-    check_exchange(
-        alloc,
-        &asker,
-        &exchange,
+    Ok(exchange)
+}
+
+// Every parameter of RFC 8693, section 2.1, in its order; two of them repeated.
+#[test]
+fn all_parameters(rt: HostRuntime) -> Result<(), Fail> {
+    let alloc = rt.alloc();
+    let asker = Asker::public(alloc)?;
+    let exchange = full_exchange(alloc)?;
+    let sent = post(alloc, &asker, &exchange)?;
+    check_sent(
+        &sent,
         "grant_type=urn%3Aietf%3Aparams%3Aoauth%3Agrant-type%3Atoken-exchange&client_id=aaa\
 &resource=https%3A%2F%2Frs.example%2F1&resource=https%3A%2F%2Frs.example%2F2%3Fx%3Dy\
 &audience=b+c&audience=d\

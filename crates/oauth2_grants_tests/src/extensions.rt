@@ -15,18 +15,25 @@ fn request_of<'a>(
     ExtensionTokenRequest::new(alloc, asker.at_endpoint(), grant_type)
 }
 
+// A request with an assertion and a scope.
+fn with_assertion_and_scope(alloc: Global, asker: &Asker) -> Result<Asking<'_>, Fail> {
+    let scope = Scope::new(text(alloc, "a")?);
+    let request = request_of(
+        alloc,
+        asker,
+        "urn:ietf:params:oauth:grant-type:saml2-bearer",
+    )?
+    .add_param("assertion".into(), "PHNhbWxwOl...".into())?
+    .add_scope(scope)?;
+    Ok(request)
+}
+
 // The parameters of RFC 7522, section 2.1, by a client without a secret.
 #[test]
 fn an_extension(rt: HostRuntime) -> Result<(), Fail> {
     let alloc = rt.alloc();
     let asker = Asker::public(alloc)?;
-    let request = request_of(
-        alloc,
-        &asker,
-        "urn:ietf:params:oauth:grant-type:saml2-bearer",
-    )?
-    .add_param("assertion".into(), "PHNhbWxwOl...".into())?
-    .add_scope(Scope::new(text(alloc, "a")?))?;
+    let request = with_assertion_and_scope(alloc, &asker)?;
     check_body(
         alloc,
         &request,

@@ -1,7 +1,7 @@
 //! Responses to an exchange (RFC 8693, section 2.2).
 
 use oauth2_grants::{TokenExchangeErrorType, TokenExchangeResponse};
-use oauth2_json::ParseCause;
+use oauth2_json::{ParseCause, ReadError};
 use oauth2_tests_support::{check_debug, check_display, check_fault, check_written, read};
 use std::alloc::Global;
 use std::test::Fail;
@@ -11,15 +11,20 @@ const ISSUED: &str = "{\"access_token\":\"eyJhbGciOiJFUzI1NiJ9\",\
 \"issued_token_type\":\"urn:ietf:params:oauth:token-type:access_token\",\
 \"token_type\":\"Bearer\",\"expires_in\":60}";
 
+fn response(alloc: Global, body: &str) -> Result<TokenExchangeResponse, ReadError> {
+    read(alloc, body)
+}
+
+// Checks which type the response tells.
+fn check_told(alloc: Global, response: &TokenExchangeResponse, wanted: &str) -> Result<(), Fail> {
+    check_debug(alloc, &response.extra_fields().issued_token_type(), wanted)
+}
+
 #[test]
 fn the_example(rt: HostRuntime) -> Result<(), Fail> {
     let alloc = rt.alloc();
-    let response: TokenExchangeResponse = read(alloc, ISSUED)?;
-    check_debug(
-        alloc,
-        &response.extra_fields().issued_token_type(),
-        "AccessToken",
-    )?;
+    let response = response(alloc, ISSUED)?;
+    check_told(alloc, &response, "AccessToken")?;
     check_written(
         alloc,
         &response,
@@ -29,8 +34,8 @@ fn the_example(rt: HostRuntime) -> Result<(), Fail> {
 }
 
 fn check_type(alloc: Global, body: &str, wanted: &str) -> Result<(), Fail> {
-    let response: TokenExchangeResponse = read(alloc, body)?;
-    check_debug(alloc, &response.extra_fields().issued_token_type(), wanted)
+    let response = response(alloc, body)?;
+    check_told(alloc, &response, wanted)
 }
 
 // Section 3's types, another one, and `N_A` for a token that is no access token (2.2.1).

@@ -10,20 +10,36 @@
 
 mod tokens;
 
+use std::alloc::Global;
 use std::io::{self, BufRead, BufReader, Write};
 use tokens::Tokens;
 
-fn main(rt: HostRuntime) -> anyhow::Result<()> {
-    let alloc = rt.alloc();
-    let mut writer = io::writer(&rt);
-    let mut tokens = Tokens::new(alloc)?;
-    for line in BufReader::new(alloc, rt.reader())?.lines(alloc) {
+// Prints a heading as it is, and runs the command of any other line.
+fn run_line<W: Write>(
+    alloc: Global,
+    tokens: &mut Tokens,
+    line: &str,
+    writer: &mut W,
+) -> anyhow::Result<()> {
+    if line.starts_with('#') {
+        writeln!(writer, "{line}")?;
+        Ok(())
+    } else {
+        tokens.run_line(alloc, line, writer)
+    }
+}
+
+// Runs the lines of standard input.
+fn run_lines(rt: &HostRuntime, tokens: &mut Tokens) -> anyhow::Result<()> {
+    let mut writer = io::writer(rt);
+    for line in BufReader::new(rt.alloc(), rt.reader())?.lines(rt.alloc()) {
         let line = line?;
-        if line.starts_with('#') {
-            writeln!(writer, "{line}")?;
-        } else {
-            tokens.run_line(alloc, &line, &mut writer)?;
-        }
+        run_line(rt.alloc(), tokens, &line, &mut writer)?;
     }
     Ok(())
+}
+
+fn main(rt: HostRuntime) -> anyhow::Result<()> {
+    let mut tokens = Tokens::new(rt.alloc())?;
+    run_lines(&rt, &mut tokens)
 }

@@ -2,13 +2,15 @@
 
 use jiff::Timestamp;
 use oauth2::{AuthorizationCode, ClientId, ClientSecret, FromJson};
-use oauth2_hybrid_login::VerifiedFrontToken;
+use oauth2_hybrid_login::{FrontTokenError, VerifiedFrontToken};
 use oauth2_keys::{JsonWebKeySet, SecretAlgorithm, SignatureAlgorithm};
 use oauth2_openid::{Expected, IdToken, IssuerRule, Nonce};
 use oauth2_verified_login::SignatureCheck;
 use std::alloc::{AllocError, Global};
-use std::io::Write;
+use std::io::{self, Write};
 use std::time::Duration;
+
+type Verified = Result<VerifiedFrontToken, FrontTokenError>;
 
 // How a signature is checked if its algorithm has this name.
 fn check_of<'a>(
@@ -28,24 +30,68 @@ fn check_of<'a>(
 
 // What the client of the standard's examples expects of a token with this algorithm.
 fn expected(alloc: Global, algorithm: &str) -> Result<Expected, AllocError> {
+    let issuer = String::from_str(alloc, "http://server.example.com")?;
+    let client_id = ClientId::from_str(alloc, "s6BhdRkqt3")?;
+    let algorithm = String::from_str(alloc, algorithm)?;
+    let nonce = String::from_str(alloc, "n-0S6_WzA2Mj")?;
     Ok(Expected {
-        issuer: IssuerRule::Is(String::from_str(alloc, "http://server.example.com")?),
-        client_id: ClientId::from_str(alloc, "s6BhdRkqt3")?,
+        issuer: IssuerRule::Is(issuer),
+        client_id,
         other_audiences: Vec::new(alloc),
         authorized_parties: Vec::new(alloc),
-        algorithm: Some(String::from_str(alloc, algorithm)?),
-        nonce: Some(Nonce::new(String::from_str(alloc, "n-0S6_WzA2Mj")?)),
+        algorithm: Some(algorithm),
+        nonce: Some(Nonce::new(nonce)),
         leeway: Duration::from_secs(60),
         max_age: None,
     })
 }
 
+// The result for a token with this algorithm that came with this code.
+fn verified_front(
+    alloc: Global,
+    algorithm: &str,
+    code: &str,
+    text: &str,
+    check: SignatureCheck<'_>,
+) -> anyhow::Result<Verified> {
+    let now = Timestamp::from_second(1_311_281_000)?;
+    let code = AuthorizationCode::new(String::from_str(alloc, code)?);
+    let expected = expected(alloc, algorithm)?;
+    Ok(VerifiedFrontToken::verify(alloc, text, &code, &expected, check, now))
+}
+
+// The result for the token of a line; `None` if the line has no algorithm.
+fn verified_of(
+    alloc: Global,
+    keys: &JsonWebKeySet,
+    secret: &ClientSecret,
+    line: &str,
+) -> anyhow::Result<Option<Verified>> {
+    let mut words = line.split(' ');
+    let algorithm = words.next().unwrap_or("");
+    let code = words.next().unwrap_or("");
+    let text = words.next().unwrap_or("");
+    match check_of(algorithm, keys, secret) {
+        Some(check) => Ok(Some(verified_front(alloc, algorithm, code, text, check)?)),
+        None => Ok(None),
+    }
+}
+
 /// The keys and the secret of a run, and the last token that was verified.
-#[derive(Drop)]
 pub struct Tokens {
     keys: JsonWebKeySet,
     secret: ClientSecret,
     verified: Option<VerifiedFrontToken>,
+}
+
+impl Drop for Tokens {
+    fn drop(self) {
+        let Tokens {
+            keys: _,
+            secret: _,
+            verified: _,
+        } = self;
+    }
 }
 
 impl Tokens {
@@ -85,24 +131,25 @@ impl Tokens {
         line: &str,
         writer: &mut W,
     ) -> anyhow::Result<()> {
-        let mut words = line.split(' ');
-        let algorithm = words.next().unwrap_or("");
-        let code = AuthorizationCode::new(String::from_str(alloc, words.next().unwrap_or(""))?);
-        let text = words.next().unwrap_or("");
-        let Some(check) = check_of(algorithm, &self.keys, &self.secret) else {
-            writeln!(writer, "?")?;
-            return Ok(());
-        };
-        let expected = expected(alloc, algorithm)?;
-        let now = Timestamp::from_second(1_311_281_000)?;
-        match VerifiedFrontToken::verify(alloc, text, &code, &expected, check, now) {
-            Ok(verified) => {
-                let user = verified.id_token().claims().subject();
-                writeln!(writer, "{user} {verified:?}")?;
-                self.verified = Some(verified);
-            }
-            Err(error) => writeln!(writer, "{error}, {error:?}")?,
+        match verified_of(alloc, &self.keys, &self.secret, line)? {
+            Some(verified) => self.show(verified, writer)?,
+            None => writeln!(writer, "?")?,
         }
+        Ok(())
+    }
+
+    fn show<W: Write>(&mut self, verified: Verified, writer: &mut W) -> io::Result<()> {
+        match verified {
+            Ok(verified) => self.keep(verified, writer),
+            Err(error) => writeln!(writer, "{error}, {error:?}"),
+        }
+    }
+
+    // Prints who the user of a token is, and keeps the token.
+    fn keep<W: Write>(&mut self, verified: VerifiedFrontToken, writer: &mut W) -> io::Result<()> {
+        let user = verified.id_token().claims().subject();
+        writeln!(writer, "{user} {verified:?}")?;
+        self.verified = Some(verified);
         Ok(())
     }
 

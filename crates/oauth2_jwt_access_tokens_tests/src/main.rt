@@ -14,18 +14,30 @@ use jiff::Timestamp;
 use oauth2_codes::BasicTokenType;
 use oauth2_introspection::StandardTokenIntrospectionResponse;
 use oauth2_json::{FromJson, ToJson};
-use oauth2_jwt_access_tokens::{ExpectedAccessToken, JwtAccessToken, VerifiedAccessToken};
+use oauth2_jwt_access_tokens::{
+    ExpectedAccessToken, JwtAccessToken, JwtAccessTokenReadError, VerifiedAccessToken,
+};
 use oauth2_keys::{JsonWebKeySet, SignatureAlgorithm};
 use oauth2_replies::EmptyExtraTokenFields;
 use std::alloc::Global;
 use std::io::{self, BufRead, BufReader, Write};
 use std::time::Duration;
 
+type Response = StandardTokenIntrospectionResponse<EmptyExtraTokenFields, BasicTokenType>;
+
 // What the lines so far have set.
-#[derive(Drop)]
 struct Server {
     keys: JsonWebKeySet,
     expected: ExpectedAccessToken,
+}
+
+impl Drop for Server {
+    fn drop(self) {
+        let Server {
+            keys: _,
+            expected: _,
+        } = self;
+    }
 }
 
 fn read_set(alloc: Global, text: &str) -> Option<JsonWebKeySet> {
@@ -34,14 +46,16 @@ fn read_set(alloc: Global, text: &str) -> Option<JsonWebKeySet> {
 
 fn read_expected(alloc: Global, line: &str) -> io::Result<Option<ExpectedAccessToken>> {
     let mut words = line.split(' ');
-    let issuer = String::from_str(alloc, words.next().unwrap_or(""))?;
-    let audience = String::from_str(alloc, words.next().unwrap_or(""))?;
+    let issuer = words.next().unwrap_or("");
+    let audience = words.next().unwrap_or("");
     let Some(algorithm) = SignatureAlgorithm::from_name(words.next().unwrap_or("")) else {
         return Ok(None);
     };
     let Ok(seconds) = words.next().unwrap_or("").parse::<u32>() else {
         return Ok(None);
     };
+    let issuer = String::from_str(alloc, issuer)?;
+    let audience = String::from_str(alloc, audience)?;
     Ok(Some(ExpectedAccessToken {
         issuer,
         audience,
@@ -75,10 +89,15 @@ fn write_said<W: Write>(token: &JwtAccessToken, writer: &mut W) -> io::Result<()
     writeln!(writer, "others {}", token.other_claims())
 }
 
+// Prints why a text is no JWT access token.
+fn write_no_token<W: Write>(error: JwtAccessTokenReadError, writer: &mut W) -> io::Result<()> {
+    writeln!(writer, "{error}")
+}
+
 fn write_says<W: Write>(alloc: Global, text: &str, writer: &mut W) -> io::Result<()> {
     match JwtAccessToken::from_text(alloc, text) {
         Ok(token) => write_said(&token, writer),
-        Err(error) => writeln!(writer, "{error}"),
+        Err(error) => write_no_token(error, writer),
     }
 }
 
@@ -86,7 +105,7 @@ fn write_has_scope<W: Write>(alloc: Global, line: &str, writer: &mut W) -> io::R
     let (scope, text) = line.split_once(' ').unwrap_or(("", ""));
     match JwtAccessToken::from_text(alloc, text) {
         Ok(token) => writeln!(writer, "{}", token.has_scope(scope)),
-        Err(error) => writeln!(writer, "{error}"),
+        Err(error) => write_no_token(error, writer),
     }
 }
 
@@ -108,6 +127,13 @@ fn write_checked<W: Write>(
                 token.check(&server.expected, &server.keys, now)
             )
         }
+        Err(error) => write_no_token(error, writer),
+    }
+}
+
+fn write_json<W: Write>(alloc: Global, response: &Response, writer: &mut W) -> io::Result<()> {
+    match response.to_json(alloc) {
+        Ok(value) => writeln!(writer, "{value}"),
         Err(error) => writeln!(writer, "{error}"),
     }
 }
@@ -117,11 +143,21 @@ fn write_response<W: Write>(
     token: &VerifiedAccessToken,
     writer: &mut W,
 ) -> io::Result<()> {
-    let response: StandardTokenIntrospectionResponse<EmptyExtraTokenFields, BasicTokenType> =
-        token.introspection(alloc, EmptyExtraTokenFields {})?;
-    match response.to_json(alloc) {
-        Ok(value) => writeln!(writer, "{value}"),
-        Err(error) => writeln!(writer, "{error}"),
+    let response: Response = token.introspection(alloc, EmptyExtraTokenFields {})?;
+    write_json(alloc, &response, writer)
+}
+
+// Prints the token in the form of an introspection response, or why it is refused.
+fn write_judged<W: Write>(
+    alloc: Global,
+    server: &Server,
+    token: JwtAccessToken,
+    now: Timestamp,
+    writer: &mut W,
+) -> io::Result<()> {
+    match token.verified(&server.expected, &server.keys, now) {
+        Ok(verified) => write_response(alloc, &verified, writer),
+        Err(refused) => writeln!(writer, "{refused:?}: {refused}"),
     }
 }
 
@@ -136,11 +172,8 @@ fn write_introspected<W: Write>(
         return writeln!(writer, "?");
     };
     match JwtAccessToken::from_text(alloc, text) {
-        Ok(token) => match token.verified(&server.expected, &server.keys, now) {
-            Ok(verified) => write_response(alloc, &verified, writer),
-            Err(refused) => writeln!(writer, "{refused:?}: {refused}"),
-        },
-        Err(error) => writeln!(writer, "{error}"),
+        Ok(token) => write_judged(alloc, server, token, now, writer),
+        Err(error) => write_no_token(error, writer),
     }
 }
 
@@ -165,37 +198,74 @@ fn write_line<W: Write>(
     }
 }
 
+fn set_keys<W: Write>(
+    alloc: Global,
+    server: &mut Server,
+    text: &str,
+    writer: &mut W,
+) -> io::Result<()> {
+    match read_set(alloc, text) {
+        Some(keys) => {
+            server.keys = keys;
+            Ok(())
+        }
+        None => writeln!(writer, "?"),
+    }
+}
+
+fn set_expected<W: Write>(
+    alloc: Global,
+    server: &mut Server,
+    words: &str,
+    writer: &mut W,
+) -> io::Result<()> {
+    match read_expected(alloc, words)? {
+        Some(expected) => {
+            server.expected = expected;
+            Ok(())
+        }
+        None => writeln!(writer, "?"),
+    }
+}
+
+fn run_line<W: Write>(
+    alloc: Global,
+    server: &mut Server,
+    line: &str,
+    writer: &mut W,
+) -> io::Result<()> {
+    if let Some(text) = line.strip_prefix("set ") {
+        set_keys(alloc, server, text, writer)
+    } else if let Some(words) = line.strip_prefix("expect ") {
+        set_expected(alloc, server, words, writer)
+    } else {
+        write_line(alloc, server, line, writer)
+    }
+}
+
+// Does what the lines of standard input say.
+fn run_lines(rt: &HostRuntime, server: &mut Server) -> io::Result<()> {
+    let mut writer = io::writer(rt);
+    for line in BufReader::new(rt.alloc(), rt.reader())?.lines(rt.alloc()) {
+        let line = line?;
+        run_line(rt.alloc(), server, &line, &mut writer)?;
+    }
+    Ok(())
+}
+
 fn new_server(alloc: Global) -> io::Result<Option<Server>> {
-    let Some(keys) = read_set(alloc, "{\"keys\":[]}") else {
+    let Some(expected) = read_expected(alloc, "- - RS256 0")? else {
         return Ok(None);
     };
-    let Some(expected) = read_expected(alloc, "- - RS256 0")? else {
+    let Some(keys) = read_set(alloc, "{\"keys\":[]}") else {
         return Ok(None);
     };
     Ok(Some(Server { keys, expected }))
 }
 
 fn main(rt: HostRuntime) -> io::Result<()> {
-    let alloc = rt.alloc();
-    let mut writer = io::writer(&rt);
-    let Some(mut server) = new_server(alloc)? else {
-        return writeln!(writer, "?");
-    };
-    for line in BufReader::new(alloc, rt.reader())?.lines(alloc) {
-        let line = line?;
-        if let Some(text) = line.strip_prefix("set ") {
-            match read_set(alloc, text) {
-                Some(keys) => server.keys = keys,
-                None => writeln!(writer, "?")?,
-            }
-        } else if let Some(words) = line.strip_prefix("expect ") {
-            match read_expected(alloc, words)? {
-                Some(expected) => server.expected = expected,
-                None => writeln!(writer, "?")?,
-            }
-        } else {
-            write_line(alloc, &server, &line, &mut writer)?;
-        }
+    match new_server(rt.alloc())? {
+        Some(mut server) => run_lines(&rt, &mut server),
+        None => rt.println("?"),
     }
-    Ok(())
 }

@@ -11,13 +11,22 @@ use std::alloc::Global;
 pub struct NoReply;
 
 /// An HTTP client that returns each reply once, and counts its calls.
-#[derive(Drop)]
 pub struct Canned {
     /// How many requests were sent.
     pub sent: u32,
     /// The last one.
     pub request: Option<HttpRequest>,
     reply: Option<HttpResponse>,
+}
+
+impl Drop for Canned {
+    fn drop(self) {
+        let Canned {
+            sent: _,
+            request: _,
+            reply: _,
+        } = self;
+    }
 }
 
 impl Canned {
@@ -43,16 +52,27 @@ impl Canned {
     }
 }
 
-fn made_reply(alloc: Global, status: u16, media_type: &str, body: &str) -> Option<HttpResponse> {
-    let mut head = Parts::new(alloc);
-    head.status = StatusCode::from_u16(status).ok()?;
-    if media_type != "-" {
-        let value = HeaderValue::from_str(alloc, media_type).ok()?;
-        if head.headers.insert(CONTENT_TYPE, value).is_err() {
-            return None;
-        }
+// Sets the Content-Type. Returns whether it is one.
+fn set_media_type(alloc: Global, head: &mut Parts, media_type: &str) -> bool {
+    match HeaderValue::from_str(alloc, media_type) {
+        Ok(value) => head.headers.insert(CONTENT_TYPE, value).is_ok(),
+        Err(_) => false,
     }
+}
+
+fn made_head(alloc: Global, status: u16, media_type: &str) -> Option<Parts> {
+    let status = StatusCode::from_u16(status).ok()?;
+    let mut head = Parts::new(alloc);
+    head.status = status;
+    if media_type != "-" && !set_media_type(alloc, &mut head, media_type) {
+        return None;
+    }
+    Some(head)
+}
+
+fn made_reply(alloc: Global, status: u16, media_type: &str, body: &str) -> Option<HttpResponse> {
     let body = String::from_str(alloc, body).ok()?;
+    let head = made_head(alloc, status, media_type)?;
     Some(Response::from_parts(head, body.into_bytes()))
 }
 

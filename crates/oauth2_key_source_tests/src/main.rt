@@ -15,19 +15,34 @@ mod canned;
 mod sources;
 
 use sources::Sources;
+use std::alloc::Global;
 use std::io::{self, BufRead, BufReader, Write};
 
-fn main(rt: HostRuntime) -> anyhow::Result<()> {
-    let alloc = rt.alloc();
-    let mut writer = io::writer(&rt);
-    let mut sources = Sources::new();
-    for line in BufReader::new(alloc, rt.reader())?.lines(alloc) {
+// Prints a heading as it is, and does what any other line says.
+fn run_line<W: Write>(
+    alloc: Global,
+    sources: &mut Sources,
+    line: &str,
+    writer: &mut W,
+) -> io::Result<()> {
+    if line.starts_with('#') {
+        writeln!(writer, "{line}")
+    } else {
+        sources.run_line(alloc, line, writer)
+    }
+}
+
+// Runs the lines of standard input.
+fn run_lines(rt: &HostRuntime, sources: &mut Sources) -> anyhow::Result<()> {
+    let mut writer = io::writer(rt);
+    for line in BufReader::new(rt.alloc(), rt.reader())?.lines(rt.alloc()) {
         let line = line?;
-        if line.starts_with('#') {
-            writeln!(writer, "{line}")?;
-        } else {
-            sources.run_line(alloc, &line, &mut writer)?;
-        }
+        run_line(rt.alloc(), sources, &line, &mut writer)?;
     }
     Ok(())
+}
+
+fn main(rt: HostRuntime) -> anyhow::Result<()> {
+    let mut sources = Sources::new();
+    run_lines(&rt, &mut sources)
 }

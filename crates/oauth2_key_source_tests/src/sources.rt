@@ -40,6 +40,14 @@ fn read_moment(text: &str) -> Option<Timestamp> {
     Timestamp::from_second(text.parse::<i64>().ok()?).ok()
 }
 
+// The name of a call, its moment if it has one, and what is behind it.
+fn words_of(line: &str) -> (&str, Option<Timestamp>, &str) {
+    let mut words = line.split(' ');
+    let name = words.next().unwrap_or("");
+    let moment = read_moment(words.next().unwrap_or(""));
+    (name, moment, words.next().unwrap_or(""))
+}
+
 fn name_of(key: &ListedKey) -> &str {
     let name = match key {
         ListedKey::Usable(key) => key.key_id(),
@@ -75,6 +83,17 @@ fn write_answer<W: Write>(
     }
 }
 
+fn write_verified<W: Write>(
+    verified: Result<(), VerifyError<NoReply>>,
+    writer: &mut W,
+) -> io::Result<()> {
+    match verified {
+        Ok(()) => write!(writer, "verified"),
+        Err(VerifyError::Keys(error)) => write_source_error(&error, writer),
+        Err(error) => write!(writer, "{error}"),
+    }
+}
+
 fn write_request<W: Write>(request: &HttpRequest, writer: &mut W) -> io::Result<()> {
     let accept = match request.headers().get(ACCEPT) {
         Some(value) => value.to_str().unwrap_or("?"),
@@ -89,10 +108,18 @@ fn write_request<W: Write>(request: &HttpRequest, writer: &mut W) -> io::Result<
 }
 
 /// The calls of a run.
-#[derive(Drop)]
 pub struct Sources {
     client: Canned,
     source: Option<KeySource>,
+}
+
+impl Drop for Sources {
+    fn drop(self) {
+        let Sources {
+            client: _,
+            source: _,
+        } = self;
+    }
 }
 
 impl Sources {
@@ -165,10 +192,7 @@ impl Sources {
         line: &str,
         writer: &mut W,
     ) -> io::Result<()> {
-        let mut words = line.split(' ');
-        let command = words.next().unwrap_or("");
-        let moment = read_moment(words.next().unwrap_or(""));
-        let text = words.next().unwrap_or("");
+        let (command, moment, text) = words_of(line);
         match (command, moment) {
             ("keys", Some(now)) => {
                 write_answer(source.keys(alloc, now, &mut self.client), writer)?;
@@ -200,11 +224,8 @@ impl Sources {
             return write!(writer, "no token");
         };
         let algorithm = SignatureAlgorithm::Rs256;
-        match source.verify(alloc, &token, algorithm, now, &mut self.client) {
-            Ok(()) => write!(writer, "verified"),
-            Err(VerifyError::Keys(error)) => write_source_error(&error, writer),
-            Err(error) => write!(writer, "{error}"),
-        }
+        let verified = source.verify(alloc, &token, algorithm, now, &mut self.client);
+        write_verified(verified, writer)
     }
 
     fn show_request<W: Write>(&self, writer: &mut W) -> io::Result<()> {

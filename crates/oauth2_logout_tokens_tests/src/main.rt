@@ -14,17 +14,28 @@
 use jiff::Timestamp;
 use oauth2_json::FromJson;
 use oauth2_keys::{JsonWebKeySet, SignatureAlgorithm};
-use oauth2_logout_tokens::{ExpectedLogoutToken, LogoutToken, TypeRule};
+use oauth2_logout_tokens::{
+    ExpectedLogoutToken, LogoutToken, LogoutTokenReadError, RefusedLogoutToken, TypeRule,
+    VerifiedLogoutToken,
+};
 use oauth2_types::ClientId;
 use std::alloc::Global;
 use std::io::{self, BufRead, BufReader, Write};
 use std::time::Duration;
 
 // What the lines so far have set.
-#[derive(Drop)]
 struct Client {
     keys: JsonWebKeySet,
     expected: ExpectedLogoutToken,
+}
+
+impl Drop for Client {
+    fn drop(self) {
+        let Client {
+            keys: _,
+            expected: _,
+        } = self;
+    }
 }
 
 fn read_set(alloc: Global, text: &str) -> Option<JsonWebKeySet> {
@@ -39,31 +50,68 @@ fn read_types(word: &str) -> Option<TypeRule> {
     }
 }
 
-fn read_expected(alloc: Global, line: &str) -> io::Result<Option<ExpectedLogoutToken>> {
-    let mut words = line.split(' ');
-    let issuer = String::from_str(alloc, words.next().unwrap_or(""))?;
-    let client = String::from_str(alloc, words.next().unwrap_or(""))?;
-    let Some(algorithm) = SignatureAlgorithm::from_name(words.next().unwrap_or("")) else {
-        return Ok(None);
-    };
-    let Some(type_rule) = read_types(words.next().unwrap_or("")) else {
-        return Ok(None);
-    };
-    let Ok(seconds) = words.next().unwrap_or("").parse::<u32>() else {
-        return Ok(None);
-    };
-    let mut other_audiences = Vec::new(alloc);
-    for word in words {
-        other_audiences.push(String::from_str(alloc, word)?)?;
+// What a client expects of a logout token beside its texts.
+#[derive(Clone, Copy)]
+struct Rules {
+    algorithm: SignatureAlgorithm,
+    types: TypeRule,
+    leeway: Duration,
+}
+
+fn read_rules(algorithm: &str, types: &str, leeway: &str) -> Option<Rules> {
+    let algorithm = SignatureAlgorithm::from_name(algorithm)?;
+    let types = read_types(types)?;
+    let seconds = leeway.parse::<u32>().ok()?;
+    Some(Rules {
+        algorithm,
+        types,
+        leeway: Duration::from_secs(u64::from(seconds)),
+    })
+}
+
+// The words of a text; none if there is no text.
+fn read_audiences(alloc: Global, text: Option<&str>) -> io::Result<Vec<String>> {
+    let mut audiences = Vec::new(alloc);
+    if let Some(text) = text {
+        for word in text.split(' ') {
+            audiences.push(String::from_str(alloc, word)?)?;
+        }
     }
-    Ok(Some(ExpectedLogoutToken {
+    Ok(audiences)
+}
+
+fn expected_by(
+    alloc: Global,
+    rules: Rules,
+    issuer: &str,
+    client: &str,
+    audiences: Option<&str>,
+) -> io::Result<ExpectedLogoutToken> {
+    let issuer = String::from_str(alloc, issuer)?;
+    let client = String::from_str(alloc, client)?;
+    let other_audiences = read_audiences(alloc, audiences)?;
+    Ok(ExpectedLogoutToken {
         issuer,
         client_id: ClientId::new(client),
         other_audiences,
-        algorithm,
-        type_rule,
-        leeway: Duration::from_secs(u64::from(seconds)),
-    }))
+        algorithm: rules.algorithm,
+        type_rule: rules.types,
+        leeway: rules.leeway,
+    })
+}
+
+fn read_expected(alloc: Global, line: &str) -> io::Result<Option<ExpectedLogoutToken>> {
+    let mut words = line.splitn(6, ' ');
+    let issuer = words.next().unwrap_or("");
+    let client = words.next().unwrap_or("");
+    let algorithm = words.next().unwrap_or("");
+    let types = words.next().unwrap_or("");
+    let leeway = words.next().unwrap_or("");
+    let audiences = words.next();
+    match read_rules(algorithm, types, leeway) {
+        Some(rules) => Ok(Some(expected_by(alloc, rules, issuer, client, audiences)?)),
+        None => Ok(None),
+    }
 }
 
 fn read_moment(text: &str) -> Option<Timestamp> {
@@ -107,10 +155,15 @@ fn write_said<W: Write>(token: &LogoutToken, writer: &mut W) -> io::Result<()> {
     writeln!(writer, "others {}", token.other_claims())
 }
 
+// Prints why a text is no logout token.
+fn write_no_token<W: Write>(error: LogoutTokenReadError, writer: &mut W) -> io::Result<()> {
+    writeln!(writer, "{error}")
+}
+
 fn write_says<W: Write>(alloc: Global, text: &str, writer: &mut W) -> io::Result<()> {
     match LogoutToken::from_text(alloc, text) {
         Ok(token) => write_said(&token, writer),
-        Err(error) => writeln!(writer, "{error}"),
+        Err(error) => write_no_token(error, writer),
     }
 }
 
@@ -120,7 +173,7 @@ fn write_is_of<W: Write>(alloc: Global, line: &str, writer: &mut W) -> io::Resul
     let session = if session == "-" { None } else { Some(session) };
     match LogoutToken::from_text(alloc, text) {
         Ok(token) => writeln!(writer, "{}", token.is_of(subject, session)),
-        Err(error) => writeln!(writer, "{error}"),
+        Err(error) => write_no_token(error, writer),
     }
 }
 
@@ -142,7 +195,35 @@ fn write_checked<W: Write>(
                 token.check(&client.expected, &client.keys, now)
             )
         }
-        Err(error) => writeln!(writer, "{error}"),
+        Err(error) => write_no_token(error, writer),
+    }
+}
+
+fn write_user<W: Write>(verified: &VerifiedLogoutToken, writer: &mut W) -> io::Result<()> {
+    writeln!(writer, "{verified:?}")?;
+    writeln!(writer, "{:?}", verified.token().subject())
+}
+
+fn write_accepted<W: Write>(verified: VerifiedLogoutToken, writer: &mut W) -> io::Result<()> {
+    write_user(&verified, writer)?;
+    writeln!(writer, "{:?}", verified.into_token().session_id())
+}
+
+fn write_refused<W: Write>(refused: &RefusedLogoutToken, writer: &mut W) -> io::Result<()> {
+    writeln!(writer, "{refused:?}: {refused}")?;
+    writeln!(writer, "{:?}", refused.token.token_id())
+}
+
+// Prints what the token tells if it is verified, or why it is refused.
+fn write_judged<W: Write>(
+    client: &Client,
+    token: LogoutToken,
+    now: Timestamp,
+    writer: &mut W,
+) -> io::Result<()> {
+    match token.verified(&client.expected, &client.keys, now) {
+        Ok(verified) => write_accepted(verified, writer),
+        Err(refused) => write_refused(&refused, writer),
     }
 }
 
@@ -157,18 +238,8 @@ fn write_verified<W: Write>(
         return writeln!(writer, "?");
     };
     match LogoutToken::from_text(alloc, text) {
-        Ok(token) => match token.verified(&client.expected, &client.keys, now) {
-            Ok(verified) => {
-                writeln!(writer, "{verified:?}")?;
-                writeln!(writer, "{:?}", verified.token().subject())?;
-                writeln!(writer, "{:?}", verified.into_token().session_id())
-            }
-            Err(refused) => {
-                writeln!(writer, "{refused:?}: {refused}")?;
-                writeln!(writer, "{:?}", refused.token.token_id())
-            }
-        },
-        Err(error) => writeln!(writer, "{error}"),
+        Ok(token) => write_judged(client, token, now, writer),
+        Err(error) => write_no_token(error, writer),
     }
 }
 
@@ -193,37 +264,74 @@ fn write_line<W: Write>(
     }
 }
 
+fn set_keys<W: Write>(
+    alloc: Global,
+    client: &mut Client,
+    text: &str,
+    writer: &mut W,
+) -> io::Result<()> {
+    match read_set(alloc, text) {
+        Some(keys) => {
+            client.keys = keys;
+            Ok(())
+        }
+        None => writeln!(writer, "?"),
+    }
+}
+
+fn set_expected<W: Write>(
+    alloc: Global,
+    client: &mut Client,
+    words: &str,
+    writer: &mut W,
+) -> io::Result<()> {
+    match read_expected(alloc, words)? {
+        Some(expected) => {
+            client.expected = expected;
+            Ok(())
+        }
+        None => writeln!(writer, "?"),
+    }
+}
+
+fn run_line<W: Write>(
+    alloc: Global,
+    client: &mut Client,
+    line: &str,
+    writer: &mut W,
+) -> io::Result<()> {
+    if let Some(text) = line.strip_prefix("set ") {
+        set_keys(alloc, client, text, writer)
+    } else if let Some(words) = line.strip_prefix("expect ") {
+        set_expected(alloc, client, words, writer)
+    } else {
+        write_line(alloc, client, line, writer)
+    }
+}
+
+// Does what the lines of standard input say.
+fn run_lines(rt: &HostRuntime, client: &mut Client) -> io::Result<()> {
+    let mut writer = io::writer(rt);
+    for line in BufReader::new(rt.alloc(), rt.reader())?.lines(rt.alloc()) {
+        let line = line?;
+        run_line(rt.alloc(), client, &line, &mut writer)?;
+    }
+    Ok(())
+}
+
 fn new_client(alloc: Global) -> io::Result<Option<Client>> {
-    let Some(keys) = read_set(alloc, "{\"keys\":[]}") else {
+    let Some(expected) = read_expected(alloc, "- - RS256 plain 0")? else {
         return Ok(None);
     };
-    let Some(expected) = read_expected(alloc, "- - RS256 plain 0")? else {
+    let Some(keys) = read_set(alloc, "{\"keys\":[]}") else {
         return Ok(None);
     };
     Ok(Some(Client { keys, expected }))
 }
 
 fn main(rt: HostRuntime) -> io::Result<()> {
-    let alloc = rt.alloc();
-    let mut writer = io::writer(&rt);
-    let Some(mut client) = new_client(alloc)? else {
-        return writeln!(writer, "?");
-    };
-    for line in BufReader::new(alloc, rt.reader())?.lines(alloc) {
-        let line = line?;
-        if let Some(text) = line.strip_prefix("set ") {
-            match read_set(alloc, text) {
-                Some(keys) => client.keys = keys,
-                None => writeln!(writer, "?")?,
-            }
-        } else if let Some(words) = line.strip_prefix("expect ") {
-            match read_expected(alloc, words)? {
-                Some(expected) => client.expected = expected,
-                None => writeln!(writer, "?")?,
-            }
-        } else {
-            write_line(alloc, &client, &line, &mut writer)?;
-        }
+    match new_client(rt.alloc())? {
+        Some(mut client) => run_lines(&rt, &mut client),
+        None => rt.println("?"),
     }
-    Ok(())
 }

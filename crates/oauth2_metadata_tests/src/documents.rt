@@ -71,15 +71,20 @@ fn new_client(alloc: Global) -> Result<BasicClient, AllocError> {
     Ok(Client::new(ClientId::new(text(alloc, "aaa")?)))
 }
 
-#[test]
-fn endpoints(rt: HostRuntime) -> Result<(), Fail> {
-    let alloc = rt.alloc();
-    let metadata: ServerMetadata = read(alloc, EXAMPLE)?;
+fn check_token_endpoint(alloc: Global, metadata: &ServerMetadata) -> Result<(), Fail> {
     let client = metadata.endpoints_of(alloc, new_client(alloc)?)?;
     let token = client.token_uri().ok_or("no URL")?;
-    check_text(token.as_str(), "https://server.example.com/token")?;
+    check_text(token.as_str(), "https://server.example.com/token")
+}
+
+fn check_code_exchange(alloc: Global, metadata: &ServerMetadata) -> Result<(), Fail> {
+    let client = metadata.endpoints_of(alloc, new_client(alloc)?)?;
     let code = AuthorizationCode::new(text(alloc, "abc")?);
-    check_equal(client.exchange_code(alloc, code).is_ok(), true)?;
+    check_equal(client.exchange_code(alloc, code).is_ok(), true)
+}
+
+fn check_no_device_endpoint(alloc: Global, metadata: &ServerMetadata) -> Result<(), Fail> {
+    let client = metadata.endpoints_of(alloc, new_client(alloc)?)?;
     match client.exchange_device_code(alloc) {
         Err(ConfigurationError::MissingUrl(name)) => check_text(name, "device authorization"),
         _ => Err(Fail::new("an endpoint that is not told")),
@@ -87,9 +92,14 @@ fn endpoints(rt: HostRuntime) -> Result<(), Fail> {
 }
 
 #[test]
-fn clients_for_a_task(rt: HostRuntime) -> Result<(), Fail> {
-    let alloc = rt.alloc();
-    let metadata: ServerMetadata = read(alloc, EXAMPLE)?;
+fn endpoints(rt: HostRuntime) -> Result<(), Fail> {
+    let metadata: ServerMetadata = read(rt.alloc(), EXAMPLE)?;
+    check_token_endpoint(rt.alloc(), &metadata)?;
+    check_code_exchange(rt.alloc(), &metadata)?;
+    check_no_device_endpoint(rt.alloc(), &metadata)
+}
+
+fn check_login_client(alloc: Global, metadata: &ServerMetadata) -> Result<(), Fail> {
     let client = metadata.login_client_of(alloc, new_client(alloc)?)?;
     check_text(
         client.auth_uri().as_str(),
@@ -98,12 +108,18 @@ fn clients_for_a_task(rt: HostRuntime) -> Result<(), Fail> {
     check_text(
         client.token_uri().as_str(),
         "https://server.example.com/token",
-    )?;
+    )
+}
+
+fn check_token_client(alloc: Global, metadata: &ServerMetadata) -> Result<(), Fail> {
     let client = metadata.token_client_of(alloc, new_client(alloc)?)?;
     check_text(
         client.token_uri().as_str(),
         "https://server.example.com/token",
-    )?;
+    )
+}
+
+fn check_no_device_client(alloc: Global, metadata: &ServerMetadata) -> Result<(), Fail> {
     let client = metadata.device_client_of(alloc, new_client(alloc)?);
     let error = client.err().ok_or("no error")?;
     check_equal(error, EndpointError::Missing(Endpoint::DeviceAuthorization))?;
@@ -112,6 +128,14 @@ fn clients_for_a_task(rt: HostRuntime) -> Result<(), Fail> {
         &error,
         "metadata has no device_authorization_endpoint",
     )
+}
+
+#[test]
+fn clients_for_a_task(rt: HostRuntime) -> Result<(), Fail> {
+    let metadata: ServerMetadata = read(rt.alloc(), EXAMPLE)?;
+    check_login_client(rt.alloc(), &metadata)?;
+    check_token_client(rt.alloc(), &metadata)?;
+    check_no_device_client(rt.alloc(), &metadata)
 }
 
 // Endpoints that no client may call (RFC 6749, sections 3.1 and 3.2; RFC 7009, section 2).
@@ -148,14 +172,16 @@ const REFUSED: [(&str, Endpoint, EndpointCause); 6] = [
     ),
 ];
 
+fn check_refused(alloc: Global, body: &str, wanted: EndpointFault) -> Result<(), Fail> {
+    let metadata: ServerMetadata = read(alloc, body)?;
+    let client = metadata.login_client_of(alloc, new_client(alloc)?);
+    check_equal(client.err(), Some(EndpointError::Refused(wanted)))
+}
+
 #[test]
 fn refused_endpoints(rt: HostRuntime) -> Result<(), Fail> {
-    let alloc = rt.alloc();
     for (body, endpoint, cause) in REFUSED {
-        let fault = EndpointFault { endpoint, cause };
-        let metadata: ServerMetadata = read(alloc, body)?;
-        let error = metadata.login_client_of(alloc, new_client(alloc)?).err();
-        check_equal(error, Some(EndpointError::Refused(fault)))?;
+        check_refused(rt.alloc(), body, EndpointFault { endpoint, cause })?;
     }
     Ok(())
 }
@@ -169,17 +195,22 @@ const STATUSES: [(u16, &str); 5] = [
     (308, EXAMPLE),
 ];
 
+// Checks that a reply with this status and this body is returned as it came.
+fn check_status(alloc: Global, status: u16, body: &str) -> Result<(), Fail> {
+    let mut http_client = OneReply::with_body(alloc, status, body)?;
+    match request(alloc, &mut http_client)? {
+        Err(MetadataError::Status(reply)) => {
+            check_equal(reply.status, status)?;
+            check_equal(reply.body.as_slice(), body.as_bytes())
+        }
+        _ => Err(Fail::new("no status")),
+    }
+}
+
 #[test]
 fn statuses(rt: HostRuntime) -> Result<(), Fail> {
     for (status, body) in STATUSES {
-        let mut http_client = OneReply::with_body(rt.alloc(), status, body)?;
-        match request(rt.alloc(), &mut http_client)? {
-            Err(MetadataError::Status(reply)) => {
-                check_equal(reply.status, status)?;
-                check_equal(reply.body.as_slice(), body.as_bytes())?;
-            }
-            _ => return Err(Fail::new("no status")),
-        }
+        check_status(rt.alloc(), status, body)?;
     }
     Ok(())
 }

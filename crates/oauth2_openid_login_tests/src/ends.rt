@@ -1,12 +1,10 @@
 //! Tests of logins from their redirect to their ID token.
 
-use crate::support::{End, STORED, check_end, client, now, response};
+use crate::support::{End, STORED, check_end, finish, finish_query, response};
 use oauth2::{RefreshToken, TokenResponse};
 use oauth2_openid::AccessTokenHash;
-use oauth2_openid_login::{OpenIdLogin, OpenIdLoginError, OpenIdProvider};
-use oauth2_tests_support::{
-    OneReply, check_display, check_equal, check_text, check_written, read, url,
-};
+use oauth2_openid_login::{OpenIdLoginEnd, OpenIdLoginError, OpenIdProvider, OpenIdTokenResponse};
+use oauth2_tests_support::{OneReply, check_display, check_equal, check_text, check_written};
 use std::alloc::Global;
 use std::test::Fail;
 use std::time::Duration;
@@ -29,28 +27,6 @@ const REDIRECT: &str =
 const REDIRECT_WITH_ISSUER: &str =
     "https://client.example.org/cb?code=SplxlOBeZQQYbYS6WxSbIA&state=af0ifjsldkj&iss=http%3A%2F%2Fserver.example.com";
 
-// Finishes the login that was stored as this text, with this redirect.
-fn finish(
-    alloc: Global,
-    http_client: &mut OneReply,
-    stored: &str,
-    redirect: &str,
-    tells_issuer: bool,
-) -> Result<End, Fail> {
-    let now = now()?;
-    let login: OpenIdLogin = read(alloc, stored)?;
-    let redirect = url(alloc, redirect)?;
-    let provider = provider(tells_issuer);
-    Ok(login.finish(
-        alloc,
-        &client(alloc)?,
-        http_client,
-        &redirect,
-        &provider,
-        || now,
-    ))
-}
-
 // The token response of the standard's example (3.1.3.3).
 const EXAMPLE: &str = "{\"access_token\":\"SlAV32hkKG\",\"token_type\":\"Bearer\",\
      \"refresh_token\":\"8xLOxBtZp8\",\"expires_in\":3600,\
@@ -62,16 +38,8 @@ const EXAMPLE: &str = "{\"access_token\":\"SlAV32hkKG\",\"token_type\":\"Bearer\
      X7TpdQyHE5lcMiKPXfEIQILVq0pc_E2DzL7emopWoaoZTF_m0_N0YzFC6g6EJbOEoRoSK5hoDalrcvRYLSrQAZZK\
      flyuVCyixEoV9GfNQC3_osjzw2PAithfubEEBLuVVk4XUVrWOLrLl0nx7RkKU8NXNHq-rvKMzqg\"}";
 
-#[test]
-fn the_login_of_the_standard(rt: HostRuntime) -> Result<(), Fail> {
-    let mut http_client = OneReply::with_body(rt.alloc(), 200, EXAMPLE)?;
-    let end = finish(
-        rt.alloc(),
-        &mut http_client,
-        STORED,
-        REDIRECT_WITH_ISSUER,
-        true,
-    )??;
+// Checks the ID token and the token response of the standard's example.
+fn check_example(end: &OpenIdLoginEnd<OpenIdTokenResponse>) -> Result<(), Fail> {
     check_text(end.id_token.claims().subject(), "248289761001")?;
     check_text(
         end.token_response.access_token().secret().as_str(),
@@ -82,7 +50,20 @@ fn the_login_of_the_standard(rt: HostRuntime) -> Result<(), Fail> {
         .refresh_token()
         .map_or("", |t| t.secret().as_str());
     check_text(refresh_token, "8xLOxBtZp8")?;
-    check_equal(end.access_token_hash, AccessTokenHash::Absent)?;
+    check_equal(end.access_token_hash, AccessTokenHash::Absent)
+}
+
+#[test]
+fn the_login_of_the_standard(rt: HostRuntime) -> Result<(), Fail> {
+    let mut http_client = OneReply::with_body(rt.alloc(), 200, EXAMPLE)?;
+    let end = finish(
+        rt.alloc(),
+        &mut http_client,
+        STORED,
+        REDIRECT_WITH_ISSUER,
+        &provider(true),
+    )??;
+    check_example(&end)?;
     let sent = "grant_type=authorization_code&code=SplxlOBeZQQYbYS6WxSbIA&code_verifier=v\
         &client_id=s6BhdRkqt3&redirect_uri=https%3A%2F%2Fclient.example.org%2Fcb";
     check_equal(http_client.sent(), sent.as_bytes())
@@ -113,11 +94,8 @@ const WITH_AUTH_TIME: &str =
 // Checks the result of a login that was stored as this text, if the reply has this body.
 fn check_end_for(alloc: Global, stored: &str, body: &str, wanted: &str) -> Result<(), Fail> {
     let mut http_client = OneReply::with_body(alloc, 200, body)?;
-    check_end(
-        alloc,
-        finish(alloc, &mut http_client, stored, REDIRECT, false)?,
-        wanted,
-    )
+    let end = finish(alloc, &mut http_client, stored, REDIRECT, &provider(false))?;
+    check_end(alloc, end, wanted)
 }
 
 #[test]
@@ -183,6 +161,18 @@ fn a_response_without_an_id_token(rt: HostRuntime) -> Result<(), Fail> {
     Ok(())
 }
 
+// Checks that the error of a redirect returns the login as it was.
+fn check_returned(alloc: Global, end: End, wanted: &str) -> Result<(), Fail> {
+    match end {
+        Err(OpenIdLoginError::Redirect { error, login }) => {
+            check_display(alloc, &error, wanted)?;
+            check_text(login.state().secret().as_str(), "af0ifjsldkj")?;
+            check_written(alloc, &login, STORED_WITH_AGE)
+        }
+        _ => Err(Fail::new("no error of the redirect")),
+    }
+}
+
 // Checks that a login sends nothing, and that the error of its redirect returns the login, if the
 // redirect has another state or another issuer.
 fn check_redirect_refused(
@@ -192,22 +182,16 @@ fn check_redirect_refused(
     wanted: &str,
 ) -> Result<(), Fail> {
     let mut http_client = OneReply::with_body(alloc, 200, EXAMPLE)?;
+    let provider = provider(tells_issuer);
     let end = finish(
         alloc,
         &mut http_client,
         STORED_WITH_AGE,
         redirect,
-        tells_issuer,
+        &provider,
     )?;
-    check_equal(http_client.calls, 0)?;
-    match end {
-        Err(OpenIdLoginError::Redirect { error, login }) => {
-            check_display(alloc, &error, wanted)?;
-            check_text(login.state().secret().as_str(), "af0ifjsldkj")?;
-            check_written(alloc, &login, STORED_WITH_AGE)
-        }
-        _ => Err(Fail::new("no error of the redirect")),
-    }
+    check_returned(alloc, end, wanted)?;
+    check_equal(http_client.calls, 0)
 }
 
 // The issuer of a redirect is compared with the provider's, also if the provider is not known to
@@ -243,17 +227,8 @@ fn a_redirect_without_a_code_of_the_login(rt: HostRuntime) -> Result<(), Fail> {
 // from a provider that is not known to add it.
 #[test]
 fn a_login_that_is_finished_by_a_form(rt: HostRuntime) -> Result<(), Fail> {
-    let alloc = rt.alloc();
-    let now = now()?;
-    let mut http_client = OneReply::with_body(alloc, 200, EXAMPLE)?;
-    let login: OpenIdLogin = read(alloc, STORED)?;
-    let end = login.finish_query(
-        alloc,
-        &client(alloc)?,
-        &mut http_client,
-        "state=af0ifjsldkj&code=SplxlOBeZQQYbYS6WxSbIA&iss=http%3A%2F%2Fserver.example.com",
-        &provider(false),
-        || now,
-    );
-    check_end(alloc, end, "Absent")
+    let mut http_client = OneReply::with_body(rt.alloc(), 200, EXAMPLE)?;
+    let form = "state=af0ifjsldkj&code=SplxlOBeZQQYbYS6WxSbIA&iss=http%3A%2F%2Fserver.example.com";
+    let end = finish_query(rt.alloc(), &mut http_client, STORED, form, &provider(false))?;
+    check_end(rt.alloc(), end, "Absent")
 }

@@ -1,9 +1,9 @@
 //! Tests of providers whose ID tokens have several issuers, audiences or authorized parties.
 
-use crate::support::{STORED, check_end, client, now, response};
+use crate::support::{STORED, check_end, finish_query, response};
 use oauth2_openid::IssuerRule;
-use oauth2_openid_login::{OpenIdLogin, OpenIdProvider};
-use oauth2_tests_support::{OneReply, read, text};
+use oauth2_openid_login::OpenIdProvider;
+use oauth2_tests_support::{OneReply, text};
 use std::alloc::Global;
 use std::test::Fail;
 use std::time::Duration;
@@ -44,18 +44,10 @@ fn check_login(
     more: &str,
     wanted: &str,
 ) -> Result<(), Fail> {
-    let now = now()?;
     let query = format!(in alloc; "state=af0ifjsldkj&code=c{more}")?;
-    let mut http_client = OneReply::with_body(alloc, 200, response(alloc, claims)?.as_str())?;
-    let login: OpenIdLogin = read(alloc, STORED)?;
-    let end = login.finish_query(
-        alloc,
-        &client(alloc)?,
-        &mut http_client,
-        query.as_str(),
-        provider,
-        || now,
-    );
+    let body = response(alloc, claims)?;
+    let mut http_client = OneReply::with_body(alloc, 200, body.as_str())?;
+    let end = finish_query(alloc, &mut http_client, STORED, query.as_str(), provider)?;
     check_end(alloc, end, wanted)
 }
 

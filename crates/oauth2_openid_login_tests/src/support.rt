@@ -3,8 +3,11 @@
 use jiff::Timestamp;
 use oauth2::basic::BasicErrorResponse;
 use oauth2::{AuthUrl, Client, ClientId, RedirectUrl, TokenUrl};
-use oauth2_openid_login::{OpenIdClient, OpenIdLoginEnd, OpenIdLoginError, OpenIdTokenResponse};
-use oauth2_tests_support::{NoReply, check_text, text};
+use oauth2_openid_login::{
+    OpenIdClient, OpenIdLogin, OpenIdLoginEnd, OpenIdLoginError, OpenIdProvider,
+    OpenIdTokenResponse,
+};
+use oauth2_tests_support::{NoReply, OneReply, check_text, read, text, url};
 use std::alloc::Global;
 use std::test::Fail;
 
@@ -31,9 +34,38 @@ pub(crate) fn client(alloc: Global) -> Result<OpenIdClient, Fail> {
     Ok(client_without_redirect(alloc)?.set_redirect_uri(redirect))
 }
 
-/// A time at which the ID tokens of the standard's examples are valid.
-pub(crate) fn now() -> Result<Timestamp, Fail> {
+// A time at which the ID tokens of the standard's examples are valid.
+fn now() -> Result<Timestamp, Fail> {
     Ok(Timestamp::from_second(1311281000).ok().ok_or("no time")?)
+}
+
+/// Finishes the login that was stored as this text, with this query of its redirect.
+pub(crate) fn finish_query(
+    alloc: Global,
+    http_client: &mut OneReply,
+    stored: &str,
+    query: &str,
+    provider: &OpenIdProvider<'_>,
+) -> Result<End, Fail> {
+    let now = now()?;
+    let client = client(alloc)?;
+    let login: OpenIdLogin = read(alloc, stored)?;
+    Ok(login.finish_query(alloc, &client, http_client, query, provider, || now))
+}
+
+/// Finishes the login that was stored as this text, with this redirect.
+pub(crate) fn finish(
+    alloc: Global,
+    http_client: &mut OneReply,
+    stored: &str,
+    redirect: &str,
+    provider: &OpenIdProvider<'_>,
+) -> Result<End, Fail> {
+    let now = now()?;
+    let redirect = url(alloc, redirect)?;
+    let client = client(alloc)?;
+    let login: OpenIdLogin = read(alloc, stored)?;
+    Ok(login.finish(alloc, &client, http_client, &redirect, provider, || now))
 }
 
 /// The response of the standard's example with these claims.

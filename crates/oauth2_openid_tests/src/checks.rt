@@ -2,7 +2,7 @@
 
 use crate::support::{ACCESS_TOKEN, APPENDIX_A2, assert_text_at, read, text, token};
 use jiff::Timestamp;
-use oauth2_openid::{Expected, IssuerRule, Nonce};
+use oauth2_openid::{AccessTokenHash, ClaimsError, Expected, IssuerRule, Nonce};
 use oauth2_types::{AccessToken, ClientId};
 use std::process::Abort;
 use std::time::Duration;
@@ -16,11 +16,11 @@ fn texts(rt: &(impl Abort + AllocGlobal), texts: &[&str]) -> Vec<String> {
     list
 }
 
-// What the client of the standard's examples expects. It also trusts another audience and another
-// authorized party.
-fn expected(rt: &(impl Abort + AllocGlobal)) -> Expected {
+// What the client of the standard's examples expects of this issuer. It also trusts another
+// audience and another authorized party.
+fn expected_of(rt: &(impl Abort + AllocGlobal), issuer: IssuerRule) -> Expected {
     Expected {
-        issuer: IssuerRule::Is(text(rt, "https://server.example.com")),
+        issuer,
         client_id: ClientId::new(text(rt, "s6BhdRkqt3")),
         other_audiences: texts(rt, &["other"]),
         authorized_parties: texts(rt, &["app"]),
@@ -31,10 +31,14 @@ fn expected(rt: &(impl Abort + AllocGlobal)) -> Expected {
     }
 }
 
+// What the client of the standard's examples expects.
+fn expected(rt: &(impl Abort + AllocGlobal)) -> Expected {
+    expected_of(rt, IssuerRule::Is(text(rt, "https://server.example.com")))
+}
+
 // What the client of appendix A expects, which sent no maximum age.
 fn expected_in_appendix(rt: &(impl Abort + AllocGlobal)) -> Expected {
-    let mut wanted = expected(rt);
-    wanted.issuer = IssuerRule::Is(text(rt, "http://server.example.com"));
+    let mut wanted = expected_of(rt, IssuerRule::Is(text(rt, "http://server.example.com")));
     wanted.max_age = None;
     wanted
 }
@@ -49,21 +53,41 @@ const SECTION_2: &str = r#""iss":"https://server.example.com","sub":"24400320","
     "nonce":"n-0S6_WzA2Mj","exp":1311281970,"iat":1311280970,"auth_time":1311280969,
     "acr":"urn:mace:incommon:iap:silver""#;
 
-// What a check of the token returns at that second, as one word.
-fn word(rt: &(impl Abort + AllocGlobal), token: &str, wanted: &Expected, second: i64) -> String {
+// What a check of the token returns at that second.
+fn check_at(
+    rt: &(impl Abort + AllocGlobal),
+    token: &str,
+    wanted: &Expected,
+    second: i64,
+) -> Result<AccessTokenHash, ClaimsError> {
     let now = Timestamp::from_second(second).ok().expect(rt, "a time");
     let access_token = AccessToken::new(text(rt, ACCESS_TOKEN));
-    match read(rt, token).check(wanted, &access_token, now) {
+    let token = read(rt, token);
+    token.check(wanted, &access_token, now)
+}
+
+fn word_of(
+    rt: &(impl Abort + AllocGlobal),
+    checked: Result<AccessTokenHash, ClaimsError>,
+) -> String {
+    match checked {
         Ok(hash) => format!(in rt.alloc(); "{hash:?}").expect(rt, "a word"),
         Err(error) => format!(in rt.alloc(); "{error:?}").expect(rt, "a word"),
     }
+}
+
+// What a check of the token returns at that second, as one word. It takes what the client expects,
+// so that only this function drops one: its drop is proved by many cases.
+fn word(rt: &(impl Abort + AllocGlobal), token: &str, wanted: Expected, second: i64) -> String {
+    let result = check_at(rt, token, &wanted, second);
+    word_of(rt, result)
 }
 
 // Checks what a check of the token at that second returns.
 fn assert_checked_as(
     rt: &(impl Abort + AllocGlobal),
     token: &str,
-    wanted: &Expected,
+    wanted: Expected,
     second: i64,
     word_wanted: &str,
 ) {
@@ -78,7 +102,7 @@ fn assert_checked_as(
 // Checks what a check returns for the claims of section 2, with this header and these members.
 fn assert_row(
     rt: &(impl Abort + AllocGlobal),
-    wanted: &Expected,
+    wanted: Expected,
     header: &str,
     more: &str,
     word_wanted: &str,
@@ -153,9 +177,8 @@ const CLAIMS: [(&str, &str); 42] = [
 
 #[test]
 fn names_the_rule_that_the_claims_break(rt: HostRuntime) {
-    let wanted = expected(&rt);
     for (more, word_wanted) in CLAIMS {
-        assert_row(&rt, &wanted, RS256, more, word_wanted);
+        assert_row(&rt, expected(&rt), RS256, more, word_wanted);
     }
 }
 
@@ -267,9 +290,8 @@ const HEADERS: [(&str, &str, &str); 26] = [
 
 #[test]
 fn names_the_rule_that_the_header_breaks(rt: HostRuntime) {
-    let wanted = expected(&rt);
     for (header, more, word_wanted) in HEADERS {
-        assert_row(&rt, &wanted, header, more, word_wanted);
+        assert_row(&rt, expected(&rt), header, more, word_wanted);
     }
 }
 
@@ -282,12 +304,23 @@ const ALGORITHMS: [(&str, &str, &str); 5] = [
     ("none", r#"{"alg":"RS256"}"#, "OtherAlgorithm"),
 ];
 
+// What a client expects that registered this algorithm.
+fn expected_with_algorithm(rt: &(impl Abort + AllocGlobal), algorithm: &str) -> Expected {
+    let mut wanted = expected(rt);
+    wanted.algorithm = Some(text(rt, algorithm));
+    wanted
+}
+
 #[test]
 fn takes_the_registered_algorithm(rt: HostRuntime) {
-    let mut wanted = expected(&rt);
     for (algorithm, header, word_wanted) in ALGORITHMS {
-        wanted.algorithm = Some(text(&rt, algorithm));
-        assert_row(&rt, &wanted, header, "", word_wanted);
+        assert_row(
+            &rt,
+            expected_with_algorithm(&rt, algorithm),
+            header,
+            "",
+            word_wanted,
+        );
     }
 }
 
@@ -321,11 +354,10 @@ const ORDER: [(&str, &str, &str); 11] = [
 
 #[test]
 fn names_the_first_rule(rt: HostRuntime) {
-    let wanted = expected(&rt);
     let mut more = text(&rt, BROKEN);
     for (header, mend, word_wanted) in ORDER {
         more.push_str(mend).expect(&rt, "members");
-        assert_row(&rt, &wanted, header, more.as_str(), word_wanted);
+        assert_row(&rt, expected(&rt), header, more.as_str(), word_wanted);
     }
 }
 
@@ -353,31 +385,48 @@ const TIMES: [(u64, u64, i64, &str); 14] = [
     (0, 0, 900, "Absent"),
 ];
 
+// What a client expects with this leeway and this maximum age, in seconds.
+fn expected_within(rt: &(impl Abort + AllocGlobal), leeway: u64, max_age: u64) -> Expected {
+    let mut wanted = expected(rt);
+    wanted.leeway = Duration::from_secs(leeway);
+    wanted.max_age = Some(Duration::from_secs(max_age));
+    wanted
+}
+
 #[test]
 fn takes_the_leeway_on_the_right_side(rt: HostRuntime) {
-    let mut wanted = expected(&rt);
     let token = token_of_900(&rt);
     for (leeway, max_age, second, word_wanted) in TIMES {
-        wanted.leeway = Duration::from_secs(leeway);
-        wanted.max_age = Some(Duration::from_secs(max_age));
-        assert_checked_as(&rt, token.as_str(), &wanted, second, word_wanted);
+        let wanted = expected_within(&rt, leeway, max_age);
+        assert_checked_as(&rt, token.as_str(), wanted, second, word_wanted);
     }
+}
+
+// What the client of appendix A expects if it sent no nonce, and this maximum age, if any.
+fn expected_without_nonce(rt: &(impl Abort + AllocGlobal), max_age: Option<Duration>) -> Expected {
+    let mut wanted = expected_in_appendix(rt);
+    wanted.nonce = None;
+    wanted.max_age = max_age;
+    wanted
 }
 
 #[test]
 fn asks_for_the_nonce_that_was_sent(rt: HostRuntime) {
-    let mut wanted = expected_in_appendix(&rt);
     let claims =
         r#"{"iss":"http://server.example.com","sub":"1","aud":"s6BhdRkqt3","exp":1000,"iat":900}"#;
     let no_nonce = token(&rt, RS256, claims);
-    assert_checked_as(&rt, APPENDIX_A2, &wanted, 1311281000, "Absent");
-    assert_checked_as(&rt, APPENDIX_A2, &wanted, 1311281970, "Expired");
-    assert_checked_as(&rt, no_nonce.as_str(), &wanted, 950, "NoNonce");
-    wanted.nonce = None;
-    assert_checked_as(&rt, APPENDIX_A2, &wanted, 1311281000, "NonceNotSent");
-    assert_checked_as(&rt, no_nonce.as_str(), &wanted, 950, "Absent");
-    wanted.max_age = Some(Duration::from_secs(100));
-    assert_checked_as(&rt, no_nonce.as_str(), &wanted, 950, "NoAuthTime");
+    let wanted = expected_in_appendix(&rt);
+    assert_checked_as(&rt, APPENDIX_A2, wanted, 1311281000, "Absent");
+    let wanted = expected_in_appendix(&rt);
+    assert_checked_as(&rt, APPENDIX_A2, wanted, 1311281970, "Expired");
+    let wanted = expected_in_appendix(&rt);
+    assert_checked_as(&rt, no_nonce.as_str(), wanted, 950, "NoNonce");
+    let wanted = expected_without_nonce(&rt, None);
+    assert_checked_as(&rt, APPENDIX_A2, wanted, 1311281000, "NonceNotSent");
+    let wanted = expected_without_nonce(&rt, None);
+    assert_checked_as(&rt, no_nonce.as_str(), wanted, 950, "Absent");
+    let wanted = expected_without_nonce(&rt, Some(Duration::from_secs(100)));
+    assert_checked_as(&rt, no_nonce.as_str(), wanted, 950, "NoAuthTime");
 }
 
 // The claims that are added, and what the check returns to a client of a provider with tenants.
@@ -404,17 +453,32 @@ const TENANTS: [(&str, &str); 5] = [
     ),
 ];
 
+// What a client of a provider with tenants expects.
+fn expected_of_a_tenant(rt: &(impl Abort + AllocGlobal)) -> Expected {
+    let issuer = IssuerRule::PerTenant {
+        before: text(rt, "https://login.microsoftonline.com/"),
+        after: text(rt, "/v2.0"),
+    };
+    expected_of(rt, issuer)
+}
+
+// What a client of a provider with two issuers expects.
+fn expected_of_either(rt: &(impl Abort + AllocGlobal)) -> Expected {
+    let issuers = texts(rt, &["x", "https://server.example.com"]);
+    expected_of(rt, IssuerRule::OneOf(issuers))
+}
+
 #[test]
 fn takes_the_issuer_of_a_tenant(rt: HostRuntime) {
-    let mut wanted = expected(&rt);
-    wanted.issuer = IssuerRule::PerTenant {
-        before: text(&rt, "https://login.microsoftonline.com/"),
-        after: text(&rt, "/v2.0"),
-    };
     for (more, word_wanted) in TENANTS {
-        assert_row(&rt, &wanted, RS256, more, word_wanted);
+        assert_row(&rt, expected_of_a_tenant(&rt), RS256, more, word_wanted);
     }
-    wanted.issuer = IssuerRule::OneOf(texts(&rt, &["x", "https://server.example.com"]));
-    assert_row(&rt, &wanted, RS256, "", "Absent");
-    assert_row(&rt, &wanted, RS256, r#","iss":"y""#, "OtherIssuer");
+    assert_row(&rt, expected_of_either(&rt), RS256, "", "Absent");
+    assert_row(
+        &rt,
+        expected_of_either(&rt),
+        RS256,
+        r#","iss":"y""#,
+        "OtherIssuer",
+    );
 }

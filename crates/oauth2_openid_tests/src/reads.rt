@@ -1,8 +1,8 @@
 //! Tests of texts that are ID tokens, and of texts that are not.
 
 use crate::support::{
-    APPENDIX_A2, assert_debugged_as, assert_displayed_as, assert_text, assert_text_at, read, text,
-    token,
+    APPENDIX_A2, assert_debugged_as, assert_displayed_as, assert_equal, assert_text,
+    assert_text_at, read, text, token,
 };
 use jiff::Timestamp;
 use oauth2_codes::BasicTokenType;
@@ -47,14 +47,14 @@ fn assert_claims_of_the_standard(rt: &impl Abort, claims: &IdTokenClaims) {
     assert_text(rt, claims.issuer(), "http://server.example.com");
     assert_text(rt, claims.subject(), "248289761001");
     assert_text(rt, sole_audience_of(claims), "s6BhdRkqt3");
-    assert_eq!(rt; claims.expires_at().as_second(), 1311281970);
-    assert_eq!(rt; claims.issued_at().as_second(), 1311280970);
+    assert_equal(rt, claims.expires_at().as_second(), 1311281970);
+    assert_equal(rt, claims.issued_at().as_second(), 1311280970);
 }
 
 // Checks that the claims are absent that the token of appendix A.2 does not have.
 fn assert_other_claims_absent(rt: &impl Abort, claims: &IdTokenClaims) {
     assert_text(rt, second_method_of(claims), "");
-    assert_eq!(rt; claims.auth_time(), None);
+    assert_equal(rt, claims.auth_time(), None);
     assert_text(
         rt,
         claims.authentication_context_class().unwrap_or("none"),
@@ -85,8 +85,8 @@ fn gives_the_text_back(rt: HostRuntime) {
     let token = read(&rt, APPENDIX_A2);
     assert_displayed_as(&rt, &token, APPENDIX_A2);
     assert_debugged_as(&rt, &token, "IdToken([redacted])");
-    assert_eq!(&rt; token.signature().len(), 256);
-    assert_eq!(&rt; token.signed_part().len(), APPENDIX_A2.len() - 343);
+    assert_equal(&rt, token.signature().len(), 256);
+    assert_equal(&rt, token.signed_part().len(), APPENDIX_A2.len() - 343);
 }
 
 fn nonce_of(claims: &IdTokenClaims) -> &str {
@@ -113,7 +113,7 @@ fn assert_claims_of_a_login(rt: &impl Abort, claims: &IdTokenClaims) {
     assert_text(rt, second_method_of(claims), "otp");
     assert_text(rt, claims.authorized_party().unwrap_or(""), "c");
     assert_text(rt, claims.access_token_hash().unwrap_or(""), "h");
-    assert_eq!(rt; claims.auth_time(), Timestamp::from_second(5).ok());
+    assert_equal(rt, claims.auth_time(), Timestamp::from_second(5).ok());
 }
 
 #[test]
@@ -275,7 +275,7 @@ fn keeps_claims_of_another_kind(rt: HostRuntime) {
     let claims = r#"{"iss":"i","sub":"s","aud":"c","exp":20.5,"iat":10,"amr":"pwd","acr":"a",
         "auth_time":"x"}"#;
     let token = read(&rt, token(&rt, HEADER, claims).as_str());
-    assert_eq!(&rt; token.claims().expires_at().as_millisecond(), 20500);
+    assert_equal(&rt, token.claims().expires_at().as_millisecond(), 20500);
     assert_text(&rt, other_claim(&token, "amr"), "pwd");
     assert_text(&rt, other_claim(&token, "auth_time"), "x");
     assert_text(&rt, other_claim(&token, "acr"), "none");
@@ -312,8 +312,8 @@ fn keeps_a_nonce_secret(rt: HostRuntime) {
     assert_debugged_as(&rt, &nonce, "Nonce([redacted])");
     assert_text(&rt, nonce.secret().as_str(), "n-0S6_WzA2Mj");
     let copy = nonce.try_clone(rt.alloc()).expect(&rt, "a copy");
-    assert!(&rt; copy == nonce);
-    assert_eq!(&rt; random_nonce(&rt).len(), 22);
+    assert_equal(&rt, copy, nonce);
+    assert_equal(&rt, random_nonce(&rt).len(), 22);
 }
 
 #[test]

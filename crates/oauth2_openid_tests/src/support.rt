@@ -47,7 +47,12 @@ pub(crate) fn read(rt: &(impl Abort + AllocGlobal), token: &str) -> IdToken {
         .expect(rt, "a token")
 }
 
-/// Checks that the texts are equal. (A call is much cheaper to prove than the assertion itself.)
+/// Checks that the two are equal. (A call is much cheaper to prove than the assertion itself.)
+pub(crate) fn assert_equal<T: PartialEq + Debug + Drop>(rt: &impl Abort, found: T, expected: T) {
+    assert_eq!(rt; found, expected);
+}
+
+/// Checks that the texts are equal.
 pub(crate) fn assert_text(rt: &impl Abort, found: &str, expected: &str) {
     assert_eq!(rt; found, expected);
 }

@@ -11,8 +11,8 @@ use oauth2_tests_support::{check_display, check_equal, check_text, read, text};
 use std::alloc::Global;
 use std::test::Fail;
 
-/// The route of a client with the basic replies.
-pub(crate) type Route = LoginRoute<
+// The route of a client with the basic replies.
+type Route = LoginRoute<
     BasicErrorResponse,
     BasicTokenResponse,
     BasicTokenIntrospectionResponse,
@@ -20,19 +20,24 @@ pub(crate) type Route = LoginRoute<
     BasicRevocationErrorResponse,
 >;
 
+// Metadata that have these members and the endpoints of a login.
+fn metadata(alloc: Global, members: &str) -> Result<ServerMetadata<PushMetadata>, Fail> {
+    let body = format!(in alloc;
+        r#"{{"issuer":"https://as.example.com",
+"authorization_endpoint":"https://as.example.com/authorize"{members}}}"#
+    )?;
+    Ok(read(alloc, body.as_str())?)
+}
+
 /// The route by metadata that have these members and the endpoints of a login.
 pub(crate) fn route(
     alloc: Global,
     members: &str,
     preference: PushPreference,
 ) -> Result<Result<Route, LoginRouteError>, Fail> {
-    let body = format!(in alloc;
-        r#"{{"issuer":"https://as.example.com",
-"authorization_endpoint":"https://as.example.com/authorize"{members}}}"#
-    )?;
-    let metadata: ServerMetadata<PushMetadata> = read(alloc, body.as_str())?;
-    let client = BasicClient::new(ClientId::new(text(alloc, "s6BhdRkqt3")?));
-    Ok(login_route(alloc, &metadata, client, preference))
+    let id = ClientId::new(text(alloc, "s6BhdRkqt3")?);
+    let metadata = metadata(alloc, members)?;
+    Ok(login_route(alloc, &metadata, BasicClient::new(id), preference))
 }
 
 const TOKEN: &str = r#","token_endpoint":"https://as.example.com/token""#;
@@ -41,29 +46,34 @@ const PUSH: &str = r#","pushed_authorization_request_endpoint":"https://as.examp
 
 const REQUIRED: &str = r#","require_pushed_authorization_requests":true"#;
 
-fn check_route(
-    alloc: Global,
-    (push, required, preference): (&str, &str, PushPreference),
-    wanted: &str,
-) -> Result<(), Fail> {
-    let members = format!(in alloc; "{TOKEN}{push}{required}")?;
-    match route(alloc, members.as_str(), preference)? {
-        Ok(LoginRoute::ByUrl(client)) => {
+// Checks where the client pushes, which is empty if it does not, and one of its endpoints.
+fn check_client(found: &Route, wanted: &str) -> Result<(), Fail> {
+    match found {
+        LoginRoute::ByUrl(client) => {
             check_text("", wanted)?;
             check_text(
                 client.auth_uri().as_str(),
                 "https://as.example.com/authorize",
             )
         }
-        Ok(LoginRoute::ByPush(pushing)) => {
+        LoginRoute::ByPush(pushing) => {
             check_text(pushing.endpoint().as_str(), wanted)?;
             check_text(
                 pushing.client().token_uri().as_str(),
                 "https://as.example.com/token",
             )
         }
-        Err(_) => Err(Fail::new(format_args!("no route"))),
     }
+}
+
+fn check_route(
+    alloc: Global,
+    (push, required, preference): (&str, &str, PushPreference),
+    wanted: &str,
+) -> Result<(), Fail> {
+    let members = format!(in alloc; "{TOKEN}{push}{required}")?;
+    let found = route(alloc, members.as_str(), preference)??;
+    check_client(&found, wanted)
 }
 
 #[test]
@@ -87,19 +97,23 @@ fn routes(rt: HostRuntime) -> Result<(), Fail> {
     Ok(())
 }
 
+// Why metadata with these members give no route.
+fn refusal(alloc: Global, members: &str) -> Result<LoginRouteError, Fail> {
+    match route(alloc, members, PushPreference::WhereRequired)? {
+        Ok(_) => Err(Fail::new(format_args!("a route by {members}"))),
+        Err(error) => Ok(error),
+    }
+}
+
 fn check_refused(
     alloc: Global,
     members: &str,
     wanted: LoginRouteError,
     shown: &str,
 ) -> Result<(), Fail> {
-    match route(alloc, members, PushPreference::WhereRequired)? {
-        Ok(_) => Err(Fail::new(format_args!("a route by {members}"))),
-        Err(error) => {
-            check_equal(error, wanted)?;
-            check_display(alloc, &error, shown)
-        }
-    }
+    let error = refusal(alloc, members)?;
+    check_equal(error, wanted)?;
+    check_display(alloc, &error, shown)
 }
 
 // What is wrong with pushes is told first.

@@ -5,7 +5,7 @@ use oauth2_pushed_requests::{PushFault, PushedAuthorizationRequest, PushingClien
 use oauth2_tests_support::{check_text, text, url};
 use oauth2_types::{ClientId, ClientSecret};
 use oauth2_urls::AuthUrl;
-use oauth2_wire::{AuthType, ReplyRule};
+use oauth2_wire::{AuthType, HttpRequest, ReplyRule};
 use std::alloc::Global;
 use std::test::Fail;
 use url::Url;
@@ -23,13 +23,38 @@ pub(crate) const PARAMETERS: &str = "response_type=code&state=af0ifjsldkj&client
 &code_challenge_method=S256&scope=account-information";
 
 /// The client, its endpoint, and the URL of the authorization endpoint.
-#[derive(Drop)]
 pub(crate) struct Pusher {
     auth_type: AuthType,
     pub(crate) id: ClientId,
     secret: Option<ClientSecret>,
     endpoint: Url,
     pub(crate) auth_url: AuthUrl,
+}
+
+impl Drop for Pusher {
+    fn drop(self) {
+        let Pusher {
+            auth_type: _,
+            id: _,
+            secret: _,
+            endpoint: _,
+            auth_url: _,
+        } = self;
+    }
+}
+
+// The secret of this text, if there is one.
+fn client_secret(alloc: Global, secret: Option<&str>) -> Result<Option<ClientSecret>, Fail> {
+    match secret {
+        Some(secret) => Ok(Some(ClientSecret::new(text(alloc, secret)?))),
+        None => Ok(None),
+    }
+}
+
+// The URL of the authorization endpoint, which ends with `query`.
+fn auth_url(alloc: Global, query: &str) -> Result<AuthUrl, Fail> {
+    let text = format!(in alloc; "https://as.example.com/authorize{query}")?;
+    Ok(AuthUrl::new(alloc, text)?)
 }
 
 impl Pusher {
@@ -41,19 +66,16 @@ impl Pusher {
         secret: Option<&str>,
         query: &str,
     ) -> Result<Pusher, Fail> {
-        let secret = match secret {
-            Some(secret) => Some(ClientSecret::new(text(alloc, secret)?)),
-            None => None,
-        };
+        let id = ClientId::new(text(alloc, "s6BhdRkqt3")?);
+        let endpoint = url(alloc, "https://as.example.com/as/par")?;
+        let auth_url = auth_url(alloc, query)?;
+        let secret = client_secret(alloc, secret)?;
         Ok(Pusher {
             auth_type,
-            id: ClientId::new(text(alloc, "s6BhdRkqt3")?),
+            id,
             secret,
-            endpoint: url(alloc, "https://as.example.com/as/par")?,
-            auth_url: AuthUrl::new(
-                alloc,
-                format!(in alloc; "https://as.example.com/authorize{query}")?,
-            )?,
+            endpoint,
+            auth_url,
         })
     }
 
@@ -74,6 +96,7 @@ impl Pusher {
         query: &str,
     ) -> Result<Result<Push<'_>, PushFault>, Fail> {
         let text = format!(in alloc; "https://as.example.com/authorize?{query}")?;
+        let pushed = url(alloc, text.as_str())?;
         let client = PushingClient::new(
             &self.auth_type,
             &self.id,
@@ -81,12 +104,23 @@ impl Pusher {
             ReplyRule::MediaType,
             &self.endpoint,
         );
-        Ok(Push::new(alloc, client, &self.auth_url, &url(alloc, text.as_str())?))
+        Ok(Push::new(alloc, client, &self.auth_url, &pushed))
+    }
+
+    /// The POST of the push of a URL with this query.
+    pub(crate) fn post(&self, alloc: Global, query: &str) -> Result<HttpRequest, Fail> {
+        let push = self.push(alloc, query)??;
+        Ok(push.prepare_request(alloc)?)
     }
 
     /// Checks the body of the push of a URL with this query.
     pub(crate) fn check_body(&self, alloc: Global, query: &str, body: &str) -> Result<(), Fail> {
-        let sent = self.push(alloc, query)??.prepare_request(alloc)?;
-        check_text(std::str::from_utf8(sent.body().as_slice())?, body)
+        let sent = self.post(alloc, query)?;
+        check_sent(&sent, body)
     }
+}
+
+/// Checks the body of a POST.
+pub(crate) fn check_sent(sent: &HttpRequest, body: &str) -> Result<(), Fail> {
+    check_text(std::str::from_utf8(sent.body().as_slice())?, body)
 }

@@ -1,19 +1,15 @@
 //! What is pushed (RFC 9126, section 2.1).
 
-use crate::pusher::{PARAMETERS, Pusher};
+use crate::pusher::{PARAMETERS, Pusher, check_sent};
 use oauth2_pushed_requests::PushFault;
 use oauth2_tests_support::{check, check_equal, check_text};
-use oauth2_wire::AuthType;
+use oauth2_wire::{AuthType, HttpRequest};
 use std::alloc::Global;
 use std::test::Fail;
 
-// The request of section 2.1.
-#[test]
-fn the_example(rt: HostRuntime) -> Result<(), Fail> {
-    let alloc = rt.alloc();
-    let pusher = Pusher::of_the_example(alloc)?;
-    let sent = pusher.push(alloc, PARAMETERS)??.prepare_request(alloc)?;
-    check_text(std::str::from_utf8(sent.body().as_slice())?, PARAMETERS)?;
+// Checks the body, the target and the header of the example.
+fn check_example(alloc: Global, sent: &HttpRequest) -> Result<(), Fail> {
+    check_sent(sent, PARAMETERS)?;
     check_text(
         sent.uri().to_string(alloc)?.as_str(),
         "https://as.example.com/as/par",
@@ -28,18 +24,44 @@ fn the_example(rt: HostRuntime) -> Result<(), Fail> {
     )
 }
 
+// The request of section 2.1.
+#[test]
+fn the_example(rt: HostRuntime) -> Result<(), Fail> {
+    let alloc = rt.alloc();
+    let pusher = Pusher::of_the_example(alloc)?;
+    let sent = pusher.post(alloc, PARAMETERS)?;
+    check_example(alloc, &sent)
+}
+
+// Checks the body of a push by the client that shows this secret in this way.
+fn check_credentials(
+    alloc: Global,
+    auth_type: AuthType,
+    secret: Option<&str>,
+    query: &str,
+    body: &str,
+) -> Result<(), Fail> {
+    let pusher = Pusher::new(alloc, auth_type, secret, "")?;
+    pusher.check_body(alloc, query, body)
+}
+
 // A client that shows its secret in the body, and one that has none.
 #[test]
 fn credentials_in_the_body(rt: HostRuntime) -> Result<(), Fail> {
-    let alloc = rt.alloc();
-    let in_body = Pusher::new(alloc, AuthType::RequestBody, Some("a b"), "")?;
-    in_body.check_body(
-        alloc,
+    check_credentials(
+        rt.alloc(),
+        AuthType::RequestBody,
+        Some("a b"),
         "response_type=code&client_id=s6BhdRkqt3&state=x",
         "response_type=code&client_id=s6BhdRkqt3&client_secret=a+b&state=x",
     )?;
-    let public = Pusher::new(alloc, AuthType::BasicAuth, None, "")?;
-    public.check_body(alloc, PARAMETERS, PARAMETERS)
+    check_credentials(
+        rt.alloc(),
+        AuthType::BasicAuth,
+        None,
+        PARAMETERS,
+        PARAMETERS,
+    )
 }
 
 // The query of the endpoint is not pushed; what the URL encodes otherwise is the same parameter.

@@ -5,9 +5,10 @@ use oauth2::{
     AuthUrl, Client, ClientId, EndpointNotSet, EndpointSet, RedirectUrl, Scope, TokenResponse,
     TokenUrl,
 };
-use oauth2_redirect::{ExpectedIssuer, Login, LoginError, LoginRequest, RedirectError};
+use oauth2_redirect::{ExpectedIssuer, Login, LoginError, LoginRequest};
 use oauth2_tests_support::{
-    NoReply, OneReply, check_debug, check_equal, check_text, check_written, read, text, url,
+    NoReply, OneReply, check_debug, check_display, check_equal, check_text, check_written, read,
+    text, url,
 };
 use rand_pcg::Pcg32;
 use std::alloc::Global;
@@ -46,10 +47,16 @@ fn finish(
     stored: &str,
     redirect: &str,
 ) -> Result<End, Fail> {
-    let login: Login = read(alloc, stored)?;
     let redirect = url(alloc, redirect)?;
-    let issuer = ExpectedIssuer::Unknown;
-    Ok(login.finish(alloc, &client(alloc)?, http_client, &redirect, issuer))
+    let client = client(alloc)?;
+    let login: Login = read(alloc, stored)?;
+    Ok(login.finish(
+        alloc,
+        &client,
+        http_client,
+        &redirect,
+        ExpectedIssuer::Unknown,
+    ))
 }
 
 #[test]
@@ -80,47 +87,48 @@ fn a_login_sends_its_redirect_uri_again(rt: HostRuntime) -> Result<(), Fail> {
     check_equal(http_client.sent(), sent.as_bytes())
 }
 
-#[test]
-fn a_login_with_another_state_sends_nothing(rt: HostRuntime) -> Result<(), Fail> {
-    let mut http_client = OneReply::with_body(rt.alloc(), 200, REPLY)?;
-    let redirect = "https://app.example/cb?code=c1&state=s8";
-    let end = finish(rt.alloc(), &mut http_client, STORED, redirect)?;
-    assert!(rt;
-        matches!(
-            end,
-            Err(LoginError::Redirect {
-                error: RedirectError::OtherState,
-                ..
-            })
-        )
-    );
-    check_equal(http_client.calls, 0)
+// Checks the error of a login with this redirect, and how many requests it sends, if the reply has
+// this body.
+fn check_error(
+    alloc: Global,
+    redirect: &str,
+    body: &str,
+    wanted: &str,
+    calls: u64,
+) -> Result<(), Fail> {
+    let mut http_client = OneReply::with_body(alloc, 200, body)?;
+    match finish(alloc, &mut http_client, STORED, redirect)? {
+        Ok(_) => return Err(Fail::new("a token")),
+        Err(error) => check_display(alloc, &error, wanted)?,
+    }
+    check_equal(http_client.calls, calls)
 }
 
 #[test]
-fn a_login_that_was_refused_sends_nothing(rt: HostRuntime) -> Result<(), Fail> {
-    let mut http_client = OneReply::with_body(rt.alloc(), 200, REPLY)?;
-    let redirect = "https://app.example/cb?error=access_denied&state=s7";
-    let end = finish(rt.alloc(), &mut http_client, STORED, redirect)?;
-    assert!(rt;
-        matches!(
-            end,
-            Err(LoginError::Redirect {
-                error: RedirectError::Refused(_),
-                ..
-            })
-        )
-    );
-    check_equal(http_client.calls, 0)
-}
-
-#[test]
-fn a_login_whose_code_is_refused(rt: HostRuntime) -> Result<(), Fail> {
-    let mut http_client = OneReply::with_body(rt.alloc(), 200, "{}")?;
-    let redirect = "https://app.example/cb?code=c1&state=s7";
-    let end = finish(rt.alloc(), &mut http_client, STORED, redirect)?;
-    assert!(rt; matches!(end, Err(LoginError::Token(_))));
-    check_equal(http_client.calls, 1)
+fn a_login_without_a_token(rt: HostRuntime) -> Result<(), Fail> {
+    for (redirect, body, wanted, calls) in [
+        (
+            "https://app.example/cb?code=c1&state=s8",
+            REPLY,
+            "redirect has another state",
+            0,
+        ),
+        (
+            "https://app.example/cb?error=access_denied&state=s7",
+            REPLY,
+            "access_denied",
+            0,
+        ),
+        (
+            "https://app.example/cb?code=c1&state=s7",
+            "{}",
+            "Failed to parse server response",
+            1,
+        ),
+    ] {
+        check_error(rt.alloc(), redirect, body, wanted, calls)?;
+    }
+    Ok(())
 }
 
 // The login that is returned with the error for a redirect with another state.
@@ -137,7 +145,8 @@ fn login_of_error(alloc: Global, http_client: &mut OneReply) -> Result<Login, Fa
 fn finish_by_form(alloc: Global, http_client: &mut OneReply, login: Login) -> Result<End, Fail> {
     let body = "state=s7&code=c1&iss=https%3A%2F%2Fas.example";
     let issuer = ExpectedIssuer::Required("https://as.example");
-    Ok(login.finish_query(alloc, &client(alloc)?, http_client, body, issuer))
+    let client = client(alloc)?;
+    Ok(login.finish_query(alloc, &client, http_client, body, issuer))
 }
 
 // RFC 6749, section 4.1.2.1: a redirect with another state does not end a login. The error returns

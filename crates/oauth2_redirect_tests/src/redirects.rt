@@ -5,6 +5,7 @@ use oauth2_codes::AuthorizationErrorResponseType::{
     UnauthorizedClient, UnsupportedResponseType,
 };
 use oauth2_redirect::{ExpectedIssuer, RedirectError, read_redirect_query};
+use oauth2_tests_support::{check, check_display, check_equal, check_text};
 use oauth2_types::{AuthorizationCode, CsrfToken};
 use std::alloc::{AllocError, Global};
 use std::test::Fail;
@@ -40,10 +41,8 @@ const QUERIES: [(&str, &str); 4] = [
 
 #[test]
 fn reads_a_query(rt: HostRuntime) -> Result<(), Fail> {
-    let alloc = rt.alloc();
     for (query, expected) in QUERIES {
-        let line = describe_query(alloc, query)?;
-        assert_eq!(rt; line.as_str(), expected, "at {query}");
+        check_text(describe_query(rt.alloc(), query)?.as_str(), expected)?;
     }
     Ok(())
 }
@@ -66,10 +65,8 @@ fn names_the_codes(rt: HostRuntime) -> Result<(), Fail> {
         ("unsupported_response_type", UnsupportedResponseType),
     ];
     for (text, expected) in rows {
-        assert!(rt; code(alloc, text)? == expected, "at {text}");
-        assert_eq!(rt; format!(in alloc; "{expected}")?.as_str(), text);
+        check_display(alloc, &expected, text)?;
+        check_equal(code(alloc, text)?, expected)?;
     }
-    let other = code(alloc, "Access_denied")?;
-    assert!(rt; other != AccessDenied);
-    Ok(())
+    check(code(alloc, "Access_denied")? != AccessDenied, "capitals")
 }

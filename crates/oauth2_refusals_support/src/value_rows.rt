@@ -7,7 +7,7 @@ use crate::show::{show_challenge, show_fault, show_run, show_sleep, show_text};
 use crate::table::find;
 use crate::values::{challenge, error_response, fault_in, rewritten, run, verifier_of_zeros};
 use jiff::Timestamp;
-use oauth2::basic::BasicTokenResponse;
+use oauth2::basic::{BasicErrorResponse, BasicTokenResponse};
 use oauth2::{
     ClientSecret, DevicePoll, PollAnswer, PollSettings, PollStep,
     StandardDeviceAuthorizationResponse, compact,
@@ -113,8 +113,17 @@ pub fn show_value_row<W: Write>(alloc: Global, row: ValueRow, out: &mut W) -> Re
 
 fn show_error_response<W: Write>(alloc: Global, out: &mut W) -> Result<(), Ended> {
     let response = error_response(alloc)?;
-    show_text(out, &response)?;
-    show_text(out, &compact(alloc, &response)?)
+    show_with_json(alloc, &response, out)
+}
+
+// Prints an error response, and the JSON that it is written as.
+fn show_with_json<W: Write>(
+    alloc: Global,
+    response: &BasicErrorResponse,
+    out: &mut W,
+) -> Result<(), Ended> {
+    show_text(out, response)?;
+    show_text(out, &compact(alloc, response)?)
 }
 
 fn show_secret<W: Write>(alloc: Global, out: &mut W) -> Result<(), Ended> {

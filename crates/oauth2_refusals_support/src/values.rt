@@ -70,6 +70,17 @@ pub fn error_response(alloc: Global) -> Result<BasicErrorResponse, Ended> {
     ))
 }
 
+// Adds the moment so many seconds after 1970.
+fn add_moment(readings: &mut Vec<Timestamp>, second: i64) -> Result<(), Ended> {
+    let Ok(moment) = Timestamp::from_second(second) else {
+        return Err(Ended::Refused);
+    };
+    if readings.push(moment).is_err() {
+        return Err(Ended::Starved(Want::Row));
+    }
+    Ok(())
+}
+
 /// Runs a poll over lists: the clock shows these seconds since 1970 in order, and the requests get
 /// these answers in order.
 pub fn run(
@@ -83,12 +94,7 @@ pub fn run(
 {
     let mut readings = Vec::new(alloc);
     for second in seconds {
-        let Ok(moment) = Timestamp::from_second(*second) else {
-            return Err(Ended::Refused);
-        };
-        if readings.push(moment).is_err() {
-            return Err(Ended::Starved(Want::Row));
-        }
+        add_moment(&mut readings, *second)?;
     }
     Ok(DevicePoll::run(alloc, timeout, settings, readings.as_slice(), answers)?)
 }

@@ -28,6 +28,25 @@ fn request_of(alloc: Global, params: &ParamBuffer) -> Result<HttpRequest, Fail> 
     Ok(endpoint_request_encoded(alloc, &auth, &id, None, params, None, &url, &pairs)?)
 }
 
+fn add_all(params: &mut ParamBuffer, added: &[Addition<'_>]) -> Result<(), AllocError> {
+    for addition in added {
+        add(params, *addition)?;
+    }
+    Ok(())
+}
+
+// Checks whether a buffer has a scope, and the body of a request with its parameters.
+fn check_params(
+    alloc: Global,
+    params: &ParamBuffer,
+    has_scope: bool,
+    body: &str,
+) -> Result<(), Fail> {
+    check_equal(params.has_scope(), has_scope)?;
+    let request = request_of(alloc, params)?;
+    check_equal(request.body().as_slice(), body.as_bytes())
+}
+
 fn check_sent(
     alloc: Global,
     added: &[Addition<'_>],
@@ -35,12 +54,8 @@ fn check_sent(
     body: &str,
 ) -> Result<(), Fail> {
     let mut params = ParamBuffer::new(alloc);
-    for addition in added {
-        add(&mut params, *addition)?;
-    }
-    check_equal(params.has_scope(), has_scope)?;
-    let request = request_of(alloc, &params)?;
-    check_equal(request.body().as_slice(), body.as_bytes())
+    add_all(&mut params, added)?;
+    check_params(alloc, &params, has_scope, body)
 }
 
 // What is added, whether the buffer has a scope after that, and the body of the request.

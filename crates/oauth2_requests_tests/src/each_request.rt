@@ -4,8 +4,8 @@ use jiff::Timestamp;
 use oauth2::basic::{BasicClient, BasicRequestTokenError, BasicTokenResponse};
 use oauth2::{
     AccessToken, AuthorizationCode, ClientId, ClientSecret, DeviceAuthorizationUrl, EndpointNotSet,
-    EndpointSet, HttpResponse, IntrospectionUrl, ParseCause, RefreshToken, RequestTokenError,
-    ResourceOwnerPassword, ResourceOwnerUsername, RevocationUrl, Scope,
+    EndpointSet, HttpRequest, HttpResponse, IntrospectionUrl, ParseCause, RefreshToken,
+    RequestTokenError, ResourceOwnerPassword, ResourceOwnerUsername, RevocationUrl, Scope,
     StandardDeviceAuthorizationResponse, StandardRevocableToken, TokenUrl, endpoint_response,
 };
 use oauth2_tests_support::{
@@ -16,18 +16,32 @@ use std::fmt::Display;
 use std::test::Fail;
 use std::time::Duration;
 
+// A client whose only endpoint is the token endpoint.
+type TokenClient = BasicClient<
+    EndpointNotSet,
+    EndpointNotSet,
+    EndpointNotSet,
+    EndpointNotSet,
+    EndpointSet,
+>;
+
 // A client with every endpoint except the authorization endpoint.
 type PostClient = BasicClient<EndpointNotSet, EndpointSet, EndpointSet, EndpointSet, EndpointSet>;
 
-fn client(alloc: Global) -> Result<PostClient, Fail> {
+fn token_client(alloc: Global) -> Result<TokenClient, Fail> {
     let token = TokenUrl::new(alloc, text(alloc, "https://example.com/token")?)?;
-    let device = DeviceAuthorizationUrl::new(alloc, text(alloc, "https://example.com/device")?)?;
-    let introspection = IntrospectionUrl::new(alloc, text(alloc, "https://example.com/asked")?)?;
-    let revocation = RevocationUrl::new(alloc, text(alloc, "https://example.com/revoked")?)?;
     let secret = ClientSecret::new(text(alloc, "bbb")?);
     let client = BasicClient::new(ClientId::new(text(alloc, "aaa")?))
         .set_client_secret(secret)
-        .set_token_uri(token)
+        .set_token_uri(token);
+    Ok(client)
+}
+
+fn client(alloc: Global) -> Result<PostClient, Fail> {
+    let device = DeviceAuthorizationUrl::new(alloc, text(alloc, "https://example.com/device")?)?;
+    let introspection = IntrospectionUrl::new(alloc, text(alloc, "https://example.com/asked")?)?;
+    let revocation = RevocationUrl::new(alloc, text(alloc, "https://example.com/revoked")?)?;
+    let client = token_client(alloc)?
         .set_device_authorization_url(device)
         .set_introspection_url(introspection)
         .set_revocation_url(revocation);
@@ -48,14 +62,23 @@ fn refresh_token(alloc: Global) -> Result<RefreshToken, Fail> {
     Ok(RefreshToken::new(text(alloc, "r")?))
 }
 
+// A refresh request with one scope.
+fn prepared_refresh(
+    alloc: Global,
+    client: &PostClient,
+    token: &RefreshToken,
+) -> Result<HttpRequest, Fail> {
+    let scope = Scope::new(text(alloc, "a")?);
+    let request = client
+        .exchange_refresh_token(alloc, token)
+        .add_scope(scope)?;
+    Ok(request.prepare_request(alloc)?)
+}
+
 // Checks the body of a refresh request with one scope.
 fn check_prepared_refresh(alloc: Global, client: &PostClient) -> Result<(), Fail> {
     let token = refresh_token(alloc)?;
-    let scope = Scope::new(text(alloc, "a")?);
-    let request = client
-        .exchange_refresh_token(alloc, &token)
-        .add_scope(scope)?;
-    let request = request.prepare_request(alloc)?;
+    let request = prepared_refresh(alloc, client, &token)?;
     let body = b"grant_type=refresh_token&refresh_token=r&scope=a".as_slice();
     check_equal(request.body().as_slice(), body)
 }
@@ -97,10 +120,18 @@ struct Case<'a> {
 }
 
 impl Case<'_> {
-    // Checks that the result is the wanted one. An error of reading has to have the body's bytes.
+    // Checks that the result is the wanted one. (The check borrows it, so one place drops it.)
     fn check<T: Drop, E: Display + Drop>(
         &self,
         answer: Result<T, RequestTokenError<NoReply, E>>,
+    ) -> Result<(), Fail> {
+        self.check_answer(&answer)
+    }
+
+    // Checks that the result is the wanted one. An error of reading has to have the body's bytes.
+    fn check_answer<T, E: Display>(
+        &self,
+        answer: &Result<T, RequestTokenError<NoReply, E>>,
     ) -> Result<(), Fail> {
         match (answer, self.wanted) {
             (Ok(_), Outcome::Accepted) => Ok(()),
@@ -109,8 +140,21 @@ impl Case<'_> {
                 check_equal(fault.cause, ParseCause::NotJson)?;
                 check_equal(bytes.as_slice(), self.reply.body)
             }
-            (Err(error), Outcome::Shown(text)) => check_display(self.alloc, &error, text),
+            (Err(error), Outcome::Shown(text)) => check_display(self.alloc, error, text),
             _ => Err(Fail::new("another answer")),
+        }
+    }
+
+    // Checks the result of a revocation: only status 200 is a success, whatever the body and the
+    // Content-Type are.
+    fn check_by_status<E: Display + Drop>(
+        &self,
+        answer: Result<(), RequestTokenError<NoReply, E>>,
+    ) -> Result<(), Fail> {
+        if self.reply.status == 200 {
+            check(answer.is_ok(), "status 200")
+        } else {
+            self.check(answer)
         }
     }
 }
@@ -172,17 +216,11 @@ fn check_one_poll(case: &Case<'_>) -> Result<(), Fail> {
     case.check(request.request(case.alloc, &mut http_client, &mut sleep_fn, None, 1))
 }
 
-// Checks a revocation: only status 200 is a success, whatever the body and the Content-Type are.
 fn check_revocation(case: &Case<'_>) -> Result<(), Fail> {
-    let token = StandardRevocableToken::from(access_token(case.alloc)?);
     let mut http_client = case.reply.http_client(case.alloc)?;
+    let token = StandardRevocableToken::from(access_token(case.alloc)?);
     let request = case.client.revoke_token(case.alloc, token)?;
-    let answer = request.request(case.alloc, &mut http_client);
-    if case.reply.status == 200 {
-        check(answer.is_ok(), "status 200")
-    } else {
-        case.check(answer)
-    }
+    case.check_by_status(request.request(case.alloc, &mut http_client))
 }
 
 // Checks what the reply is read as if the caller sends the request itself.
@@ -196,6 +234,19 @@ fn check_read(case: &Case<'_>) -> Result<(), Fail> {
 
 // Checks the result of each kind of request, and that the reply is read as the same if the caller
 // sends the request itself.
+fn check_each_kind(case: &Case<'_>) -> Result<(), Fail> {
+    check_code_exchange(case)?;
+    check_refresh(case)?;
+    check_password_exchange(case)?;
+    check_client_credentials_exchange(case)?;
+    check_introspection(case)?;
+    check_device_codes(case)?;
+    check_one_poll(case)?;
+    check_revocation(case)?;
+    check_read(case)
+}
+
+// The same, for this reply to each request of this client.
 fn check_answers(
     alloc: Global,
     client: &PostClient,
@@ -208,15 +259,7 @@ fn check_answers(
         reply,
         wanted,
     };
-    check_code_exchange(&case)?;
-    check_refresh(&case)?;
-    check_password_exchange(&case)?;
-    check_client_credentials_exchange(&case)?;
-    check_introspection(&case)?;
-    check_device_codes(&case)?;
-    check_one_poll(&case)?;
-    check_revocation(&case)?;
-    check_read(&case)
+    check_each_kind(&case)
 }
 
 // A reply with this body, and no Content-Type.

@@ -19,6 +19,32 @@ fn two_scopes(alloc: Global) -> Result<Vec<Scope>, AllocError> {
     Ok(vec![in alloc; Scope::new(first), Scope::new(second)]?)
 }
 
+// The request of the client `aaa` with these scopes and these extra parameters, with or without a
+// secret.
+fn request_with(
+    alloc: Global,
+    auth_type: AuthType,
+    secret: Option<&ClientSecret>,
+    scopes: &[Scope],
+    extra: &[(ParamText<'_>, ParamText<'_>)],
+) -> Result<HttpRequest, Fail> {
+    let url = url(alloc, "https://example.com/token")?;
+    let redirect = redirect_url(alloc)?;
+    let id = ClientId::new(text(alloc, "aaa")?);
+    let request = endpoint_request(
+        alloc,
+        &auth_type,
+        &id,
+        secret,
+        extra,
+        Some(&redirect),
+        Some(scopes),
+        &url,
+        &[("grant_type", "client_credentials")],
+    );
+    Ok(request?)
+}
+
 // The request of the client `aaa`, with or without a secret. The name of its extra parameter is
 // borrowed, and the value is owned.
 fn request_of(
@@ -26,19 +52,21 @@ fn request_of(
     auth_type: AuthType,
     secret: Option<&ClientSecret>,
 ) -> Result<HttpRequest, Fail> {
+    let scopes = two_scopes(alloc)?;
     let extra = [(ParamText::from("x y"), ParamText::from(text(alloc, "é&=")?))];
-    let request = endpoint_request(
+    request_with(
         alloc,
-        &auth_type,
-        &ClientId::new(text(alloc, "aaa")?),
+        auth_type,
         secret,
+        scopes.as_slice(),
         extra.as_slice(),
-        Some(&redirect_url(alloc)?),
-        Some(two_scopes(alloc)?.as_slice()),
-        &url(alloc, "https://example.com/token")?,
-        &[("grant_type", "client_credentials")],
-    );
-    Ok(request?)
+    )
+}
+
+// Checks the body of a request, and the number of its headers.
+fn check_request(request: &HttpRequest, body: &str, headers: usize) -> Result<(), Fail> {
+    check_equal(request.body().as_slice(), body.as_bytes())?;
+    check_equal(request.headers().len(), headers)
 }
 
 // Checks the client's credentials in the body, and the number of headers.
@@ -49,13 +77,12 @@ fn check_sent(
     credentials: &str,
     headers: usize,
 ) -> Result<(), Fail> {
-    let request = request_of(alloc, auth_type, secret)?;
     let body = format!(in alloc;
         "grant_type=client_credentials&scope=a+b+c{credentials}\
         &redirect_uri=https%3A%2F%2Fexample.com&x+y=%C3%A9%26%3D"
     )?;
-    check_equal(request.body().as_slice(), body.as_bytes())?;
-    check_equal(request.headers().len(), headers)
+    let request = request_of(alloc, auth_type, secret)?;
+    check_request(&request, body.as_str(), headers)
 }
 
 #[test]

@@ -1,7 +1,7 @@
 //! Tests of the texts of errors.
 
 use oauth2::{ConfigurationError, HttpClientError, RequestFault, RequestTokenError, ViewError};
-use oauth2_tests_support::{check_display, text};
+use oauth2_tests_support::{check, check_display, text};
 use std::alloc::{AllocError, Global};
 use std::error::Error;
 use std::io;
@@ -39,8 +39,9 @@ fn texts_of_exchanges(rt: HostRuntime) -> Result<(), Fail> {
     let of_client: RequestTokenError<u8, String> = RequestTokenError::from(7);
     check_error(rt.alloc(), of_client, "Request failed")?;
     let refused: RequestTokenError<u8, String> = RequestTokenError::refused(AllocError);
-    assert!(rt; matches!(&refused, RequestTokenError::Memory { sent: false }));
-    check_error(rt.alloc(), refused, "Out of memory")
+    let is_unsent = matches!(&refused, RequestTokenError::Memory { sent: false });
+    check_error(rt.alloc(), refused, "Out of memory")?;
+    check(is_unsent, "no memory for the request")
 }
 
 #[test]

@@ -5,7 +5,7 @@ use oauth2::http::{Request, Response};
 use oauth2::{
     FnClient, HttpRequest, HttpResponse, ReplyRule, RequestFault, send_once, send_once_status_only,
 };
-use oauth2_tests_support::{OneReply, check_equal};
+use oauth2_tests_support::{OneReply, check, check_equal};
 use std::alloc::Global;
 use std::test::Fail;
 
@@ -14,32 +14,39 @@ fn empty_request(alloc: Global) -> HttpRequest {
     Request::new(alloc, Vec::new(alloc))
 }
 
+// A prepared request, or this fault.
+fn prepared_or(alloc: Global, fault: Option<RequestFault>) -> Result<HttpRequest, RequestFault> {
+    match fault {
+        Some(fault) => Err(fault),
+        None => Ok(empty_request(alloc)),
+    }
+}
+
 // Checks the result of one request under a reply rule, and how often the client is called. The
-// reply has the Content-Type `application/jsonfoo`.
+// request could not be prepared if there is a fault. The reply has the Content-Type
+// `application/jsonfoo`.
 fn check_sent_once(
     alloc: Global,
     rule: ReplyRule,
-    prepared: Result<HttpRequest, RequestFault>,
+    fault: Option<RequestFault>,
     wanted: &str,
     calls: u64,
 ) -> Result<(), Fail> {
     let mut client = OneReply::new(json_foo(alloc)?);
-    let answer: TextResult = send_once(alloc, rule, prepared, &mut client);
-    check_equal(client.calls, calls)?;
-    check_text_result(alloc, answer, wanted)
+    let answer: TextResult = send_once(alloc, rule, prepared_or(alloc, fault), &mut client);
+    check_text_result(alloc, answer, wanted)?;
+    check_equal(client.calls, calls)
 }
 
 #[test]
 fn one_call_at_most(rt: HostRuntime) -> Result<(), Fail> {
     let alloc = rt.alloc();
-    let ready = Ok(empty_request(alloc));
-    check_sent_once(alloc, ReplyRule::Prefix, ready, "a token", 1)?;
-    let ready = Ok(empty_request(alloc));
-    check_sent_once(alloc, ReplyRule::MediaType, ready, JSON_FOO_REFUSED, 1)?;
-    let fault = Err(RequestFault::NotHttp);
+    check_sent_once(alloc, ReplyRule::Prefix, None, "a token", 1)?;
+    check_sent_once(alloc, ReplyRule::MediaType, None, JSON_FOO_REFUSED, 1)?;
+    let fault = Some(RequestFault::NotHttp);
     let wanted = "Other error: failed to prepare request: endpoint URL is not an HTTP target";
     check_sent_once(alloc, ReplyRule::Prefix, fault, wanted, 0)?;
-    let fault = Err(RequestFault::Memory);
+    let fault = Some(RequestFault::Memory);
     check_sent_once(alloc, ReplyRule::Prefix, fault, "Out of memory", 0)
 }
 
@@ -53,7 +60,9 @@ fn closures(rt: HostRuntime) -> Result<(), Fail> {
     });
     let prepared = Ok(empty_request(alloc));
     let answer: Result<(), RevocationError> = send_once_status_only(alloc, prepared, &mut client);
-    assert!(rt; answer.is_ok());
+    let is_done = answer.is_ok();
+    drop(answer);
     drop(client.into_inner());
+    check(is_done, "a success")?;
     check_equal(calls, 1)
 }

@@ -3,7 +3,7 @@
 
 use http_header::{AUTHORIZATION, HeaderValue};
 use oauth2::http::Request;
-use oauth2::{HttpRequest, ViewError, basic_header, server_view};
+use oauth2::{HttpRequest, ServerView, ViewError, basic_header, server_view};
 use oauth2_tests_support::{check, check_equal, check_text, text};
 use std::alloc::{AllocError, Global};
 use std::test::Fail;
@@ -19,6 +19,23 @@ fn request_with(alloc: Global, value: HeaderValue) -> Result<HttpRequest, Fail> 
     Ok(request)
 }
 
+// What a server decodes from a request with this header.
+fn view_of(alloc: Global, value: HeaderValue) -> Result<ServerView, Fail> {
+    let request = request_with(alloc, value)?;
+    Ok(server_view(alloc, &request)?)
+}
+
+// Checks the identifier and the secret that a server decoded.
+fn check_basic(view: &ServerView, id: &str, secret: &str) -> Result<(), Fail> {
+    match &view.basic {
+        Some((read_id, read_secret)) => {
+            check_text(read_id.as_str(), id)?;
+            check_text(read_secret.as_str(), secret)
+        }
+        None => Err(Fail::new("no credentials")),
+    }
+}
+
 // Checks the identifier and the secret that a server decodes from a request with this header.
 fn check_credentials(
     alloc: Global,
@@ -26,10 +43,8 @@ fn check_credentials(
     id: &str,
     secret: &str,
 ) -> Result<(), Fail> {
-    let view = server_view(alloc, &request_with(alloc, value)?)?;
-    let (read_id, read_secret) = view.basic.ok_or("no credentials")?;
-    check_text(read_id.as_str(), id)?;
-    check_text(read_secret.as_str(), secret)
+    let view = view_of(alloc, value)?;
+    check_basic(&view, id, secret)
 }
 
 #[test]
@@ -64,10 +79,14 @@ fn lines(alloc: Global, form: &[(String, String)]) -> Result<String, AllocError>
     Ok(shown)
 }
 
+fn check_lines(alloc: Global, view: &ServerView, wanted: &str) -> Result<(), Fail> {
+    let shown = lines(alloc, view.form.as_slice())?;
+    check_text(shown.as_str(), wanted)
+}
+
 #[test]
 fn pairs_of_a_body(rt: HostRuntime) -> Result<(), Fail> {
     let body = text(rt.alloc(), "a&=b&&c==d&e=%zz")?.into_bytes();
     let view = server_view(rt.alloc(), &Request::new(rt.alloc(), body))?;
-    let shown = lines(rt.alloc(), view.form.as_slice())?;
-    check_text(shown.as_str(), "a is \n is b\nc is =d\ne is %zz\n")
+    check_lines(rt.alloc(), &view, "a is \n is b\nc is =d\ne is %zz\n")
 }

@@ -1,11 +1,11 @@
 //! Each request that takes a resource, with two of them at its end.
 
-use crate::sender::{check_body, client, with_both};
+use crate::sender::{Sender, authorization, check_body, check_url, client, with_both};
 use oauth2::{
-    AuthorizationCode, CsrfToken, RefreshToken, ResourceOwnerPassword, ResourceOwnerUsername,
+    AuthorizationCode, RefreshToken, ResourceOwnerPassword, ResourceOwnerUsername,
     StandardDeviceAuthorizationResponse,
 };
-use oauth2_tests_support::{check_text, read, text};
+use oauth2_tests_support::{read, text};
 use std::alloc::Global;
 use std::test::Fail;
 
@@ -13,24 +13,18 @@ use std::test::Fail;
 const DEVICE: &str = "{\"device_code\":\"d\",\"user_code\":\"u\",\
 \"verification_uri\":\"https://v/\",\"expires_in\":2}";
 
-#[test]
-fn an_authorization_request(rt: HostRuntime) -> Result<(), Fail> {
-    let alloc = rt.alloc();
-    let client = client(alloc)?;
-    let state = CsrfToken::new(text(alloc, "x")?);
-    let (url, _) = with_both(client.authorize_url(alloc, move || state))?.url(alloc)?;
-    check_text(
-        url.query().unwrap_or(""),
-        "response_type=code&client_id=s6BhdRkqt3&state=x\
-&redirect_uri=https%3A%2F%2Fclient.example.org%2Fcb\
+fn check_authorization_request(alloc: Global, client: &Sender) -> Result<(), Fail> {
+    let request = with_both(authorization(alloc, client, "x")?)?;
+    check_url(
+        alloc,
+        request,
+        "https://authorization-server.example.com/as/authorization.oauth2?response_type=code\
+&client_id=s6BhdRkqt3&state=x&redirect_uri=https%3A%2F%2Fclient.example.org%2Fcb\
 &resource=https%3A%2F%2Fcal.example.com%2F&resource=https%3A%2F%2Fcontacts.example.com%2F",
     )
 }
 
-#[test]
-fn a_code(rt: HostRuntime) -> Result<(), Fail> {
-    let alloc = rt.alloc();
-    let client = client(alloc)?;
+fn check_code(alloc: Global, client: &Sender) -> Result<(), Fail> {
     let code = AuthorizationCode::new(text(alloc, "c")?);
     let request = with_both(client.exchange_code(alloc, code))?.prepare_request(alloc)?;
     check_body(
@@ -40,10 +34,7 @@ fn a_code(rt: HostRuntime) -> Result<(), Fail> {
     )
 }
 
-#[test]
-fn a_refresh_token(rt: HostRuntime) -> Result<(), Fail> {
-    let alloc = rt.alloc();
-    let client = client(alloc)?;
+fn check_refresh_token(alloc: Global, client: &Sender) -> Result<(), Fail> {
     let token = RefreshToken::new(text(alloc, "r")?);
     let request = with_both(client.exchange_refresh_token(alloc, &token))?.prepare_request(alloc)?;
     check_body(
@@ -53,10 +44,7 @@ fn a_refresh_token(rt: HostRuntime) -> Result<(), Fail> {
     )
 }
 
-#[test]
-fn a_password(rt: HostRuntime) -> Result<(), Fail> {
-    let alloc = rt.alloc();
-    let client = client(alloc)?;
+fn check_password(alloc: Global, client: &Sender) -> Result<(), Fail> {
     let username = ResourceOwnerUsername::new(text(alloc, "u")?);
     let password = ResourceOwnerPassword::new(text(alloc, "p")?);
     let request = with_both(client.exchange_password(alloc, &username, &password))?.prepare_request(
@@ -69,10 +57,7 @@ fn a_password(rt: HostRuntime) -> Result<(), Fail> {
     )
 }
 
-#[test]
-fn the_clients_credentials(rt: HostRuntime) -> Result<(), Fail> {
-    let alloc = rt.alloc();
-    let client = client(alloc)?;
+fn check_client_credentials(alloc: Global, client: &Sender) -> Result<(), Fail> {
     let request = with_both(client.exchange_client_credentials(alloc))?.prepare_request(alloc)?;
     check_body(
         &request,
@@ -81,10 +66,7 @@ fn the_clients_credentials(rt: HostRuntime) -> Result<(), Fail> {
     )
 }
 
-#[test]
-fn a_device(rt: HostRuntime) -> Result<(), Fail> {
-    let alloc = rt.alloc();
-    let client = client(alloc)?;
+fn check_device(alloc: Global, client: &Sender) -> Result<(), Fail> {
     let request = with_both(client.exchange_device_code(alloc))?.prepare_request(alloc)?;
     check_body(
         &request,
@@ -92,10 +74,7 @@ fn a_device(rt: HostRuntime) -> Result<(), Fail> {
     )
 }
 
-#[test]
-fn the_token_of_a_device(rt: HostRuntime) -> Result<(), Fail> {
-    let alloc = rt.alloc();
-    let client = client(alloc)?;
+fn check_token_of_a_device(alloc: Global, client: &Sender) -> Result<(), Fail> {
     let device: StandardDeviceAuthorizationResponse = read(alloc, DEVICE)?;
     let request = with_both(client.exchange_device_access_token(alloc, &device))?.prepare_request(
         alloc,
@@ -105,4 +84,20 @@ fn the_token_of_a_device(rt: HostRuntime) -> Result<(), Fail> {
         "grant_type=urn%3Aietf%3Aparams%3Aoauth%3Agrant-type%3Adevice_code&device_code=d\
 &resource=https%3A%2F%2Fcal.example.com%2F&resource=https%3A%2F%2Fcontacts.example.com%2F",
     )
+}
+
+fn check_each_request(alloc: Global, client: &Sender) -> Result<(), Fail> {
+    check_authorization_request(alloc, client)?;
+    check_code(alloc, client)?;
+    check_refresh_token(alloc, client)?;
+    check_password(alloc, client)?;
+    check_client_credentials(alloc, client)?;
+    check_device(alloc, client)?;
+    check_token_of_a_device(alloc, client)
+}
+
+#[test]
+fn each_request(rt: HostRuntime) -> Result<(), Fail> {
+    let client = client(rt.alloc())?;
+    check_each_request(rt.alloc(), &client)
 }

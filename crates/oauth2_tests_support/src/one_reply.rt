@@ -11,11 +11,20 @@ pub struct NoReply;
 
 /// An HTTP client that returns one reply, at its first call. It counts its calls, and keeps its
 /// last request. A call does not allocate.
-#[derive(Drop)]
 pub struct OneReply {
     pub calls: u64,
     pub request: Option<HttpRequest>,
     reply: Option<HttpResponse>,
+}
+
+impl Drop for OneReply {
+    fn drop(self) {
+        let OneReply {
+            calls: _,
+            request: _,
+            reply: _,
+        } = self;
+    }
 }
 
 impl OneReply {

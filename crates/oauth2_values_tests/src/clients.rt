@@ -2,6 +2,7 @@
 
 use crate::support::check_debug_in_lines;
 use oauth2::basic::BasicClient;
+use oauth2::url::Url;
 use oauth2::{
     AuthUrl, AuthorizationRequest, Client, ClientId, ClientSecret, CsrfToken, EndpointMaybeSet,
     EndpointNotSet, EndpointSet, ReplyRule, TokenUrl, TryClone,
@@ -28,11 +29,18 @@ fn token_url(alloc: Global) -> Result<TokenUrl, Fail> {
     Ok(TokenUrl::new(alloc, text(alloc, "https://example.com/token")?)?)
 }
 
-fn client(alloc: Global) -> Result<CodeClient, Fail> {
+// A client with a secret and without endpoints.
+fn plain_client(alloc: Global) -> Result<PlainClient, Fail> {
+    let secret = ClientSecret::new(text(alloc, "bbb")?);
     let client: PlainClient = Client::new(ClientId::new(text(alloc, "aaa")?));
-    let client = client.set_client_secret(ClientSecret::new(text(alloc, "bbb")?));
-    let client = client.set_auth_uri(auth_url(alloc)?);
-    Ok(client.set_token_uri(token_url(alloc)?))
+    Ok(client.set_client_secret(secret))
+}
+
+fn client(alloc: Global) -> Result<CodeClient, Fail> {
+    let auth_url = auth_url(alloc)?;
+    let token_url = token_url(alloc)?;
+    let client = plain_client(alloc)?;
+    Ok(client.set_auth_uri(auth_url).set_token_uri(token_url))
 }
 
 fn check_client(client: &CodeClient, rule: ReplyRule) -> Result<(), Fail> {
@@ -53,14 +61,18 @@ fn login<'a>(alloc: Global, client: &'a CodeClient) -> Result<AuthorizationReque
     Ok(client.authorize_url(alloc, move || state))
 }
 
+fn check_url_and_state(made: &Url, state: &CsrfToken, url: &str) -> Result<(), Fail> {
+    check_text(made.as_str(), url)?;
+    check_text(state.secret().as_str(), "csrf_token")
+}
+
 fn check_login_url(
     alloc: Global,
     request: AuthorizationRequest<'_>,
     url: &str,
 ) -> Result<(), Fail> {
     let (made, state) = request.url(alloc)?;
-    check_text(made.as_str(), url)?;
-    check_text(state.secret().as_str(), "csrf_token")
+    check_url_and_state(&made, &state, url)
 }
 
 fn check_implicit_flow_url(alloc: Global, client: &CodeClient, url: &str) -> Result<(), Fail> {

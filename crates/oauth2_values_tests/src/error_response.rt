@@ -4,10 +4,11 @@ use crate::support::is_fault;
 use oauth2::basic::{BasicErrorResponse, BasicErrorResponseType};
 use oauth2::{
     DeviceCodeErrorResponseType, ErrorResponse, ParseCause, StandardErrorResponse,
-    TextErrorResponseType, TryClone, compact, read_body,
+    TextErrorResponseType, TryClone, WriteError, compact, read_body,
 };
 use oauth2_tests_support::{
-    check_debug, check_display, check_equal, check_fault, check_text, check_written, read, text,
+    check, check_debug, check_display, check_equal, check_fault, check_text, check_written, read,
+    text,
 };
 use std::alloc::Global;
 use std::convert::AsStr;
@@ -21,15 +22,18 @@ fn codes_are_compared_with_case(rt: HostRuntime) -> Result<(), Fail> {
     check_equal(error, extension)
 }
 
+// The JSON text of an extension code, as one of the codes of a device's poll.
+fn written_code(alloc: Global, code: String) -> Result<String, WriteError> {
+    let basic = BasicErrorResponseType::Extension(code);
+    compact(alloc, &DeviceCodeErrorResponseType::Basic(basic))
+}
+
 #[test]
 fn written_code_reads_as_its_own_variant(rt: HostRuntime) -> Result<(), Fail> {
-    let basic = BasicErrorResponseType::Extension(text(rt.alloc(), "slow_down")?);
-    let error = DeviceCodeErrorResponseType::Basic(basic);
-    let written = compact(rt.alloc(), &error)?;
+    let written = written_code(rt.alloc(), text(rt.alloc(), "slow_down")?)?;
     check_text(written.as_str(), r#""slow_down""#)?;
     let read = read::<DeviceCodeErrorResponseType>(rt.alloc(), written.as_str())?;
-    assert!(rt; read == DeviceCodeErrorResponseType::SlowDown);
-    Ok(())
+    check_equal(read, DeviceCodeErrorResponseType::SlowDown)
 }
 
 #[test]
@@ -56,15 +60,21 @@ fn response_with_a_code_of_any_text(rt: HostRuntime) -> Result<(), Fail> {
     check_written(rt.alloc(), &response, written)
 }
 
+fn invalid_client(alloc: Global) -> Result<BasicErrorResponse, Fail> {
+    let description = text(alloc, "Invalid client_id")?;
+    let uri = text(alloc, "https://example.com/errors/invalid_client")?;
+    Ok(StandardErrorResponse::new(
+        BasicErrorResponseType::InvalidClient,
+        Some(description),
+        Some(uri),
+    ))
+}
+
 #[test]
 fn error_response_is_written(rt: HostRuntime) -> Result<(), Fail> {
     let written = "{\"error\":\"invalid_client\",\"error_description\":\"Invalid client_id\",\
         \"error_uri\":\"https://example.com/errors/invalid_client\"}";
-    let response: BasicErrorResponse = StandardErrorResponse::new(
-        BasicErrorResponseType::InvalidClient,
-        Some(text(rt.alloc(), "Invalid client_id")?),
-        Some(text(rt.alloc(), "https://example.com/errors/invalid_client")?),
-    );
+    let response = invalid_client(rt.alloc())?;
     check_written(rt.alloc(), &response, written)?;
     check_equal(read::<BasicErrorResponse>(rt.alloc(), written)?, response)
 }
@@ -72,8 +82,7 @@ fn error_response_is_written(rt: HostRuntime) -> Result<(), Fail> {
 #[test]
 fn body_is_utf8(rt: HostRuntime) -> Result<(), Fail> {
     let read = read_body::<BasicErrorResponse>(rt.alloc(), &[255]);
-    assert!(rt; is_fault(read, "", ParseCause::NotJson));
-    Ok(())
+    check(is_fault(read, "", ParseCause::NotJson), "no UTF-8")
 }
 
 // An error response with a member whose value is this many nested lists.
@@ -83,10 +92,21 @@ fn nest_lists(alloc: Global, lists: usize) -> Result<String, Fail> {
     Ok(format!(in alloc; "{{\"error\":\"x\",\"more\":{open}{close}}}")?)
 }
 
+// Checks that a body with this many nested lists is read.
+fn check_nested(alloc: Global, lists: usize) -> Result<(), Fail> {
+    let body = nest_lists(alloc, lists)?;
+    let read = read::<BasicErrorResponse>(alloc, body.as_str())?;
+    check_text(read.error().as_str(), "x")
+}
+
+// Checks that a body with this many nested lists is refused.
+fn check_too_deep(alloc: Global, lists: usize) -> Result<(), Fail> {
+    let body = nest_lists(alloc, lists)?;
+    check_fault::<BasicErrorResponse>(alloc, body.as_str(), "", ParseCause::NotJson)
+}
+
 #[test]
 fn body_nests_to_127(rt: HostRuntime) -> Result<(), Fail> {
-    let read = read::<BasicErrorResponse>(rt.alloc(), nest_lists(rt.alloc(), 126)?.as_str())?;
-    check_text(read.error().as_str(), "x")?;
-    let deeper = nest_lists(rt.alloc(), 127)?;
-    check_fault::<BasicErrorResponse>(rt.alloc(), deeper.as_str(), "", ParseCause::NotJson)
+    check_nested(rt.alloc(), 126)?;
+    check_too_deep(rt.alloc(), 127)
 }

@@ -38,11 +38,11 @@ fn texts_of_causes(rt: HostRuntime) -> Result<(), Fail> {
 
 #[test]
 fn texts_of_read_errors(rt: HostRuntime) -> Result<(), Fail> {
+    check_error(rt.alloc(), &ReadError::Memory, "out of memory")?;
     let inner = ReadError::at(rt.alloc(), "expires_in", ParseCause::NotWhole);
     check_error(rt.alloc(), &inner, "expires_in: not a whole number")?;
     let outer = inner.under(rt.alloc(), "outer");
-    check_error(rt.alloc(), &outer, "outer: not a whole number")?;
-    check_error(rt.alloc(), &ReadError::Memory, "out of memory")
+    check_error(rt.alloc(), &outer, "outer: not a whole number")
 }
 
 #[test]

@@ -8,10 +8,10 @@ use oauth2::helpers::{
     VariantName, deserialize_optional_string_or_vec_string, deserialize_space_delimited_vec,
     deserialize_untagged_enum_case_insensitive, serialize_space_delimited_vec, variant_name,
 };
-use oauth2::{ParseCause, Scope, members};
+use oauth2::{ParseCause, ReadError, Scope, members};
 use oauth2_tests_support::{check, check_equal, check_text, check_written};
 use serde_json::Value;
-use std::alloc::Global;
+use std::alloc::{AllocError, Global};
 use std::convert::AsStr;
 use std::test::Fail;
 
@@ -32,6 +32,17 @@ fn count_of(alloc: Global, value: Value) -> Result<Option<usize>, Fail> {
     })
 }
 
+// The value that the list is written as.
+fn joined(alloc: Global, scopes: Option<Vec<Scope>>) -> Result<Value, AllocError> {
+    serialize_space_delimited_vec(alloc, &scopes)
+}
+
+// Checks the JSON text of a value.
+fn check_value(alloc: Global, value: &Value, wanted: &str) -> Result<(), Fail> {
+    let written = value.to_string(alloc)?;
+    check_text(written.as_str(), wanted)
+}
+
 // Checks that the list is written as this text, which is read as this many scopes.
 fn check_split(
     alloc: Global,
@@ -39,9 +50,8 @@ fn check_split(
     written: &str,
     pieces: Option<usize>,
 ) -> Result<(), Fail> {
-    let value = serialize_space_delimited_vec(alloc, &scopes)?;
-    let text = value.to_string(alloc)?;
-    check_text(text.as_str(), written)?;
+    let value = joined(alloc, scopes)?;
+    check_value(alloc, &value, written)?;
     check_equal(count_of(alloc, value)?, pieces)
 }
 
@@ -57,12 +67,16 @@ fn scopes_are_split_at_every_space(rt: HostRuntime) -> Result<(), Fail> {
     )
 }
 
+// Checks that the list is written as this text.
+fn check_list(alloc: Global, list: &Option<Vec<String>>, wanted: &str) -> Result<(), Fail> {
+    let value = members::texts_value(alloc, list)?.ok_or("no value")?;
+    check_value(alloc, &value, wanted)
+}
+
 // Checks that the text is read as an audience that is written as `wanted`.
 fn check_audience_written_as(alloc: Global, text: &str, wanted: &str) -> Result<(), Fail> {
     let list = deserialize_optional_string_or_vec_string(alloc, parse(alloc, text)?)?;
-    let value = members::texts_value(alloc, &list)?.ok_or("no value")?;
-    let written = value.to_string(alloc)?;
-    check_text(written.as_str(), wanted)
+    check_list(alloc, &list, wanted)
 }
 
 #[test]
@@ -78,8 +92,7 @@ fn audience_is_a_text_or_a_list(rt: HostRuntime) -> Result<(), Fail> {
         rt.alloc(),
         parse(rt.alloc(), r#"["a",1]"#)?,
     );
-    assert!(rt; is_fault(mixed, "", ParseCause::WrongType));
-    Ok(())
+    check(is_fault(mixed, "", ParseCause::WrongType), "a mixed list")
 }
 
 struct Plain;
@@ -103,8 +116,7 @@ fn variants_have_names(rt: HostRuntime) -> Result<(), Fail> {
 fn check_second(alloc: Global, nanosecond: i128, second: &str) -> Result<(), Fail> {
     let at = Timestamp::from_nanosecond(nanosecond)?;
     let value = members::time_value(Some(at)).ok_or("no value")?;
-    let written = value.to_string(alloc)?;
-    check_text(written.as_str(), second)?;
+    check_value(alloc, &value, second)?;
     let read = members::optional_time(alloc, "exp", Some(value))?;
     check(read.is_some(), second)
 }
@@ -121,15 +133,23 @@ fn times_are_whole_seconds_rounded_down(rt: HostRuntime) -> Result<(), Fail> {
     Ok(())
 }
 
-// A member with a text that may be absent, but not null.
+type Present = Result<Option<String>, ReadError>;
+
+// The text of a member that may be absent, but not null.
+fn present(alloc: Global, found: Option<Value>) -> Present {
+    members::present::<String>(alloc, "c", found)
+}
+
+fn check_present(read: Present, wanted: Option<&str>) -> Result<(), Fail> {
+    let text = read?;
+    check_equal(text.as_deref(), wanted)
+}
+
 #[test]
 fn members_that_are_not_null(rt: HostRuntime) -> Result<(), Fail> {
-    let word = Some(parse(rt.alloc(), r#""x""#)?);
-    let read = members::present::<String>(rt.alloc(), "c", word)?;
-    check_equal(read.as_deref(), Some("x"))?;
-    let read = members::present::<String>(rt.alloc(), "c", None)?;
-    check_equal(read.as_deref(), None)?;
-    let null = members::present::<String>(rt.alloc(), "c", Some(Value::Null));
-    assert!(rt; is_fault(null, "c", ParseCause::WrongType));
-    Ok(())
+    let word = parse(rt.alloc(), r#""x""#)?;
+    check_present(present(rt.alloc(), Some(word)), Some("x"))?;
+    check_present(present(rt.alloc(), None), None)?;
+    let null = present(rt.alloc(), Some(Value::Null));
+    check(is_fault(null, "c", ParseCause::WrongType), "null")
 }

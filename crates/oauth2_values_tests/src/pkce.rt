@@ -3,7 +3,7 @@
 use crate::support::check_debug_in_lines;
 use oauth2::{CsrfToken, PkceCodeChallenge, PkceCodeChallengeMethod, PkceCodeVerifier, TryClone};
 use oauth2_refusals_support::{Repeated, VERIFIER};
-use oauth2_tests_support::{check, check_debug, check_text, text};
+use oauth2_tests_support::{check, check_debug, check_equal, check_text, text};
 use std::alloc::{AllocError, Global};
 use std::test::Fail;
 
@@ -23,11 +23,27 @@ fn check_challenge(
     check_debug(alloc, challenge, debug)
 }
 
+fn hashed(alloc: Global, verifier: &PkceCodeVerifier) -> Result<PkceCodeChallenge, Fail> {
+    if !verifier.has_valid_length() {
+        return Err(Fail::new("another length"));
+    }
+    Ok(PkceCodeChallenge::from_code_verifier_sha256(alloc, verifier)?)
+}
+
+// The SHA-256 challenge of `VERIFIER`.
+fn sha256_of_verifier(alloc: Global) -> Result<PkceCodeChallenge, Fail> {
+    let verifier = PkceCodeVerifier::new(text(alloc, VERIFIER)?);
+    hashed(alloc, &verifier)
+}
+
+fn check_copy(alloc: Global, challenge: &PkceCodeChallenge) -> Result<(), Fail> {
+    let copy = challenge.try_clone(alloc)?;
+    check(copy == *challenge, "a copy")
+}
+
 #[test]
 fn challenge_by_sha256(rt: HostRuntime) -> Result<(), Fail> {
-    let verifier = PkceCodeVerifier::new(text(rt.alloc(), VERIFIER)?);
-    assert!(rt; verifier.has_valid_length());
-    let challenge = PkceCodeChallenge::from_code_verifier_sha256(rt.alloc(), &verifier)?;
+    let challenge = sha256_of_verifier(rt.alloc())?;
     check_challenge(
         rt.alloc(),
         &challenge,
@@ -36,9 +52,7 @@ fn challenge_by_sha256(rt: HostRuntime) -> Result<(), Fail> {
         "PkceCodeChallenge { code_challenge: \"E9Melhoa2OwvFrEMTJguCHaoeK1t8URWbuGJSstw-cM\", \
          code_challenge_method: PkceCodeChallengeMethod(\"S256\") }",
     )?;
-    let copy = challenge.try_clone(rt.alloc())?;
-    assert!(rt; copy == challenge);
-    Ok(())
+    check_copy(rt.alloc(), &challenge)
 }
 
 fn plain(alloc: Global, verifier: &PkceCodeVerifier) -> Result<PkceCodeChallenge, Fail> {
@@ -48,10 +62,21 @@ fn plain(alloc: Global, verifier: &PkceCodeVerifier) -> Result<PkceCodeChallenge
     Ok(PkceCodeChallenge::from_code_verifier_plain(alloc, verifier)?)
 }
 
+// The plain challenge of `VERIFIER`.
+fn plain_of_verifier(alloc: Global) -> Result<PkceCodeChallenge, Fail> {
+    let verifier = PkceCodeVerifier::new(text(alloc, VERIFIER)?);
+    plain(alloc, &verifier)
+}
+
+// The same challenge, made from its parts.
+fn plain_of_parts(alloc: Global) -> Result<PkceCodeChallenge, Fail> {
+    let method = PkceCodeChallengeMethod::new(text(alloc, "plain")?);
+    Ok(PkceCodeChallenge::from_parts(text(alloc, VERIFIER)?, method))
+}
+
 #[test]
 fn plain_challenge(rt: HostRuntime) -> Result<(), Fail> {
-    let verifier = PkceCodeVerifier::new(text(rt.alloc(), VERIFIER)?);
-    let challenge = plain(rt.alloc(), &verifier)?;
+    let challenge = plain_of_verifier(rt.alloc())?;
     check_challenge(
         rt.alloc(),
         &challenge,
@@ -60,17 +85,15 @@ fn plain_challenge(rt: HostRuntime) -> Result<(), Fail> {
         "PkceCodeChallenge { code_challenge: [redacted], code_challenge_method: \
         PkceCodeChallengeMethod(\"plain\") }",
     )?;
-    let method = PkceCodeChallengeMethod::new(text(rt.alloc(), "plain")?);
-    assert!(rt; PkceCodeChallenge::from_parts(text(rt.alloc(), VERIFIER)?, method) == challenge);
-    Ok(())
+    check_equal(plain_of_parts(rt.alloc())?, challenge)
 }
 
 #[test]
 fn plain_challenge_in_lines(rt: HostRuntime) -> Result<(), Fail> {
-    let method = PkceCodeChallengeMethod::new(text(rt.alloc(), "plain")?);
+    let challenge = plain_of_parts(rt.alloc())?;
     check_debug_in_lines(
         rt.alloc(),
-        &PkceCodeChallenge::from_parts(text(rt.alloc(), VERIFIER)?, method),
+        &challenge,
         "PkceCodeChallenge {\n    code_challenge: [redacted],\n\
          \x20   code_challenge_method: PkceCodeChallengeMethod(\n        \"plain\",\n    ),\n}",
     )

@@ -7,7 +7,7 @@ use oauth2::{
     AccessToken, AuthorizationCode, ClientSecret, CsrfToken, DeviceCode, RefreshToken,
     ResourceOwnerPassword, TryClone, UserCode, VerificationUriComplete,
 };
-use oauth2_tests_support::{check_text, text};
+use oauth2_tests_support::{check, check_text, text};
 use std::test::Fail;
 
 #[test]
@@ -59,11 +59,17 @@ fn is_lawful<T: Eq>(a: &T, b: &T, c: &T) -> bool
     *a == *a && (*a == *b) == (*b == *a) && (!(*a == *b && *b == *c) || *a == *c)
 }
 
+// Checks the laws for a secret and its copy.
+fn check_laws(token: &AccessToken, copy: &AccessToken) -> Result<(), Fail>
+    requires { token.now ≡ copy.now }
+{
+    check(equal_texts(token, copy), "equal texts")?;
+    check(is_lawful(token, copy, token), "the laws")
+}
+
 #[test]
 fn laws_of_secrets(rt: HostRuntime) -> Result<(), Fail> {
     let token = AccessToken::new(text(rt.alloc(), "a")?);
     let copy = token.try_clone(rt.alloc())?;
-    assert!(rt; equal_texts(&token, &copy));
-    assert!(rt; is_lawful(&token, &copy, &token));
-    Ok(())
+    check_laws(&token, &copy)
 }

@@ -42,6 +42,18 @@ pub fn check_copy_alike<T: Debug + Eq + Hash + TryClone + Drop>(
     check_equal(hash_of(&copy), hash_of(value))
 }
 
+// Checks the debug text of a value, its copy, and that another value differs from it.
+fn check_value<T: Debug + Eq + Hash + TryClone + Drop>(
+    alloc: Global,
+    value: &T,
+    other: &T,
+    shown: &str,
+) -> Result<(), Fail> {
+    check_debug(alloc, value, shown)?;
+    check_copy_alike(alloc, value)?;
+    check(*value != *other, shown)
+}
+
 /// Checks two values with different texts: the debug text of the first, its copy, and that the two
 /// differ.
 pub fn check_different<T: Debug + Eq + Hash + TryClone + Drop, F: Fn(String) -> T>(
@@ -53,9 +65,7 @@ pub fn check_different<T: Debug + Eq + Hash + TryClone + Drop, F: Fn(String) -> 
 {
     let value = new(text(alloc, "top_secret")?);
     let other = new(text(alloc, "top_secreu")?);
-    check_debug(alloc, &value, shown)?;
-    check_copy_alike(alloc, &value)?;
-    check(value != other, shown)
+    check_value(alloc, &value, &other, shown)
 }
 
 /// Checks that what is read from the body is written as this text.

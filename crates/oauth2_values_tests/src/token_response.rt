@@ -18,16 +18,17 @@ fn least_response(alloc: Global) -> Result<BasicTokenResponse, Fail> {
 fn lifetime_keeps_whole_seconds(rt: HostRuntime) -> Result<(), Fail> {
     let mut token = least_response(rt.alloc())?;
     token.set_expires_in(Some(&Duration::from_millis(1900)));
-    assert!(rt; token.expires_in() == Some(Duration::from_secs(1)));
+    check_equal(token.expires_in(), Some(Duration::from_secs(1)))?;
     token.set_expires_in(None);
-    assert!(rt; token.expires_in().is_none());
-    Ok(())
+    check_equal(token.expires_in(), None)
 }
 
-fn set_tokens(alloc: Global, token: &mut BasicTokenResponse) -> Result<(), Fail> {
+fn set_members(alloc: Global, token: &mut BasicTokenResponse) -> Result<(), Fail> {
     token.set_access_token(AccessToken::new(text(alloc, "u")?));
     token.set_token_type(BasicTokenType::Bearer);
     token.set_refresh_token(Some(RefreshToken::new(text(alloc, "r")?)));
+    token.set_scopes(Some(scope_list(alloc, "read")?));
+    token.set_extra_fields(EmptyExtraTokenFields {});
     Ok(())
 }
 
@@ -46,9 +47,7 @@ fn check_members(token: &BasicTokenResponse) -> Result<(), Fail> {
 #[test]
 fn token_response_is_set(rt: HostRuntime) -> Result<(), Fail> {
     let mut token = least_response(rt.alloc())?;
-    set_tokens(rt.alloc(), &mut token)?;
-    token.set_scopes(Some(scope_list(rt.alloc(), "read")?));
-    token.set_extra_fields(EmptyExtraTokenFields {});
+    set_members(rt.alloc(), &mut token)?;
     check_members(&token)?;
     check_written(
         rt.alloc(),

@@ -23,9 +23,14 @@ pub fn client(alloc: Global) -> Result<OpenIdClient, ParseError> {
 pub struct NoReply;
 
 /// An HTTP client that returns one reply, at its first call.
-#[derive(Drop)]
 pub struct OneReply {
     reply: Option<HttpResponse>,
+}
+
+impl Drop for OneReply {
+    fn drop(self) {
+        let OneReply { reply: _ } = self;
+    }
 }
 
 impl OneReply {

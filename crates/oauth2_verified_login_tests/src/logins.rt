@@ -48,6 +48,15 @@ fn provider_of<'a>(issuer: &'a str, check: SignatureCheck<'a>) -> VerifiedProvid
     VerifiedProvider::new(provider, check)
 }
 
+// A time at which the ID tokens of the standard's examples are valid.
+fn now() -> anyhow::Result<Timestamp> {
+    Ok(Timestamp::from_second(1_311_281_000)?)
+}
+
+fn kept_login(alloc: Global) -> anyhow::Result<OpenIdLogin> {
+    Ok(read_body::<OpenIdLogin>(alloc, KEPT.as_bytes())?)
+}
+
 // The result of a login with a redirect.
 fn ended_by_redirect(
     alloc: Global,
@@ -55,10 +64,10 @@ fn ended_by_redirect(
     provider: &VerifiedProvider<'_>,
     token: &str,
 ) -> anyhow::Result<Ended> {
-    let now = Timestamp::from_second(1_311_281_000)?;
-    let login: OpenIdLogin = read_body(alloc, KEPT.as_bytes())?;
+    let now = now()?;
     let redirect = Url::parse(alloc, REDIRECT)?;
     let mut http_client = OneReply::new(alloc, token)?;
+    let login = kept_login(alloc)?;
     Ok(provider.finish(alloc, login, client, &mut http_client, &redirect, || now))
 }
 
@@ -69,9 +78,9 @@ fn ended_by_form(
     provider: &VerifiedProvider<'_>,
     token: &str,
 ) -> anyhow::Result<Ended> {
-    let now = Timestamp::from_second(1_311_281_000)?;
-    let login: OpenIdLogin = read_body(alloc, KEPT.as_bytes())?;
+    let now = now()?;
     let mut http_client = OneReply::new(alloc, token)?;
+    let login = kept_login(alloc)?;
     Ok(provider.finish_query(alloc, login, client, &mut http_client, FORM, || now))
 }
 
@@ -95,6 +104,21 @@ fn write_user<W: Write>(
     writeln!(writer, "of {}", end.id_token.claims().issuer())
 }
 
+// The result of the login that this word names; `None` if it names none.
+fn ended_by(
+    alloc: Global,
+    client: &OpenIdClient,
+    provider: &VerifiedProvider<'_>,
+    command: &str,
+    token: &str,
+) -> anyhow::Result<Option<Ended>> {
+    match command {
+        "login" => Ok(Some(ended_by_redirect(alloc, client, provider, token)?)),
+        "form" => Ok(Some(ended_by_form(alloc, client, provider, token)?)),
+        _ => Ok(None),
+    }
+}
+
 // The result of the login of a line; `None` if the line has no login.
 fn ended_of(
     alloc: Global,
@@ -110,20 +134,25 @@ fn ended_of(
     };
     let provider = provider_of(words.next().unwrap_or(""), check);
     let token = words.next().unwrap_or("");
-    match command {
-        "login" => Ok(Some(ended_by_redirect(alloc, client, &provider, token)?)),
-        "form" => Ok(Some(ended_by_form(alloc, client, &provider, token)?)),
-        _ => Ok(None),
-    }
+    ended_by(alloc, client, &provider, command, token)
 }
 
 /// The logins of a run.
-#[derive(Drop)]
 pub struct Logins {
     keys: JsonWebKeySet,
     secret: ClientSecret,
     // The last login whose signature was refused.
     refused: Option<UnverifiedLogin<OpenIdTokenResponse>>,
+}
+
+impl Drop for Logins {
+    fn drop(self) {
+        let Logins {
+            keys: _,
+            secret: _,
+            refused: _,
+        } = self;
+    }
 }
 
 impl Logins {
@@ -153,10 +182,22 @@ impl Logins {
         } else if line == "give up" {
             self.give_up(writer)?;
         } else {
-            match ended_of(alloc, client, &self.keys, &self.secret, line)? {
-                Some(ended) => self.show(ended, writer)?,
-                None => writeln!(writer, "?")?,
-            }
+            self.log_in(alloc, client, line, writer)?;
+        }
+        Ok(())
+    }
+
+    // Finishes the login of a line, and prints its result.
+    fn log_in<W: Write>(
+        &mut self,
+        alloc: Global,
+        client: &OpenIdClient,
+        line: &str,
+        writer: &mut W,
+    ) -> anyhow::Result<()> {
+        match ended_of(alloc, client, &self.keys, &self.secret, line)? {
+            Some(ended) => self.show(ended, writer)?,
+            None => writeln!(writer, "?")?,
         }
         Ok(())
     }
@@ -184,12 +225,19 @@ impl Logins {
     fn show<W: Write>(&mut self, ended: Ended, writer: &mut W) -> io::Result<()> {
         match ended {
             Ok(end) => write_user(end, writer),
-            Err(VerifiedLoginError::Signature(unverified)) => {
-                writeln!(writer, "{unverified} {:?}", unverified.error())?;
-                self.refused = Some(unverified);
-                Ok(())
-            }
+            Err(VerifiedLoginError::Signature(unverified)) => self.keep_refused(unverified, writer),
             Err(error) => writeln!(writer, "{error}"),
         }
+    }
+
+    // Prints why a signature was refused, and keeps the login.
+    fn keep_refused<W: Write>(
+        &mut self,
+        unverified: UnverifiedLogin<OpenIdTokenResponse>,
+        writer: &mut W,
+    ) -> io::Result<()> {
+        writeln!(writer, "{unverified} {:?}", unverified.error())?;
+        self.refused = Some(unverified);
+        Ok(())
     }
 }

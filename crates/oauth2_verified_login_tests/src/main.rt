@@ -15,20 +15,38 @@ mod logins;
 
 use canned::client;
 use logins::Logins;
+use oauth2_openid_login::OpenIdClient;
+use std::alloc::Global;
 use std::io::{self, BufRead, BufReader, Write};
 
-fn main(rt: HostRuntime) -> anyhow::Result<()> {
-    let alloc = rt.alloc();
-    let client = client(alloc)?;
-    let mut writer = io::writer(&rt);
-    let mut logins = Logins::new(alloc)?;
-    for line in BufReader::new(alloc, rt.reader())?.lines(alloc) {
+// Prints a heading as it is, and runs the command of any other line.
+fn run_line<W: Write>(
+    alloc: Global,
+    logins: &mut Logins,
+    client: &OpenIdClient,
+    line: &str,
+    writer: &mut W,
+) -> anyhow::Result<()> {
+    if line.starts_with('#') {
+        writeln!(writer, "{line}")?;
+        Ok(())
+    } else {
+        logins.run_line(alloc, client, line, writer)
+    }
+}
+
+// Runs the lines of standard input.
+fn run_lines(rt: &HostRuntime, logins: &mut Logins, client: &OpenIdClient) -> anyhow::Result<()> {
+    let mut writer = io::writer(rt);
+    for line in BufReader::new(rt.alloc(), rt.reader())?.lines(rt.alloc()) {
         let line = line?;
-        if line.starts_with('#') {
-            writeln!(writer, "{line}")?;
-        } else {
-            logins.run_line(alloc, &client, &line, &mut writer)?;
-        }
+        run_line(rt.alloc(), logins, client, &line, &mut writer)?;
     }
     Ok(())
+}
+
+fn main(rt: HostRuntime) -> anyhow::Result<()> {
+    let client = client(rt.alloc())?;
+    let mut logins = Logins::new(rt.alloc())?;
+    run_lines(&rt, &mut logins, &client)
 }
