@@ -225,7 +225,7 @@ fn open_id_login_without_a_user(rt: HostRuntime) {
 }
 
 // Starts a login of this client, asserts its URL, and returns the text to keep with the session.
-fn begun(rt: &(impl Abort + AllocGlobal), client: &CodeClient) -> String {
+fn start_web_login(rt: &(impl Abort + AllocGlobal), client: &CodeClient) -> String {
     let (url, session) = begin(rt.alloc(), client, &mut Repeated(0)).expect(rt, "a login");
     assert_text(
         rt,
@@ -261,7 +261,7 @@ fn token_after(
 #[test]
 fn web_login(rt: HostRuntime) {
     let client = client(&rt, AUTH, TOKEN);
-    let session = begun(&rt, &client);
+    let session = start_web_login(&rt, &client);
     let token = token_after(&rt, &client, session.as_str());
     assert_text(&rt, token.access_token().secret().as_str(), "a");
 }

@@ -68,7 +68,8 @@ abbrev pub start_of : ℕ → ℤ → Option ℤ → Verdict AccessTokenFault
 start_of leeway now None = Ok tt
 start_of leeway now (Some start) = rule (int_le start (now +ℤ pos leeway)) fault.NotYetValid
 
--- RFC 7519, 4.1.5: the moment `now` plus the expected leeway is not before the claim `nbf`
+-- RFC 7519, 4.1.5: if there is a claim `nbf`, the moment `now` plus the expected leeway is not
+-- before it
 abbrev pub start_rule : Expectation → ℤ → AccessToken → Verdict AccessTokenFault
 start_rule expected now t = start_of expected.leeway now t.own.not_before
 

@@ -54,17 +54,17 @@ fn read_types(word: &str) -> Option<TypeRule> {
 #[derive(Clone, Copy)]
 struct Rules {
     algorithm: SignatureAlgorithm,
-    types: TypeRule,
+    type_rule: TypeRule,
     leeway: Duration,
 }
 
 fn read_rules(algorithm: &str, types: &str, leeway: &str) -> Option<Rules> {
     let algorithm = SignatureAlgorithm::from_name(algorithm)?;
-    let types = read_types(types)?;
+    let type_rule = read_types(types)?;
     let seconds = leeway.parse::<u32>().ok()?;
     Some(Rules {
         algorithm,
-        types,
+        type_rule,
         leeway: Duration::from_secs(u64::from(seconds)),
     })
 }
@@ -95,7 +95,7 @@ fn expected_by(
         client_id: ClientId::new(client),
         other_audiences,
         algorithm: rules.algorithm,
-        type_rule: rules.types,
+        type_rule: rules.type_rule,
         leeway: rules.leeway,
     })
 }

@@ -246,7 +246,7 @@ fn check_each_kind(case: &Case<'_>) -> Result<(), Fail> {
     check_read(case)
 }
 
-// The same, for this reply to each request of this client.
+// Checks what each request of this client returns for this reply.
 fn check_answers(
     alloc: Global,
     client: &PostClient,

@@ -23,7 +23,8 @@ fn check_challenge(
     check_debug(alloc, challenge, debug)
 }
 
-fn hashed(alloc: Global, verifier: &PkceCodeVerifier) -> Result<PkceCodeChallenge, Fail> {
+// The SHA-256 challenge of a verifier.
+fn sha256_of(alloc: Global, verifier: &PkceCodeVerifier) -> Result<PkceCodeChallenge, Fail> {
     if !verifier.has_valid_length() {
         return Err(Fail::new("another length"));
     }
@@ -33,7 +34,7 @@ fn hashed(alloc: Global, verifier: &PkceCodeVerifier) -> Result<PkceCodeChalleng
 // The SHA-256 challenge of `VERIFIER`.
 fn sha256_of_verifier(alloc: Global) -> Result<PkceCodeChallenge, Fail> {
     let verifier = PkceCodeVerifier::new(text(alloc, VERIFIER)?);
-    hashed(alloc, &verifier)
+    sha256_of(alloc, &verifier)
 }
 
 fn check_copy(alloc: Global, challenge: &PkceCodeChallenge) -> Result<(), Fail> {
