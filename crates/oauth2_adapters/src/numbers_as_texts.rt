@@ -77,7 +77,8 @@ impl MemberChange for NumbersAsTexts<'_> {
     }
 }
 
-// The digits that become a number, if the member has one of these names.
+// The digits that become a number: the value, if the member has one of these names and the value is
+// a text of a whole number's digits.
 fn digits_under<'a>(names: &[&str], name: &str, value: &json::Value<'a>) -> Option<&'a str>
     ensures { let becomes = number_under (map (λ n. n.now) names.now) name.now
         (value_view value.now) in

@@ -45,7 +45,8 @@ is_held_back patient now =
 abbrev pub lasts : Patient → ℤ → Bool
 lasts patient now = patient.until_end && is_good_if_any 0 now patient.keeper.token
 
--- the end of the wait as a `Timestamp`, or `None` if it is out of the range of `Timestamp`
+-- the wait ends at `end`, in nanoseconds since 1970: that moment as a `Timestamp`, or `None` if it
+-- is out of the range of `Timestamp`
 abbrev pub IsUntil : ℤ → Option Timestamp → Type 0
 IsUntil end (Some until) = until.nanosecond ≡ end
 IsUntil end None = IsTimestampNanos end → ⊥

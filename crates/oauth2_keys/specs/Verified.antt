@@ -23,7 +23,8 @@ pub record IsVerified (keys : List ListedKey) (algorithm : SignatureAlgorithm) (
   pub key_is : chosen_key keys algorithm token.header.own.key_id ≡ Ok key
   pub signature_is : IsSignatureBy algorithm key token.signed token.signature
 
--- the reasons why a token is refused, and what is true of the token for each
+-- what is true of a token that is refused with this error; `ShortSecret` is told of a client's
+-- secret, and never of a key of a set
 abbrev pub IsRefusal : List ListedKey → SignatureAlgorithm → DecodedToken → SignatureError → Type 0
 IsRefusal keys algorithm token error.OtherAlgorithm =
     token.header.own.algorithm ≢ algorithm_name algorithm

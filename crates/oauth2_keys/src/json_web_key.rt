@@ -131,6 +131,7 @@ fn coordinate(
     }
 }
 
+// The key on this curve with the coordinates in `x` and `y` (RFC 7518, 6.2.1).
 fn curve_key(alloc: Global, key: &Value, curve: EllipticCurve) -> Result<PublicKey, KeyReadError>
     ensures { KeyReadsAs (λ k. k) result (curve_key curve (view key.now)) }
 {

@@ -37,6 +37,8 @@ fn rsa_text(alloc: Global, exponent: &str, modulus: &str) -> Result<String, Allo
     Ok(text)
 }
 
+// The JSON that is hashed for a key on a curve: the required members, in the order of their names
+// (RFC 7638, 3.2 and 3.3).
 fn elliptic_text(
     alloc: Global,
     curve: EllipticCurve,

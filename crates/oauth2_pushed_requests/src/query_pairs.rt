@@ -199,7 +199,8 @@ fn names_fault(id: &str, pairs: &[(String, String)]) -> Option<PushFault>
     Some(PushFault::OtherClient)
 }
 
-// The parameters that were found, as texts, if the client can push them.
+// These decoded parameters as texts, in the same order, if the client with the identifier `id` can
+// push them; else the fault that says why not.
 fn checked_texts(
     alloc: Global,
     id: &str,

@@ -27,7 +27,8 @@ abbrev pub basic_json : Option Pair → List ℕ
 basic_json None = codes "null"
 basic_json (Some credentials) = pair_json credentials
 
--- the pairs that a server reads, in order
+-- the parameters that a server reads from the body, in order: an array of arrays of a name and a
+-- value
 abbrev pub pairs_json : List Pair → List ℕ
 pairs_json given = list_text (map pair_json given)
 

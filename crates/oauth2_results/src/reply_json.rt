@@ -45,6 +45,7 @@ fn content_type_json(alloc: Global, value: &Option<HeaderValue>) -> Result<Strin
     }
 }
 
+// A reply that came, as a JSON object.
 fn one_reply_json(alloc: Global, reply: &HttpReply) -> Result<String, AllocError>
     ensures { IfOk result (λ s. string_bytes s
         ≡ spec.one_reply_json (view_of_http_reply (http_reply_view reply.now))) }

@@ -27,8 +27,8 @@ slept_in (Reading now ∷ events) = slept_in events
 slept_in (Slept wait ∷ events) = as_nanos wait + slept_in events
 slept_in (Drawn name ∷ events) = slept_in events
 
--- from this moment on the clock is not set back, and no sleep is too short: no reading is earlier than what was
--- before it, and the sleeps since then
+-- the clock is never set back, and no sleep is too short: each reading is at least the one before
+-- it (the first: at least `from`) and all sleeps between the two
 abbrev pub GoesOn : ℤ → List WorldCall → Type 0
 GoesOn from [] = Unit {0}
 GoesOn from (Reading now ∷ events) = (from ≤ℤ now.nanosecond) × GoesOn now.nanosecond events

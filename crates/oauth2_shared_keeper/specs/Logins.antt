@@ -51,7 +51,7 @@ module _ {T S E : Type 0} (replaces : S → List ℕ → ℕ → Content T → R
       ⊎ ((IsLast version → ⊥) × ((answer : Result Replaced E) × replaces before name version (AtRest token) answer after
       × (told ≡ token_told version token answer)))
 
-  -- the store is asked once to drop this version, which has this
+  -- the store is asked once to empty this name if it still has `version`, which has `content`
   abbrev pub DropsAt : ℕ → Content T → S → LoggedOut T → S → Type 0
   DropsAt version content before told after =
       (IsLast version × (told ≡ logged_out.NoNextVersion content) × (after ≡ before))

@@ -104,7 +104,8 @@ fn log_in<T: Drop, S: TokenStore<T>>(store: &mut S, name: &str, token: T, tries:
     }
 }
 
-// Drops this version, which has this, in one try.
+// Asks the store once to empty this name if it still has `version`. `content` is what that version
+// has, and is handed out.
 fn drop_at<T: Drop, S: TokenStore<T>>(
     store: &mut S,
     name: &str,

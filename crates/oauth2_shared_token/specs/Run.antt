@@ -64,7 +64,7 @@ tokens_stored (Allowed i version token ∷ events) = token ∷ tokens_stored eve
 tokens_stored (LoggedIn version new ∷ events) = new ∷ tokens_stored events
 tokens_stored (LoggedOut version ∷ events) = tokens_stored events
 
--- the last token that came to be stored; none, if somebody logged out since
+-- the last token that came to be stored: `token` if none did, and none if somebody logged out since
 abbrev pub newest : Option Token → List SharedEvent → Option Token
 newest token [] = token
 newest token (Asked i version t ∷ events) = newest token events
@@ -79,8 +79,9 @@ newest token (Allowed i version t ∷ events) = newest (Some t) events
 newest token (LoggedIn version new ∷ events) = newest (Some new) events
 newest token (LoggedOut version ∷ events) = newest None events
 
--- the last token that anybody was given, by the server, by a new login or by a caller; none, if somebody
--- logged out since
+-- the last token that the server gave a renewal, that a new login gave, or that a caller allowed to
+-- be used again; `token` if none of these happened, and none if somebody logged out since. `newest`
+-- counts a token of the server when it is stored (`Kept`), this when it is given (`Given`)
 abbrev pub newest_given : Option Token → List SharedEvent → Option Token
 newest_given token [] = token
 newest_given token (Asked i version t ∷ events) = newest_given token events

@@ -14,8 +14,9 @@ use http_header::CONTENT_TYPE;
 use oauth2_json::{FromJson, ReadError, read_body};
 use std::alloc::{AllocError, Global};
 
-/// Reads a reply as a `DO` or as the server's error (RFC 6749, section 5), by the rule `Prefix`.
-/// If memory runs out, the error is `Memory { sent: true }`, here and in the next two functions.
+/// Reads a reply as a `DO` (status 200) or as the server's error (any other; RFC 6749, section 5).
+/// The Content-Type of a success is judged by the rule `Prefix`. If memory runs out, the error is
+/// `Memory { sent: true }`, here and in the next two functions.
 pub fn endpoint_response<RE, TE: FromJson, DO: FromJson>(
     alloc: Global,
     reply: HttpResponse,
