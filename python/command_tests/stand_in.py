@@ -315,7 +315,7 @@ class Case(unittest.TestCase):
     """A test with a server, and runs of tools/oauth2 with the stand-in."""
 
     def setUp(self):
-        self.room = self.folder()
+        self.room, self.at = self.folder(), None  # .at is the folder where the tool is run, if it is another one
         self.program, self.notes = (os.path.join(self.room, it) for it in ('program', 'scripts'))
         with open(self.program, 'w', encoding='utf-8') as f:
             f.write(PROGRAM % (sys.executable, self.notes))
@@ -358,7 +358,7 @@ class Case(unittest.TestCase):
         """A run of tools/oauth2 that has begun."""
         pipes = dict.fromkeys(('stdin', 'stdout', 'stderr'), subprocess.PIPE)
         command = [sys.executable, *FLAGS, where.OAUTH2, *words]
-        run = subprocess.Popen(command, env={**self.env, **env}, text=True, **pipes)
+        run = subprocess.Popen(command, env={**self.env, **env}, cwd=self.at, text=True, **pipes)
         self.addCleanup(lambda: [it.close() for it in (run.stdin, run.stdout, run.stderr)])
         self.addCleanup(run.wait)
         self.addCleanup(run.kill)

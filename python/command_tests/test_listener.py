@@ -1,4 +1,5 @@
 """Tests of `tools/oauth2 login --listen` over a stand-in of the program: the listener, and what opens the browser."""
+import errno
 import http.client
 import json
 import os
@@ -6,8 +7,12 @@ import socket
 import sys
 import unittest
 import urllib.parse
+from unittest import mock
 
 import stand_in
+
+from lifecrib_command import loopback
+from lifecrib_command.endings import Stop
 
 
 class Listener(stand_in.Case):
@@ -119,14 +124,34 @@ class Listener(stand_in.Case):
         self.assertEqual(status, 125)
         self.assertIn('can not be listened at, port %s' % port, err)
 
-    def test_the_browser_of_the_environment_is_opened(self):
-        browser, seen = os.path.join(self.room, 'browser'), os.path.join(self.room, 'seen')
+    def test_a_port_that_another_program_has_at_one_of_the_addresses(self):
+        with socket.socket(socket.AF_INET6) as other:
+            try:
+                other.bind(('::1', 0))
+            except OSError as error:
+                self.skipTest('no IPv6 here: %s' % error.strerror)
+            other.listen()
+            port = str(other.getsockname()[1])
+            words = ['login', '--redirect', 'http://localhost/back', '--listen', port, '--wait', '0.1']
+            status, _, err = self.run_tool(*words)
+        self.assertEqual((status, self.server.asked), (125, []))
+        self.assertEqual(err, 'tools/oauth2: ::1 can not be listened at, port %s: Address already in use; '
+                              '--listen 0 takes a free one\n' % port)
+
+    def browser(self, seen):
+        """The path of a browser that notes the address, and goes back with a code."""
+        browser = os.path.join(self.room, 'browser')
         with open(browser, 'w', encoding='utf-8') as f:
             f.write('#!%s -IS\nimport sys, urllib.parse as u, urllib.request as r\nprint("noise")\nurl = sys.argv[1]\n'
                     'q = dict(u.parse_qsl(u.urlsplit(url).query))\nopen(%r, "w").write(url)\n'
                     'import os\nassert not [it for it in os.environ if it.startswith("OAUTH2_")]\n'
                     'r.urlopen(q["redirect_uri"] + "?code=c&state=" + q["state"]).read()\n' % (sys.executable, seen))
         os.chmod(browser, 0o700)
+        return browser
+
+    def test_the_browser_of_the_environment_is_opened(self):
+        seen = os.path.join(self.room, 'seen')
+        browser = self.browser(seen)
         run, _ = self.begun(BROWSER=browser, OAUTH2_CLIENT_SECRET='bbb')
         out = run.communicate(timeout=60)[0]
         self.assertEqual((run.returncode, json.loads(out)), (0, stand_in.OK))
@@ -135,11 +160,46 @@ class Listener(stand_in.Case):
         run.communicate(timeout=60)
         self.assertEqual((run.returncode, os.path.exists(seen)), (125, False))
 
+    def test_no_module_of_the_folder_where_it_is_run_is_loaded(self):
+        self.at, seen, browser = self.folder(), os.path.join(self.room, 'seen'), self.browser(os.devnull)
+        for name in 'webbrowser', 'shlex', 'sitecustomize':
+            with open(os.path.join(self.at, name + '.py'), 'w', encoding='utf-8') as f:
+                f.write('open(%r, "w").close()\n' % seen)
+        run, _ = self.begun('--wait', '10', BROWSER=browser)
+        run.communicate(timeout=60)
+        self.assertEqual((run.returncode, os.path.exists(seen)), (0, False))
+
     def test_a_browser_that_does_not_start_is_told(self):
         for browser in '/bin/false', '/nonexistent':
             run, _ = self.begun('--wait', '60', BROWSER=browser)
             self.assertTrue(any('tools/oauth2: the browser did not start' in line for line in run.stderr))
             run.kill()
+
+
+class Addresses(unittest.TestCase):
+    def listener(self, error):
+        """A listener at localhost on a machine that has this error at ::1."""
+        bind = loopback.Server.server_bind
+
+        def server_bind(server):
+            if server.address_family == socket.AF_INET6:
+                raise OSError(error, os.strerror(error))
+            bind(server)
+        with mock.patch.object(loopback.Server, 'server_bind', server_bind):
+            return loopback.Listener('http://localhost/back', 0)
+
+    def test_a_machine_without_the_second_address(self):
+        for error in errno.EADDRNOTAVAIL, errno.EAFNOSUPPORT:
+            found = self.listener(error)
+            self.addCleanup(found.close)
+            self.assertEqual([it.server_address[0] for it in found.servers], ['127.0.0.1'])
+
+    def test_any_other_error_of_the_second_address(self):
+        for error in errno.EADDRINUSE, errno.EACCES:
+            with self.assertRaises(Stop) as raised:
+                self.listener(error)
+            self.assertRegex(str(raised.exception), '^::1 can not be listened at, port .*: %s; run it again'
+                             % os.strerror(error))
 
 
 if __name__ == '__main__':

@@ -1,6 +1,7 @@
 """How `login --listen` receives the redirect: a server on this machine (RFC 8252, 7.3)."""
 from __future__ import annotations
 
+import errno
 import http.server
 import os
 import queue
@@ -17,6 +18,7 @@ from .endings import BAD_SETTING, Stop, tell
 from .settings import LOOPBACK
 
 ADDRESSES = {'localhost': ('127.0.0.1', '::1'), '127.0.0.1': ('127.0.0.1',), '::1': ('::1',)}
+NO_FAMILY = (errno.EAFNOSUPPORT, errno.EPROTONOSUPPORT, errno.EADDRNOTAVAIL)  # where a machine has no IPv6
 PAGE = b'''<!doctype html><meta charset="utf-8"><title>Back to the terminal</title>
 <p>The answer of the sign-in has arrived. The terminal says whether it was taken. This page can be closed.
 '''
@@ -81,6 +83,24 @@ class Server(http.server.ThreadingHTTPServer):
         """Says nothing: a browser may end a connection as it likes."""
 
 
+def servers_at(addresses: tuple[str, ...], port: int, path: str, found: queue.Queue[Visit]) -> list[Server]:
+    """A server at each address, all at one port. Stops where one of them can't be had: a browser may go to any of the
+    addresses, so another program at one of them would get the code."""
+    servers: list[Server] = []
+    for address in addresses:
+        at = servers[0].server_address[1] if servers else port
+        try:
+            servers.append(Server(address, at, path, found))
+        except OSError as error:
+            if servers and error.errno in NO_FAMILY:
+                continue
+            for it in servers:
+                it.server_close()
+            then = '--listen 0 takes a free one' if port else 'run it again, and it takes another one'
+            raise Stop('%s can not be listened at, port %d: %s; %s' % (address, at, error.strerror, then))
+    return servers
+
+
 class Listener:
     """Waits on this machine for a redirect; .redirect is the URL that the authorization server is given."""
 
@@ -91,16 +111,9 @@ class Listener:
                        % redirect,
                        BAD_SETTING)
         self.found: queue.Queue[Visit] = queue.Queue()
-        self.servers: list[Server] = []
         path = url.path or '/'
-        for address in ADDRESSES[url.hostname]:
-            try:
-                self.servers.append(Server(address, port, path, self.found))
-            except OSError as error:
-                if not self.servers:
-                    raise Stop('%s can not be listened at, port %d: %s; --listen 0 takes a free one'
-                               % (address, port, error.strerror))
-            port = self.servers[0].server_address[1]
+        self.servers = servers_at(ADDRESSES[url.hostname], port, path, self.found)
+        port = self.servers[0].server_address[1]
         host = '[::1]' if url.hostname == '::1' else url.hostname
         self.base = 'http://%s:%d' % (host, port)
         self.redirect: str = self.base + path + ('?' + url.query if url.query else '')
@@ -146,9 +159,9 @@ def open_browser(url: str) -> None:
     shown."""
     if url.startswith(('https://', 'http://')) and any(os.environ.get(it)
                                                        for it in ('BROWSER', 'DISPLAY', 'WAYLAND_DISPLAY')):
-        # No secret goes to the browser.
+        # No secret goes to the browser. -I, or else a webbrowser.py of the working directory would run.
         env = {name: value for name, value in os.environ.items() if not name.startswith('OAUTH2_')}
-        run = subprocess.Popen([sys.executable, '-c', OPEN, url], env=env, start_new_session=True,
+        run = subprocess.Popen([sys.executable, '-I', '-c', OPEN, url], env=env, start_new_session=True,
                                stdin=subprocess.DEVNULL, stdout=subprocess.DEVNULL, stderr=subprocess.DEVNULL)
 
         def watch() -> None:
