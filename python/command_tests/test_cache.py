@@ -15,6 +15,10 @@ from stand_in import OK
 
 from lifecrib_command import caches, endings, kept_tokens, token_cache
 
+# What an entry says of the request by which its token came.
+OF_REQUEST = ('command', 'client_id', 'server', 'issuer', 'token_url', 'auth', 'username', 'scopes', 'extra',
+              'resource', 'user')
+
 
 class Cache(stand_in.Case):
     def setUp(self):
@@ -86,6 +90,21 @@ class Cache(stand_in.Case):
         self.assertEqual(self.token('--margin', '3600'), (0, 't2'))
         self.assertEqual(self.grants(), ['client_credentials', 'refresh_token', 'client_credentials'])
         self.assertEqual([it[1].get('audience') for it in self.server.asked], ['x'] * 3)
+
+    def test_renewals_in_a_row_ask_as_the_first_run_did(self):
+        asked = {'scope': 'read', 'audience': 'api', 'resource': 'https://api.example'}
+        self.token('--scope', 'read', '--extra', 'audience=api', '--resource', asked['resource'])
+        before = self.kept()
+        for refused, new in (None, {}), ('r0', {'refresh_token': 'n'}), ('r0', {}):
+            self.change(refresh_token=refused, expires_at=0)
+            no = (400, {}, {'error': 'invalid_grant'})
+            self.server.reply = lambda asked: no if 'refresh_token' in asked else {**OK, **new}
+            self.assertEqual(self.token(), (0, 't1'))
+            kept = self.kept()
+            self.assertEqual({it: kept[it] for it in OF_REQUEST}, {it: before[it] for it in OF_REQUEST})
+            self.assertEqual(kept['refresh_token'], new.get('refresh_token'))
+        forms = [dict(it) for it in self.server.forms if ('grant_type', 'client_credentials') in it]
+        self.assertEqual(forms, [{'grant_type': 'client_credentials', **asked}] * 4)
 
     def test_a_login_is_renewed_by_its_refresh_token_alone(self):
         self.sign_in()

@@ -65,9 +65,12 @@ class Helper(stand_in.Case):
 
     def test_a_token_of_the_client_itself(self):
         self.server.reply = {**OK, 'expires_in': 0}
-        self.run_tool('token', '--cache', self.path)
-        self.server.reply = {**OK, 'access_token': 't2'}
-        self.assertEqual(self.helper('get')[1][1], 'password=t2')
+        self.run_tool('token', '--cache', self.path, '--scope', 'read')
+        for token in 't2', 't3', 't4':
+            self.server.reply = {**OK, 'expires_in': 0, 'access_token': token}
+            self.assertEqual(self.helper('get')[1][1:2], ['password=' + token])
+        self.assertEqual(self.run_tool('token', '--cache', self.path, '--output', 'token')[:2], (0, 't4\n'))
+        self.assertEqual([it[1]['scope'] for it in self.server.asked], ['read'] * 5)
 
     def test_without_a_token_or_its_place(self):
         self.assertEqual(self.helper('get'), (5, []))

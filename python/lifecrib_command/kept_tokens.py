@@ -107,9 +107,12 @@ class Asking:
     def is_good(self, kept: Entry) -> bool:
         return is_good(self.session, kept)
 
-    def of_client(self, params: Params) -> Optional[Entry]:
-        """The token that the client gets for itself."""
-        return self.entry(self.session.asks('client_credentials', params))
+    def of_client(self, params: Params, kept: Optional[Entry] = None) -> Optional[Entry]:
+        """The token that the client gets for itself; or anew, by the request of a kept one."""
+        # Later runs have to ask as the first one did, so all that is kept of its request stays; but not the refresh
+        # token, which is no longer good.
+        before: Optional[Entry] = {**kept, 'refresh_token': None} if kept else None
+        return self.entry(self.session.asks('client_credentials', params), before)
 
     def token(self, kept: Optional[Entry]) -> Optional[Entry]:
         command = self.session.given.command
@@ -126,7 +129,7 @@ class Asking:
         if not self.is_over or kept['command'] != 'token' or command == 'refresh':
             return None
         self.is_over = False
-        return self.of_client(params)
+        return self.of_client(params, kept)
 
     def exchanged(self, kept: Entry, params: Params) -> Outcome:
         """What comes of the refresh token of a kept token."""
@@ -158,7 +161,7 @@ class Asking:
         is_renewed = self.session.given.command == 'refresh' or kept['refresh_token'] and not is_over
         if kept['command'] != 'token' or is_renewed:
             return None
-        return self.of_client(params_of(kept))
+        return self.of_client(params_of(kept), kept)
 
 
 def renewed(session: Session, params: Params, kept: Optional[Entry]) -> Optional[int]:
