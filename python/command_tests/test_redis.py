@@ -1,11 +1,14 @@
 """Tests of `tools/oauth2 --cache redis://..` over the keeper itself, a stand-in of the program, one of Redis, and a
 server here; and over a real Redis where there is one."""
+import fcntl
 import json
 import os
 import shutil
 import signal
 import socket
+import stat
 import sys
+import tempfile
 import threading
 import time
 import unittest
@@ -16,10 +19,11 @@ import where
 from stand_in import OK
 
 import program
-from lifecrib_command import caches, shared_cache, shared_places
+from lifecrib_command import caches, shared_cache, shared_places, shared_stores
 import redis_server
 import repository
 from lifecrib_command.endings import Stop
+from lifecrib_command.time_limits import in_time
 
 PLACE = 'redis://cache.example/3?name=mail'
 SHOWN = 'redis://cache.example:6379/3?name=mail'
@@ -306,7 +310,7 @@ class Renewals(Case):
         self.assertIn('it is not known whether %s took the mark of this run' % SHOWN, self.err)
 
     def test_the_client_itself_asks_anew(self):
-        self.assertEqual(self.token(), (0, 't1'))
+        self.assertEqual(self.token('--scope', 'a'), (0, 't1'))
         self.change(refresh_token=None)
         self.marked(1)
         self.over()
@@ -320,6 +324,7 @@ class Renewals(Case):
         self.over()
         self.assertEqual(self.token(), (0, 't4'))
         self.assertEqual(self.grants(), ['client_credentials'] * 3 + ['refresh_token', 'client_credentials'])
+        self.assertEqual((self.entry()['command'], self.entry()['scopes']), ('token', ['a']))
         self.assertEqual(self.token('--anew'), (0, 't5'))
         self.over()
         self.server.reply = lambda asked: (503, {},
@@ -502,6 +507,47 @@ class Places(unittest.TestCase):
         self.assertEqual([caches.is_shared(it)
                           for it in ('file:///a', 'redis://h', 'REDISS://h', 'redis:h', 'a/redis://h', '', None)],
                          [True, True, True, False, False, False, False])
+
+
+class Files(unittest.TestCase):
+    """A store in a folder, where something is in the way of a run."""
+
+    def setUp(self):
+        folder = tempfile.TemporaryDirectory()
+        self.addCleanup(folder.cleanup)
+        self.store = shared_stores.FileStore(folder.name, seconds=0.3)
+        self.lock = self.store.path('mail', '.lock')
+
+    def test_no_other_user_can_open_the_lock(self):
+        with open(self.lock, 'w', encoding='utf-8'):
+            os.chmod(self.lock, 0o644)
+        for name in 'mail', 'new':
+            self.assertIs(self.store.replace(name, 0, 'none'), True)
+            self.assertEqual(stat.S_IMODE(os.stat(self.store.path(name, '.lock')).st_mode), 0o600)
+
+    def test_a_lock_is_waited_for_and_not_for_ever(self):
+        with open(self.lock, 'w', encoding='utf-8') as f:
+            fcntl.flock(f, fcntl.LOCK_EX)
+            begun = time.monotonic()
+            self.assertIsNone(in_time(lambda: self.store.replace('mail', 0, 'none'), 20))
+            self.assertGreater(time.monotonic() - begun, 0.2)
+            self.assertRegex(str(self.store.fault), r'has had the lock of %s for more than 0\.3 seconds \(--timeout\)'
+                             % self.lock)
+            with mock.patch.object(time, 'sleep', side_effect=AssertionError):  # the next call only tries
+                self.assertIsNone(self.store.replace('mail', 0, 'none'))
+            self.assertEqual(self.store.load('mail'), (0, 'none'))
+        self.assertIs(self.store.replace('mail', 0, 'none'), True)
+
+    def test_what_is_no_file_is_not_waited_for(self):
+        os.mkfifo(self.store.path('mail'))
+        os.mkfifo(self.store.path('other', '.lock'))
+        for call in (lambda: self.store.load('mail'), lambda: self.store.replace('other', 0, 'none')):
+            self.assertIsNone(in_time(call, 20))
+            self.assertRegex(str(self.store.fault), 'is no regular file$')
+            self.assertTrue(self.store.is_refused())
+        os.symlink(self.store.path('target'), self.store.path('link', '.lock'))
+        self.assertIsNone(self.store.replace('link', 0, 'none'))
+        self.assertFalse(os.path.exists(self.store.path('target')))
 
 
 class Values(unittest.TestCase):

@@ -113,6 +113,7 @@ class Renewing(shared_keeper.Keeper):
         self.has_marked = self.is_waiting = self.is_silent = False
         self.new: Optional[str] = None  # the token that this run has got
         self.stop: Optional[Stop] = None  # why it got none, where the server did not say so
+        self.not_marked = ''  # why the store did not say whether it took the mark
 
     def __enter__(self) -> 'Renewing':
         return self
@@ -154,6 +155,8 @@ class Renewing(shared_keeper.Keeper):
         done = self.store.replace(name, version, text)
         self.end = time.monotonic() + self.cache.limit
         if done is None:
+            if text.startswith('mark '):
+                self.not_marked = self.cache.why()
             self.pause(PAUSE)
         return done
 
@@ -312,7 +315,8 @@ class SharedCache:
     def if_unclear(self, _: Asking, keeper: Renewing, number: str, version: str, token: str) -> Held:
         """This run sent nothing, so its mark is taken off, where it shows by now. That of another run at this version
         stays."""
-        why = 'it is not known whether %s took the mark of this run (%s), so nothing was sent' % (self.name, self.why())
+        why = ('it is not known whether %s took the mark of this run (%s), so nothing was sent'
+               % (self.name, keeper.not_marked or self.why()))
         with contextlib.suppress(Stop):
             if self.value().renewal == int(number):
                 keeper.told('answer %s %s %s' % (self.key, version, token))
@@ -449,7 +453,7 @@ def at(place: Union[shared_places.Place, shared_places.Folder], key: str, limit:
     if isinstance(place, shared_places.Place):
         return on_redis(place, key, limit)
     try:
-        store = shared_stores.FileStore(place.path)
+        store = shared_stores.FileStore(place.path, seconds=limit)
     except OSError as error:
         raise Stop('--cache %s: %s' % (place.shown(key), error.strerror), BAD_SETTING)
     return SharedCache(store, key, place.shown(key), limit)

@@ -16,12 +16,13 @@ only as good as that one's locks and renames.
 from __future__ import annotations
 
 import contextlib
-import fcntl
 import os
+import stat
 import tempfile
-from typing import Any, Callable, Iterator, Optional, TypeVar
+import time
+from typing import IO, Any, Callable, Iterator, Optional, TypeVar
 
-from . import time_limits
+from . import locks, time_limits
 
 NOTHING = (0, 'none')
 LAST = 2 ** 64 - 1  # the last version
@@ -112,17 +113,39 @@ class RedisStore:
         return [read_value(line) for line in self.client.lrange(self.prefix + 'history:' + name, 0, -1)]
 
 
-class FileStore:
-    """A store in a folder, a file for each name. A name has to be good as the name of a file."""
+class Locked(OSError):
+    """Why a value can't be replaced: another process has the lock of its file."""
 
-    def __init__(self, folder: str, history: bool = False) -> None:
-        self.folder, self.history = folder, history
+
+class NoFile(OSError):
+    """Why a value can't be read or replaced: something else has the name of its file."""
+
+
+def opened(path: str, flags: int) -> IO[str]:
+    """A file of a store; a new one has mode 600. NoFile where it is a pipe or the like, at which a run would wait."""
+    file = os.fdopen(os.open(path, flags | os.O_NONBLOCK | os.O_NOCTTY, 0o600), 'r', encoding='utf-8')
+    if not stat.S_ISREG(os.fstat(file.fileno()).st_mode):
+        file.close()
+        raise NoFile('%s is no regular file' % path)
+    return file
+
+
+class FileStore:
+    """A store in a folder, a file for each name. A name has to be good as the name of a file.
+
+    seconds is how long a lock is waited for. Once it was not to be had for so long, each further call tries only once,
+    until one gets it.
+    """
+
+    def __init__(self, folder: str, history: bool = False, seconds: float = 5) -> None:
+        self.folder, self.history, self.seconds = folder, history, seconds
         self.fault: Optional[Exception] = None
+        self.end: Optional[float] = None  # until when a lock is waited for
         os.makedirs(folder, mode=0o700, exist_ok=True)
 
     def is_refused(self) -> bool:
-        """Whether the last call is silent because the system says no."""
-        return isinstance(self.fault, PermissionError)
+        """Whether the last call is silent because of what is in the folder, so that no other try helps."""
+        return isinstance(self.fault, (PermissionError, NoFile))
 
     def other_settings(self) -> list[str]:
         """None: a folder has no settings."""
@@ -136,7 +159,7 @@ class FileStore:
     def load(self, name: str, _seconds: Optional[float] = None) -> Optional[tuple[int, str]]:
         path, self.fault = self.path(name), None
         try:
-            with open(path) as f:
+            with opened(path, os.O_RDONLY) as f:
                 return read_value(f.read())
         except FileNotFoundError:
             return NOTHING
@@ -146,8 +169,19 @@ class FileStore:
 
     @contextlib.contextmanager
     def locked(self, name: str) -> Iterator[None]:
-        with open(self.path(name, '.lock'), 'a') as f:
-            fcntl.flock(f, fcntl.LOCK_EX)
+        """A context in which no other run replaces the value. Locked where another process has the lock too long."""
+        path = self.path(name, '.lock')
+        with opened(path, os.O_RDWR | os.O_CREAT | os.O_NOFOLLOW) as f:
+            # Earlier versions made it with mode 644, and any user who can open it can hold the lock.
+            with contextlib.suppress(PermissionError):
+                os.fchmod(f.fileno(), 0o600)
+            self.end = self.end or time.monotonic() + self.seconds
+            while not locks.takes(f):
+                if time.monotonic() >= self.end:
+                    raise Locked('%s has had the lock of %s for more than %g seconds (--timeout)'
+                                 % (locks.holder(f), path, self.seconds))
+                time.sleep(0.05)
+            self.end = None
             yield
 
     def replace(self, name: str, version: int, text: str) -> Optional[bool]:
