@@ -17,7 +17,7 @@ import where
 from stand_in import OK
 
 from lifecrib import Request
-from lifecrib_command import http_requests, renewal, signals
+from lifecrib_command import http_requests, renewal, signals, wire_log
 
 MOMENTS = int(os.environ.get('MOMENTS', '5'))  # of a renewal, at which each signal comes
 TRIES = 20  # of such a renewal, where a signal comes before the tool has begun
@@ -163,6 +163,19 @@ class Late(Case):
             reply, note, may_retry = http_requests.reply_to(request, 0.1, renewal.Renewal(None))
         self.assertEqual((reply, may_retry), ({'fail': True}, True))
         self.assertIn('no whole reply within 0.5 seconds', note)
+
+
+class Shown(Case):
+    def test_a_reply_is_noted_before_it_is_shown(self):
+        """Standard error may stand still, as that of a pager does."""
+        waits, found = threading.Event(), renewal.Renewal(None)
+        self.addCleanup(waits.set)
+        self.addCleanup(setattr, signals.hold, 'why', None)
+        request = Request('POST', self.env['OAUTH2_TOKEN_URL'], (), b'refresh_token=1.0')
+        with mock.patch.object(renewal, 'AT_LEAST', 0.5), \
+                mock.patch.object(wire_log, 'received', lambda *_: waits.wait(30)):
+            self.assertEqual(http_requests.reply_to(request, 0.1, found).reply, {'fail': True})
+        self.assertEqual(json.loads(found.body)['refresh_token'], '1.1')
 
 
 def tmpfs(folder, size):

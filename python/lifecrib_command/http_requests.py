@@ -20,6 +20,7 @@ from .settings import LOOPBACK
 from .time_limits import in_time
 
 MOST_BYTES = 1 << 20  # of a reply's body
+PORTS = {'http': 80, 'https': 443}  # where a URL has none
 RETRIED = (429, *range(500, 600))  # the HTTP statuses of a server that another try may find better
 FAILED: Mapping[str, Any] = {'fail': True}  # a request without a reply, as a script has it
 NOT_TAKEN = "the server does not take the client's certificate (--client-cert)"
@@ -99,22 +100,23 @@ def out_of_time(limit: float) -> str:
 def connection_to(target: urllib.parse.SplitResult, limit: float) -> Connection:
     """A connection to the server of a URL, as the standard library reads the environment: direct, or by the proxy for
     it."""
-    hostname = target.hostname or ''
+    # The port is always given: without one http.client looks for it in the name, as behind the last ":" of ::1.
+    hostname, port = target.hostname or '', target.port or PORTS.get(target.scheme)
     if target.scheme == 'http' and hostname in LOOPBACK:
-        return connected(http.client.HTTPConnection(hostname, target.port, timeout=limit))
+        return connected(http.client.HTTPConnection(hostname, port, timeout=limit))
     if target.scheme != 'https':
         raise Unanswered('not sent, since it would not be encrypted: give an https URL')
     context, host = tls.context(), target.netloc.rpartition('@')[2]
     proxy = urllib.request.getproxies().get('https')
     if not proxy or urllib.request.proxy_bypass(host):
-        return connected(http.client.HTTPSConnection(hostname, target.port, timeout=limit, context=context))
-    by, port = proxy_at(proxy if '://' in proxy else 'http://' + proxy)
-    connection, headers = http.client.HTTPSConnection(by.hostname or '', port, timeout=limit, context=context), {}
+        return connected(http.client.HTTPSConnection(hostname, port, timeout=limit, context=context))
+    by, at = proxy_at(proxy if '://' in proxy else 'http://' + proxy)
+    connection, headers = http.client.HTTPSConnection(by.hostname or '', at, timeout=limit, context=context), {}
     if by.username is not None:
         login = urllib.parse.unquote_to_bytes(by.username) + b':' + urllib.parse.unquote_to_bytes(by.password or '')
         headers['Proxy-Authorization'] = 'Basic ' + base64.b64encode(login).decode()
-    connection.set_tunnel(hostname, target.port, headers)
-    return connected(connection, 'the proxy %s:%d (HTTPS_PROXY): ' % (by.hostname, port))
+    connection.set_tunnel(hostname, port, headers)
+    return connected(connection, 'the proxy %s:%d (HTTPS_PROXY): ' % (by.hostname, at))
 
 
 def proxy_at(text: str) -> tuple[urllib.parse.SplitResult, int]:
@@ -176,9 +178,9 @@ def exchanged(connection: Connection, request: Request, renewal: Optional[Renewa
         send(connection, request.method, where, body, headers)
         reply = connection.getresponse()
         got, error = body_of(reply)
-        wire_log.received(reply.status, reply.reason, reply.getheaders(), got)
-        if renewal:
+        if renewal:  # first, since standard error may take nothing for as long as it likes
             renewal.received(reply.status, got)
+        wire_log.received(reply.status, reply.reason, reply.getheaders(), got)
         if error:
             raise error
         return in_script(request.method, reply.status, reply.headers, got)
