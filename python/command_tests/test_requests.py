@@ -12,6 +12,7 @@ import tempfile
 import threading
 import time
 import unittest
+import urllib.parse
 from unittest import mock
 
 import stand_in
@@ -20,7 +21,7 @@ from stand_in import OK
 
 import lifecrib_command
 from lifecrib import _library
-from lifecrib_command import commands, endings, help_texts, programs
+from lifecrib_command import commands, conversation, endings, help_texts, http_requests, programs, tls
 
 import built_programs
 import c_library
@@ -333,6 +334,17 @@ class Requests(stand_in.Case):
                          0)
 
 
+class Ports(unittest.TestCase):
+    def test_a_url_without_a_port(self):
+        with mock.patch.object(http_requests, 'connected', lambda it, *_: it), mock.patch.object(tls, 'context'), \
+                mock.patch.dict(os.environ, {'HTTPS_PROXY': ''}):
+            for url, wanted in (('http://[::1]/t', ('::1', 80)), ('http://localhost/t', ('localhost', 80)),
+                                ('https://[::1]/t', ('::1', 443)), ('https://as.example/t', ('as.example', 443)),
+                                ('https://[::1]:8443/t', ('::1', 8443))):
+                found = http_requests.connection_to(urllib.parse.urlsplit(url), 1)
+                self.assertEqual((found.host, found.port), wanted)
+
+
 class Devices(stand_in.Case):
     def test_a_poll_simulates_no_more_than_its_replies_need(self):
         codes = {'device_code': 'd', 'user_code': 'U-1', 'verification_uri': 'https://as.example/d', 'expires_in': 60,
@@ -355,6 +367,27 @@ class Devices(stand_in.Case):
             self.assertEqual((status, json.loads(out)), (0, OK))
             self.assertEqual(err.count('/token: HTTP status %d\n' % bad[0]), 2)
             self.assertEqual(self.scripts()[-1]['replies'][:2], [{'fail': True}] * 2)
+
+    def test_a_poll_keeps_no_more_of_a_reply_than_its_error(self):
+        codes = {'device_code': 'd', 'user_code': 'U-1', 'verification_uri': 'https://as.example/d', 'expires_in': 60,
+                 'interval': 0}
+        pending = (400, {}, {'error': 'authorization_pending', 'error_description': 'x' * 100000})
+        replies = iter([codes, pending, pending, OK])
+        self.server.reply = lambda _: next(replies)
+        status, out, _ = self.run_tool('device')
+        self.assertEqual((status, json.loads(out)), (0, OK))
+        wanted = {'status': 400, 'body': '{"error": "authorization_pending"}', 'content_type': 'application/json'}
+        self.assertEqual(self.scripts()[-1]['replies'][:2], [wanted] * 2)
+
+    def test_which_replies_are_shortened(self):
+        for code in ('slow_down', 'authorization_pending'):
+            found = conversation.undecided({'status': 400, 'body': 'long'}, {'error': code, 'interval': 9})
+            self.assertEqual((found['status'], json.loads(found['body'])), (400, {'error': code}))
+        form = {'status': 400, 'body': 'error=slow_down', 'content_type': 'application/x-www-form-urlencoded'}
+        for reply, said in (({'status': 400, 'body': 'x'}, None), ({'status': 400, 'body': 'x'}, [1]),
+                            (form, {'error': 'slow_down'}), ({'status': 400, 'body': 'x'}, {'error': 'access_denied'}),
+                            ({'status': 400, 'body': 'x'}, {'error': []})):
+            self.assertEqual(conversation.undecided(reply, said), reply)
 
     def test_a_terminal_counts_down_on_one_line(self):
         codes = {'device_code': 'd', 'user_code': 'U-1', 'verification_uri': 'https://as.example/d', 'expires_in': 60,

@@ -2,6 +2,7 @@
 script."""
 from __future__ import annotations
 
+import json
 import time
 from typing import Any, Callable, Mapping, NamedTuple, Optional
 
@@ -19,6 +20,7 @@ LAST_READING = 253402207200  # that a script may have
 ENDS = ('answer', 'fault')  # the events that are last
 # What a server says of a device whose user has not decided (RFC 8628, 3.5).
 UNDECIDED = ('authorization_pending', 'slow_down')
+JSON = 'application/json'
 
 
 class Outcome(NamedTuple):
@@ -163,6 +165,7 @@ class Conversation:
                 self.send(event)
             elif event['event'] == 'sleep':
                 self.tell()
+                self.shorten(run)
                 sleep(seconds_of(event))
                 self.sleeps, self.got = self.sleeps + 1, Reply(None)
                 self.script['readings'].append(int(time.time()))
@@ -175,6 +178,12 @@ class Conversation:
         if self.got.note:
             endings.tell(self.got.note)
 
+    def shorten(self, run: Run) -> None:
+        """Keeps of a reply by which a poll goes on no more than its error, since each later script has it again."""
+        replies, read = self.script['replies'], run.reply()
+        if replies and 'body' in replies[-1] and read:
+            replies[-1] = undecided(replies[-1], read['json'])
+
     def send(self, event: Mapping[str, Any]) -> None:
         self.tell()
         request = request_of(event)
@@ -183,6 +192,15 @@ class Conversation:
         if self.is_poll:
             self.got = of_poll(request, self.got)
         self.script['replies'].append(self.got.reply)
+
+
+def undecided(reply: Mapping[str, Any], said: Any) -> Mapping[str, Any]:
+    """A reply by which a poll goes on, with a body that has its error alone: that decides when the next request comes.
+    said is its body, as the library reads it. A reply that is no JSON stays as it is, since an adapter reads it."""
+    is_json = reply.get('content_type', JSON).startswith(JSON)
+    if not (is_json and isinstance(said, dict) and said.get('error') in UNDECIDED):
+        return reply
+    return {**reply, 'body': json.dumps({'error': said['error']})}
 
 
 def of_poll(request: Request, got: Reply) -> Reply:
