@@ -2,6 +2,7 @@
 from __future__ import annotations
 
 import asyncio
+import contextvars
 import functools
 import inspect
 import threading
@@ -22,6 +23,8 @@ T = TypeVar('T')
 S = TypeVar('S')
 C = TypeVar('C', bound='Client')
 A = TypeVar('A', bound='AsyncClient')
+# The renewals whose on_token runs here: more than one, if it asks another keeper. token() may wait for none of them.
+_TELLING: contextvars.ContextVar[tuple[asyncio.Task[Token], ...]] = contextvars.ContextVar('_TELLING', default=())
 
 
 def _sync(call: Callable[Concatenate[D, P], Call[T]]) -> Callable[Concatenate[D, P], T]:
@@ -238,10 +241,11 @@ class Keeper(_keeper.KeeperState[Client]):
                     self._on_token(found)
             return found
 
-    def forget_token(self) -> None:
-        """Gets another token at the next call, as after a server has refused this one."""
+    def forget_token(self, token: Optional[Token] = None) -> None:
+        """Gets another token at the next call, as after a server has refused this one. If the keeper does not hold the
+        token that is given, it has another one by now, and forgets nothing."""
         with self._lock:
-            super().forget_token()
+            super().forget_token(token)
 
     def forget_refresh_token(self) -> None:
         """Sends this refresh token no more, as after the error invalid_grant."""
@@ -253,19 +257,51 @@ class AsyncKeeper(_keeper.KeeperState[AsyncClient]):
     """A Keeper for the tasks of one loop. What on_token returns is awaited, if it can be."""
 
     _good = _async(_keeper.good_token)
-
-    def _new_lock(self) -> Any:
-        return None
+    _renewal: Optional[asyncio.Task[Token]] = None  # held here, since a loop does not keep its tasks alive
 
     async def token(self) -> Token:
         """A token that is good for at least the margin. A new one is told to on_token first."""
-        if self._lock is None:
-            self._lock = asyncio.Lock()  # of the loop that runs now
-        async with self._lock:
-            found = await self._good()
-            if self._on_token and not self._is_told:
-                with self._telling():
-                    told = self._on_token(found)
-                    if inspect.isawaitable(told):
-                        await told
+        if self._under_way() in _TELLING.get():  # on_token asks, for which the renewal waits
+            return await self._good()
+        while True:
+            other = self._under_way()
+            if other is None:
+                break
+            await asyncio.wait([other])
+        found = _keeper.token_at_hand(self)
+        if found is not None:
             return found
+        renewal = self._renewal = asyncio.ensure_future(self._renewed())
+        renewal.add_done_callback(self._ended)
+        if self.refresh_token is None:
+            return await renewal
+        # A server may take a refresh token only once, so its reply has to come, also if who waits here is cancelled.
+        return await asyncio.shield(renewal)
+
+    def _under_way(self) -> Optional[asyncio.Task[Token]]:
+        """The renewal that has begun and will end: that of a loop which was closed does not."""
+        found = self._renewal
+        if found is None or found.done() or found.get_loop().is_closed():
+            return None
+        if found.get_loop() is not asyncio.get_running_loop():
+            raise RuntimeError('a keeper is for the tasks of one loop')
+        return found
+
+    def _ended(self, renewal: asyncio.Task[Token]) -> None:
+        if self._renewal is renewal:
+            self._renewal = None
+        if not renewal.cancelled():
+            renewal.exception()  # or asyncio would report it where nobody waits any more
+
+    async def _renewed(self) -> Token:
+        """A new token, of which on_token knows."""
+        found = await self._good()
+        if self._on_token and not self._is_told:
+            me = asyncio.current_task()
+            assert me
+            _TELLING.set((*_TELLING.get(), me))
+            with self._telling():
+                told = self._on_token(found)
+                if inspect.isawaitable(told):
+                    await told
+        return found

@@ -29,7 +29,8 @@ class KeeperState(Generic[S]):
         self._start(token)
 
     def _new_lock(self) -> Any:
-        raise NotImplementedError
+        """What the threads need that share a keeper; tasks need nothing."""
+        return None
 
     def _start(self, token: Optional[Token], refresh: Optional[str] = None) -> None:
         """Holds this token, and no failure."""
@@ -56,9 +57,11 @@ class KeeperState(Generic[S]):
         """The refresh token that is held."""
         return self._token.refresh_token if self._token else self._refresh
 
-    def forget_token(self) -> None:
-        """Gets another token at the next call, as after a server has refused this one."""
-        self._start(None, self.refresh_token)
+    def forget_token(self, token: Optional[Token] = None) -> None:
+        """Gets another token at the next call, as after a server has refused this one. If the keeper does not hold the
+        token that is given, it has another one by now, and forgets nothing."""
+        if token is None or self._token is not None and self._token.access_token == token.access_token:
+            self._start(None, self.refresh_token)
 
     def forget_refresh_token(self) -> None:
         """Sends this refresh token no more, as after the error invalid_grant."""
@@ -74,13 +77,14 @@ def good_token(self: KeeperState[Any]) -> Call[Token]:
     less than retry_after seconds ago."""
     at = _calls.now()
     run = self._run(self._replies, at)
-    if len(run.exchanges) == len(self._replies):
+    exchanges = run.exchanges
+    if len(exchanges) == len(self._replies):
         if run.last['event'] == 'wait' and run.last['until'] is not None:
             self._readings[-1] = run.last['until'] - self._retry_after  # earlier, if the clock was set back
         run.answer()
         assert self._token
         return self._token
-    exchange = run.exchanges[-1]
+    exchange = exchanges[-1]
     why: Optional[BaseException] = None
     sent = dict(exchange['request']['pairs'])
     if self._is_of_a_user and 'refresh_token' not in sent:
@@ -97,6 +101,18 @@ def good_token(self: KeeperState[Any]) -> Call[Token]:
     self._token, self._is_told = _new_token(self, sent.get('refresh_token'), reply, at), False
     self._refresh, self._replies, self._readings = sent.get('refresh_token'), [reply], [at]
     return self._token
+
+
+def token_at_hand(self: KeeperState[Any]) -> Optional[Token]:
+    """The token that is held, if it needs no request and on_token knows it."""
+    call = good_token(self)
+    try:
+        next(call)
+    except StopIteration as end:
+        found: Token = end.value
+        return found if self._is_told or not self._on_token else None
+    call.close()
+    return None
 
 
 def _new_token(self: KeeperState[Any], sent: Optional[str], reply: Mapping[str, Any], at: int) -> Token:

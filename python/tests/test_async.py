@@ -1,5 +1,6 @@
 """The calls that are awaited: the same requests and results, and what only they have."""
 import asyncio
+import gc
 import time
 import unittest
 from unittest import mock
@@ -8,6 +9,7 @@ from case import TOKEN, Case, async_client
 import lifecrib
 from lifecrib import AsyncClient, AsyncKeeper, AsyncLogin, Token
 
+ENDED = Token('t0', 'bearer', expires_in=1, refresh_token='r0', asked_at=1)
 CODES = {'device_code': 'd', 'user_code': 'U-1', 'verification_uri': 'https://v/', 'expires_in': 600, 'interval': 5}
 
 
@@ -118,10 +120,91 @@ class Async(Case, unittest.IsolatedAsyncioTestCase):
         it._transport = async_client((200, TOKEN))[0]._transport
         self.assertEqual((await keeper.token()).access_token, 't1')
 
+    async def test_a_call_that_is_cancelled_loses_no_refresh_token(self):
+        begun, go_on, sent, told = asyncio.Event(), asyncio.Event(), [], []
+        it, _ = async_client((200, {**TOKEN, 'access_token': 't2', 'refresh_token': 'r2'}))
+        answer = it._transport
+
+        async def slow(request):
+            sent.append(request.body)
+            begun.set()
+            await go_on.wait()
+            return await answer(request)
+        it._transport = slow
+        keeper = AsyncKeeper(it, ENDED, on_token=told.append)
+        first, second, third = (asyncio.create_task(keeper.token()) for _ in range(3))
+        await begun.wait()
+        for task in (first, second):
+            task.cancel()
+            with self.assertRaises(asyncio.CancelledError):
+                await task
+        go_on.set()
+        self.assertEqual((await third).access_token, 't2')
+        self.assertEqual((len(sent), [it.refresh_token for it in told]), (1, ['r2']))
+
+    async def test_a_failure_reaches_each_who_waits(self):
+        it, server = async_client(OSError('down'), OSError('down'), OSError('down'), (200, TOKEN))
+        keeper, said = AsyncKeeper(it, ENDED), []
+        asyncio.get_running_loop().set_exception_handler(lambda *them: said.append(them))
+        found = await asyncio.gather(keeper.token(), keeper.token(), return_exceptions=True)
+        self.assertEqual([type(it) for it in found], [lifecrib.RequestFailed] * 2)
+        task = asyncio.create_task(keeper.token())
+        while len(server.requests) < 3:
+            await asyncio.sleep(0)
+        task.cancel()
+        self.assertEqual((await keeper.token()).access_token, 't1')
+        del task
+        gc.collect()
+        self.assertEqual(said, [])
+
+    async def test_on_token_may_ask(self):
+        it, server = async_client((200, TOKEN))
+        found = []
+
+        async def tell(_):
+            found.append(await keeper.token())
+            found.append(await asyncio.wait_for(keeper.token(), 10))  # which may be another task
+        keeper = AsyncKeeper(it, on_token=tell)
+        found.append(await asyncio.wait_for(keeper.token(), 10))
+        self.assertEqual(([it.access_token for it in found], len(server.requests)), (['t1'] * 3, 1))
+
+    async def test_it_forgets_one_token(self):
+        it, server = async_client((200, TOKEN), (200, {**TOKEN, 'access_token': 't2'}))
+        keeper = AsyncKeeper(it)
+        first = await keeper.token()
+        for _ in range(2):
+            keeper.forget_token(first)
+            self.assertEqual((await keeper.token()).access_token, 't2')
+        self.assertEqual(len(server.requests), 2)
+
     async def test_a_token_is_the_same_data(self):
         it, _ = async_client((200, TOKEN))
         token = await it.fetch_token()
         self.assertEqual(Token.from_json(token.to_json()), token)
+
+
+class Loops(Case):
+    def test_a_renewal_whose_loop_was_closed(self):
+        it, _ = async_client((200, TOKEN))
+        answer, begun = it._transport, []
+
+        async def never(request):
+            begun.append(request)
+            await asyncio.sleep(60)
+
+        async def wait():
+            task = asyncio.create_task(keeper.token())
+            while not begun:
+                await asyncio.sleep(0)
+            return task
+        keeper, it._transport = AsyncKeeper(it, ENDED), never
+        loop = asyncio.new_event_loop()
+        loop.set_exception_handler(lambda *_: None)  # which would say that tasks were left
+        task = loop.run_until_complete(wait())
+        self.addCleanup(lambda: task)
+        loop.close()
+        it._transport = answer
+        self.assertEqual(asyncio.run(asyncio.wait_for(keeper.token(), 5)).access_token, 't1')
 
 
 if __name__ == '__main__':

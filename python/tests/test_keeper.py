@@ -107,6 +107,15 @@ class Keepers(Case):
         self.assertEqual(keeper.token().access_token, 't3')
         self.assertEqual(server.bodies[2], 'grant_type=client_credentials')
 
+    def test_it_forgets_one_token(self):
+        keeper, server = self.keeper(reply(1), reply(2), reply(3))
+        first = keeper.token()
+        for _ in range(3):  # as each thread does whose token was refused
+            keeper.forget_token(first)
+            self.assertEqual(keeper.token().access_token, 't2')
+        keeper.forget_token()
+        self.assertEqual((keeper.token().access_token, len(server.requests)), ('t3', 3))
+
     def test_new_tokens_are_told(self):
         told = []
         keeper, _ = self.keeper(reply(1), reply(2), on_token=told.append)
