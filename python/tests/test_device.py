@@ -1,5 +1,8 @@
 """Devices: polls, waits, and how they end."""
+import json
+import ssl
 import unittest
+import urllib.error
 
 from case import TOKEN, Case, client
 import lifecrib
@@ -59,6 +62,36 @@ class Devices(Case):
         device._readings = [it - 1000 for it in device._readings]  # as if it were later now
         self.assertEqual(self.fails(lifecrib.ErrorResponse, device.poll).error, 'expired_token')
         self.assertEqual(len(server.requests), 2)
+
+    def test_the_codes_end_without_a_reply(self):
+        for last, cause in ((OSError('down'), 'down'), (PENDING, 'None')):
+            device, _ = self.device(OSError('first'), last, expires_in=100)
+            for _ in range(2):
+                self.assertIsNone(device.poll())
+            device._readings = [it - 1000 for it in device._readings]
+            self.assertEqual(str(self.fails(lifecrib.ErrorResponse, device.poll).__cause__), cause)
+
+    def test_what_no_later_poll_mends(self):
+        untrusted = ssl.SSLCertVerificationError('expired')
+        for error in (untrusted, urllib.error.URLError(untrusted), TypeError('no async def')):
+            device, server = self.device(error, PENDING, (200, TOKEN))
+            self.assertIs(self.fails(lifecrib.RequestFailed, device.token, sleep=self.fail).__cause__, error)
+            self.assertIsNone(device.poll())
+            self.assertEqual((device.poll().access_token, len(server.requests)), ('t1', 4))
+
+    def test_it_keeps_little_of_a_reply(self):
+        long = {'error_description': 'x' * 10000}
+        pending, slow = ((status, {**body, **long}) for status, body in (PENDING, SLOW))
+        replies = [pending, slow, OSError(), pending, (503, b''), slow, pending, (200, TOKEN)]
+        device, _ = self.device(*replies)
+        waits = []
+        device.token(sleep=waits.append)
+        whole = [{'status': it[0], 'body': json.dumps(it[1])} if isinstance(it, tuple) and it[0] != 503 else
+                 {'fail': True} for it in replies]
+        run = device.client.run('device_poll', {'device': device._asked.answer, 'max_polls': 9}, whole)
+        self.assertEqual(waits, [it['seconds'] for it in run.events if it['event'] == 'sleep'])
+        self.assertEqual(len(waits), 7)
+        self.assertLess(len(json.dumps(device._replies)), 1000)
 
     def test_another_reply(self):
         device, _ = self.device((200, {'access_token': 't'}))
