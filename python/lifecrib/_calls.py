@@ -2,6 +2,7 @@
 from __future__ import annotations
 
 import base64
+import contextlib
 import ipaddress
 import time
 import urllib.parse
@@ -10,7 +11,7 @@ from typing import Any, Generator, Iterable, Mapping, Optional, TypeVar, Union
 from . import _library
 from ._data import (Claims, Introspection, Metadata, Reply, Request, Token, claims_of, introspection_of, metadata_of,
                     token_of, without_none)
-from ._errors import BadKeys, BadSignature, InsecureEndpoint, LifecribError, OutOfMemory, RequestFailed
+from ._errors import BadKeys, BadScript, BadSignature, InsecureEndpoint, LifecribError, OutOfMemory, RequestFailed
 
 T = TypeVar('T')
 Call = Generator[Request, Reply, T]
@@ -79,12 +80,12 @@ def request_of(exchange: Mapping[str, Any]) -> Request:
 
 def may_send(url: str, plain_http: bool) -> bool:
     """Whether what is sent to a URL can not be read on the way: it is https, or stays on this machine."""
-    at = urllib.parse.urlsplit(url)
-    if at.scheme != 'http' or plain_http or at.hostname == 'localhost':
-        return at.scheme in ('https', 'http')
     try:
+        at = urllib.parse.urlsplit(url)
+        if at.scheme != 'http' or plain_http or at.hostname == 'localhost':
+            return at.scheme in ('https', 'http') and bool(at.hostname)
         return ipaddress.ip_address(at.hostname or '').is_loopback
-    except ValueError:
+    except ValueError:  # no URL, or the name of another machine
         return False
 
 
@@ -110,7 +111,7 @@ def reply_to(self: Settings, request: Request) -> Call[Reply]:
     """Sends a request. InsecureEndpoint if others could read it on its way; NoReply if the transport fails. Want of
     memory is passed on as it is."""
     if not may_send(request.url, self.plain_http):
-        raise InsecureEndpoint('not sent, since others could read it: the endpoint is no https URL')
+        raise InsecureEndpoint('not sent: the endpoint is no https URL, so others could read what is sent')
     try:
         return (yield request)
     except MemoryError:
@@ -122,10 +123,11 @@ def reply_to(self: Settings, request: Request) -> Call[Reply]:
 def exchange(self: Settings, command: str, params: Mapping[str, Any]) -> Call[_library.Run]:
     """The run of a command that makes one request: without a reply, which shows the request, and then with it."""
     first = self.run(command, params)
-    if not first.exchanges:
+    shown = first.exchanges
+    if not shown:
         raise first.error()
     try:
-        reply = yield from reply_to(self, request_of(first.exchanges[0]))
+        reply = yield from reply_to(self, request_of(shown[0]))
     except NoReply as failed:
         raise first.error() from failed.__cause__
     return self.run(command, params, [in_script(reply)])
@@ -247,8 +249,13 @@ def fetch_metadata(self: Settings, issuer: str, well_known: Optional[str] = None
 def found_by(metadata: Metadata) -> dict[str, Any]:
     """The endpoints that metadata name, as settings of a client."""
     push = metadata.members.get(PUSH)
-    found = {name: getattr(metadata, member) for name, member in ENDPOINTS.items()}
-    return {**without_none(found), **({'push_url': push} if isinstance(push, str) else {})}
+    found = without_none({name: getattr(metadata, member) for name, member in ENDPOINTS.items()})
+    if isinstance(push, str) and may_send(push, False):
+        # the library does not read this member: a bad one is left out, since most clients never push
+        with contextlib.suppress(BadScript):
+            Settings({'id': '', 'push_url': push}, None, False)
+            found['push_url'] = push
+    return found
 
 
 def value(body: bytes) -> Any:

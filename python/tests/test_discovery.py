@@ -53,6 +53,11 @@ class Discovery(Case):
         it.fetch_token()
         self.assertEqual(server.requests[1].url, 'https://other.example/token')
 
+    def test_a_push_endpoint_that_is_no_endpoint(self):
+        for url in ('', '/par', 'https:///', 'https://[x', 'http://as.example/par', 1):
+            it, _ = self.discover((200, {**METADATA, 'pushed_authorization_request_endpoint': url}))
+            self.fails(lifecrib.MissingEndpoint, it.login, push=True)
+
     def test_an_issuer_that_others_could_read(self):
         with self.assertRaises(lifecrib.LifecribError):
             self.discover(issuer='http://as.example')

@@ -82,6 +82,14 @@ class Faults(Case):
         it, _ = client((200, TOKEN), token_url='http://as.example/token', plain_http=True)
         it.fetch_token()
 
+    def test_an_endpoint_that_is_no_url(self):
+        for url in ('https://[x', 'https://', 'nonsense'):
+            it, server = client(metadata=lifecrib.Metadata('https://as.example', jwks_uri=url))
+            login = it.login(scopes='openid')
+            back = 'https://app.example/back?code=c&iss=https%3A%2F%2Fas.example&state=' + login.state
+            self.fails(lifecrib.InsecureEndpoint, login.finish, back)
+            self.assertEqual(server.requests, [])
+
     def test_a_redirect_is_no_success(self):
         error = self.fault(lifecrib.LifecribError, (302, b''))
         self.assertEqual(error.status, 302)
