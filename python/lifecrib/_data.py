@@ -2,6 +2,7 @@
 from __future__ import annotations
 
 import dataclasses
+import functools
 import time
 from typing import Any, Mapping, NamedTuple, Optional
 
@@ -156,9 +157,14 @@ def without_none(found: Mapping[str, Any]) -> dict[str, Any]:
     return {name: value for name, value in found.items() if value is not None}
 
 
+@functools.lru_cache(maxsize=None)
+def _names_of(kind: Any) -> frozenset[str]:
+    return frozenset(it.name for it in dataclasses.fields(kind))
+
+
 def _of_types(kind: Any, found: Mapping[str, Any], **more: Any) -> Any:
     """The object of a class with these members, lists as tuples. Members that it does not name are left out."""
-    names = {it.name for it in dataclasses.fields(kind)}
+    names = _names_of(kind)
     known = {name: tuple(value) if isinstance(value, list) else value for name, value in found.items() if name in names}
     return kind(**{**known, **more})
 

@@ -86,8 +86,8 @@ class Run(NamedTuple):
 
     def reply(self) -> Optional[dict[str, Any]]:
         """The last reply, as the library has read it."""
-        found = [it['reply'] for it in self.exchanges if it['reply'] is not None]
-        return found[-1] if found else None
+        replies = (it['reply'] for it in reversed(self.events) if it['event'] == 'exchange')
+        return next((it for it in replies if it is not None), None)
 
     def members(self) -> dict[str, Any]:
         """The members of the last reply, as they came."""
